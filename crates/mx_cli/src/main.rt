@@ -1,0 +1,6 @@
+//! The scheme office of an electronic purse, as a program.
+#![tactic(auto)]
+
+pub mod values;
+
+fn main() {}

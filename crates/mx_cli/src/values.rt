@@ -1,0 +1,64 @@
+//! Who asks the office, what is asked and what is answered.
+use mx_pay::{Name, Token};
+use mx_purse::Purse;
+
+/// Who asks. The operator runs the scheme, a clerk acts for one member, and a holder for its own purses.
+#[derive(Clone, Copy, Debug)]
+pub enum Caller {
+    Operator,
+    /// The clerk of that member.
+    Clerk(Name),
+    /// That holder.
+    Holder(Name),
+}
+
+/// Whose a command is.
+#[derive(Clone, Copy, Debug, PartialEq, Eq)]
+pub enum Class {
+    Operator,
+    Clerk,
+    Holder,
+}
+
+/// What is asked.
+#[derive(Clone, Copy, Debug)]
+pub enum Command {
+    /// The operator's: a new member, and its clerk's token.
+    NewMember { member: Name, token: Token },
+    /// A clerk's: a new holder of the clerk's member, and the holder's token.
+    NewHolder { holder: Name, token: Token },
+    /// A clerk's: a new purse of a holder of the clerk's member.
+    NewPurse { purse: Name, holder: Name },
+    /// A holder's: one of its own purses.
+    Show { purse: Name },
+}
+
+/// Why a command is refused.
+#[derive(Clone, Copy, Debug, PartialEq, Eq)]
+pub enum Refusal {
+    /// The command is of another class than the caller.
+    NotForCaller,
+    /// The caller has no purse of that name.
+    NoSuchPurse,
+    /// The caller's member has no holder of that name.
+    NoSuchHolder,
+    /// The caller's member isn't there.
+    NoSuchMember,
+    /// Something of this kind has that name.
+    NameTaken,
+    /// The token is somebody's.
+    TokenTaken,
+    /// The holder has 64 purses.
+    TooManyPurses,
+}
+
+/// What is answered.
+#[derive(Clone, Copy, Debug)]
+pub enum Reply {
+    /// What was asked for is there now.
+    Added,
+    /// This purse, as it stands.
+    Shown(Purse),
+    /// Nothing was changed.
+    Refused(Refusal),
+}

@@ -1,0 +1,138 @@
+//! Names.
+ghost use Rattle.std.specs.Prelude.{◌≡◌, Some, None, nat_eq, refl, if◌then◌else◌, IsTrue};
+ghost use Rattle.std.specs.Ordering.{nat_cmp};
+ghost use Rattle.std.specs.Cmp.{partial_equiv_from_equiv};
+ghost use Rattle.std.specs.Cmp.Lexicographic.{pointwise, slice_cmp, nat_list_eq_equiv, nat_list_cmp_total, texts_po, texts_ties};
+ghost use Rattle.std.specs.List.{list_all};
+ghost use Rattle.mx_pay.specs.Names.{is_name_text, is_letter, is_name_byte, begins_with_letter, is_name};
+
+use std::cmp::Ordering;
+use std::marker::Model;
+
+/// A name of a member, a holder, a purse or a reference: 1 to 24 bytes of `a` to `z`, `0` to `9` and `-`,
+/// the first a letter. Names are ordered by their bytes. A contract sees a name as its bytes.
+#[derive(Clone, Copy, Debug)]
+pub struct Name {
+    bytes: [u8; 24],
+    len: u8,
+}
+
+impl Model for Name {
+    ghost use Rattle.std.specs.Prelude.{ℕ, List, length, take};
+    ghost use Rattle.std.proofs.lemmas.List.{length-take-le};
+    ghost use Rattle.mx_pay.specs.Names.{IsName, padded};
+
+    ghost Value = { List ℕ };
+
+    ghost view = { λ n. take n.len n.bytes };
+
+    ghost invariant = { λ n. IsName n.bytes n.len };
+
+    ghost inverse = { λ name. record { bytes = padded name; len = length name } };
+
+    ghost inverse_ok = { λ n h i. record { bytes = h.exact i; len = length-take-le n.len n.bytes h.within i } };
+}
+
+fn is_letter_byte(b: u8) -> bool
+    ensures { result ≡ is_letter b }
+{
+    97 <= b && b <= 122
+}
+
+fn may_stand(b: u8) -> bool
+    ensures { result ≡ is_name_byte b }
+{
+    is_letter_byte(b) || (48 <= b && b <= 57 || b == 45)
+}
+
+fn begins(bytes: &[u8]) -> bool
+    ensures { result ≡ begins_with_letter bytes.now }
+{
+    match bytes {
+        [] => false,
+        [b, ..] => is_letter_byte(*b),
+    }
+}
+
+fn all_may_stand(bytes: &[u8]) -> bool
+    ensures { result ≡ list_all is_name_byte bytes.now }
+{
+    bytes.iter().all(|b| may_stand(*b))
+}
+
+fn is_text(bytes: &[u8]) -> bool
+    ensures { result ≡ is_name_text bytes.now }
+{
+    bytes.len() <= 24 && begins(bytes) && all_may_stand(bytes)
+}
+
+impl Name {
+    /// The name that a text is. None exactly where the text is no name.
+    pub fn read(text: &str) -> Option<Name>
+        ensures { result ≡ (if is_name_text text.now then Some text.now else None) }
+    {
+        let source = text.as_bytes();
+        if !is_text(source) {
+            return None;
+        }
+        let mut bytes = [0u8; 24];
+        bytes[..source.len()].copy_from_slice(source);
+        Some(Name {
+            bytes,
+            len: source.len() as u8,
+        })
+    }
+
+    /// The text of the name.
+    pub fn as_str(&self) -> &str
+        ensures text { result.now ≡ self.now }
+        ensures valid { IsTrue (is_name_text self.now) }
+    {
+        unsafe { std::str::from_utf8_unchecked(&self.bytes[..self.len as usize]) }
+    }
+}
+
+impl PartialEq for Name {
+    ghost eq = { pointwise nat_eq };
+
+    ghost laws = { partial_equiv_from_equiv nat_list_eq_equiv };
+
+    fn eq(&self, other: &Name) -> bool {
+        self.as_str() == other.as_str()
+    }
+}
+
+impl Eq for Name {
+    ghost laws = { nat_list_eq_equiv };
+}
+
+impl PartialOrd for Name {
+    ghost partial_cmp = { λ x y. Some (slice_cmp nat_cmp x y) };
+
+    ghost laws = { texts_po };
+
+    fn partial_cmp(&self, other: &Name) -> Option<Ordering> {
+        Some(self.cmp(other))
+    }
+}
+
+impl Ord for Name {
+    ghost cmp = { slice_cmp nat_cmp };
+
+    ghost total = { nat_list_cmp_total };
+
+    ghost matches_partial_cmp = { λ x y. refl };
+
+    ghost matches_eq = { texts_ties };
+
+    fn cmp(&self, other: &Name) -> Ordering {
+        self.as_str().cmp(other.as_str())
+    }
+}
+
+/// Whether two names are the same.
+pub fn same_name(a: &Name, b: &Name) -> bool
+    ensures { result ≡ is_name a.now b.now }
+{
+    a.cmp(b).is_eq()
+}

@@ -1,0 +1,89 @@
+//! Amounts and sequence numbers.
+ghost use Rattle.std.specs.Prelude.{◌≡◌, ◌+◌, ◌<◌, ◌≤◌, ◌^◌, Some, None, nat_le, if◌then◌else◌};
+
+use std::marker::Model;
+
+/// The amount of one request or payment, from 0 to 10^12. A contract sees it as a number.
+#[derive(Clone, Copy, Debug, PartialEq, Eq, PartialOrd, Ord)]
+pub struct Amount {
+    value: u64,
+}
+
+impl Model for Amount {
+    ghost use Rattle.std.specs.Prelude.{ℕ, ◌≤◌, ◌^◌};
+
+    ghost Value = { ℕ };
+
+    ghost view = { λ a. a.value };
+
+    ghost invariant = { λ a. a.value ≤ 10 ^ 12 };
+
+    ghost inverse = { λ n. record { value = n } };
+}
+
+impl Amount {
+    /// The amount of so much. None exactly where it is above 10^12.
+    pub fn new(value: u64) -> Option<Amount>
+        ensures { result ≡ (if nat_le value (10 ^ 12) then Some value else None) }
+    {
+        if value <= 1_000_000_000_000 {
+            Some(Amount { value })
+        } else {
+            None
+        }
+    }
+
+    /// The number itself.
+    pub fn get(self) -> u64
+        ensures value { result ≡ self }
+        ensures limit { self ≤ 10 ^ 12 }
+    {
+        self.value
+    }
+}
+
+/// A sequence number, from 0 to 10^15. A contract sees it as a number.
+#[derive(Clone, Copy, Debug, PartialEq, Eq, PartialOrd, Ord)]
+pub struct Seq {
+    value: u64,
+}
+
+impl Model for Seq {
+    ghost use Rattle.std.specs.Prelude.{ℕ, ◌≤◌, ◌^◌};
+
+    ghost Value = { ℕ };
+
+    ghost view = { λ a. a.value };
+
+    ghost invariant = { λ a. a.value ≤ 10 ^ 15 };
+
+    ghost inverse = { λ n. record { value = n } };
+}
+
+impl Seq {
+    /// The sequence number of that value. None exactly where it is above 10^15.
+    pub fn new(value: u64) -> Option<Seq>
+        ensures { result ≡ (if nat_le value (10 ^ 15) then Some value else None) }
+    {
+        if value <= 1_000_000_000_000_000 {
+            Some(Seq { value })
+        } else {
+            None
+        }
+    }
+
+    /// The number itself.
+    pub fn get(self) -> u64
+        ensures value { result ≡ self }
+        ensures limit { self ≤ 10 ^ 15 }
+    {
+        self.value
+    }
+
+    /// The first sequence number, 0.
+    pub fn zero() -> Seq
+        ensures { result ≡ 0 }
+    {
+        Seq { value: 0 }
+    }
+}

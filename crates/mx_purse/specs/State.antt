@@ -1,0 +1,55 @@
+-- A purse as a record (PRG-126: ConPurse), and what always holds of one.
+use Rattle.std.specs.Prelude.{◌≡◌, ℕ, ◌+◌, ◌^◌, ◌<◌, ◌≤◌, ◌⊎◌, Bool, List, refl}
+use Rattle.std.specs.Coded.{Coded, code_by, coded×, coded_ℕ, coded_list}
+use Rattle.mx_pay.specs.Details.{Details}
+use Rattle.mx_pay.specs.Log.{Entries, coded_entries, log_len, has_logged, none_logged}
+use Rattle.mx_purse.specs.contracts.status.Status as status
+use Rattle.mx_purse.specs.declared.status.Status.{Status}
+use Rattle.mx_purse.specs.declared.status.Status.TheVariants.{EaFrom, EaTo, Epr, Epv, Epa}
+
+pub record State : Type 0 where
+  pub name : List ℕ
+  pub balance : ℕ
+  pub next : ℕ
+  -- with the details of the payment under way
+  pub status : Status
+  -- the exception log
+  pub log : Entries
+  -- how many statement lines it has
+  pub lines : ℕ
+
+-- a new purse
+abbrev pub new_purse : List ℕ → State
+new_purse name = record { name = name; balance = 0; next = 0; status = EaFrom; log = none_logged; lines = 0 }
+
+-- details name the purse, and have its own number below the next one
+abbrev pub IsOwnEntry : State → Details → Type 0
+IsOwnEntry p d = ((d.from ≡ p.name) × (d.from_seq < p.next)) ⊎ ((d.to ≡ p.name) × (d.to_seq < p.next))
+
+-- what holds in each status: at rest only that the lines are few; in the others the details are the purse's
+-- own and not logged yet, with room for them in the log
+abbrev pub IsInStatus : State → Status → Type 0
+IsInStatus p EaFrom = p.lines ≤ 10 ^ 15 + 2
+IsInStatus p EaTo = p.lines ≤ 10 ^ 15 + 2
+IsInStatus p (Epr d) = (d.from ≡ p.name) × (d.value ≤ p.balance) × (d.from_seq < p.next)
+    × (has_logged p.log d ≡ Bool.false) × (log_len p.log ≤ 15) × (p.lines ≤ 10 ^ 15)
+IsInStatus p (Epv d) = (d.to ≡ p.name) × (d.to_seq < p.next)
+    × (has_logged p.log d ≡ Bool.false) × (log_len p.log ≤ 15) × (p.lines ≤ 10 ^ 15)
+IsInStatus p (Epa d) = (d.from ≡ p.name) × (d.from_seq < p.next)
+    × (has_logged p.log d ≡ Bool.false) × (log_len p.log ≤ 15) × (p.lines ≤ 10 ^ 15 + 1)
+
+-- what always holds of a purse
+pub record IsPurse (p : State) : Type 0 where
+  pub balance : p.balance ≤ 10 ^ 15
+  pub next : p.next ≤ 10 ^ 15
+  pub status : IsInStatus p p.status
+  pub room : log_len p.log ≤ 16
+  pub entries : (d : Details) → has_logged p.log d ≡ Bool.true → IsOwnEntry p d
+
+abbrev pub coded_state : Coded State
+coded_state =
+    code_by (List ℕ × (ℕ × (ℕ × (Status × (Entries × ℕ)))))
+    (coded× (coded_list coded_ℕ) (coded× coded_ℕ (coded× coded_ℕ (coded× (status.the_row).coded (coded× coded_entries coded_ℕ)))))
+    (λ p. (p.name, (p.balance, (p.next, (p.status, (p.log, p.lines))))))
+    (λ t. record { name = t.0; balance = t.1.0; next = t.1.1.0; status = t.1.1.1.0; log = t.1.1.1.1.0; lines = t.1.1.1.1.1 })
+    (λ _. refl)

@@ -1,0 +1,8 @@
+//! Purses: what a purse is, and what always holds of one.
+#![tactic(auto)]
+
+pub mod purse;
+pub mod status;
+
+pub use purse::Purse;
+pub use status::Status;

@@ -1,0 +1,98 @@
+//! The purse.
+ghost use Rattle.std.specs.Prelude.{◌≡◌, ◌≤◌, ◌^◌};
+ghost use Rattle.mx_purse.specs.State.{new_purse, IsPurse};
+
+use crate::status::Status;
+use mx_pay::{Log, Name, Seq};
+use std::marker::Model;
+
+/// A purse: its name, its balance, its next sequence number, its status with the details of the payment
+/// under way, its exception log and how many statement lines it has. A contract sees it as the record of
+/// these parts, and each purse meets the conditions of a purse.
+#[derive(Clone, Copy, Debug)]
+pub struct Purse {
+    name: Name,
+    balance: u64,
+    next: Seq,
+    status: Status,
+    log: Log,
+    lines: u64,
+}
+
+impl Model for Purse {
+    ghost use Rattle.mx_purse.specs.State.{State, IsPurse, coded_state};
+
+    ghost Value = { State };
+
+    ghost coded = { coded_state };
+
+    ghost view = { λ p. record {
+        name = p.name; balance = p.balance; next = p.next; status = p.status; log = p.log; lines = p.lines } };
+
+    ghost invariant = { λ p. IsPurse (record {
+        name = p.name; balance = p.balance; next = p.next; status = p.status; log = p.log; lines = p.lines }) };
+
+    ghost inverse = { λ p. record {
+        name = p.name; balance = p.balance; next = p.next; status = p.status; log = p.log; lines = p.lines } };
+}
+
+impl Purse {
+    /// A new purse of that name: at rest, with balance 0, next sequence number 0, an empty log and no
+    /// statement lines.
+    pub fn new(name: Name) -> Purse
+        ensures value { result ≡ new_purse name }
+        ensures whole { IsPurse result }
+    {
+        Purse {
+            name,
+            balance: 0,
+            next: Seq::zero(),
+            status: Status::EaFrom,
+            log: Log::new(),
+            lines: 0,
+        }
+    }
+
+    /// The name of the purse.
+    pub fn name(&self) -> Name
+        ensures { result ≡ self.now.name }
+    {
+        self.name
+    }
+
+    /// What the purse holds, from 0 to 10^15.
+    pub fn balance(&self) -> u64
+        ensures value { result ≡ self.now.balance }
+        ensures limit { result ≤ 10 ^ 15 }
+    {
+        self.balance
+    }
+
+    /// The next sequence number, which the next payment takes.
+    pub fn next(&self) -> Seq
+        ensures { result ≡ self.now.next }
+    {
+        self.next
+    }
+
+    /// The status, with the details of the payment under way.
+    pub fn status(&self) -> Status
+        ensures { result ≡ self.now.status }
+    {
+        self.status
+    }
+
+    /// The exception log.
+    pub fn log(&self) -> Log
+        ensures { result ≡ self.now.log }
+    {
+        self.log
+    }
+
+    /// How many statement lines the purse has, from 0 to 10^15 + 2.
+    pub fn lines(&self) -> u64
+        ensures { result ≡ self.now.lines }
+    {
+        self.lines
+    }
+}
