@@ -1,0 +1,5 @@
+pub mod Slots
+pub mod Place
+pub mod World
+pub mod Step
+pub mod Books

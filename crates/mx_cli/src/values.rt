@@ -33,7 +33,7 @@ pub enum Command {
     Show { purse: Name },
 }
 
-/// Why a command is refused.
+/// Reason a command is refused.
 #[derive(Clone, Copy, Debug, PartialEq, Eq)]
 pub enum Refusal {
     /// The command is of another class than the caller.
@@ -61,4 +61,33 @@ pub enum Reply {
     Shown(Purse),
     /// Nothing was changed.
     Refused(Refusal),
+}
+
+/// A purse with its holder.
+#[derive(Clone, Copy, Debug)]
+pub struct PurseRow {
+    pub holder: Name,
+    pub purse: Purse,
+}
+
+/// A change of the books.
+#[derive(Clone, Copy, Debug)]
+pub enum Edit {
+    /// A member, and its clerk's token.
+    NewMember { member: Name, clerk: Token },
+    /// A holder of that member, and its token.
+    NewHolder {
+        holder: Name,
+        member: Name,
+        token: Token,
+    },
+    /// A new purse of that holder.
+    NewPurse { purse: Name, holder: Name },
+}
+
+/// What a command is answered, and the change of the books that goes with the answer.
+#[derive(Clone, Copy, Debug)]
+pub struct Decided {
+    pub reply: Reply,
+    pub edit: Option<Edit>,
 }
