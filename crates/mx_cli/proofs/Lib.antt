@@ -1,2 +1,13 @@
 pub mod MapLemmas
 pub mod PlaceLemmas
+pub mod Results
+pub mod FieldLemmas
+pub mod RequestLemmas
+pub mod FirstLemmas
+pub mod UniqueLemmas
+pub mod ReplyLemmas
+pub mod ServeLemmas
+pub mod CommandLemmas
+pub mod ProgramLemmas
+pub mod RouteLemmas
+pub mod BodyLemmas

@@ -33,7 +33,7 @@ pub enum Command {
     Show { purse: Name },
 }
 
-/// Reason a command is refused.
+/// Why a command is refused.
 #[derive(Clone, Copy, Debug, PartialEq, Eq)]
 pub enum Refusal {
     /// The command is of another class than the caller.

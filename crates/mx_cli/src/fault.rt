@@ -1,0 +1,37 @@
+//! Why a run or a task ends early.
+
+/// Why a run ends early.
+#[derive(Clone, Copy, Debug, PartialEq, Eq)]
+pub enum DeskFault {
+    /// A read failed.
+    Read,
+    /// A write failed, or took nothing.
+    Write,
+    /// The reads were used up.
+    Turns,
+}
+
+/// Why the program's task isn't done. Each has its words on standard error, behind `fault: `.
+#[derive(Clone, Copy, Debug, PartialEq, Eq)]
+pub enum CliFault {
+    /// Standard input can't be read.
+    Read,
+    /// Standard output can't be written or flushed.
+    Write,
+    /// The input wasn't at its end after the most reads.
+    Turns,
+    /// There is no memory.
+    Memory,
+}
+
+impl CliFault {
+    /// The words of the fault.
+    pub fn text(&self) -> &'static str {
+        match self {
+            CliFault::Read => "read",
+            CliFault::Write => "write",
+            CliFault::Turns => "turns",
+            CliFault::Memory => "memory",
+        }
+    }
+}
