@@ -15,3 +15,4 @@ pub mod Serve
 pub mod Answers
 pub mod Line
 pub mod Named
+pub mod Faults

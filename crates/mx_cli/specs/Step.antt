@@ -41,9 +41,9 @@ added w = record { world = w; reply = Added }
 unfoldable pub new_member : World → Name → Token → Done
 new_member w member token =
     unless (first_refusal (
-      (is_some (map.get w.members member), NameTaken)
-      ∷ (is_taken w token, TokenTaken)
-      ∷ [])) w
+    (is_some (map.get w.members member), NameTaken)
+    ∷ (is_taken w token, TokenTaken)
+    ∷ [])) w
     (added (record w {
       tokens = map.insert w.tokens token (Clerk member);
       members = map.insert w.members member tt;
@@ -53,10 +53,10 @@ new_member w member token =
 unfoldable pub new_holder : World → Name → Name → Token → Done
 new_holder w member holder token =
     unless (first_refusal (
-      (not (is_some (map.get w.members member)), NoSuchMember)
-      ∷ (is_some (map.get w.holders holder), NameTaken)
-      ∷ (is_taken w token, TokenTaken)
-      ∷ [])) w
+    (not (is_some (map.get w.members member)), NoSuchMember)
+    ∷ (is_some (map.get w.holders holder), NameTaken)
+    ∷ (is_taken w token, TokenTaken)
+    ∷ [])) w
     (added (record w {
       tokens = map.insert w.tokens token (Holder holder);
       holders = map.insert w.holders holder member;
@@ -71,10 +71,10 @@ is_found name (Some found) = is_name found name
 unfoldable pub new_purse_of : World → Name → Name → Name → Done
 new_purse_of w member purse holder =
     unless (first_refusal (
-      (not (is_found member (map.get w.holders holder)), NoSuchHolder)
-      ∷ (is_some (map.get w.purses purse), NameTaken)
-      ∷ (nat_le 64 (purses_held w holder), TooManyPurses)
-      ∷ [])) w
+    (not (is_found member (map.get w.holders holder)), NoSuchHolder)
+    ∷ (is_some (map.get w.purses purse), NameTaken)
+    ∷ (nat_le 64 (purses_held w holder), TooManyPurses)
+    ∷ [])) w
     (added (record w {
       purses = map.insert w.purses purse (record { holder = holder; purse = new_purse purse });
     }))

@@ -7,7 +7,8 @@ ghost use Rattle.mx_cli.specs.Devices.{capped};
 use std::io;
 use std::io::{Read, Write};
 
-/// A device, how often it was called and how often it failed.
+/// A reader or a writer, with how often it was called and how often it failed. Neither count passes the largest
+/// u64.
 #[derive(Drop)]
 pub struct Counted<D> {
     device: D,
@@ -16,6 +17,7 @@ pub struct Counted<D> {
 }
 
 impl<D> Counted<D> {
+    /// The device, with both counts 0.
     pub fn new(device: D) -> Counted<D>
         ensures device { result.device ≡ device }
         ensures calls { result.calls ≡ 0 }
@@ -28,22 +30,37 @@ impl<D> Counted<D> {
         }
     }
 
+    /// How often it was called, by a read or a write.
     pub fn calls(&self) -> u64
         ensures { result ≡ self.now.calls }
     {
         self.calls
     }
 
+    /// How often it failed: by an error, or by taking nothing of a text that isn't empty.
     pub fn failures(&self) -> u64
         ensures { result ≡ self.now.failures }
     {
         self.failures
     }
 
+    /// The device itself.
     pub fn into_inner(self) -> D
         ensures { result ≡ self.device }
     {
         self.device
+    }
+
+    fn note_call(&mut self)
+        ensures { self.new ≡ record self.old { calls = capped (self.old.calls + 1) } }
+    {
+        self.calls = self.calls.saturating_add(1);
+    }
+
+    fn note_failure(&mut self)
+        ensures { self.new ≡ record self.old { failures = capped (self.old.failures + 1) } }
+    {
+        self.failures = self.failures.saturating_add(1);
     }
 }
 
@@ -56,10 +73,10 @@ impl<D: Read> Read for Counted<D> {
         ensures calls { self.new.calls ≡ capped (self.old.calls + 1) }
         ensures failures { MatchResult result (λ _. self.new.failures ≡ self.old.failures) (λ _. self.new.failures ≡ capped (self.old.failures + 1)) }
     {
-        self.calls = self.calls.saturating_add(1);
+        self.note_call();
         let answer = self.device.read(buf);
         if answer.is_err() {
-            self.failures = self.failures.saturating_add(1);
+            self.note_failure();
         }
         answer
     }
@@ -76,14 +93,14 @@ impl<D: Write> Write for Counted<D> {
         ensures none { IfOk result (λ n. n ≡ 0 → 0 < length buf.now → self.new.failures ≡ capped (self.old.failures + 1)) }
         ensures err { OnErr result (self.new.failures ≡ capped (self.old.failures + 1)) }
     {
-        self.calls = self.calls.saturating_add(1);
+        self.note_call();
         let answer = self.device.write(buf);
         let failed = match &answer {
             Ok(n) => *n == 0 && !buf.is_empty(),
             Err(_) => true,
         };
         if failed {
-            self.failures = self.failures.saturating_add(1);
+            self.note_failure();
         }
         answer
     }

@@ -1,4 +1,6 @@
 //! Why a run or a task ends early.
+ghost use Rattle.std.specs.Prelude.{◌≡◌};
+ghost use Rattle.mx_cli.specs.Faults.{fault_text};
 
 /// Why a run ends early.
 #[derive(Clone, Copy, Debug, PartialEq, Eq)]
@@ -26,7 +28,9 @@ pub enum CliFault {
 
 impl CliFault {
     /// The words of the fault.
-    pub fn text(&self) -> &'static str {
+    pub fn text(&self) -> &'static str
+        ensures { result.now ≡ fault_text self.now }
+    {
         match self {
             CliFault::Read => "read",
             CliFault::Write => "write",

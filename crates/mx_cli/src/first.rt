@@ -5,7 +5,7 @@ ghost use Rattle.httparse.specs.Spans.{IsRequestAt, IsRequestWithin};
 ghost use Rattle.mx_cli.specs.Found.{IsFound};
 
 use crate::fields::{body_len, token};
-use crate::head::{Asked, Found, Stop, Reason};
+use crate::head::{Asked, Found, Reason, Stop};
 use httparse::Status;
 use httparse::spans::{EMPTY_HEADER_SPAN, HeaderSpan, RequestSpans, parse_request};
 

@@ -17,6 +17,8 @@ pub mod replies;
 pub mod routes;
 pub mod serve;
 pub mod table;
+#[cfg(test)]
+mod tests;
 pub mod values;
 
 use counted::Counted;

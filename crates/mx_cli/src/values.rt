@@ -74,7 +74,10 @@ pub struct PurseRow {
 #[derive(Clone, Copy, Debug)]
 pub enum Edit {
     /// A member, and its clerk's token.
-    NewMember { member: Name, clerk: Token },
+    NewMember {
+        member: Name,
+        clerk: Token,
+    },
     /// A holder of that member, and its token.
     NewHolder {
         holder: Name,
@@ -82,7 +85,10 @@ pub enum Edit {
         token: Token,
     },
     /// A new purse of that holder.
-    NewPurse { purse: Name, holder: Name },
+    NewPurse {
+        purse: Name,
+        holder: Name,
+    },
 }
 
 /// What a command is answered, and the change of the books that goes with the answer.

@@ -5,7 +5,8 @@ ghost use Rattle.mx_pay.specs.Log.{none_logged};
 use crate::details::PayDetails;
 use std::marker::Model;
 
-/// An exception log: at most 16 distinct payment details, in order. A contract sees it as their set.
+/// An exception log: at most 16 payment details, all different, kept in order. A contract sees it as the set
+/// of these details.
 #[derive(Clone, Copy, Debug)]
 pub struct Log {
     entries: [Option<PayDetails>; 16],
@@ -30,7 +31,7 @@ impl Model for Log {
 }
 
 impl Log {
-    /// The empty log.
+    /// The empty log, which has no details.
     pub fn new() -> Log
         ensures { result ≡ none_logged }
     {

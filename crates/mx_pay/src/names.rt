@@ -4,12 +4,12 @@ ghost use Rattle.std.specs.Ordering.{nat_cmp};
 ghost use Rattle.std.specs.Cmp.{partial_equiv_from_equiv};
 ghost use Rattle.std.specs.Cmp.Lexicographic.{pointwise, slice_cmp, nat_list_eq_equiv, nat_list_cmp_total, texts_po, texts_ties};
 ghost use Rattle.std.specs.List.{list_all};
-ghost use Rattle.mx_pay.specs.Names.{is_name_text, is_letter, is_name_byte, begins_with_letter, is_name};
+ghost use Rattle.mx_pay.specs.Names.{is_name_text, is_name_byte, begins_with_letter, is_name};
 
 use std::cmp::Ordering;
 use std::marker::Model;
 
-/// A name of a member, a holder, a purse or a reference: 1 to 24 bytes of `a` to `z`, `0` to `9` and `-`,
+/// A name of a member, a holder or a purse, or a reference: 1 to 24 bytes of `a` to `z`, `0` to `9` and `-`,
 /// the first a letter. Names are ordered by their bytes. A contract sees a name as its bytes.
 #[derive(Clone, Copy, Debug)]
 pub struct Name {
@@ -33,16 +33,10 @@ impl Model for Name {
     ghost inverse_ok = { λ n h i. record { bytes = h.exact i; len = length-take-le n.len n.bytes h.within i } };
 }
 
-fn is_letter_byte(b: u8) -> bool
-    ensures { result ≡ is_letter b }
-{
-    97 <= b && b <= 122
-}
-
 fn may_stand(b: u8) -> bool
     ensures { result ≡ is_name_byte b }
 {
-    is_letter_byte(b) || (48 <= b && b <= 57 || b == 45)
+    b.is_ascii_lowercase() || b.is_ascii_digit() || b == b'-'
 }
 
 fn begins(bytes: &[u8]) -> bool
@@ -50,7 +44,7 @@ fn begins(bytes: &[u8]) -> bool
 {
     match bytes {
         [] => false,
-        [b, ..] => is_letter_byte(*b),
+        [first, ..] => first.is_ascii_lowercase(),
     }
 }
 
@@ -67,7 +61,9 @@ fn is_text(bytes: &[u8]) -> bool
 }
 
 impl Name {
-    /// The name that a text is. None exactly where the text is no name.
+    /// The name that is spelled `text`. None exactly where `text` is no name: where it is empty, has more than
+    /// 24 bytes, begins with another byte than `a` to `z`, or has a byte that is none of `a` to `z`, `0` to `9`
+    /// and `-`.
     pub fn read(text: &str) -> Option<Name>
         ensures { result ≡ (if is_name_text text.now then Some text.now else None) }
     {
@@ -83,7 +79,7 @@ impl Name {
         })
     }
 
-    /// The text of the name.
+    /// The text of the name, which `read` reads as this name: 1 to 24 bytes of ASCII.
     pub fn as_str(&self) -> &str
         ensures text { result.now ≡ self.now }
         ensures valid { IsTrue (is_name_text self.now) }

@@ -22,7 +22,7 @@ impl Model for Amount {
 }
 
 impl Amount {
-    /// The amount of so much. None exactly where it is above 10^12.
+    /// The amount `value`. None exactly where `value` is above 10^12.
     pub fn new(value: u64) -> Option<Amount>
         ensures { result ≡ (if nat_le value (10 ^ 12) then Some value else None) }
     {
@@ -33,7 +33,7 @@ impl Amount {
         }
     }
 
-    /// The number itself.
+    /// The amount as a number, from 0 to 10^12.
     pub fn get(self) -> u64
         ensures value { result ≡ self }
         ensures limit { self ≤ 10 ^ 12 }
@@ -42,10 +42,10 @@ impl Amount {
     }
 }
 
-/// A sequence number, from 0 to 10^15. A contract sees it as a number.
+/// A sequence number of a purse, from 0 to 10^15. A contract sees it as a number.
 #[derive(Clone, Copy, Debug, PartialEq, Eq, PartialOrd, Ord)]
 pub struct Seq {
-    value: u64,
+    number: u64,
 }
 
 impl Model for Seq {
@@ -53,37 +53,37 @@ impl Model for Seq {
 
     ghost Value = { ℕ };
 
-    ghost view = { λ a. a.value };
+    ghost view = { λ s. s.number };
 
-    ghost invariant = { λ a. a.value ≤ 10 ^ 15 };
+    ghost invariant = { λ s. s.number ≤ 10 ^ 15 };
 
-    ghost inverse = { λ n. record { value = n } };
+    ghost inverse = { λ n. record { number = n } };
 }
 
 impl Seq {
-    /// The sequence number of that value. None exactly where it is above 10^15.
+    /// The sequence number `value`. None exactly where `value` is above 10^15.
     pub fn new(value: u64) -> Option<Seq>
         ensures { result ≡ (if nat_le value (10 ^ 15) then Some value else None) }
     {
         if value <= 1_000_000_000_000_000 {
-            Some(Seq { value })
+            Some(Seq { number: value })
         } else {
             None
         }
     }
 
-    /// The number itself.
+    /// The sequence number as a number, from 0 to 10^15.
     pub fn get(self) -> u64
         ensures value { result ≡ self }
         ensures limit { self ≤ 10 ^ 15 }
     {
-        self.value
+        self.number
     }
 
     /// The first sequence number, 0.
     pub fn zero() -> Seq
         ensures { result ≡ 0 }
     {
-        Seq { value: 0 }
+        Seq { number: 0 }
     }
 }

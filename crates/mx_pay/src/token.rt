@@ -1,5 +1,5 @@
 //! Tokens.
-ghost use Rattle.std.specs.Prelude.{◌≡◌, ◌↔◌, Some, IsSome, IfSome, nat_eq, refl, length};
+ghost use Rattle.std.specs.Prelude.{◌≡◌, ◌↔◌, Some, IsSome, IfSome, IsAscii, nat_eq, refl, length};
 ghost use Rattle.std.specs.Ordering.{nat_cmp};
 ghost use Rattle.std.specs.Cmp.{partial_equiv_from_equiv};
 ghost use Rattle.std.specs.Cmp.Lexicographic.{pointwise, slice_cmp, nat_list_eq_equiv, nat_list_cmp_total, texts_po, texts_ties};
@@ -9,8 +9,8 @@ ghost use Rattle.mx_pay.specs.Tokens.{token_of, is_token, IsTokenText, lower_cas
 use std::cmp::Ordering;
 use std::marker::Model;
 
-/// The token by which a caller is known: 16 bytes, written as 32 hexadecimal digits. A contract sees it as
-/// its bytes.
+/// The token by which a caller is known: 16 bytes, written as 32 hexadecimal digits. Tokens are ordered by
+/// their bytes. A contract sees a token as its bytes.
 #[derive(Clone, Copy, Debug)]
 pub struct Token {
     bytes: [u8; 16],
@@ -27,17 +27,22 @@ impl Model for Token {
 }
 
 impl Token {
-    /// The token that a text is: 32 hexadecimal digits of either case. None exactly where the text is
+    /// The token that is written `text`, 32 hexadecimal digits of either case. None exactly where `text` is
     /// anything else.
     pub fn read(text: &str) -> Option<Token>
-        ensures { result ≡ token_of text.now }
+        ensures value { result ≡ token_of text.now }
+        ensures accepted { IsSome result ↔ IsTokenText text.now }
+        ensures text { IfSome result (λ token. encode_lower token ≡ lower_case text.now) }
     {
         Token::read_bytes(text.as_bytes())
     }
 
-    /// The token that bytes spell, as `read` of the same text. Bytes that are no text spell none.
+    /// The token that is written `text`, as `read` gives it, for bytes that need not be UTF-8. None exactly
+    /// where they are anything else than 32 hexadecimal digits.
     pub fn read_bytes(text: &[u8]) -> Option<Token>
-        ensures { result ≡ token_of text.now }
+        ensures value { result ≡ token_of text.now }
+        ensures accepted { IsSome result ↔ IsTokenText text.now }
+        ensures text { IfSome result (λ token. encode_lower token ≡ lower_case text.now) }
     {
         let mut bytes = [0u8; 16];
         match hex::decode_to_slice(text, &mut bytes) {
@@ -46,9 +51,11 @@ impl Token {
         }
     }
 
-    /// The 32 digits of the token, in lower case.
+    /// The 32 hexadecimal digits of the token, with letters in lower case.
     pub fn text(&self) -> [u8; 32]
-        ensures { result ≡ encode_lower self.now }
+        ensures value { result ≡ encode_lower self.now }
+        ensures length { length result ≡ 32 }
+        ensures ascii { IsAscii result }
     {
         let mut digits = [0u8; 32];
         let _done = hex::encode_to_slice(&self.bytes[..], &mut digits);

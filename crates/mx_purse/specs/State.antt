@@ -1,4 +1,4 @@
--- A purse as a record (PRG-126: ConPurse), and what always holds of one.
+-- A purse as a record (PRG-126: the schema ConPurse), and what always holds of one.
 use Rattle.std.specs.Prelude.{◌≡◌, ℕ, ◌+◌, ◌^◌, ◌<◌, ◌≤◌, ◌⊎◌, Bool, List, refl}
 use Rattle.std.specs.Coded.{Coded, code_by, coded×, coded_ℕ, coded_list}
 use Rattle.mx_pay.specs.Details.{Details}
@@ -7,27 +7,30 @@ use Rattle.mx_purse.specs.contracts.status.Status as status
 use Rattle.mx_purse.specs.declared.status.Status.{Status}
 use Rattle.mx_purse.specs.declared.status.Status.TheVariants.{EaFrom, EaTo, Epr, Epv, Epa}
 
+-- the parts of ConPurse, with the present details inside the status, and the count of statement lines
 pub record State : Type 0 where
   pub name : List ℕ
   pub balance : ℕ
+  -- the sequence number that the next payment takes
   pub next : ℕ
-  -- with the details of the payment under way
+  -- where the purse stands, with the details of the payment under way
   pub status : Status
   -- the exception log
   pub log : Entries
   -- how many statement lines it has
   pub lines : ℕ
 
--- a new purse
+-- a new purse: at rest, with nothing in it and nothing logged
 abbrev pub new_purse : List ℕ → State
 new_purse name = record { name = name; balance = 0; next = 0; status = EaFrom; log = none_logged; lines = 0 }
 
--- details name the purse, and have its own number below the next one
+-- details name the purse, with the purse's own number in them below its next one
 abbrev pub IsOwnEntry : State → Details → Type 0
 IsOwnEntry p d = ((d.from ≡ p.name) × (d.from_seq < p.next)) ⊎ ((d.to ≡ p.name) × (d.to_seq < p.next))
 
--- what holds in each status: at rest only that the lines are few; in the others the details are the purse's
--- own and not logged yet, with room for them in the log
+-- what holds in each status: at rest only that the lines are few; in the others the details name the purse on
+-- its side, with its own number below its next one, they aren't logged yet, the log has room for them, and the
+-- lines are few; in epr the balance covers the value
 abbrev pub IsInStatus : State → Status → Type 0
 IsInStatus p EaFrom = p.lines ≤ 10 ^ 15 + 2
 IsInStatus p EaTo = p.lines ≤ 10 ^ 15 + 2
@@ -38,7 +41,7 @@ IsInStatus p (Epv d) = (d.to ≡ p.name) × (d.to_seq < p.next)
 IsInStatus p (Epa d) = (d.from ≡ p.name) × (d.from_seq < p.next)
     × (has_logged p.log d ≡ Bool.false) × (log_len p.log ≤ 15) × (p.lines ≤ 10 ^ 15 + 1)
 
--- what always holds of a purse
+-- what always holds of a purse: the conditions of ConPurse, and the limits and conditions of this office
 pub record IsPurse (p : State) : Type 0 where
   pub balance : p.balance ≤ 10 ^ 15
   pub next : p.next ≤ 10 ^ 15
@@ -46,6 +49,7 @@ pub record IsPurse (p : State) : Type 0 where
   pub room : log_len p.log ≤ 16
   pub entries : (d : Details) → has_logged p.log d ≡ Bool.true → IsOwnEntry p d
 
+-- a purse as the tuple of its parts, by which a proof tells two of them apart
 abbrev pub coded_state : Coded State
 coded_state =
     code_by (List ℕ × (ℕ × (ℕ × (Status × (Entries × ℕ)))))

@@ -3,6 +3,8 @@
 
 pub mod purse;
 pub mod status;
+#[cfg(test)]
+mod tests;
 
 pub use purse::Purse;
 pub use status::Status;

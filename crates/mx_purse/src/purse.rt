@@ -1,5 +1,5 @@
 //! The purse.
-ghost use Rattle.std.specs.Prelude.{◌≡◌, ◌≤◌, ◌^◌};
+ghost use Rattle.std.specs.Prelude.{◌≡◌, ◌≤◌, ◌+◌, ◌^◌};
 ghost use Rattle.mx_purse.specs.State.{new_purse, IsPurse};
 
 use crate::status::Status;
@@ -8,7 +8,7 @@ use std::marker::Model;
 
 /// A purse: its name, its balance, its next sequence number, its status with the details of the payment
 /// under way, its exception log and how many statement lines it has. A contract sees it as the record of
-/// these parts, and each purse meets the conditions of a purse.
+/// these parts. Every purse meets the conditions of `IsPurse`.
 #[derive(Clone, Copy, Debug)]
 pub struct Purse {
     name: Name,
@@ -27,13 +27,31 @@ impl Model for Purse {
     ghost coded = { coded_state };
 
     ghost view = { λ p. record {
-        name = p.name; balance = p.balance; next = p.next; status = p.status; log = p.log; lines = p.lines } };
+      name = p.name;
+      balance = p.balance;
+      next = p.next;
+      status = p.status;
+      log = p.log;
+      lines = p.lines;
+    } };
 
     ghost invariant = { λ p. IsPurse (record {
-        name = p.name; balance = p.balance; next = p.next; status = p.status; log = p.log; lines = p.lines }) };
+      name = p.name;
+      balance = p.balance;
+      next = p.next;
+      status = p.status;
+      log = p.log;
+      lines = p.lines;
+    }) };
 
     ghost inverse = { λ p. record {
-        name = p.name; balance = p.balance; next = p.next; status = p.status; log = p.log; lines = p.lines } };
+      name = p.name;
+      balance = p.balance;
+      next = p.next;
+      status = p.status;
+      log = p.log;
+      lines = p.lines;
+    } };
 }
 
 impl Purse {
@@ -60,7 +78,7 @@ impl Purse {
         self.name
     }
 
-    /// What the purse holds, from 0 to 10^15.
+    /// How much the purse holds, from 0 to 10^15.
     pub fn balance(&self) -> u64
         ensures value { result ≡ self.now.balance }
         ensures limit { result ≤ 10 ^ 15 }
@@ -68,21 +86,21 @@ impl Purse {
         self.balance
     }
 
-    /// The next sequence number, which the next payment takes.
+    /// The sequence number that the next payment takes, from 0 to 10^15.
     pub fn next(&self) -> Seq
         ensures { result ≡ self.now.next }
     {
         self.next
     }
 
-    /// The status, with the details of the payment under way.
+    /// Where the purse stands in a payment, with the details of the payment under way.
     pub fn status(&self) -> Status
         ensures { result ≡ self.now.status }
     {
         self.status
     }
 
-    /// The exception log.
+    /// The exception log: the details of the payments that the purse logged when it aborted, at most 16.
     pub fn log(&self) -> Log
         ensures { result ≡ self.now.log }
     {
@@ -91,7 +109,8 @@ impl Purse {
 
     /// How many statement lines the purse has, from 0 to 10^15 + 2.
     pub fn lines(&self) -> u64
-        ensures { result ≡ self.now.lines }
+        ensures value { result ≡ self.now.lines }
+        ensures limit { result ≤ 10 ^ 15 + 2 }
     {
         self.lines
     }

@@ -1,17 +1,17 @@
 //! The status of a purse.
 use mx_pay::PayDetails;
 
-/// Where a purse stands in a payment. At rest it keeps no payment details.
+/// Where a purse stands in a payment, and the details of that payment. At rest it keeps no details.
 #[derive(Clone, Copy, Debug)]
 pub enum Status {
-    /// At rest; the last payment, if any, was one that the purse sent.
+    /// At rest, in every case but that of `EaTo`: it is new, its payment was acknowledged, or it aborted.
     EaFrom,
-    /// At rest; the last payment was one that the purse received.
+    /// At rest: it was paid, and hasn't aborted since.
     EaTo,
-    /// It is to pay, and expects the request.
+    /// It is to pay these details, and expects the request for them.
     Epr(PayDetails),
-    /// It is to be paid, and expects the value.
+    /// It is to be paid these details, and expects the value.
     Epv(PayDetails),
-    /// It has paid, and expects the acknowledgement.
+    /// It has paid these details, and expects the acknowledgement.
     Epa(PayDetails),
 }
