@@ -1,16 +1,12 @@
 -- The values of fields, one field after another.
-use Rattle.std.proofs.Common.{◌≡◌, ℕ, ◌+◌, ◌*◌, ◌-◌, ◌<◌, ◌≤◌, min, Bool, true, false, List, [], ◌∷◌, ◌++◌, length, take, get_or, map, true≢false, refl, sym, ap, ◌∙◌, arith}
-use Rattle.std.specs.Prelude.{if◌then◌else◌, Result, Ok, Err, nat_le, nat_lt, codes, IsTrue, ◌↔◌}
-use Rattle.std.specs.Bool.{Decides}
+use Rattle.std.proofs.Common.{◌≡◌, ℕ, ◌+◌, ◌<◌, ◌≤◌, Bool, true, false, List, [], ◌∷◌, ◌++◌, length, take, get_or, map, refl, ap, arith}
+use Rattle.std.specs.Prelude.{if◌then◌else◌, Ok, Err, nat_le, nat_lt, codes, IsTrue, ◌↔◌}
 use Rattle.std.specs.Char.{to_ascii_lowercase}
 use Rattle.std.proofs.lemmas.Slice.Eq.{bytes_eq-Decides}
 use Rattle.std.proofs.lemmas.Bool.Decides.{same_from_decides}
 use Rattle.std.specs.Str.{str_eq_ignore_ascii_case}
-use Rattle.std.specs.Char.{is_ascii_digit}
 use Rattle.std.specs.Str.Parse.{digits_value}
-use Rattle.std.specs.List.{list_all}
-use Rattle.mx_cli.specs.declared.head.Reason.{Reason}
-use Rattle.mx_cli.specs.declared.head.Reason.TheVariants.{BadHead, TransferCoding, BadLength, TooLarge, BodyCut}
+use Rattle.mx_cli.specs.declared.head.Reason.TheVariants.{TransferCoding, BadLength, TooLarge}
 use Rattle.std.proofs.lemmas.Bool.{leb-true}
 use Rattle.std.proofs.lemmas.List.{map_more}
 use Rattle.httparse.specs.Spans.{header_bytes}

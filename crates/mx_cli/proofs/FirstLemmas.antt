@@ -1,16 +1,16 @@
 -- What a parse of the bytes so far says of all that may follow.
-use Rattle.std.proofs.Common.{◌≡◌, ℕ, ◌+◌, ◌-◌, ◌<◌, ◌≤◌, Bool, true, false, List, [], ◌∷◌, ◌++◌, length, take, drop, map, refl, sym, ap, ◌∙◌, subst, append_assoc, arith, length-append, length-drop, length-take}
-use Rattle.std.specs.Prelude.{Result, Ok, Err, nat_le}
-use Rattle.std.proofs.lemmas.List.{take-append-le, append-nil, drop-append-le, take-append-drop, length-map, drop-drop}
-use Rattle.std.proofs.lemmas.Bool.{leb-true, le-leb, lt-leb}
+use Rattle.std.proofs.Common.{◌≡◌, ℕ, ◌+◌, ◌-◌, ◌<◌, ◌≤◌, true, false, List, [], ◌∷◌, ◌++◌, length, take, drop, refl, sym, ap, ◌∙◌, arith, length-append, length-drop, length-take}
+use Rattle.std.specs.Prelude.{Ok, Err, nat_le}
+use Rattle.std.proofs.lemmas.List.{take-append-le, append-nil, drop-append-le, length-map, drop-drop}
+use Rattle.std.proofs.lemmas.Bool.{le-leb, lt-leb}
 use Rattle.httparse.specs.Grammar.{RequestHead, ReadsRequest, print_request, HasNoRequest}
 use Rattle.httparse.specs.Spans.{IsRequestAt, RequestOverflows, header_bytes, name_and_value}
 use Rattle.httparse.specs.declared.spans.HeaderSpan.{HeaderSpan}
 use Rattle.httparse.specs.declared.spans.RequestSpans.{RequestSpans}
 use Rattle.httparse.proofs.GrammarLemmas.{ReadsRequest-append, request_prefix_free}
 use Rattle.mx_cli.specs.declared.head.Reason.{Reason}
-use Rattle.mx_cli.specs.declared.head.Reason.TheVariants.{BadHead, TransferCoding, BadLength, TooLarge, BodyCut}
-use Rattle.mx_cli.specs.Requests.{Request, IsHead, HasNoHead, Next, Nothing, Stops, Whole, First, nothing, no_head, a_head, after_head, framing, fields_of, request_of, is_head_request}
+use Rattle.mx_cli.specs.declared.head.Reason.TheVariants.{BodyCut}
+use Rattle.mx_cli.specs.Requests.{Request, IsHead, HasNoHead, Stops, Whole, First, a_head, framing, fields_of, request_of, is_head_request}
 
 pub none_so_far : (b : List ℕ) → HasNoRequest b → HasNoHead b
 none_so_far b no_request h rest is = no_request h rest is.reads

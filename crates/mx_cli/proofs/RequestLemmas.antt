@@ -1,14 +1,13 @@
 -- What comes first is one thing, and stays where more follows.
-use Rattle.std.proofs.Common.{◌≡◌, ◌≢◌, ℕ, ◌+◌, ◌-◌, ◌<◌, ◌≤◌, Bool, true, false, List, [], ◌∷◌, ◌++◌, length, take, drop, map, refl, sym, ap, ◌∙◌, subst, append_assoc, arith, length-append, length-drop, zero-add, true≢false}
-use Rattle.std.specs.Prelude.{Result, Ok, Err, nat_le, if◌then◌else◌, IsTrue}
-use Rattle.std.proofs.lemmas.List.{take-append-le, append-nil, drop-append-le}
+use Rattle.std.proofs.Common.{◌≡◌, ℕ, ◌<◌, ◌≤◌, Bool, true, false, List, [], ◌∷◌, ◌++◌, length, refl, sym, ap, ◌∙◌, arith, length-append, length-drop}
+use Rattle.std.specs.Prelude.{Result, Ok, Err, nat_le, if◌then◌else◌}
+use Rattle.std.proofs.lemmas.List.{take-append-le, drop-append-le}
 use Rattle.std.proofs.lemmas.Bool.{leb-true, le-leb}
-use Rattle.httparse.specs.Grammar.{RequestHead, ReadsRequest, print_request, IsRequestHead, HasNoRequest}
+use Rattle.httparse.specs.Grammar.{RequestHead, ReadsRequest, print_request, IsRequestHead}
 use Rattle.httparse.proofs.GrammarLemmas.{ReadsRequest-append, request_unique}
 use Rattle.mx_cli.specs.declared.head.Reason.{Reason}
-use Rattle.mx_cli.specs.declared.head.Reason.TheVariants.{BadHead, TransferCoding, BadLength, TooLarge, BodyCut}
 use Rattle.mx_cli.specs.declared.head.Stop.{Stop}
-use Rattle.mx_cli.specs.Requests.{Request, IsHead, HasNoHead, Next, Nothing, Stops, Whole, First, nothing, no_head, a_head, after_head, framing, fields_of, request_of, is_head_request, Begins, none, more}
+use Rattle.mx_cli.specs.Requests.{Request, IsHead, Next, Stops, Whole, First, nothing, no_head, a_head, after_head, framing, fields_of, Begins, none, more}
 
 pub IsHead-append : (b tail : List ℕ) (h : RequestHead) (rest : List ℕ) → IsHead b h rest → IsHead (b ++ tail) h (rest ++ tail)
 IsHead-append b tail h rest x = record {

@@ -1,5 +1,5 @@
 -- A run over a whole input: one request more, the end, and a response that was cut.
-use Rattle.std.proofs.Common.{◌≡◌, ℕ, ◌+◌, ◌-◌, ◌<◌, ◌≤◌, List, [], ◌∷◌, ◌++◌, length, take, drop, refl, sym, ap, ◌∙◌, append_assoc, arith, length-drop, drop-drop}
+use Rattle.std.proofs.Common.{◌≡◌, ℕ, ◌+◌, ◌<◌, ◌≤◌, List, [], ◌∷◌, ◌++◌, length, take, drop, refl, sym, ap, ◌∙◌, append_assoc, arith, length-drop, drop-drop}
 use Rattle.std.proofs.lemmas.List.{append-nil, map-append}
 use Rattle.mx_cli.specs.World.{World}
 use Rattle.mx_cli.specs.declared.head.Stop.{Stop}

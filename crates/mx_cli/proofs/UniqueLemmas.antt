@@ -1,6 +1,6 @@
 -- A text has one list of requests and one end.
-use Rattle.std.proofs.Common.{◌≡◌, ℕ, List, [], ◌∷◌, ◌++◌, refl, sym, ap, ◌∙◌, subst}
-use Rattle.mx_cli.specs.Requests.{Request, Next, Nothing, Stops, Whole, First, IsEnd, Begins, none, more, Requests}
+use Rattle.std.proofs.Common.{◌≡◌, ℕ, List, ◌∷◌, refl, sym, subst}
+use Rattle.mx_cli.specs.Requests.{Request, Next, Whole, First, IsEnd, Begins, none, more, Requests}
 use Rattle.mx_cli.proofs.RequestLemmas.{First-unique}
 
 no_end : (b : List ℕ) (e : Next) (r : Request) (mid : List ℕ) → First b e → IsEnd e → First b (Whole r mid) → ⊥

@@ -1,5 +1,6 @@
--- The requests in a text: heads of httparse's grammar within the limits, each with its body.
-use Rattle.std.specs.Prelude.{◌≡◌, ℕ, ◌+◌, ◌<◌, ◌≤◌, Bool, true, false, List, [], ◌∷◌, ◌++◌, length, take, drop, map, All, if◌then◌else◌, nat_le, nat_lt, ◌&&◌, Option, Some, None, Result, Ok, Err, codes, bytes_eq}
+-- The requests in a text: heads within the limits, each with its body (RFC 9112, sections 2 to 6). A head is one
+-- of httparse's grammar, of at most 8,192 bytes and 64 fields.
+use Rattle.std.specs.Prelude.{◌≡◌, ℕ, ◌<◌, ◌≤◌, Bool, false, List, [], ◌∷◌, length, take, drop, map, if◌then◌else◌, nat_le, nat_lt, ◌&&◌, Option, Some, None, Result, Ok, Err, codes, bytes_eq}
 use Rattle.std.specs.List.{list_all}
 use Rattle.std.specs.Char.{is_ascii_digit}
 use Rattle.std.specs.Str.{str_eq_ignore_ascii_case}
@@ -17,7 +18,7 @@ pub record Request : Type 0 where
   pub token : Option (List ℕ)
   pub body : List ℕ
 
--- the values of the fields of that name, whose case doesn't count
+-- the values of the fields of that name, whose case doesn't count (RFC 9110, section 5.1)
 abbrev pub values_of : List ℕ → List (List ℕ × List ℕ) → List (List ℕ)
 values_of name [] = []
 values_of name (f ∷ fs) =
@@ -29,22 +30,22 @@ only [] = None
 only (v ∷ []) = Some v
 only (v ∷ w ∷ vs) = None
 
--- one or more digits
+-- one or more digits (RFC 9110, section 8.6)
 abbrev pub is_number : List ℕ → Bool
 is_number v = nat_lt 0 (length v) && list_all is_ascii_digit v
 
--- how many bytes of body a number announces
+-- how many bytes of body a value announces: a number up to 4,096
 abbrev pub announced : List ℕ → Result ℕ Reason
 announced v =
     if is_number v then (if nat_le (digits_value 10 v) 4096 then Ok (digits_value 10 v) else Err TooLarge) else Err BadLength
 
--- how many bytes of body the Content-Length fields announce
+-- how many bytes of body the Content-Length fields announce: none where there is no such field
 abbrev pub length_of : List (List ℕ) → Result ℕ Reason
 length_of [] = Ok 0
 length_of (v ∷ []) = announced v
 length_of (v ∷ w ∷ vs) = Err BadLength
 
--- how many bytes of body follow a head with these fields
+-- how many bytes of body follow a head with these fields (RFC 9112, section 6.3); no transfer coding is taken
 abbrev pub framing : List (List ℕ × List ℕ) → Result ℕ Reason
 framing fields =
     if nat_lt 0 (length (values_of (codes "transfer-encoding") fields))
@@ -81,6 +82,8 @@ request_of h body = record {
   body = body;
 }
 
+-- what comes first where a text begins with this head: the fault of its fields, or a request with the body that
+-- they announce, or a cut body where fewer bytes follow
 abbrev pub after_head : Result ℕ Reason → RequestHead → List ℕ → Next
 after_head (Err reason) h rest = Stops (record { is_head = is_head_request h; reason = reason })
 after_head (Ok n) h rest =

@@ -1,12 +1,12 @@
 -- The response to a request, and the World after it (RFC 9110).
-use Rattle.std.specs.Prelude.{ℕ, List, Bool, true, false, Option, Some, None, option_and_then, is_some, if◌then◌else◌, ◌||◌, bytes_eq, codes}
+use Rattle.std.specs.Prelude.{ℕ, List, Bool, true, false, Option, Some, None, option_and_then, is_some, if◌then◌else◌, bytes_eq, codes}
 use Rattle.mx_pay.specs.Tokens.{token_of}
 use Rattle.mx_cli.specs.World.{World, who_of}
 use Rattle.mx_cli.specs.Step.{Done, step}
 use Rattle.mx_cli.specs.Requests.{Request}
 use Rattle.mx_cli.specs.Routes.{route_of, class_of}
 use Rattle.mx_cli.specs.Bodies.{command_of}
-use Rattle.mx_cli.specs.Replies.{Response, sent, no_route, token_unknown, not_for_caller, bad_body, reply_response}
+use Rattle.mx_cli.specs.Replies.{Response, no_route, token_unknown, not_for_caller, bad_body, reply_response}
 use Rattle.mx_cli.specs.declared.routes.Route.{Route}
 use Rattle.mx_cli.specs.declared.values.Caller.{Caller}
 use Rattle.mx_cli.specs.declared.values.Caller.TheVariants as caller

@@ -53,6 +53,7 @@ entries table = map (λ e. (e.0.now, e.1)) table
 abbrev pub is_get : List ℕ → Bool
 is_get method = bytes_eq method (codes "GET") || bytes_eq method (codes "HEAD")
 
+-- POST alone adds
 abbrev pub is_post : List ℕ → Bool
 is_post method = bytes_eq method (codes "POST")
 

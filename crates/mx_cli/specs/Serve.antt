@@ -1,5 +1,5 @@
 -- What is written for a text, from a World.
-use Rattle.std.specs.Prelude.{◌≡◌, ℕ, ◌+◌, ◌<◌, Bool, true, false, List, [], ◌∷◌, ◌++◌, length, take, map, if◌then◌else◌}
+use Rattle.std.specs.Prelude.{◌≡◌, ℕ, ◌+◌, ◌<◌, Bool, true, List, [], ◌∷◌, ◌++◌, length, take, map, if◌then◌else◌}
 use Rattle.mx_cli.specs.declared.head.Reason.{Reason}
 use Rattle.mx_cli.specs.declared.head.Reason.TheVariants.{BadHead, TransferCoding, BadLength, TooLarge, BodyCut}
 use Rattle.mx_cli.specs.declared.head.Stop.{Stop}

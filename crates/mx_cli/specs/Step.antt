@@ -1,5 +1,5 @@
 -- One command of one caller: the World after it, and the reply.
-use Rattle.std.specs.Prelude.{◌≡◌, ℕ, nat_le, Bool, not, List, [], ◌∷◌, Option, Some, None, if◌then◌else◌, is_some}
+use Rattle.std.specs.Prelude.{◌≡◌, nat_le, Bool, not, List, [], ◌∷◌, Option, Some, None, if◌then◌else◌, is_some}
 use Rattle.std.specs.FinMap as map
 use Rattle.mx_pay.specs.Names.{is_name}
 use Rattle.mx_purse.specs.State.{State, new_purse}

@@ -1,5 +1,5 @@
 -- The World: what the office keeps.
-use Rattle.std.specs.Prelude.{ℕ, ◌==◌, Bool, List, Option, Some, None, if◌then◌else◌, is_some, count_by}
+use Rattle.std.specs.Prelude.{ℕ, Bool, List, Option, Some, None, if◌then◌else◌, is_some, count_by}
 use Rattle.std.specs.FinMap as map
 use Rattle.mx_pay.specs.Names.{name_cmp, is_name}
 use Rattle.mx_pay.specs.Tokens.{token_cmp, is_token}

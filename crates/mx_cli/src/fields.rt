@@ -25,7 +25,7 @@ fn one_more<'a>(found: Only<'a>, value: &'a [u8]) -> Only<'a>
     }
 }
 
-/// The values of the fields of that name.
+/// The values of the fields of that name, whose case doesn't count: none, the one, or that there are more.
 pub fn values<'a>(bytes: &'a [u8], fields: &[HeaderSpan], name: &[u8]) -> Only<'a>
     requires { All (IsHeaderWithin (length bytes.now)) fields.now }
     ensures { IsOnly result (values_of name.now (map (header_bytes bytes.now) fields.now)) }
@@ -39,7 +39,7 @@ pub fn values<'a>(bytes: &'a [u8], fields: &[HeaderSpan], name: &[u8]) -> Only<'
     found
 }
 
-/// The longest body.
+/// The longest body, in bytes.
 pub const MAX_BODY: usize = 4096;
 
 /// How many bytes a number announces.
@@ -63,7 +63,8 @@ fn number_of(value: &[u8]) -> Result<usize, Reason>
     }
 }
 
-/// How many bytes of body follow a head with these fields.
+/// How many bytes of body follow a head with these fields, from 0 to 4,096. The faults, in this order: a
+/// transfer-encoding field; Content-Length fields that aren't one number; a number above 4,096.
 pub fn body_len(bytes: &[u8], fields: &[HeaderSpan]) -> Result<usize, Reason>
     requires { All (IsHeaderWithin (length bytes.now)) fields.now }
     ensures { result ≡ framing (map (header_bytes bytes.now) fields.now) }
@@ -78,7 +79,7 @@ pub fn body_len(bytes: &[u8], fields: &[HeaderSpan]) -> Result<usize, Reason>
     }
 }
 
-/// The value of the one token field.
+/// The value of the `purse-token` field. None where there is no such field, or more than one.
 pub fn token<'a>(bytes: &'a [u8], fields: &[HeaderSpan]) -> Option<&'a [u8]>
     requires { All (IsHeaderWithin (length bytes.now)) fields.now }
     ensures { option_map (λ x. x.now) result ≡ only (values_of (codes "purse-token") (map (header_bytes bytes.now) fields.now)) }

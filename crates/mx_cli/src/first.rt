@@ -9,7 +9,7 @@ use crate::head::{Asked, Found, Reason, Stop};
 use httparse::Status;
 use httparse::spans::{EMPTY_HEADER_SPAN, HeaderSpan, RequestSpans, parse_request};
 
-/// The longest head.
+/// The longest head, in bytes.
 pub const MAX_HEAD: usize = 8192;
 
 /// No head.
@@ -49,7 +49,8 @@ fn after_head<'a>(bytes: &'a [u8], fields: &[HeaderSpan], head: &RequestSpans) -
     Found::Whole(asked, end)
 }
 
-/// What comes first.
+/// What comes first in these bytes: a whole request or a fault, whatever follows them, or what it is if nothing
+/// follows.
 pub fn first(bytes: &[u8]) -> Found<'_>
     ensures { IsFound bytes.now result }
 {

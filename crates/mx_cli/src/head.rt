@@ -1,28 +1,33 @@
 //! What comes first in a text.
 
-/// Why a run ends early.
+/// Why the input ends a run early.
 #[derive(Clone, Copy, Debug, PartialEq, Eq)]
 pub enum Reason {
+    /// What comes is no head, or none of at most 8,192 bytes and 64 fields.
     BadHead,
+    /// The head has a transfer-encoding field.
     TransferCoding,
+    /// The Content-Length fields aren't one number.
     BadLength,
+    /// The number is above 4,096.
     TooLarge,
+    /// The input ends inside the body.
     BodyCut,
 }
 
-/// A fault, and whether it is answered by a head alone.
+/// A fault that ends a run, and whether its response is a head alone, since the request's method is HEAD.
 #[derive(Clone, Copy, Debug, PartialEq, Eq)]
 pub struct Stop {
     pub is_head: bool,
     pub reason: Reason,
 }
 
-/// A whole request.
+/// A whole request: parts of the bytes that it was read from.
 #[derive(Clone, Copy, Debug)]
 pub struct Asked<'a> {
     pub method: &'a [u8],
     pub path: &'a [u8],
-    /// The value of the one token field.
+    /// The value of the `purse-token` field, where there is exactly one.
     pub token: Option<&'a [u8]>,
     pub body: &'a [u8],
 }

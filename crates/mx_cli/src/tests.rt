@@ -234,6 +234,16 @@ fn head_of_a_purse(rt: HostRuntime) -> Result<(), Fail> {
 }
 
 #[test]
+fn spaces_round_a_value_and_zeros_before_a_length_do_not_count(
+    rt: HostRuntime,
+) -> Result<(), Fail> {
+    let spaced =
+        "POST /members HTTP/1.0\r\nPURSE-TOKEN: \t 00000000000000000000000000000001 \t\r\ncontent-length:  0057 \r\n\r\n{\"member\":\"m\",\"token\":\"00000000000000000000000000000002\"}";
+    assert!(rt; answers(rt.alloc(), &[spaced], &[ADDED])?);
+    Ok(())
+}
+
+#[test]
 fn a_transfer_coding_and_two_lengths(rt: HostRuntime) -> Result<(), Fail> {
     let coded = "POST /members HTTP/1.1\r\nTransfer-Encoding: chunked\r\n\r\n";
     let coding = refusal(rt.alloc(), "501 Not Implemented", "transfer coding")?;
@@ -309,7 +319,7 @@ fn a_write_that_fails_ends_the_run(rt: HostRuntime) -> Result<(), Fail> {
     assert_eq!(rt; page.into_inner().text(), b"HTTP/1.1 2".as_slice());
     let clerk = Token::read("00000000000000000000000000000002").ok_or("a token")?;
     let ann = Token::read("0000000000000000000000000000000a").ok_or("a token")?;
-    assert!(rt; matches!(office.who(&clerk), Some(Caller::Clerk(_))));
+    assert!(rt; office.who(&clerk).is_some());
     assert!(rt; office.who(&ann).is_none());
     Ok(())
 }

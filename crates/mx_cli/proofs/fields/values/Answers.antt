@@ -1,5 +1,5 @@
-use Rattle.std.proofs.Common.{◌≡◌, ℕ, ◌+◌, ◌++◌, List, take, true, false, sym}
-use Rattle.std.proofs.lemmas.List.{map_more, append-nil}
+use Rattle.std.proofs.Common.{take, true, false}
+use Rattle.std.proofs.lemmas.List.{append-nil}
 use Rattle.std.specs.Prelude.{map}
 use Rattle.httparse.specs.Spans.{header_bytes}
 use Rattle.mx_cli.specs.Requests.{values_of}

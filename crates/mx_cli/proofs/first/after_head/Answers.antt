@@ -1,5 +1,4 @@
-use Rattle.std.proofs.Common.{◌≡◌, ℕ, ◌+◌, ◌-◌, ◌<◌, ◌≤◌, ◌++◌, [], length, take, drop, sym, ap, ◌∙◌, arith, length-append}
-use Rattle.std.specs.Prelude.{bytes_eq}
+use Rattle.std.proofs.Common.{◌≡◌, ◌+◌, ◌-◌, ◌≤◌, ◌++◌, [], length, drop, sym, ◌∙◌, arith}
 use Rattle.std.proofs.Common.{refl}
 use Rattle.mx_cli.specs.Requests.{fields_of}
 use Rattle.mx_cli.proofs.FirstLemmas.{head_at, whole_found, cut_at, refused_at}

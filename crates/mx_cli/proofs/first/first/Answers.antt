@@ -1,7 +1,5 @@
-use Rattle.std.proofs.Common.{◌≡◌, ℕ, ◌+◌, ◌<◌, ◌≤◌, length, sym, arith, length-append}
+use Rattle.std.proofs.Common.{sym, arith, length-append}
 use Rattle.std.proofs.lemmas.Bool.{eqb-false}
-use Rattle.httparse.specs.Outcome.{IfComplete, OnPartial}
-use Rattle.httparse.specs.Spans.{IsRequestOf}
 use Rattle.mx_cli.specs.Requests.{no_head}
 use Rattle.mx_cli.proofs.FirstLemmas.{none_so_far, too_many, too_long, ends_late}
 use Rattle.mx_cli.proofs.first.first.Goals as goal

@@ -1,5 +1,3 @@
-use Rattle.std.proofs.Common.{◌≡◌, ℕ, List, sym, ◌∙◌}
-use Rattle.std.specs.Io.KnownBytes.{Appends}
 use Rattle.mx_cli.specs.Books.{world_of}
 use Rattle.std.proofs.KnownBytes.{Appends-kept}
 use Rattle.mx_cli.proofs.ProgramLemmas.{at_known}

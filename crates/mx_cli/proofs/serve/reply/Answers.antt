@@ -1,7 +1,7 @@
-use Rattle.std.proofs.Common.{◌≡◌, ◌∙◌, ℕ, List, true, false, refl, sym, ap}
+use Rattle.std.proofs.Common.{◌≡◌, ◌∙◌, true, false, refl}
 use Rattle.mx_cli.specs.Books.{world_of}
 use Rattle.mx_cli.specs.Found.{request_view}
-use Rattle.mx_cli.specs.Replies.{Response, sent}
+use Rattle.mx_cli.specs.Replies.{sent}
 use Rattle.mx_cli.specs.Respond.{respond, is_head}
 use Rattle.mx_cli.proofs.Results.{on_ok, on_err}
 use Rattle.mx_cli.proofs.serve.reply.Goals as goal

@@ -1,10 +1,9 @@
-use Rattle.std.proofs.Common.{◌≡◌, ℕ, List, ◌+◌, ◌-◌, ◌*◌, ◌<◌, ◌≤◌, length, drop, take, [], ◌∷◌, ◌++◌, refl, sym, ap, ◌∙◌, arith, length-append, length-drop, add-zero}
+use Rattle.std.proofs.Common.{◌+◌, length, drop, take, [], ◌∷◌, ◌++◌, refl, sym, ap, ◌∙◌, arith, length-append, add-zero}
 use Rattle.std.proofs.KnownBytes.{Appends-nil, Appends-trans}
 use Rattle.std.proofs.lemmas.List.{take_rest, append-nil}
-use Rattle.std.specs.Io.KnownBytes.{Appends}
 use Rattle.mx_cli.specs.Requests.{Nothing, Stops, nothing}
 use Rattle.mx_cli.specs.Found.{request_view}
-use Rattle.mx_cli.specs.Serve.{stop_text, response_to}
+use Rattle.mx_cli.specs.Serve.{stop_text}
 use Rattle.mx_cli.proofs.ServeLemmas.{Answered-none, Answered-step, Served-end, ServedInPart-response, ServedInPart-end, shorter_rest}
 use Rattle.mx_cli.proofs.Results.{at_err}
 use Rattle.mx_cli.proofs.serve.run_whole.Goals as goal

@@ -1,4 +1,4 @@
-use Rattle.std.proofs.Common.{rules, sym, ◌∙◌, ap}
+use Rattle.std.proofs.Common.{rules}
 use Rattle.mx_cli.proofs.PlaceLemmas.{at_less, at_equal}
 use Rattle.mx_cli.proofs.table.find_place.Goals as goal
 

@@ -1,4 +1,3 @@
-use Rattle.std.proofs.Common.{◌≡◌, take}
 use Rattle.mx_cli.proofs.PlaceLemmas.{Before}
 use Rattle.mx_cli.proofs.table.find_place.Given as goal
 

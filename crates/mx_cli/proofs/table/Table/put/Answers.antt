@@ -1,4 +1,3 @@
-use Rattle.std.proofs.Common.{rules}
 use Rattle.std.specs.FinMap.Entries.{is_sorted-put}
 use Rattle.mx_cli.proofs.MapLemmas.{put_is}
 use Rattle.mx_cli.proofs.table.Table.put.Goals as goal
