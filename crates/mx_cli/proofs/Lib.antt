@@ -1,5 +1,3 @@
-pub mod MapLemmas
-pub mod PlaceLemmas
 pub mod Results
 pub mod FieldLemmas
 pub mod RequestLemmas

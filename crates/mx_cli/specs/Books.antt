@@ -1,7 +1,7 @@
 -- The World that the office's tables spell.
 use Rattle.mx_pay.specs.Names.{name_cmp}
 use Rattle.mx_pay.specs.Tokens.{token_cmp}
-use Rattle.mx_cli.specs.Slots.{map_of}
+use Rattle.mx_book.specs.Slots.{map_of}
 use Rattle.mx_cli.specs.World.{World}
 use Rattle.mx_cli.specs.declared.office.Office.{Office}
 

@@ -8,8 +8,8 @@ use Rattle.mx_cli.specs.Routes.{route_of, class_of}
 use Rattle.mx_cli.specs.Bodies.{command_of}
 use Rattle.mx_cli.specs.Replies.{Response, no_route, token_unknown, not_for_caller, bad_body, reply_response}
 use Rattle.mx_cli.specs.declared.routes.Route.{Route}
-use Rattle.mx_cli.specs.declared.values.Caller.{Caller}
-use Rattle.mx_cli.specs.declared.values.Caller.TheVariants as caller
+use Rattle.mx_book.specs.declared.values.Caller.{Caller}
+use Rattle.mx_book.specs.declared.values.Caller.TheVariants as caller
 use Rattle.mx_cli.specs.declared.values.Class.{Class}
 use Rattle.mx_cli.specs.declared.values.Class.TheVariants as class
 use Rattle.mx_cli.specs.declared.values.Command.{Command}

@@ -4,8 +4,8 @@ use Rattle.std.specs.FinMap as map
 use Rattle.mx_pay.specs.Names.{is_name}
 use Rattle.mx_purse.specs.State.{State, new_purse}
 use Rattle.mx_cli.specs.World.{World, Name, Token, is_taken, purses_held, edited_by}
-use Rattle.mx_cli.specs.declared.values.Caller.{Caller}
-use Rattle.mx_cli.specs.declared.values.Caller.TheVariants.{Operator, Clerk, Holder}
+use Rattle.mx_book.specs.declared.values.Caller.{Caller}
+use Rattle.mx_book.specs.declared.values.Caller.TheVariants.{Operator, Clerk, Holder}
 use Rattle.mx_cli.specs.declared.values.Command.{Command}
 use Rattle.mx_cli.specs.declared.values.Command.TheVariants.{NewMember, NewHolder, NewPurse, Show}
 use Rattle.mx_cli.specs.declared.values.Refusal.{Refusal}

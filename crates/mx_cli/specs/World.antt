@@ -4,8 +4,8 @@ use Rattle.std.specs.FinMap as map
 use Rattle.mx_pay.specs.Names.{name_cmp, is_name}
 use Rattle.mx_pay.specs.Tokens.{token_cmp, is_token}
 use Rattle.mx_purse.specs.State.{new_purse}
-use Rattle.mx_cli.specs.declared.values.Caller.{Caller}
-use Rattle.mx_cli.specs.declared.values.Caller.TheVariants as caller
+use Rattle.mx_book.specs.declared.values.Caller.{Caller}
+use Rattle.mx_book.specs.declared.values.Caller.TheVariants as caller
 use Rattle.mx_cli.specs.declared.values.PurseRow.{PurseRow}
 use Rattle.mx_cli.specs.declared.values.Edit.{Edit}
 use Rattle.mx_cli.specs.declared.values.Edit.TheVariants.{NewMember, NewHolder, NewPurse}

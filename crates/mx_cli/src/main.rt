@@ -16,7 +16,6 @@ pub mod program;
 pub mod replies;
 pub mod routes;
 pub mod serve;
-pub mod table;
 #[cfg(test)]
 mod tests;
 pub mod values;

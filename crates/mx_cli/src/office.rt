@@ -5,8 +5,9 @@ ghost use Rattle.mx_cli.specs.World.{who_of, is_taken, purses_held, edited_by, e
 ghost use Rattle.mx_cli.specs.Step.{step, Decides, new_member, new_holder, new_purse_of, show, is_found};
 ghost use Rattle.mx_cli.specs.Books.{world_of};
 
-use crate::table::Table;
-use crate::values::{Caller, Command, Decided, Edit, PurseRow, Refusal, Reply};
+use crate::values::{Command, Decided, Edit, PurseRow, Refusal, Reply};
+use mx_book::table::Table;
+use mx_book::values::Caller;
 use mx_pay::names::same_name;
 use mx_pay::token::same_token;
 use mx_pay::{Name, Token};

@@ -2,16 +2,6 @@
 use mx_pay::{Name, Token};
 use mx_purse::Purse;
 
-/// Who asks. The operator runs the scheme, a clerk acts for one member, and a holder for its own purses.
-#[derive(Clone, Copy, Debug)]
-pub enum Caller {
-    Operator,
-    /// The clerk of that member.
-    Clerk(Name),
-    /// That holder.
-    Holder(Name),
-}
-
 /// Whose a command is.
 #[derive(Clone, Copy, Debug, PartialEq, Eq)]
 pub enum Class {

@@ -1,8 +1,23 @@
--- The empty log.
-use Rattle.std.proofs.Common.{◌≡◌, List, [], ◌∷◌, length, refl, sym, ◌∙◌, arith}
+-- The calls of a log as those of its set: each call on the sixteen places gives what the set does.
+use Rattle.std.proofs.Common.{◌≡◌, ℕ, ◌-◌, ◌<◌, ◌≤◌, suc, zero, Bool, true, false, cond, ◌&&◌, ◌||◌, List, [], ◌∷◌, ◌++◌, refl, sym, ◌∙◌, ap, subst, Option, Some, None, T, map, length, replicate, arith}
+use Rattle.std.specs.Prelude.{is_some, nat_le, count_by, slice_get, filter}
+use Rattle.std.proofs.lemmas.List.Sums.{length-filter}
+use Rattle.mx_pay.specs.Orders.{logged-log_of}
+use Rattle.std.specs.Option.{some_prefix}
+use Rattle.std.specs.List.{list_all, list_any}
+use Rattle.std.proofs.lemmas.Bool.Decides.{nat_tests}
+use Rattle.std.specs.Ordering.{is_lt, eq_by_cmp, nat_cmp}
+use Rattle.std.specs.Cmp.{IsTotalOrder}
+use Rattle.std.proofs.lemmas.Cmp.{on_total, then_total, nat_list_cmp_total, nat_cmp_total}
+use Rattle.std.specs.Cmp.Lexicographic.{slice_cmp}
+use Rattle.std.proofs.lemmas.Map.Lookups.{exact_pairs, exact_unsigned}
+use Rattle.std.specs.FinMap.{IsAntisymmetric, slice_cmp-IsAntisymmetric, nat_cmp-IsAntisymmetric}
 use Rattle.std.specs.FinMap as fmap
+use Rattle.std.specs.FinMap.Entries.{put, find, is_sorted, is_sorted-put}
 use Rattle.mx_pay.specs.Details.{Details, details_cmp}
-use Rattle.mx_pay.specs.Log.{Entries, log_of}
+use Rattle.mx_pay.specs.Log.{Entries, IsLog, marks, places, log_of, log_len, has_logged, with_entry, is_within, entry_at, is_below, owns, all_owned}
+use Rattle.mx_pay.specs.Places.{put_in, holds_at, stands_in, option_join, is_behind, owns_place}
+use Rattle.mx_pay.proofs.PutLemmas.{put_list, put_in-places, put-marks, length-put_list}
 
 -- a list of no entries
 nil_of : (es : List (Details × Unit {0})) → length es ≡ 0 → es ≡ []
@@ -18,3 +33,162 @@ pub log_of_none : log_of [] ≡ fmap.empty
 log_of_none =
     fmap.same_entries_map _ _
     (fmap.entries-from_sorted details_cmp [] tt ∙ sym (no_entries fmap.empty (fmap.len-empty details_cmp (Unit {0}))))
+
+-- the order of details is total
+pub details_total : IsTotalOrder details_cmp
+details_total =
+    then_total (on_total (λ (d : Details). d.from) nat_list_cmp_total) (then_total (on_total (λ (d : Details). d.to) nat_list_cmp_total)
+    (then_total (on_total (λ (d : Details). d.value) nat_cmp_total) (then_total (on_total (λ (d : Details). d.from_seq) nat_cmp_total) (on_total (λ (d : Details). d.to_seq) nat_cmp_total))))
+
+length-marks : (ds : List Details) → length (marks ds) ≡ length ds
+length-marks [] = refl
+length-marks (d ∷ ds) = ap suc (length-marks ds)
+
+len-log_of : (ds : List Details) → T (is_sorted details_cmp (marks ds)) → log_len (log_of ds) ≡ length ds
+len-log_of ds h = fmap.len-entries (log_of ds) ∙ ap length (fmap.entries-from_sorted details_cmp (marks ds) h) ∙ length-marks ds
+
+prefix_of : (ds : List Details) (n : ℕ) → some_prefix (map Some ds ++ replicate n None) ≡ ds
+prefix_of [] zero = refl
+prefix_of [] (suc n) = refl
+prefix_of (d ∷ ds) n = ap (λ xs. d ∷ xs) (prefix_of ds n)
+
+taken : (ds : List Details) (n : ℕ) → list_all is_some (map Some ds ++ replicate n None) ≡ nat_le n 0
+taken [] zero = refl
+taken [] (suc n) = grind (arith, nat_tests)
+taken (d ∷ ds) n = taken ds n
+
+any_none : (d : Details) (n : ℕ) → list_any (holds_at d) (replicate n None) ≡ false
+any_none d zero = refl
+any_none d (suc n) = any_none d n
+
+any_case : (b : Bool) (x : Bool) (o : Option (Unit {0})) → x ≡ is_some o → (b || x) ≡ is_some (cond b (Some tt) o)
+any_case true x o h = refl
+any_case false x o h = h
+
+any_place : (d : Details) (ds : List Details) (n : ℕ) → list_any (holds_at d) (map Some ds ++ replicate n None) ≡ is_some (find details_cmp d (marks ds))
+any_place d [] n = any_none d n
+any_place d (e ∷ es) n = any_case (eq_by_cmp details_cmp d e) _ (find details_cmp d (marks es)) (any_place d es n)
+
+-- the three calls, of the fields
+pub full_is : (entries : List (Option Details)) → IsLog entries → list_all is_some entries ≡ nat_le 16 (log_len (log_of (some_prefix entries)))
+full_is entries h =
+    let ds : List Details = some_prefix entries in
+    let room : length ds ≤ 16 = h.room in
+    let last : nat_le (16 - length ds) 0 ≡ nat_le 16 (length ds) = grind (arith, nat_tests) in
+    ap (list_all is_some) (sym h.exact) ∙ taken ds (16 - length ds) ∙ last ∙ ap (nat_le 16) (sym (len-log_of ds h.rises))
+
+pub has_is : (entries : List (Option Details)) → IsLog entries → (d : Details) → list_any (holds_at d) entries ≡ has_logged (log_of (some_prefix entries)) d
+has_is entries h d =
+    ap (list_any (holds_at d)) (sym h.exact) ∙ any_place d (some_prefix entries) (16 - length (some_prefix entries))
+    ∙ ap is_some (sym (fmap.get-from_sorted details_cmp (marks (some_prefix entries)) d h.rises))
+
+none_of : (o : Option (Unit {0})) → is_some o ≡ false → o ≡ None
+none_of None e = refl
+none_of (Some u) e = cc
+
+-- the log after details that are new, where there is room
+pub record IsPut (entries : List (Option Details)) (d : Details) : Type 0 where
+  pub fields : IsLog (put_in d entries)
+  pub view : log_of (some_prefix (put_in d entries)) ≡ with_entry (log_of (some_prefix entries)) d
+
+pub is_put : (entries : List (Option Details)) → IsLog entries → (d : Details) → nat_le 16 (log_len (log_of (some_prefix entries))) ≡ false → has_logged (log_of (some_prefix entries)) d ≡ false → IsPut entries d
+is_put entries h d full there =
+    let ds : List Details = some_prefix entries in
+    let short : nat_le 16 (length ds) ≡ false = ap (nat_le 16) (sym (len-log_of ds h.rises)) ∙ full in
+    let room : length ds < 16 = below_16 (length ds) short in
+    let none : find details_cmp d (marks ds) ≡ None = none_of _ (ap is_some (sym (fmap.get-from_sorted details_cmp (marks ds) d h.rises)) ∙ there) in
+    let k : ℕ = 15 - length ds in
+    let one_more : 16 - length ds ≡ suc k = omega arith in
+    let before : entries ≡ map Some ds ++ None ∷ replicate k None = sym h.exact ∙ ap (λ m. map Some ds ++ replicate m None) one_more in
+    let after : put_in d entries ≡ map Some (put_list d ds) ++ replicate k None = ap (put_in d) before ∙ put_in-places d ds (replicate k None) h.rises none in
+    let prefix : some_prefix (put_in d entries) ≡ put_list d ds = ap some_prefix after ∙ prefix_of (put_list d ds) k in
+    let longer : length (put_list d ds) ≡ suc (length ds) = length-put_list d ds none in
+    let rises : T (is_sorted details_cmp (marks (put_list d ds))) = subst (λ es. T (is_sorted details_cmp es)) (put-marks d ds none) (is_sorted-put details_cmp details_total d tt (marks ds) h.rises) in
+    let left : 16 - length (put_list d ds) ≡ k = omega arith in
+    record {
+      fields = record {
+        room = subst (λ xs. length xs ≤ 16) (sym prefix) (omega arith);
+        exact = ap places prefix ∙ ap (λ m. map Some (put_list d ds) ++ replicate m None) left ∙ sym after;
+        rises = subst (λ xs. T (is_sorted details_cmp (marks xs))) (sym prefix) rises;
+      };
+      view = ap log_of prefix ∙ fmap.same_entries_map _ _ (fmap.entries-from_sorted details_cmp (marks (put_list d ds)) rises ∙ sym (put-marks d ds none)
+          ∙ ap (put details_cmp d tt) (sym (fmap.entries-from_sorted details_cmp (marks ds) h.rises)) ∙ sym (fmap.entries-insert details_total (log_of ds) d tt));
+    }
+  where
+    below_16 : (n : ℕ) → nat_le 16 n ≡ false → n < 16
+    below_16 n e = grind (arith, nat_tests)
+
+-- details that compare alike are the same
+pub details_exact : IsAntisymmetric details_cmp
+details_exact a b h =
+    ap (λ (p : List ℕ × (List ℕ × (ℕ × (ℕ × ℕ)))). let d : Details = record { from = p.0; to = p.1.0; value = p.1.1.0; from_seq = p.1.1.1.0; to_seq = p.1.1.1.1 } in d)
+    (exact_pairs (slice_cmp nat_cmp) _ names_exact
+    (exact_pairs (slice_cmp nat_cmp) _ names_exact
+    (exact_pairs nat_cmp _ exact_unsigned (exact_pairs nat_cmp nat_cmp exact_unsigned exact_unsigned)))
+    (a.from, (a.to, (a.value, (a.from_seq, a.to_seq)))) (b.from, (b.to, (b.value, (b.from_seq, b.to_seq)))) h)
+  where
+    names_exact : IsAntisymmetric (slice_cmp nat_cmp)
+    names_exact = slice_cmp-IsAntisymmetric nat_cmp-IsAntisymmetric
+
+-- the other calls, of the fields
+filter_places : (ds : List Details) (n : ℕ) → length (filter is_some (map Some ds ++ replicate n None)) ≡ length ds
+filter_places [] zero = refl
+filter_places [] (suc n) = filter_places [] n
+filter_places (d ∷ ds) n = ap suc (filter_places ds n)
+
+count_places : (ds : List Details) (n : ℕ) → count_by is_some (map Some ds ++ replicate n None) ≡ length ds
+count_places ds n = sym (length-filter is_some (map Some ds ++ replicate n None)) ∙ filter_places ds n
+
+pub len_is : (entries : List (Option Details)) → IsLog entries → count_by is_some entries ≡ log_len (log_of (some_prefix entries))
+len_is entries h = ap (count_by is_some) (sym h.exact) ∙ count_places (some_prefix entries) _ ∙ sym (len-log_of _ h.rises)
+
+slot_none : (n i : ℕ) → option_join (slice_get (replicate n None) i) ≡ None
+slot_none zero zero = refl
+slot_none zero (suc i) = refl
+slot_none (suc n) zero = refl
+slot_none (suc n) (suc i) = slot_none n i
+
+slot_place : (ds : List Details) (n i : ℕ) → option_join (slice_get (map Some ds ++ replicate n None) i) ≡ slice_get ds i
+slot_place [] n zero = slot_none n zero
+slot_place [] n (suc i) = slot_none n (suc i)
+slot_place (d ∷ ds) n zero = refl
+slot_place (d ∷ ds) n (suc i) = slot_place ds n i
+
+pub at_is : (entries : List (Option Details)) → IsLog entries → (i : ℕ) → option_join (slice_get entries i) ≡ entry_at (log_of (some_prefix entries)) i
+at_is entries h i = ap (λ es. option_join (slice_get es i)) (sym h.exact) ∙ slot_place (some_prefix entries) _ i ∙ ap (λ ds. slice_get ds i) (sym (logged-log_of _ h.rises))
+
+none_stand : (s : Entries) (n : ℕ) → list_all (stands_in s) (replicate n None) ≡ true
+none_stand s zero = refl
+none_stand s (suc n) = none_stand s n
+
+all_stand : (s : Entries) (ds : List Details) (n : ℕ) → list_all (stands_in s) (map Some ds ++ replicate n None) ≡ list_all (has_logged s) ds
+all_stand s [] n = none_stand s n
+all_stand s (d ∷ ds) n = ap (λ b. has_logged s d && b) (all_stand s ds n)
+
+pub within_is : (entries : List (Option Details)) → IsLog entries → (s : Entries) → list_all (stands_in s) entries ≡ is_within (log_of (some_prefix entries)) s
+within_is entries h s = ap (list_all (stands_in s)) (sym h.exact) ∙ all_stand s (some_prefix entries) _ ∙ ap (list_all (has_logged s)) (sym (logged-log_of _ h.rises))
+
+none_before : (x : Details) (n : ℕ) → list_all (is_behind x) (replicate n None) ≡ true
+none_before x zero = refl
+none_before x (suc n) = none_before x n
+
+all_before : (x : Details) (ds : List Details) (n : ℕ) → list_all (is_behind x) (map Some ds ++ replicate n None) ≡ list_all (λ e. is_lt (details_cmp e x)) ds
+all_before x [] n = none_before x n
+all_before x (d ∷ ds) n = ap (λ b. is_lt (details_cmp d x) && b) (all_before x ds n)
+
+pub below_is : (entries : List (Option Details)) → IsLog entries → (x : Details) → list_all (is_behind x) entries ≡ is_below x (log_of (some_prefix entries))
+below_is entries h x = ap (list_all (is_behind x)) (sym h.exact) ∙ all_before x (some_prefix entries) _ ∙ ap (list_all (λ e. is_lt (details_cmp e x))) (sym (logged-log_of _ h.rises))
+
+none_owned : (x : List ℕ) (k : ℕ) (n : ℕ) → list_all (owns_place x k) (replicate n None) ≡ true
+none_owned x k zero = refl
+none_owned x k (suc n) = none_owned x k n
+
+owned_places : (x : List ℕ) (k : ℕ) (ds : List Details) (n : ℕ) → list_all (owns_place x k) (map Some ds ++ replicate n None) ≡ list_all (owns x k) ds
+owned_places x k [] n = none_owned x k n
+owned_places x k (d ∷ ds) n = ap (λ b. owns x k d && b) (owned_places x k ds n)
+
+pub owned_is : (entries : List (Option Details)) → IsLog entries → (x : List ℕ) (k : ℕ) → list_all (owns_place x k) entries ≡ all_owned x k (log_of (some_prefix entries))
+owned_is entries h x k = ap (list_all (owns_place x k)) (sym h.exact) ∙ owned_places x k (some_prefix entries) _ ∙ ap (list_all (owns x k)) (sym (logged-log_of _ h.rises))
+
+pub room_is : (entries : List (Option Details)) → IsLog entries → log_len (log_of (some_prefix entries)) ≤ 16
+room_is entries h = subst (λ (n : ℕ). n ≤ 16) (sym (len-log_of _ h.rises)) h.room

@@ -1,11 +1,14 @@
 -- A log is a finite set of payment details (PRG-126: the exception log of the schema ConPurse).
-use Rattle.std.specs.Prelude.{◌≡◌, ℕ, ◌-◌, ◌≤◌, Bool, List, ◌++◌, length, map, replicate, Option, Some, None, T}
+use Rattle.std.specs.Prelude.{◌≡◌, ℕ, ◌-◌, ◌≤◌, nat_lt, Bool, ◌&&◌, ◌||◌, List, ◌++◌, length, map, replicate, slice_get, Option, Some, None, T}
+use Rattle.std.specs.List.{list_all}
 use Rattle.std.specs.Option.{some_prefix}
+use Rattle.std.specs.Ordering.{is_lt}
 use Rattle.std.specs.Coded.{Coded}
 use Rattle.std.specs.FinMap as fmap
 use Rattle.std.specs.FinMap.Entries.{is_sorted}
 use Rattle.std.specs.FinSet.{FinSet}
 use Rattle.std.specs.FinSet as fset
+use Rattle.mx_pay.specs.Names.{is_name}
 use Rattle.mx_pay.specs.Details.{Details, details_cmp, coded_details}
 
 -- a set of details
@@ -31,6 +34,34 @@ log_len = fmap.len
 -- whether details are in a log
 abbrev pub has_logged : Entries → Details → Bool
 has_logged = fmap.contains_key
+
+-- the details at a place of a log, counted from 0, in order
+abbrev pub entry_at : Entries → ℕ → Option Details
+entry_at log place = slice_get (logged log) place
+
+-- a log with details added
+abbrev pub with_entry : Entries → Details → Entries
+with_entry log d = fmap.insert log d tt
+
+-- whether all details of the first log are in the second
+abbrev pub is_within : Entries → Entries → Bool
+is_within a b = list_all (has_logged b) (logged a)
+
+-- whether two logs have the same details
+abbrev pub is_same_log : Entries → Entries → Bool
+is_same_log a b = is_within a b && is_within b a
+
+-- whether details come behind all of a log
+abbrev pub is_below : Details → Entries → Bool
+is_below d log = list_all (λ e. is_lt (details_cmp e d)) (logged log)
+
+-- whether details name a purse, with the purse's own number in them below its next one
+abbrev pub owns : List ℕ → ℕ → Details → Bool
+owns name next d = (is_name d.from name && nat_lt d.from_seq next) || (is_name d.to name && nat_lt d.to_seq next)
+
+-- whether all details of a log do
+abbrev pub all_owned : List ℕ → ℕ → Entries → Bool
+all_owned name next log = list_all (owns name next) (logged log)
 
 -- details as the entries of a map to nothing, which is what a set is made of
 abbrev pub marks : List Details → List (Details × Unit {0})

@@ -1,5 +1,5 @@
 //! Payment details.
-ghost use Rattle.std.specs.Prelude.{◌≡◌, IsNone, IfSome, ◌↔◌};
+ghost use Rattle.std.specs.Prelude.{◌≡◌, ◌≢◌, IsNone, IfSome, ◌↔◌};
 
 use crate::names::Name;
 use crate::numbers::{Amount, Seq};
@@ -83,7 +83,8 @@ impl PayDetails {
 
     /// The name of the purse that is paid, another than the one that pays.
     pub fn to(&self) -> Name
-        ensures { result ≡ self.now.to }
+        ensures value { result ≡ self.now.to }
+        ensures other { result ≢ self.now.from }
     {
         self.to
     }

@@ -1,9 +1,10 @@
-//! The values of payments: names, amounts, sequence numbers, payment details, logs and tokens.
+//! The values of payments: names, amounts, sequence numbers, payment details, logs, code texts and tokens.
 //!
-//! Each reader (`read`, `read_bytes`, `new`) accepts exactly the values that its type allows, and answers
-//! None for every other. All types are `Copy`, and no call takes memory.
+//! Each reader (`read`, `read_bytes`, `new`, `read_code`) accepts exactly the values that its type allows, and
+//! answers None for every other. All types are `Copy`, and no call but `code_text` takes memory.
 #![tactic(auto)]
 
+pub mod codes;
 pub mod details;
 pub mod log;
 pub mod names;
@@ -12,6 +13,7 @@ pub mod numbers;
 mod tests;
 pub mod token;
 
+pub use codes::{code_text, read_code};
 pub use details::PayDetails;
 pub use log::Log;
 pub use names::Name;

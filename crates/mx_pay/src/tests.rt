@@ -1,5 +1,5 @@
 //! Examples of each rule, worked out by hand: what no contract says.
-use crate::{Amount, Log, Name, PayDetails, Seq, Token};
+use crate::{Amount, Log, Name, PayDetails, Seq, Token, code_text, read_code};
 use std::test::Fail;
 
 /// The name that is spelled `text`, which has to be one.
@@ -156,5 +156,146 @@ fn other_texts_are_no_tokens(rt: HostRuntime) {
 fn a_new_log_has_no_details(rt: HostRuntime) -> Result<(), Fail> {
     let shown = format!(in rt.alloc(); "{:?}", Log::new())?;
     assert!(rt; !shown.as_str().contains("Some"));
+    Ok(())
+}
+
+#[test]
+fn a_log_keeps_its_details_in_order(rt: HostRuntime) -> Result<(), Fail> {
+    let low = details("b", 1, 2, 0)?;
+    let middle = details("b", 2, 0, 0)?;
+    let high = details("c", 0, 1, 0)?;
+    let mut log = Log::new();
+    for added in [middle, high, low] {
+        assert!(rt; !log.has(&added));
+        assert!(rt; log.add(added));
+        assert!(rt; log.has(&added));
+        assert!(rt; !log.add(added));
+    }
+    assert_eq!(rt; log.len(), 3);
+    assert_eq!(rt; log.at(0), Some(low));
+    assert_eq!(rt; log.at(1), Some(middle));
+    assert_eq!(rt; log.at(2), Some(high));
+    assert_eq!(rt; log.at(3), None);
+    assert_eq!(rt; log.at(usize::MAX), None);
+    assert!(rt; !log.is_full());
+    Ok(())
+}
+
+#[test]
+fn a_log_has_at_most_16_details(rt: HostRuntime) -> Result<(), Fail> {
+    let mut log = Log::new();
+    for number in 0..16 {
+        assert!(rt; !log.is_full());
+        assert!(rt; log.add(details("b", 60, 15 - number, 0)?), "{number}");
+    }
+    assert!(rt; log.is_full());
+    assert!(rt; !log.add(details("b", 60, 16, 0)?));
+    assert!(rt; !log.add(details("b", 60, 0, 0)?));
+    assert_eq!(rt; log.len(), 16);
+    assert_eq!(rt; log.at(15), Some(details("b", 60, 15, 0)?));
+    Ok(())
+}
+
+#[test]
+fn logs_are_compared_as_sets(rt: HostRuntime) -> Result<(), Fail> {
+    let mut shorter = Log::new();
+    let mut longer = Log::new();
+    assert!(rt; shorter.add(details("b", 2, 0, 7)?));
+    assert!(rt; longer.add(details("c", 1, 3, 0)?) && longer.add(details("b", 2, 0, 7)?));
+    assert!(rt; shorter.is_within(&longer) && !longer.is_within(&shorter));
+    assert!(rt; !shorter.is_same(&longer));
+    assert!(rt; shorter.add(details("c", 1, 3, 0)?));
+    assert!(rt; shorter.is_same(&longer) && longer.is_within(&shorter));
+    Ok(())
+}
+
+#[test]
+fn details_of_a_purse_name_it_with_a_number_below_its_next(rt: HostRuntime) -> Result<(), Fail> {
+    let mut log = Log::new();
+    assert!(rt; log.add(details("b", 2, 3, 7)?));
+    for (purse, next, are) in [
+        ("a", 4, true),
+        ("a", 3, false),
+        ("b", 8, true),
+        ("b", 7, false),
+        ("c", 9, false),
+    ] {
+        let next = Seq::new(next).ok_or("no number")?;
+        assert_eq!(rt; log.are_of(&name(purse)?, next), are, "{purse}");
+    }
+    assert!(rt; Log::new().are_of(&name("c")?, Seq::zero()));
+    Ok(())
+}
+
+#[test]
+fn a_code_text_is_read_as_its_log(rt: HostRuntime) -> Result<(), Fail> {
+    for (text, len) in [
+        ("", 0),
+        ("p1,q1,60,0,0", 1),
+        ("a,b,1000000000000,1000000000000000,1000000000000000", 1),
+        ("a,b,2,0,0;a,b,10,0,0;a-1,b,0,0,0;a1,b,0,0,0", 4),
+    ] {
+        let log = read_code(text).ok_or("no code text")?;
+        assert_eq!(rt; log.len(), len, "{text}");
+        assert_eq!(rt; code_text(rt.alloc(), &log)?.as_str(), text);
+    }
+    let one = read_code("p1,q1,60,3,4").and_then(|log| log.at(0));
+    let entry = one.ok_or("no entry")?;
+    assert_eq!(rt; entry.from().as_str(), "p1");
+    assert_eq!(rt; entry.to().as_str(), "q1");
+    assert_eq!(rt; entry.value().get(), 60);
+    assert_eq!(rt; entry.from_seq().get(), 3);
+    assert_eq!(rt; entry.to_seq().get(), 4);
+    Ok(())
+}
+
+#[test]
+fn other_texts_are_no_code_texts(rt: HostRuntime) {
+    for text in [
+        "p1,q1,060,0,0",
+        "p1,q1,60,00,0",
+        "p1,q1,+60,0,0",
+        "p1,q1,,0,0",
+        "p1,p1,1,0,0",
+        "p1,q1,60,0,0;",
+        ";p1,q1,60,0,0",
+        "p1,q1,60,0,0;;p1,q1,61,0,0",
+        "p1,q1,61,0,0;p1,q1,60,0,0",
+        "p1,q1,10,0,0;p1,q1,9,0,0",
+        "p1,q1,60,0,0;p1,q1,60,0,0",
+    ] {
+        assert!(rt; read_code(text).is_none(), "{text}");
+    }
+    for text in [
+        "p1,q1,1000000000001,0,0",
+        "p1,q1,60,1000000000000001,0",
+        "p1,q1,60,0,1000000000000001",
+        "p1,q1,18446744073709551616,0,0",
+        "p1,q1,60,0",
+        "p1,q1,60,0,0,0",
+        "P1,q1,60,0,0",
+        " p1,q1,60,0,0",
+        "p1,q1,60,0,0\n",
+        ";",
+        ",,,,",
+    ] {
+        assert!(rt; read_code(text).is_none(), "{text}");
+    }
+}
+
+#[test]
+fn a_code_text_has_at_most_16_entries(rt: HostRuntime) -> Result<(), Fail> {
+    let mut text = String::new(rt.alloc());
+    for number in 10..26 {
+        if number != 10 {
+            text.push_str(";")?;
+        }
+        text.push_str(format!(in rt.alloc(); "p1,q1,60,{number},0")?.as_str())?;
+    }
+    let log = read_code(text.as_str()).ok_or("no code text")?;
+    assert_eq!(rt; log.len(), 16);
+    assert_eq!(rt; code_text(rt.alloc(), &log)?.as_str(), text.as_str());
+    text.push_str(";p1,q1,60,26,0")?;
+    assert!(rt; read_code(text.as_str()).is_none());
     Ok(())
 }

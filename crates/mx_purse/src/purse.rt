@@ -1,10 +1,16 @@
 //! The purse.
-ghost use Rattle.std.specs.Prelude.{◌≡◌, ◌≤◌, ◌+◌, ◌^◌};
+ghost use Rattle.std.specs.Prelude.{◌≡◌, ◌≤◌, ◌+◌, ◌^◌, ◌↔◌, IsNone, IfSome};
+ghost use Rattle.mx_pay.specs.Log.{log_len};
 ghost use Rattle.mx_purse.specs.State.{new_purse, IsPurse};
+ghost use Rattle.mx_purse.specs.Conditions.{can_log, in_status, is_purse};
 
 use crate::status::Status;
-use mx_pay::{Log, Name, Seq};
+use mx_pay::names::same_name;
+use mx_pay::{Log, Name, PayDetails, Seq};
 use std::marker::Model;
+
+/// The most of a balance, and of the statement lines before an operation.
+const MOST: u64 = 1_000_000_000_000_000;
 
 /// A purse: its name, its balance, its next sequence number, its status with the details of the payment
 /// under way, its exception log and how many statement lines it has. A contract sees it as the record of
@@ -71,6 +77,51 @@ impl Purse {
         }
     }
 
+    /// The purse of these parts: its name, its balance, its next sequence number, its status, its exception
+    /// log and how many statement lines it has. None exactly where they break a condition of a purse: where
+    /// the balance is above 10^15, the lines are above the limit of the status, an entry of the log doesn't
+    /// name the purse or has the purse's own number not below `next`, or the status has details that don't
+    /// name the purse on its side, have its own number not below `next`, are in the log already or find no
+    /// room there, or in epr have a value above the balance.
+    pub fn from_parts(
+        name: Name,
+        balance: u64,
+        next: Seq,
+        status: Status,
+        log: Log,
+        lines: u64,
+    ) -> Option<Purse>
+        ensures some { IfSome result (λ p. p ≡ record {
+          name = name;
+          balance = balance;
+          next = next;
+          status = status;
+          log = log;
+          lines = lines;
+        }) }
+        ensures whole { IfSome result IsPurse }
+        ensures none { IsNone result ↔ (¬ IsPurse (record {
+          name = name;
+          balance = balance;
+          next = next;
+          status = status;
+          log = log;
+          lines = lines;
+        })) }
+    {
+        if !are_whole(&name, balance, next, &status, &log, lines) {
+            return None;
+        }
+        Some(Purse {
+            name,
+            balance,
+            next,
+            status,
+            log,
+            lines,
+        })
+    }
+
     /// The name of the purse.
     pub fn name(&self) -> Name
         ensures { result ≡ self.now.name }
@@ -114,4 +165,66 @@ impl Purse {
     {
         self.lines
     }
+}
+
+/// Whether details can be added to a log.
+fn can_log(log: &Log, details: &PayDetails) -> bool
+    ensures { result ≡ can_log log.now details.now }
+{
+    !log.has(details) && !log.is_full()
+}
+
+/// Whether a purse of these parts meets the conditions of its status.
+fn fits_status(name: &Name, balance: u64, next: Seq, status: &Status, log: &Log, lines: u64) -> bool
+    ensures { result ≡ in_status (record {
+      name = name.now;
+      balance = balance;
+      next = next;
+      status = status.now;
+      log = log.now;
+      lines = lines;
+    }) status.now }
+{
+    match status {
+        Status::EaFrom | Status::EaTo => lines <= MOST + 2,
+        Status::Epr(held) => {
+            same_name(&held.from(), name)
+                && held.from_seq().get() < next.get()
+                && held.value().get() <= balance
+                && can_log(log, held)
+                && lines <= MOST
+        }
+        Status::Epv(held) => {
+            same_name(&held.to(), name)
+                && held.to_seq().get() < next.get()
+                && can_log(log, held)
+                && lines <= MOST
+        }
+        Status::Epa(held) => {
+            same_name(&held.from(), name)
+                && held.from_seq().get() < next.get()
+                && can_log(log, held)
+                && lines <= MOST + 1
+        }
+    }
+}
+
+/// Whether a purse of these parts meets all its conditions. The number and the log are within their limits.
+fn are_whole(name: &Name, balance: u64, next: Seq, status: &Status, log: &Log, lines: u64) -> bool
+    ensures test { result ≡ is_purse (record {
+      name = name.now;
+      balance = balance;
+      next = next;
+      status = status.now;
+      log = log.now;
+      lines = lines;
+    }) }
+    ensures next { next ≤ 10 ^ 15 }
+    ensures room { log_len log.now ≤ 16 }
+{
+    let _next = next.get();
+    let _held = log.len();
+    balance <= MOST
+        && fits_status(name, balance, next, status, log, lines)
+        && log.are_of(name, next)
 }

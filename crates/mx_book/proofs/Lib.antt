@@ -1,0 +1,15 @@
+pub mod MapLemmas
+pub mod NameLemmas
+pub mod UnderLemmas
+pub mod LineLemmas
+pub mod RowLemmas
+pub mod EditLemmas
+pub mod ReadLemmas
+pub mod PlaceLemmas
+pub mod TableLemmas
+pub mod SpellLemmas
+pub mod Opening
+pub mod SumLemmas
+pub mod FoundLemmas
+pub mod KeepLemmas
+pub mod FirstLemmas

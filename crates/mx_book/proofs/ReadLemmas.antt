@@ -1,0 +1,112 @@
+-- What is read of the rows is what the World has.
+use Rattle.std.proofs.Common.{◌≡◌, ℕ, Bool, true, false, cond, ◌&&◌, List, [], ◌∷◌, map, length, take, arith, refl, sym, ◌∙◌, ap, Option, Some, None, option_and_then}
+use Rattle.std.specs.Prelude.{option_map, filter, nat_lt}
+use Rattle.std.specs.List.{take-map}
+use Rattle.std.specs.Ordering.{nat_cmp}
+use Rattle.std.specs.Cmp.{nat_cmp_total}
+use Rattle.std.specs.FinMap as fmap
+use Rattle.mx_pay.specs.Names.{name_cmp, is_name}
+use Rattle.mx_book.specs.World.{Row, Name}
+use Rattle.mx_book.specs.declared.values.Line.{Line}
+use Rattle.mx_book.proofs.NameLemmas.{names_total}
+use Rattle.mx_book.specs.declared.values.PurseRow.{PurseRow}
+use Rattle.mx_book.specs.declared.values.LineRow.{LineRow}
+use Rattle.mx_book.specs.Under.{under, those, with_second, remade}
+use Rattle.mx_book.specs.Rows.{Rows, world_of, row_of, line_at, IsProper}
+use Rattle.mx_book.specs.Reads.{of_purse, from_row, purses_of, holder_of, account_of, account_with, inbox_of, message_of, lines_of}
+use Rattle.mx_book.specs.RowReads.{of_name, held_by, row_purses_of, row_holder_of, row_account_of, row_account_with, row_inbox_of, row_lines_of, line_of_row}
+use Rattle.mx_book.proofs.UnderLemmas.{get-under, entries-under, len-under, entries-remake, under-none, entries_empty}
+use Rattle.mx_book.proofs.RowLemmas.{get_rows}
+
+-- ---- the rows of a purse, as a filter
+
+those_step : {K V : Type 0} (b : Bool) (e : (Name × K) × V) (es : List ((Name × K) × V)) → with_second b e (map (λ (e : (Name × K) × V). (e.0.1, e.1)) es) ≡ map (λ (e : (Name × K) × V). (e.0.1, e.1)) (cond b (e ∷ es) es)
+those_step true e es = refl
+those_step false e es = refl
+
+pub those_are : {K V : Type 0} (p : Name) (es : List ((Name × K) × V)) → those name_cmp p es ≡ map (λ (e : (Name × K) × V). (e.0.1, e.1)) (of_name p es)
+those_are p [] = refl
+those_are p (e ∷ es) = ap (with_second (is_name p e.0.0) e) (those_are p es) ∙ those_step (is_name p e.0.0) e (of_name p es)
+
+length-map_lem : {X Y : Type 0} (f : X → Y) (xs : List X) → length (map f xs) ≡ length xs
+length-map_lem f [] = refl
+length-map_lem f (x ∷ xs) = omega (arith, length-map_lem f xs)
+
+-- ---- the lines of a purse above a number
+
+lines_step : (p : Name) (after : ℕ) (b : Bool) (e : (Name × ℕ) × LineRow) (es : List ((Name × ℕ) × LineRow)) (fs : List Line)
+    → filter (λ (l : Line). nat_lt after l.number) (map line_at (map (λ (e : (Name × ℕ) × LineRow). (e.0.1, e.1)) es)) ≡ fs
+    → filter (λ (l : Line). nat_lt after l.number) (map line_at (map (λ (e : (Name × ℕ) × LineRow). (e.0.1, e.1)) (cond b (e ∷ es) es))) ≡ cond (b && nat_lt after e.0.1) (line_of_row e ∷ fs) fs
+lines_step p after true e es fs is = ap (λ xs. cond (nat_lt after e.0.1) (line_of_row e ∷ xs) xs) is
+lines_step p after false e es fs is = is
+
+map_step : (b : Bool) (e : (Name × ℕ) × LineRow) (es : List ((Name × ℕ) × LineRow)) → cond b (line_of_row e ∷ map line_of_row es) (map line_of_row es) ≡ map line_of_row (cond b (e ∷ es) es)
+map_step true e es = refl
+map_step false e es = refl
+
+lines_above : (p : Name) (after : ℕ) (es : List ((Name × ℕ) × LineRow))
+    → filter (λ (l : Line). nat_lt after l.number) (map line_at (map (λ (e : (Name × ℕ) × LineRow). (e.0.1, e.1)) (of_name p es))) ≡ map line_of_row (filter (λ (e : (Name × ℕ) × LineRow). is_name p e.0.0 && nat_lt after e.0.1) es)
+lines_above p after [] = refl
+lines_above p after (e ∷ es) = lines_step p after (is_name p e.0.0) e (of_name p es) _ (lines_above p after es) ∙ map_step (is_name p e.0.0 && nat_lt after e.0.1) e _
+
+-- ---- the purses of a holder
+
+names_step : (f : Name → PurseRow → Row) (b : Bool) (e : Name × PurseRow) (es : List (Name × PurseRow)) (rs : List (Name × Row)) → map (λ (e : Name × Row). e.0) rs ≡ map (λ (e : Name × PurseRow). e.0) es
+    → map (λ (e : Name × Row). e.0) (cond b ((e.0, f e.0 e.1) ∷ rs) rs) ≡ map (λ (e : Name × PurseRow). e.0) (cond b (e ∷ es) es)
+names_step f true e es rs is = ap (λ xs. e.0 ∷ xs) is
+names_step f false e es rs is = is
+
+held_names : (r : Rows) (h : Name) (es : List (Name × PurseRow)) → map (λ (e : Name × Row). e.0) (filter (λ (e : Name × Row). is_name h e.1.holder) (remade (row_of r) es)) ≡ map (λ (e : Name × PurseRow). e.0) (filter (λ (e : Name × PurseRow). is_name h e.1.holder) es)
+held_names r h [] = refl
+held_names r h (e ∷ es) = names_step (row_of r) (is_name h e.1.holder) e _ _ (held_names r h es)
+
+pub purses_are : (r : Rows) (h : Name) → purses_of (world_of r) h ≡ row_purses_of r h
+purses_are r h = ap (λ es. map (λ (e : Name × Row). e.0) (filter (λ (e : Name × Row). is_name h e.1.holder) es)) (entries-remake name_cmp (row_of r) r.purses) ∙ held_names r h (fmap.entries r.purses)
+
+pub holder_is : (r : Rows) (h : Name) → holder_of (world_of r) h ≡ row_holder_of r h
+holder_is r h = ap (λ n. option_map (λ m. record { member = m; purses = n }) (fmap.get r.holders h)) (ap length (purses_are r h) ∙ length-map_lem _ (held_by h (fmap.entries r.purses)))
+
+-- ---- an account
+
+pub held_is : (r : Rows) (p : Name) → fmap.len (under name_cmp nat_cmp p r.inbox) ≡ length (of_name p (fmap.entries r.inbox))
+held_is r p = len-under name_cmp nat_cmp names_total p r.inbox ∙ ap length (those_are p (fmap.entries r.inbox)) ∙ length-map_lem _ (of_name p (fmap.entries r.inbox))
+
+account_case : (r : Rows) (p : Name) (o : Option PurseRow) → option_and_then (λ (x : Row). option_map (account_with x) (fmap.get r.holders x.holder)) (option_map (row_of r p) o) ≡ option_and_then (λ (x : PurseRow). option_map (row_account_with r p x) (fmap.get r.holders x.holder)) o
+account_case r p None = refl
+account_case r p (Some x) = ap (λ n. option_map (λ m. record { holder = x.holder; member = m; purse = x.purse; held = n; next_message = x.next_message }) (fmap.get r.holders x.holder)) (held_is r p)
+
+pub account_is : (r : Rows) (p : Name) → account_of (world_of r) p ≡ row_account_of r p
+account_is r p = ap (option_and_then (λ (x : Row). option_map (account_with x) (fmap.get r.holders x.holder))) (get_rows r p) ∙ account_case r p (fmap.get r.purses p)
+
+-- ---- what stands under a purse
+
+module _ (r : Rows) (h : IsProper r) where
+  purse_case : {X : Type 0} (x : X) (f : Row → X) (p : Name) (y : X) (o : Option PurseRow) → fmap.get r.purses p ≡ o → (fmap.get r.purses p ≡ None → x ≡ y) → ((z : PurseRow) → fmap.get r.purses p ≡ Some z → f (row_of r p z) ≡ y) → from_row x f (option_map (row_of r p) o) ≡ y
+  purse_case x f p y None at none some = none at
+  purse_case x f p y (Some z) at none some = some z at
+
+  -- what is read of a purse, whether it is there or not
+  of_purse_is : {X : Type 0} (x : X) (f : Row → X) (p : Name) (y : X) → (fmap.get r.purses p ≡ None → x ≡ y) → ((z : PurseRow) → fmap.get r.purses p ≡ Some z → f (row_of r p z) ≡ y) → of_purse x f (world_of r) p ≡ y
+  of_purse_is x f p y none some = ap (from_row x f) (get_rows r p) ∙ purse_case x f p y (fmap.get r.purses p) refl none some
+
+  pub message_is : (p : Name) (n : ℕ) → message_of (world_of r) p n ≡ fmap.get r.inbox (p, n)
+  message_is p n = of_purse_is None _ p (fmap.get r.inbox (p, n)) (λ gone. sym (h.inbox p n gone)) (λ z at. get-under name_cmp nat_cmp names_total p r.inbox n)
+
+  inbox_entries : (p : Name) → fmap.entries (under name_cmp nat_cmp p r.inbox) ≡ row_inbox_of r p
+  inbox_entries p = entries-under name_cmp nat_cmp names_total p r.inbox ∙ those_are p (fmap.entries r.inbox)
+
+  pub inbox_is : (p : Name) → inbox_of (world_of r) p ≡ row_inbox_of r p
+  inbox_is p = of_purse_is [] _ p (row_inbox_of r p)
+      (λ gone. sym (sym (inbox_entries p) ∙ ap fmap.entries (under-none names_total nat_cmp_total fmap.nat_cmp-IsAntisymmetric p r.inbox (λ k. h.inbox p k gone)) ∙ entries_empty nat_cmp))
+      (λ z at. inbox_entries p)
+
+  line_entries : (p : Name) → fmap.entries (under name_cmp nat_cmp p r.lines) ≡ map (λ (e : (Name × ℕ) × LineRow). (e.0.1, e.1)) (of_name p (fmap.entries r.lines))
+  line_entries p = entries-under name_cmp nat_cmp names_total p r.lines ∙ those_are p (fmap.entries r.lines)
+
+  all_lines : (p : Name) → of_purse [] (λ x. x.account.lines) (world_of r) p ≡ map line_at (map (λ (e : (Name × ℕ) × LineRow). (e.0.1, e.1)) (of_name p (fmap.entries r.lines)))
+  all_lines p = of_purse_is [] _ p _
+      (λ gone. sym (ap (map line_at) (sym (line_entries p) ∙ ap fmap.entries (under-none names_total nat_cmp_total fmap.nat_cmp-IsAntisymmetric p r.lines (λ k. h.lines p k gone)) ∙ entries_empty nat_cmp)))
+      (λ z at. ap (map line_at) (line_entries p))
+
+  pub lines_are : (p : Name) (after most : ℕ) → lines_of (world_of r) p after most ≡ row_lines_of r p after most
+  lines_are p after most = ap (λ ls. take most (filter (λ (l : Line). nat_lt after l.number) ls)) (all_lines p) ∙ ap (take most) (lines_above p after (fmap.entries r.lines)) ∙ take-map line_of_row most _

@@ -1,0 +1,78 @@
+-- Reads and edits of rows that spell a World.
+use Rattle.std.proofs.Common.{◌≡◌, ℕ, List, [], ◌∷◌, ap, ◌∙◌, sym, subst, refl}
+use Rattle.std.specs.FinMap as fmap
+use Rattle.mx_book.specs.declared.edits.Edit.{Edit}
+use Rattle.mx_book.specs.World.{World, Name, Token}
+use Rattle.mx_book.specs.Rows.{Rows, world_of}
+use Rattle.mx_book.specs.Reads.{who_of, member_of, holder_of, purses_of, account_of, message_of, inbox_of, lines_of}
+use Rattle.mx_book.specs.RowReads.{row_who_of, row_holder_of, row_purses_of, row_account_of, row_inbox_of, row_lines_of}
+use Rattle.mx_book.specs.Edits.{all_edited, Fits}
+use Rattle.mx_book.specs.RowEdits.{rewritten, all_rewritten, Able, AllAble}
+use Rattle.mx_book.specs.declared.edits.Edit.TheVariants.{NewMember, NewHolder, NewPurse, SetPurse, AddMessage, DropMessage, AddLine}
+use Rattle.std.proofs.Props.{props}
+use mathlib.Core.Logic.{∥∥₁_elim, ∥∥₁_map}
+use Rattle.mx_book.proofs.ReadLemmas.{purses_are, holder_is, account_is, message_is, inbox_is, lines_are}
+use Rattle.mx_book.proofs.EditLemmas.{edits_spelled, all_able}
+use Rattle.mx_book.specs.Spells.{Spells}
+
+-- a read of the World of the rows is one of each World that they spell
+read_at : {X : Type 0} (f : World → X) (r : Rows) (w : World) (x : X) → Spells r w → f (world_of r) ≡ x → x ≡ f w
+read_at f r w x h is = sym (ap f h.spelled.world ∙ is)
+
+pub who_at : (r : Rows) (w : World) (t : Token) → Spells r w → row_who_of r t ≡ who_of w t
+who_at r w t h = read_at (λ z. who_of z t) r w _ h refl
+
+pub member_at : (r : Rows) (w : World) (m : Name) → Spells r w → fmap.get r.members m ≡ member_of w m
+member_at r w m h = read_at (λ z. member_of z m) r w _ h refl
+
+pub holder_at : (r : Rows) (w : World) (p : Name) → Spells r w → row_holder_of r p ≡ holder_of w p
+holder_at r w p h = read_at (λ z. holder_of z p) r w _ h (holder_is r p)
+
+pub purses_at : (r : Rows) (w : World) (p : Name) → Spells r w → row_purses_of r p ≡ purses_of w p
+purses_at r w p h = read_at (λ z. purses_of z p) r w _ h (purses_are r p)
+
+pub account_at : (r : Rows) (w : World) (p : Name) → Spells r w → row_account_of r p ≡ account_of w p
+account_at r w p h = read_at (λ z. account_of z p) r w _ h (account_is r p)
+
+pub message_at : (r : Rows) (w : World) (p : Name) (n : ℕ) → Spells r w → fmap.get r.inbox (p, n) ≡ message_of w p n
+message_at r w p n h = read_at (λ z. message_of z p n) r w _ h (message_is r h.spelled.proper p n)
+
+pub inbox_at : (r : Rows) (w : World) (p : Name) → Spells r w → row_inbox_of r p ≡ inbox_of w p
+inbox_at r w p h = read_at (λ z. inbox_of z p) r w _ h (inbox_is r h.spelled.proper p)
+
+pub lines_at : (r : Rows) (w : World) (p : Name) (after most : ℕ) → Spells r w → row_lines_of r p after most ≡ lines_of w p after most
+lines_at r w p after most h = read_at (λ z. lines_of z p after most) r w _ h (lines_are r h.spelled.proper p after most)
+
+pub applied : (r s : Rows) (w : World) (es : List Edit) → Spells r w → Fits w es → s ≡ all_rewritten r es → Spells s (all_edited w es)
+applied r s w es h fits is = subst (λ (z : Rows). Spells z (all_edited w es)) (sym is) (record { spelled = edits_spelled r w es h.spelled fits.each; sound = fits.end })
+
+-- rows that spell a World spell their own
+pub own_world : (r : Rows) (w : World) → Spells r w → Spells r (world_of r)
+own_world r w h = subst (λ (z : World). Spells r z) h.spelled.world h
+
+pub able_of : (r : Rows) (w : World) (es : List Edit) → Spells r w → Fits w es → AllAble r es
+able_of r w es h fits = all_able r w es h.spelled fits.each
+
+-- ---- a fact that has at most one proof
+
+Able-prop : (r : Rows) (e : Edit) → IsProp (Able r e)
+Able-prop r (NewMember m t) = hlevel props
+Able-prop r (NewHolder g m t) = hlevel props
+Able-prop r (NewPurse p g) = hlevel props
+Able-prop r (SetPurse q) = hlevel props
+Able-prop r (AddMessage p m) = hlevel props
+Able-prop r (DropMessage p k) = hlevel props
+Able-prop r (AddLine p l) = hlevel props
+
+AllAble-prop : (r : Rows) (es : List Edit) → IsProp (AllAble r es)
+AllAble-prop r [] = hlevel props
+AllAble-prop r (e ∷ es) = hlevel (props, Able-prop r e, AllAble-prop (rewritten r e) es)
+
+pub able_always : (r s : Rows) (es : List Edit) → ∥ Spells r (world_of r) ∥₁ → s ≡ r → ((w : World) → ◌≡◌ {A = ℕ} 0 0 → Spells r w → Fits w es) → AllAble s es
+able_always r s es h is fits = subst (λ (z : Rows). AllAble z es) (sym is) (∥∥₁_elim h (AllAble-prop r es) (λ one. able_of r (world_of r) es one (fits (world_of r) refl one)))
+
+applied_own : (r s : Rows) (es : List Edit) → Spells r (world_of r) → Fits (world_of r) es → s ≡ all_rewritten r es → Spells s (world_of s)
+applied_own r s es h fits is = own_world s (all_edited (world_of r) es) (applied r s (world_of r) es h fits is)
+
+pub applied_always : (r s : Rows) (es : List Edit) → ∥ Spells r (world_of r) ∥₁ → ((w : World) → ◌≡◌ {A = ℕ} 0 0 → Spells r w → Fits w es) → s ≡ all_rewritten r es → ∥ Spells s (world_of s) ∥₁
+applied_always r s es h fits is = ∥∥₁_map h (λ one. applied_own r s es one (fits (world_of r) refl one) is)

@@ -1,0 +1,45 @@
+-- What edits make of a World, and when they fit it.
+use Rattle.std.specs.Prelude.{◌≡◌, ◌<◌, ◌^◌, List, [], ◌∷◌, ◌++◌, None, IsSome, IsNone, IsSomeAnd}
+use Rattle.std.specs.FinMap as fmap
+use Rattle.mx_book.specs.declared.values.Caller.TheVariants.{Clerk, Holder}
+use Rattle.mx_book.specs.declared.edits.Edit.{Edit}
+use Rattle.mx_book.specs.declared.edits.Edit.TheVariants.{NewMember, NewHolder, NewPurse, SetPurse, AddMessage, DropMessage, AddLine}
+use Rattle.mx_book.specs.World.{World, delivered, new_row, set_row, change_account}
+use Rattle.mx_book.specs.Reads.{who_of}
+use Rattle.mx_book.specs.Conditions.{IsWorld, AreNumbered}
+
+-- the World after an edit
+abbrev pub edited : World → Edit → World
+edited w (NewMember m t) = record w { members = fmap.insert w.members m (record { granted = 0; float = 0 }); tokens = fmap.insert w.tokens t (Clerk m) }
+edited w (NewHolder h m t) = record w { holders = fmap.insert w.holders h m; tokens = fmap.insert w.tokens t (Holder h) }
+edited w (NewPurse p h) = set_row w p (new_row h p)
+edited w (SetPurse q) = change_account w q.name (λ a. record a { purse = q })
+edited w (AddMessage p m) = change_account w p (λ a. delivered a m)
+edited w (DropMessage p n) = change_account w p (λ a. record a { inbox = fmap.remove a.inbox n })
+edited w (AddLine p l) = change_account w p (λ a. record a { lines = a.lines ++ l ∷ [] })
+
+-- the rows that an edit names are there, those that it adds are new, and its own condition holds: a message
+-- finds a place, and a line is numbered as the next one
+abbrev pub Suits : World → Edit → Type 0
+Suits w (NewMember m t) = IsNone (fmap.get w.members m) × IsNone (who_of w t)
+Suits w (NewHolder h m t) = IsNone (fmap.get w.holders h) × IsSome (fmap.get w.members m) × IsNone (who_of w t)
+Suits w (NewPurse p h) = (fmap.get w.rows p ≡ None) × IsSome (fmap.get w.holders h)
+Suits w (SetPurse q) = IsSome (fmap.get w.rows q.name)
+Suits w (AddMessage p m) = IsSomeAnd (fmap.get w.rows p) (λ r. (fmap.len r.account.inbox < 32) × (r.account.next_message < 10 ^ 15))
+Suits w (DropMessage p n) = IsSomeAnd (fmap.get w.rows p) (λ r. IsSome (fmap.get r.account.inbox n))
+Suits w (AddLine p l) = IsSomeAnd (fmap.get w.rows p) (λ r. AreNumbered 1 (r.account.lines ++ l ∷ []))
+
+-- the World after edits, in order
+abbrev pub all_edited : World → List Edit → World
+all_edited w [] = w
+all_edited w (e ∷ es) = all_edited (edited w e) es
+
+-- each edit suits what stands after those before it
+abbrev pub AllSuit : World → List Edit → Type 0
+AllSuit w [] = Unit {0}
+AllSuit w (e ∷ es) = Suits w e × AllSuit (edited w e) es
+
+-- edits fit a World: each suits what stands after those before it, and what stands after the last is a World
+pub record Fits (w : World) (es : List Edit) : Type 0 where
+  pub each : AllSuit w es
+  pub end : IsWorld (all_edited w es)

@@ -1,0 +1,16 @@
+pub mod Maps
+pub mod Under
+pub mod World
+pub mod Reads
+pub mod Sums
+pub mod Conditions
+pub mod Rows
+pub mod RowReads
+pub mod Edits
+pub mod RowEdits
+pub mod Spells
+pub mod Keeps
+pub mod Slots
+pub mod Place
+pub mod Exact
+pub mod Shelves

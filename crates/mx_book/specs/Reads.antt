@@ -1,0 +1,58 @@
+-- What the reads of a book give of a World.
+use Rattle.std.specs.Prelude.{ℕ, List, [], map, filter, take, length, Option, Some, None, option_map, option_and_then, nat_lt, if◌then◌else◌}
+use Rattle.std.specs.FinMap as fmap
+use Rattle.mx_pay.specs.Names.{is_name}
+use Rattle.mx_pay.specs.Tokens.{is_token}
+use Rattle.mx_purse.specs.declared.message.Message.{Message}
+use Rattle.mx_book.specs.declared.values.Caller.{Caller}
+use Rattle.mx_book.specs.declared.values.Caller.TheVariants.{Operator}
+use Rattle.mx_book.specs.declared.values.MemberRow.{MemberRow}
+use Rattle.mx_book.specs.declared.values.HolderRow.{HolderRow}
+use Rattle.mx_book.specs.declared.values.Line.{Line}
+use Rattle.mx_book.specs.declared.values.Account as given
+use Rattle.mx_book.specs.World.{World, Row, Name, Token}
+
+-- whose token it is
+abbrev pub who_of : World → Token → Option Caller
+who_of w t = if is_token t w.operator then Some Operator else fmap.get w.tokens t
+
+-- the grants and the float of a member
+abbrev pub member_of : World → Name → Option MemberRow
+member_of w m = fmap.get w.members m
+
+-- the names of the purses of a holder, in order
+abbrev pub purses_of : World → Name → List Name
+purses_of w h = map (λ (e : Name × Row). e.0) (filter (λ (e : Name × Row). is_name h e.1.holder) (fmap.entries w.rows))
+
+-- the member of a holder, and how many purses the holder has
+abbrev pub holder_of : World → Name → Option HolderRow
+holder_of w h = option_map (λ m. record { member = m; purses = length (purses_of w h) }) (fmap.get w.holders h)
+
+-- a purse's row with the member of its holder
+abbrev pub account_with : Row → Name → given.Account
+account_with r m = record { holder = r.holder; member = m; purse = r.account.purse; held = fmap.len r.account.inbox; next_message = r.account.next_message }
+
+-- the holder of a purse, the holder's member, the purse, how many messages it holds, and its next number for one
+abbrev pub account_of : World → Name → Option given.Account
+account_of w p = option_and_then (λ (r : Row). option_map (account_with r) (fmap.get w.holders r.holder)) (fmap.get w.rows p)
+
+-- what f says of the row of a purse, or x where there is none
+abbrev pub from_row : {X : Type 0} → X → (Row → X) → Option Row → X
+from_row x f None = x
+from_row x f (Some r) = f r
+
+-- what f says of a purse that is there, or x where it isn't
+abbrev pub of_purse : {X : Type 0} → X → (Row → X) → World → Name → X
+of_purse x f w p = from_row x f (fmap.get w.rows p)
+
+-- the messages of a purse, by number
+abbrev pub inbox_of : World → Name → List (ℕ × Message)
+inbox_of = of_purse [] (λ r. fmap.entries r.account.inbox)
+
+-- the message of a purse under a number
+abbrev pub message_of : World → Name → ℕ → Option Message
+message_of w p n = of_purse None (λ r. fmap.get r.account.inbox n) w p
+
+-- the first lines of a purse that are numbered above `after`, at most `most` of them
+abbrev pub lines_of : World → Name → ℕ → ℕ → List Line
+lines_of w p after most = take most (filter (λ (l : Line). nat_lt after l.number) (of_purse [] (λ r. r.account.lines) w p))

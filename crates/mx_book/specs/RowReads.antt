@@ -1,0 +1,55 @@
+-- What the reads of a book give, from its rows.
+use Rattle.std.specs.Prelude.{ℕ, ◌&&◌, List, map, filter, take, length, Option, Some, option_map, option_and_then, nat_lt, if◌then◌else◌}
+use Rattle.std.specs.FinMap as fmap
+use Rattle.mx_pay.specs.Names.{is_name}
+use Rattle.mx_pay.specs.Tokens.{is_token}
+use Rattle.mx_purse.specs.declared.message.Message.{Message}
+use Rattle.mx_book.specs.declared.values.Caller.{Caller}
+use Rattle.mx_book.specs.declared.values.Caller.TheVariants.{Operator}
+use Rattle.mx_book.specs.declared.values.PurseRow.{PurseRow}
+use Rattle.mx_book.specs.declared.values.LineRow.{LineRow}
+use Rattle.mx_book.specs.declared.values.HolderRow.{HolderRow}
+use Rattle.mx_book.specs.declared.values.Line.{Line}
+use Rattle.mx_book.specs.declared.values.Account as given
+use Rattle.mx_book.specs.World.{Name, Token}
+use Rattle.mx_book.specs.Rows.{Rows, line_at}
+
+-- whose token it is
+abbrev pub row_who_of : Rows → Token → Option Caller
+row_who_of r t = if is_token t r.operator then Some Operator else fmap.get r.tokens t
+
+-- the purses of a holder, in order
+abbrev pub held_by : Name → List (Name × PurseRow) → List (Name × PurseRow)
+held_by h = filter (λ (e : Name × PurseRow). is_name h e.1.holder)
+
+-- the names of the purses of a holder, in order
+abbrev pub row_purses_of : Rows → Name → List Name
+row_purses_of r h = map (λ (e : Name × PurseRow). e.0) (held_by h (fmap.entries r.purses))
+
+-- the member of a holder, and how many purses the holder has
+abbrev pub row_holder_of : Rows → Name → Option HolderRow
+row_holder_of r h = option_map (λ m. record { member = m; purses = length (held_by h (fmap.entries r.purses)) }) (fmap.get r.holders h)
+
+-- the rows of a purse, in order
+abbrev pub of_name : {K V : Type 0} → Name → List ((Name × K) × V) → List ((Name × K) × V)
+of_name {K} {V} p = filter (λ (e : (Name × K) × V). is_name p e.0.0)
+
+-- a purse's row with the member of its holder, and how many messages lie in the inbox
+abbrev pub row_account_with : Rows → Name → PurseRow → Name → given.Account
+row_account_with r p x m = record { holder = x.holder; member = m; purse = x.purse; held = length (of_name p (fmap.entries r.inbox)); next_message = x.next_message }
+
+-- the holder of a purse, the holder's member, the purse, how many messages it holds, and its next number for one
+abbrev pub row_account_of : Rows → Name → Option given.Account
+row_account_of r p = option_and_then (λ (x : PurseRow). option_map (row_account_with r p x) (fmap.get r.holders x.holder)) (fmap.get r.purses p)
+
+-- the messages of a purse, by number
+abbrev pub row_inbox_of : Rows → Name → List (ℕ × Message)
+row_inbox_of r p = map (λ (e : (Name × ℕ) × Message). (e.0.1, e.1)) (of_name p (fmap.entries r.inbox))
+
+-- the line of a row under its key
+abbrev pub line_of_row : (Name × ℕ) × LineRow → Line
+line_of_row e = line_at (e.0.1, e.1)
+
+-- the first lines of a purse that are numbered above `after`, at most `most` of them
+abbrev pub row_lines_of : Rows → Name → ℕ → ℕ → List Line
+row_lines_of r p after most = map line_of_row (take most (filter (λ (e : (Name × ℕ) × LineRow). is_name p e.0.0 && nat_lt after e.0.1) (fmap.entries r.lines)))

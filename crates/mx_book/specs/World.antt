@@ -1,0 +1,108 @@
+-- The World: everything that the office keeps.
+use Rattle.std.specs.Prelude.{ℕ, ◌+◌, ◌^◌, nat_lt, ◌&&◌, Bool, if◌then◌else◌, List, [], Option, Some, None}
+use Rattle.std.specs.Ordering.{nat_cmp}
+use Rattle.std.specs.FinMap as fmap
+use Rattle.mx_pay.specs.Names.{name_cmp}
+use Rattle.mx_pay.specs.Tokens.{token_cmp}
+use Rattle.mx_pay.specs.Details.{Details, details_cmp}
+use Rattle.mx_purse.specs.State.{State, new_purse}
+use Rattle.mx_purse.specs.declared.message.Message.{Message}
+use Rattle.mx_book.specs.declared.values.Caller.{Caller}
+use Rattle.mx_book.specs.declared.values.Line.{Line}
+use Rattle.mx_book.specs.declared.values.MemberRow.{MemberRow}
+use Rattle.mx_book.specs.Under.{pair_cmp}
+
+-- a name is the list of its bytes
+abbrev pub Name : Type 0
+Name = List ℕ
+
+-- a token is the list of its bytes
+abbrev pub Token : Type 0
+Token = List ℕ
+
+-- a set of keys is a map of them to nothing
+abbrev pub SetOf : {K : Type 0} → (K → K → Rattle.std.specs.declared.cmp.Ordering.Ordering) → Type 0
+SetOf R = fmap.FinMap R (Unit {0})
+
+-- the order of results of read log: by purse, and then by details
+abbrev pub result_cmp : Name × Details → Name × Details → Rattle.std.specs.declared.cmp.Ordering.Ordering
+result_cmp = pair_cmp name_cmp details_cmp
+
+-- what is a holder's own of a purse: the purse, its messages by number, the number of the next message, its
+-- lines in order, and the amounts of its redemptions by reference
+pub record Account : Type 0 where
+  pub purse : State
+  pub inbox : fmap.FinMap nat_cmp Message
+  pub next_message : ℕ
+  pub lines : List Line
+  pub redemptions : fmap.FinMap name_cmp ℕ
+
+-- what the office keeps of a purse: its holder, the holder's own, the amounts of its loads by reference, and
+-- the references of the redemptions that are collected
+pub record Row : Type 0 where
+  pub holder : Name
+  pub account : Account
+  pub loads : fmap.FinMap name_cmp ℕ
+  pub collected : SetOf name_cmp
+
+-- everything that the office keeps
+pub record World : Type 0 where
+  -- the operator's token
+  pub operator : Token
+  -- the tokens of the clerks and the holders
+  pub tokens : fmap.FinMap token_cmp Caller
+  pub members : fmap.FinMap name_cmp MemberRow
+  -- each holder's member
+  pub holders : fmap.FinMap name_cmp Name
+  -- the row of each purse
+  pub rows : fmap.FinMap name_cmp Row
+  -- the results of read log that were sent and aren't archived
+  pub tray : SetOf result_cmp
+  -- those that are archived
+  pub archive : SetOf result_cmp
+
+-- a World that has nothing but an operator's token
+abbrev pub opening : Token → World
+opening t = record { operator = t; tokens = fmap.empty; members = fmap.empty; holders = fmap.empty; rows = fmap.empty; tray = fmap.empty; archive = fmap.empty }
+
+-- what is a holder's own of a new purse
+abbrev pub new_account : Name → Account
+new_account name = record { purse = new_purse name; inbox = fmap.empty; next_message = 0; lines = []; redemptions = fmap.empty }
+
+-- the row of a new purse
+abbrev pub new_row : Name → Name → Row
+new_row holder name = record { holder = holder; account = new_account name; loads = fmap.empty; collected = fmap.empty }
+
+-- whether a message finds a place in the inbox of an account
+unfoldable pub has_room : Account → Bool
+has_room a = nat_lt (fmap.len a.inbox) 32 && nat_lt a.next_message (10 ^ 15)
+
+-- an account with a message under its next number, which rises by one
+abbrev pub delivered : Account → Message → Account
+delivered a m = record a { inbox = fmap.insert a.inbox a.next_message m; next_message = a.next_message + 1 }
+
+-- an account with a message, where it finds a place
+abbrev pub with_message : Account → Message → Account
+with_message a m = if has_room a then delivered a m else a
+
+-- a World with this row of a purse
+abbrev pub set_row : World → Name → Row → World
+set_row w p r = record w { rows = fmap.insert w.rows p r }
+
+-- a World with another row of a purse, which had that row or none
+abbrev pub changed_row : World → Name → (Row → Row) → Option Row → World
+changed_row w p f None = w
+changed_row w p f (Some r) = set_row w p (f r)
+
+-- the row of a purse is changed, where the purse is there
+abbrev pub change_row : World → Name → (Row → Row) → World
+change_row w p f = changed_row w p f (fmap.get w.rows p)
+
+-- what is the holder's own of a purse is changed, where the purse is there
+abbrev pub change_account : World → Name → (Account → Account) → World
+change_account w p f = change_row w p (λ r. record r { account = f r.account })
+
+-- a message for a purse: it comes into the inbox, or it vanishes where no such purse is there and where it
+-- finds no place
+abbrev pub put : World → Name → Message → World
+put w p m = change_account w p (λ a. with_message a m)

@@ -1,0 +1,118 @@
+//! The trait that every book meets.
+ghost use Rattle.std.specs.Prelude.{◌≡◌, ℕ, ◌≤◌, IfOk, IfErr, OnOk, OnErr, ◌⊎◌};
+ghost use Rattle.mx_book.specs.World.{World};
+ghost use Rattle.mx_book.specs.Conditions.{IsWorld};
+ghost use Rattle.mx_book.specs.Reads.{who_of, member_of, holder_of, account_of, purses_of, inbox_of, message_of, lines_of};
+ghost use Rattle.mx_book.specs.Edits.{Fits, all_edited};
+ghost use Rattle.mx_book.specs.Keeps.{Keeps};
+ghost use Rattle.mx_book.specs.declared.contract.StoreFault.{StoreFault};
+ghost use Rattle.mx_book.specs.declared.contract.StoreFault.TheVariants.{Memory};
+
+use crate::edits::Edit;
+use crate::values::{Account, Caller, HolderRow, Line, MemberRow};
+use mx_pay::{Name, Token};
+use mx_purse::message::Message;
+use std::alloc::Global;
+
+/// Why a call of a book failed.
+#[derive(Clone, Copy, Debug, PartialEq, Eq)]
+pub enum StoreFault {
+    /// There is no memory for the answer or the rows.
+    Memory,
+    /// The store refused a statement for another cause, or holds a row that isn't a value of the World.
+    Store,
+}
+
+/// A book: it keeps the rows of the office, wherever they are.
+///
+/// A contract sees the rows and the World that they spell, if they spell one. A read leaves the rows as they
+/// are and gives the World's value. `apply` makes all edits or none. What is said of the rows holds while
+/// doubt is 0.
+pub trait Book {
+    /// What is kept, however it is kept.
+    ghost Rows: { Type 0 };
+
+    ghost rows: { Self → Rows };
+
+    /// The rows are exactly those of this World.
+    ghost spells: { Rows → World → Type 0 };
+
+    /// 0 while the store has returned what was written to it. It never falls.
+    ghost doubt: { Self → ℕ };
+
+    /// Why a call that takes no memory may fail.
+    ghost fails: { StoreFault → Type 0 };
+
+    /// Whose token it is, or None where it is nobody's.
+    fn who(&mut self, alloc: Global, token: &Token) -> Result<Option<Caller>, StoreFault>
+        ensures keeps { Keeps doubt rows self.old self.new }
+        ensures value { (w : World) → doubt self.new ≡ 0 → spells (rows self.old) w → IfOk result (λ r. r ≡ who_of w token.now) }
+        ensures fault { IfErr result fails };
+
+    /// The grants and the float of a member, or None where there is no such member.
+    fn member(&mut self, alloc: Global, name: Name) -> Result<Option<MemberRow>, StoreFault>
+        ensures keeps { Keeps doubt rows self.old self.new }
+        ensures value { (w : World) → doubt self.new ≡ 0 → spells (rows self.old) w → IfOk result (λ r. r ≡ member_of w name) }
+        ensures fault { IfErr result fails };
+
+    /// The member of a holder and how many purses the holder has, or None where there is no such holder.
+    fn holder(&mut self, alloc: Global, name: Name) -> Result<Option<HolderRow>, StoreFault>
+        ensures keeps { Keeps doubt rows self.old self.new }
+        ensures value { (w : World) → doubt self.new ≡ 0 → spells (rows self.old) w → IfOk result (λ r. r ≡ holder_of w name) }
+        ensures fault { IfErr result fails };
+
+    /// A purse with its holder and the holder's member, how many messages it holds and the number of its next
+    /// one, or None where there is no such purse.
+    fn purse(&mut self, alloc: Global, name: Name) -> Result<Option<Account>, StoreFault>
+        ensures keeps { Keeps doubt rows self.old self.new }
+        ensures value { (w : World) → doubt self.new ≡ 0 → spells (rows self.old) w → IfOk result (λ r. r ≡ account_of w name) }
+        ensures fault { IfErr result fails };
+
+    /// The names of a holder's purses, in order; none where there is no such holder.
+    fn purses_of(&mut self, alloc: Global, holder: Name) -> Result<Vec<Name>, StoreFault>
+        ensures keeps { Keeps doubt rows self.old self.new }
+        ensures value { (w : World) → doubt self.new ≡ 0 → spells (rows self.old) w → IfOk result (λ r. r.items ≡ purses_of w holder) }
+        ensures fault { IfErr result (λ e. (e ≡ Memory) ⊎ fails e) };
+
+    /// The messages in the inbox of a purse with their numbers, by number; none where there is no such purse.
+    fn inbox(&mut self, alloc: Global, purse: Name) -> Result<Vec<(u64, Message)>, StoreFault>
+        ensures keeps { Keeps doubt rows self.old self.new }
+        ensures value { (w : World) → doubt self.new ≡ 0 → spells (rows self.old) w → IfOk result (λ r. r.items ≡ inbox_of w purse) }
+        ensures fault { IfErr result (λ e. (e ≡ Memory) ⊎ fails e) };
+
+    /// The message of that number in the inbox of a purse, or None where there is none.
+    fn message(
+        &mut self,
+        alloc: Global,
+        purse: Name,
+        number: u64,
+    ) -> Result<Option<Message>, StoreFault>
+        ensures keeps { Keeps doubt rows self.old self.new }
+        ensures value { (w : World) → doubt self.new ≡ 0 → spells (rows self.old) w → IfOk result (λ r. r ≡ message_of w purse number) }
+        ensures fault { IfErr result fails };
+
+    /// The first `most` lines of a purse that are numbered above `after`, by number; all of them where there
+    /// are fewer, and none where there is no such purse.
+    fn lines(
+        &mut self,
+        alloc: Global,
+        purse: Name,
+        after: u64,
+        most: u64,
+    ) -> Result<Vec<Line>, StoreFault>
+        ensures keeps { Keeps doubt rows self.old self.new }
+        ensures value { (w : World) → doubt self.new ≡ 0 → spells (rows self.old) w → IfOk result (λ r. r.items ≡ lines_of w purse after most) }
+        ensures fault { IfErr result (λ e. (e ≡ Memory) ⊎ fails e) };
+
+    /// Makes these edits in order, all of them, or none where it answers a fault. Where a World is spelled
+    /// they fit it.
+    fn apply(&mut self, edits: &[Edit]) -> Result<(), StoreFault>
+        requires { (w : World) → doubt self.old ≡ 0 → spells (rows self.old) w → Fits w edits.now }
+        ensures later { doubt self.old ≤ doubt self.new }
+        ensures ok { (w : World) → doubt self.new ≡ 0 → spells (rows self.old) w → OnOk result (spells (rows self.new) (all_edited w edits.now)) }
+        ensures err { doubt self.new ≡ 0 → OnErr result (rows self.new ≡ rows self.old) }
+        ensures fault { IfErr result (λ e. (e ≡ Memory) ⊎ fails e) };
+
+    /// What is spelled meets the conditions of a World.
+    ghost sound: { (r : Rows) (w : World) → spells r w → IsWorld w };
+}

@@ -1,0 +1,131 @@
+//! The changes of a book, and short lists of them.
+ghost use Rattle.std.specs.Prelude.{◌≡◌, ◌≤◌, [], length};
+
+use crate::values::Line;
+use arrayvec::ArrayVec;
+use mx_pay::{Name, Token};
+use mx_purse::Purse;
+use mx_purse::message::Message;
+use std::marker::Model;
+
+/// One change of what a book keeps.
+#[derive(Clone, Copy, Debug)]
+pub enum Edit {
+    /// A new member with grants 0 and float 0, and the token of its clerk.
+    NewMember {
+        /// The member.
+        member: Name,
+        /// The token of its clerk.
+        clerk: Token,
+    },
+    /// A new holder of a member, and the holder's token.
+    NewHolder {
+        /// The holder.
+        holder: Name,
+        /// The member whose clerk adds the holder.
+        member: Name,
+        /// The holder's token.
+        token: Token,
+    },
+    /// A new purse of a holder, with an empty inbox, next message number 0 and no lines.
+    NewPurse {
+        /// The purse.
+        purse: Name,
+        /// Its holder.
+        holder: Name,
+    },
+    /// The purse of that name becomes this one.
+    SetPurse {
+        /// The purse as it is from now on.
+        purse: Purse,
+    },
+    /// A message comes into an inbox under its next message number, which rises by one.
+    AddMessage {
+        /// The purse whose inbox it is.
+        purse: Name,
+        /// The message.
+        message: Message,
+    },
+    /// A message leaves an inbox.
+    DropMessage {
+        /// The purse whose inbox it is.
+        purse: Name,
+        /// The number of the message.
+        number: u64,
+    },
+    /// The next line of a purse's statement.
+    AddLine {
+        /// The purse.
+        purse: Name,
+        /// The line.
+        line: Line,
+    },
+}
+
+/// A name, for the edit that fills a place that no edit takes.
+fn some_name() -> Name {
+    match Name::read("none") {
+        Some(name) => name,
+        None => unreachable!(),
+    }
+}
+
+/// What fills the places of a list of edits that no edit takes.
+impl Default for Edit {
+    fn default() -> Self {
+        Edit::DropMessage {
+            purse: some_name(),
+            number: 0,
+        }
+    }
+}
+
+/// At most 4 edits, in order. A contract sees the list of them.
+#[derive(Drop)]
+pub struct Edits {
+    list: ArrayVec<Edit, 4>,
+}
+
+impl Model for Edits {
+    ghost use Rattle.std.specs.Prelude.{List};
+    ghost use Rattle.std.specs.Coded.{coded_list};
+    ghost use Rattle.mx_book.specs.declared.edits.Edit.{Edit};
+    ghost use Rattle.mx_book.specs.contracts.edits.Edit as edit;
+
+    ghost Value = { List Edit };
+
+    ghost coded = { coded_list (edit.the_row).coded };
+
+    ghost view = { λ e. e.list.items };
+}
+
+impl Edits {
+    /// No edits.
+    pub fn new() -> Edits
+        ensures { result ≡ [] }
+    {
+        Edits {
+            list: ArrayVec::new(),
+        }
+    }
+
+    /// These edits, which are at most 4.
+    pub fn of(edits: &[Edit]) -> Edits
+        requires { length edits.now ≤ 4 }
+        ensures { result ≡ edits.now }
+    {
+        let mut list = ArrayVec::new();
+        for edit in edits {
+            list.push(*edit);
+        }
+        Edits { list }
+    }
+
+    /// The edits, in order.
+    pub fn as_slice(&self) -> &[Edit]
+        ensures value { result.now ≡ self.now }
+        ensures few { length self.now ≤ 4 }
+    {
+        self.list.as_slice()
+    }
+}

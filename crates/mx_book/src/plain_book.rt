@@ -1,0 +1,106 @@
+//! The book in memory.
+ghost use Rattle.mx_book.specs.World.{opening};
+ghost use Rattle.mx_book.specs.Rows.{Rows as Kept, world_of};
+ghost use Rattle.mx_book.specs.Shelves.{rows_of};
+ghost use Rattle.mx_book.specs.Spells.{Spells};
+
+use crate::contract::{Book, StoreFault};
+use crate::edits::Edit;
+use crate::shelves::Shelves;
+use crate::values::{Account, Caller, HolderRow, Line, MemberRow};
+use mx_pay::{Name, Token};
+use mx_purse::message::Message;
+use std::alloc::Global;
+
+/// A book that keeps its rows in vectors. It always spells a World, and it never answers Store: a read that
+/// gives no Vec never fails, and the other calls fail only for want of memory.
+#[derive(Drop)]
+pub struct PlainBook {
+    shelves: Shelves,
+    ghost spelled: { ∥ Spells (rows_of shelves) (world_of (rows_of shelves)) ∥₁ },
+}
+
+impl PlainBook {
+    /// A book that spells the World that has nothing but this token of the operator.
+    pub fn new(alloc: Global, operator: Token) -> PlainBook
+        ensures { Spells (rows_of result.shelves) (opening operator) }
+    {
+        PlainBook {
+            shelves: Shelves::new(alloc, operator),
+        }
+    }
+}
+
+impl Book for PlainBook {
+    ghost Rows = { Kept };
+
+    ghost rows = { λ b. rows_of b.shelves };
+
+    ghost spells = { Spells };
+
+    ghost doubt = { λ _. 0 };
+
+    ghost fails = { λ _. ⊥ };
+
+    fn who(&mut self, _alloc: Global, token: &Token) -> Result<Option<Caller>, StoreFault> {
+        Ok(self.shelves.who(token))
+    }
+
+    fn member(&mut self, _alloc: Global, name: Name) -> Result<Option<MemberRow>, StoreFault> {
+        Ok(self.shelves.members.get(name))
+    }
+
+    fn holder(&mut self, _alloc: Global, name: Name) -> Result<Option<HolderRow>, StoreFault> {
+        Ok(self.shelves.holder(name))
+    }
+
+    fn purse(&mut self, _alloc: Global, name: Name) -> Result<Option<Account>, StoreFault> {
+        Ok(self.shelves.account(name))
+    }
+
+    fn purses_of(&mut self, alloc: Global, holder: Name) -> Result<Vec<Name>, StoreFault> {
+        match self.shelves.purses_of(alloc, holder) {
+            Ok(names) => Ok(names),
+            Err(_) => Err(StoreFault::Memory),
+        }
+    }
+
+    fn inbox(&mut self, alloc: Global, purse: Name) -> Result<Vec<(u64, Message)>, StoreFault> {
+        match self.shelves.inbox_of(alloc, purse) {
+            Ok(messages) => Ok(messages),
+            Err(_) => Err(StoreFault::Memory),
+        }
+    }
+
+    fn message(
+        &mut self,
+        _alloc: Global,
+        purse: Name,
+        number: u64,
+    ) -> Result<Option<Message>, StoreFault> {
+        Ok(self.shelves.inbox.get((purse, number)))
+    }
+
+    fn lines(
+        &mut self,
+        alloc: Global,
+        purse: Name,
+        after: u64,
+        most: u64,
+    ) -> Result<Vec<Line>, StoreFault> {
+        match self.shelves.lines_of(alloc, purse, after, most) {
+            Ok(lines) => Ok(lines),
+            Err(_) => Err(StoreFault::Memory),
+        }
+    }
+
+    fn apply(&mut self, edits: &[Edit]) -> Result<(), StoreFault> {
+        if self.shelves.reserve(edits.len()).is_err() {
+            return Err(StoreFault::Memory);
+        }
+        self.shelves.edit_all(edits);
+        Ok(())
+    }
+
+    ghost sound = { λ r w h. h.sound };
+}

@@ -1,0 +1,292 @@
+//! The tables of a book in memory, with no conditions on what they hold.
+ghost use Rattle.std.specs.Prelude.{◌≡◌, ◌&&◌, ◌+◌, ◌≤◌, ◌<◌, ℕ, List, length, OnOk, IfOk, map, filter, take, nat_lt};
+ghost use Rattle.std.specs.FinMap.{get};
+ghost use Rattle.mx_pay.specs.Names.{is_name};
+ghost use Rattle.mx_purse.specs.declared.message.Message.{Message as Kept};
+ghost use Rattle.mx_book.specs.declared.values.LineRow.{LineRow as KeptLine};
+ghost use Rattle.mx_book.specs.declared.values.PurseRow.{PurseRow as KeptPurse};
+ghost use Rattle.mx_book.specs.RowEdits.{rewritten, all_rewritten, Able, AllAble};
+ghost use Rattle.mx_book.specs.RowReads.{of_name, row_who_of, row_holder_of, row_purses_of, row_account_of, row_inbox_of, row_lines_of, line_of_row};
+ghost use Rattle.mx_book.specs.Shelves.{rows_of, HasRoom, SpendsOne};
+ghost use Rattle.mx_book.specs.Spells.{opening_rows};
+
+use crate::edits::Edit;
+use crate::table::Table;
+use crate::values::{Account, Caller, HolderRow, Line, LineRow, MemberRow, PurseRow, Redemption};
+use mx_pay::names::same_name;
+use mx_pay::token::same_token;
+use mx_pay::{Amount, Name, PayDetails, Token};
+use mx_purse::message::Message;
+use mx_purse::purse::Purse;
+use std::alloc::{AllocError, Global};
+
+/// The operator's token and one table for each kind of row. A row of a purse has the purse's name as the first
+/// part of its key.
+#[derive(Drop)]
+pub struct Shelves {
+    /// The operator's token.
+    pub operator: Token,
+    /// The tokens of the clerks and the holders.
+    pub tokens: Table<Token, Caller>,
+    /// The members.
+    pub members: Table<Name, MemberRow>,
+    /// Each holder's member.
+    pub holders: Table<Name, Name>,
+    /// The purses.
+    pub purses: Table<Name, PurseRow>,
+    /// Messages by purse and number.
+    pub inbox: Table<(Name, u64), Message>,
+    /// Lines by purse and number.
+    pub lines: Table<(Name, u64), LineRow>,
+    /// The results of read log that were sent and aren't archived.
+    pub tray: Table<(Name, PayDetails), ()>,
+    /// Those that are archived.
+    pub archive: Table<(Name, PayDetails), ()>,
+    /// The amounts of loads by purse and reference.
+    pub loads: Table<(Name, Name), Amount>,
+    /// Redemptions by purse and reference.
+    pub redemptions: Table<(Name, Name), Redemption>,
+}
+
+impl Shelves {
+    /// Empty tables, and the operator's token.
+    pub fn new(alloc: Global, operator: Token) -> Shelves
+        ensures { rows_of result ≡ opening_rows operator }
+    {
+        Shelves {
+            operator,
+            tokens: Table::new(alloc),
+            members: Table::new(alloc),
+            holders: Table::new(alloc),
+            purses: Table::new(alloc),
+            inbox: Table::new(alloc),
+            lines: Table::new(alloc),
+            tray: Table::new(alloc),
+            archive: Table::new(alloc),
+            loads: Table::new(alloc),
+            redemptions: Table::new(alloc),
+        }
+    }
+
+    /// Makes one edit, for which there is room.
+    pub fn edit(&mut self, edit: Edit)
+        requires able { Able (rows_of self.old) edit }
+        requires room { HasRoom 1 self.old }
+        ensures edited { rows_of self.new ≡ rewritten (rows_of self.old) edit }
+        ensures room { SpendsOne self.old self.new }
+    {
+        match edit {
+            Edit::NewMember { member, clerk } => {
+                let row = MemberRow {
+                    granted: 0,
+                    float: 0,
+                };
+                self.members.put(member, row);
+                self.tokens.put(clerk, Caller::Clerk(member));
+            }
+            Edit::NewHolder {
+                holder,
+                member,
+                token,
+            } => {
+                self.holders.put(holder, member);
+                self.tokens.put(token, Caller::Holder(holder));
+            }
+            Edit::NewPurse { purse, holder } => {
+                let row = PurseRow {
+                    holder,
+                    purse: Purse::new(purse),
+                    next_message: 0,
+                };
+                self.purses.put(purse, row);
+            }
+            Edit::SetPurse { purse } => {
+                let name = purse.name();
+                if let Some(row) = self.purses.get(name) {
+                    self.purses.put(name, PurseRow { purse, ..row });
+                }
+            }
+            Edit::AddMessage { purse, message } => {
+                if let Some(row) = self.purses.get(purse) {
+                    let number = row.next_message;
+                    let next_message = number + 1;
+                    self.purses.put(
+                        purse,
+                        PurseRow {
+                            next_message,
+                            ..row
+                        },
+                    );
+                    self.inbox.put((purse, number), message);
+                }
+            }
+            Edit::DropMessage { purse, number } => self.inbox.remove((purse, number)),
+            Edit::AddLine { purse, line } => {
+                let row = LineRow {
+                    kind: line.kind,
+                    amount: line.amount,
+                    balance: line.balance,
+                    note: line.note,
+                };
+                self.lines.put((purse, line.number), row);
+            }
+        }
+    }
+
+    /// Makes edits in order, for which there is room.
+    pub fn edit_all(&mut self, edits: &[Edit])
+        requires able { AllAble (rows_of self.old) edits.now }
+        requires room { HasRoom (length edits.now) self.old }
+        ensures { rows_of self.new ≡ all_rewritten (rows_of self.old) edits.now }
+    {
+        for edit in edits {
+            self.edit(*edit);
+        }
+    }
+
+    /// Makes room for this many more rows in each table that edits add to. An AllocError leaves the rows as they
+    /// are.
+    pub fn reserve(&mut self, more: usize) -> Result<(), AllocError>
+        ensures same { rows_of self.new ≡ rows_of self.old }
+        ensures ok { OnOk result (HasRoom more self.new) }
+    {
+        self.tokens.reserve(more)?;
+        self.members.reserve(more)?;
+        self.holders.reserve(more)?;
+        self.purses.reserve(more)?;
+        self.inbox.reserve(more)?;
+        self.lines.reserve(more)?;
+        Ok(())
+    }
+
+    /// Whose token it is, or None where it is nobody's.
+    pub fn who(&self, token: &Token) -> Option<Caller>
+        ensures { result ≡ row_who_of (rows_of self.now) token.now }
+    {
+        if same_token(token, &self.operator) {
+            Some(Caller::Operator)
+        } else {
+            self.tokens.get(*token)
+        }
+    }
+
+    /// The member of a holder and how many purses the holder has, or None where there is no such holder.
+    pub fn holder(&self, name: Name) -> Option<HolderRow>
+        ensures { result ≡ row_holder_of (rows_of self.now) name }
+    {
+        let member = self.holders.get(name)?;
+        let purses = purses_held(self.purses.rows(), name);
+        Some(HolderRow { member, purses })
+    }
+
+    /// What a book gives of a purse, or None where there is no such purse.
+    pub fn account(&self, name: Name) -> Option<Account>
+        ensures { result ≡ row_account_of (rows_of self.now) name }
+    {
+        let row = self.purses.get(name)?;
+        let member = self.holders.get(row.holder)?;
+        Some(Account {
+            holder: row.holder,
+            member,
+            purse: row.purse,
+            held: messages_held(self.inbox.rows(), name),
+            next_message: row.next_message,
+        })
+    }
+
+    /// The names of a holder's purses, in order.
+    pub fn purses_of(&self, alloc: Global, holder: Name) -> Result<Vec<Name>, AllocError>
+        ensures { IfOk result (λ r. r.items ≡ row_purses_of (rows_of self.now) holder) }
+    {
+        names_held(alloc, self.purses.rows(), holder)
+    }
+
+    /// The messages in the inbox of a purse with their numbers, by number.
+    pub fn inbox_of(&self, alloc: Global, purse: Name) -> Result<Vec<(u64, Message)>, AllocError>
+        ensures { IfOk result (λ r. r.items ≡ row_inbox_of (rows_of self.now) purse) }
+    {
+        messages_of(alloc, self.inbox.rows(), purse)
+    }
+
+    /// The first `most` lines of a purse that are numbered above `after`, by number.
+    pub fn lines_of(
+        &self,
+        alloc: Global,
+        purse: Name,
+        after: u64,
+        most: u64,
+    ) -> Result<Vec<Line>, AllocError>
+        ensures { IfOk result (λ r. r.items ≡ row_lines_of (rows_of self.now) purse after most) }
+    {
+        lines_above(alloc, self.lines.rows(), purse, after, most)
+    }
+}
+
+/// How many of these purses the holder has.
+fn purses_held(rows: &[(Name, PurseRow)], holder: Name) -> usize
+    ensures { result ≡ length (filter (λ (e : List ℕ × KeptPurse). is_name holder e.1.holder) rows.now) }
+{
+    rows.iter()
+        .filter(|row| same_name(&holder, &row.1.holder))
+        .count()
+}
+
+/// The names of these purses that the holder has, in order.
+fn names_held(
+    alloc: Global,
+    rows: &[(Name, PurseRow)],
+    holder: Name,
+) -> Result<Vec<Name>, AllocError>
+    ensures { IfOk result (λ r. r.items ≡ map (λ (e : List ℕ × KeptPurse). e.0) (filter (λ (e : List ℕ × KeptPurse). is_name holder e.1.holder) rows.now)) }
+{
+    rows.iter()
+        .filter(|row| same_name(&holder, &row.1.holder))
+        .map(|row| row.0)
+        .collect(alloc)
+}
+
+/// How many of these messages are to the purse.
+fn messages_held(rows: &[((Name, u64), Message)], purse: Name) -> usize
+    ensures { result ≡ length (of_name purse rows.now) }
+{
+    rows.iter()
+        .filter(|row| same_name(&purse, &row.0.0))
+        .count()
+}
+
+/// Those of these messages that are to the purse, with their numbers, in order.
+fn messages_of(
+    alloc: Global,
+    rows: &[((Name, u64), Message)],
+    purse: Name,
+) -> Result<Vec<(u64, Message)>, AllocError>
+    ensures { IfOk result (λ r. r.items ≡ map (λ (e : (List ℕ × ℕ) × Kept). (e.0.1, e.1)) (filter (λ (e : (List ℕ × ℕ) × Kept). is_name purse e.0.0) rows.now)) }
+{
+    rows.iter()
+        .filter(|row| same_name(&purse, &row.0.0))
+        .map(|row| (row.0.1, row.1))
+        .collect(alloc)
+}
+
+/// The first `most` of these lines that are of the purse and numbered above `after`, in order.
+fn lines_above(
+    alloc: Global,
+    rows: &[((Name, u64), LineRow)],
+    purse: Name,
+    after: u64,
+    most: u64,
+) -> Result<Vec<Line>, AllocError>
+    ensures { IfOk result (λ r. r.items ≡ map line_of_row (take most (filter (λ (e : (List ℕ × ℕ) × KeptLine). is_name purse e.0.0 && nat_lt after e.0.1) rows.now))) }
+{
+    rows.iter()
+        .filter(|row| same_name(&purse, &row.0.0) && after < row.0.1)
+        .take(most as usize)
+        .map(|row| Line {
+            number: row.0.1,
+            kind: row.1.kind,
+            amount: row.1.amount,
+            balance: row.1.balance,
+            note: row.1.note,
+        })
+        .collect(alloc)
+}

@@ -1,0 +1,119 @@
+//! The values that a book keeps and gives.
+use mx_pay::{Amount, Name, PayDetails};
+use mx_purse::Purse;
+
+/// Who asks.
+#[derive(Clone, Copy, Debug)]
+pub enum Caller {
+    /// The operator, who runs the scheme.
+    Operator,
+    /// The clerk of this member.
+    Clerk(Name),
+    /// The holder of this name.
+    Holder(Name),
+}
+
+/// What is kept of a member.
+#[derive(Clone, Copy, Debug)]
+pub struct MemberRow {
+    /// The sum of all grants to the member, from 0 to 10^15.
+    pub granted: u64,
+    /// What is left to load purses with, from 0 to 10^15.
+    pub float: u64,
+}
+
+/// What a book gives of a holder.
+#[derive(Clone, Copy, Debug)]
+pub struct HolderRow {
+    /// The member whose clerk added the holder.
+    pub member: Name,
+    /// How many purses the holder has, from 0 to 64.
+    pub purses: usize,
+}
+
+/// What a book gives of a purse.
+#[derive(Clone, Copy, Debug)]
+pub struct Account {
+    /// The holder of the purse.
+    pub holder: Name,
+    /// The holder's member.
+    pub member: Name,
+    /// The purse.
+    pub purse: Purse,
+    /// How many messages lie in the inbox of the purse, from 0 to 32.
+    pub held: usize,
+    /// The number that the next message to the purse gets, from 0 to 10^15.
+    pub next_message: u64,
+}
+
+/// What a line of a statement tells of.
+#[derive(Clone, Copy, Debug)]
+pub enum LineKind {
+    /// The purse was loaded.
+    Loaded,
+    /// The purse was redeemed.
+    Redeemed,
+    /// The purse paid.
+    Sent,
+    /// The purse was paid.
+    Received,
+    /// The purse logged a payment.
+    Logged,
+}
+
+/// What a line of a statement refers to.
+#[derive(Clone, Copy, Debug)]
+pub enum Note {
+    /// The reference of a load or a redemption.
+    Reference(Name),
+    /// The details of a payment.
+    Details(PayDetails),
+}
+
+/// One line of the statement of a purse.
+#[derive(Clone, Copy, Debug)]
+pub struct Line {
+    /// The number of the line. The lines of a purse are numbered from 1, without gaps.
+    pub number: u64,
+    /// What the line tells of.
+    pub kind: LineKind,
+    /// How much it was, from 0 to 10^12.
+    pub amount: Amount,
+    /// The balance of the purse after it, from 0 to 10^15.
+    pub balance: u64,
+    /// What the line refers to.
+    pub note: Note,
+}
+
+/// What is kept of a purse in a row of its own.
+#[derive(Clone, Copy, Debug)]
+pub struct PurseRow {
+    /// The holder of the purse.
+    pub holder: Name,
+    /// The purse.
+    pub purse: Purse,
+    /// The number that the next message to the purse gets, from 0 to 10^15.
+    pub next_message: u64,
+}
+
+/// A line but for its number, under which it is kept.
+#[derive(Clone, Copy, Debug)]
+pub struct LineRow {
+    /// What the line tells of.
+    pub kind: LineKind,
+    /// How much it was, from 0 to 10^12.
+    pub amount: Amount,
+    /// The balance of the purse after it, from 0 to 10^15.
+    pub balance: u64,
+    /// What the line refers to.
+    pub note: Note,
+}
+
+/// What is kept of a redemption.
+#[derive(Clone, Copy, Debug)]
+pub struct Redemption {
+    /// How much was redeemed, from 0 to 10^12.
+    pub amount: Amount,
+    /// Whether the member's clerk has collected it.
+    pub collected: bool,
+}

@@ -1,0 +1,261 @@
+-- The laws of code texts, of one entry.
+use Rattle.std.proofs.Common.{◌≡◌, ◌≢◌, ℕ, ◌^◌, ◌<◌, ◌≤◌, suc, zero, Bool, true, false, cond, ◌&&◌, ◌==◌, List, [], ◌∷◌, ◌++◌, refl, sym, ◌∙◌, ap, subst, Option, Some, None, length, get_or, arith}
+use Rattle.std.specs.Prelude.{nat_le, nat_lt, decimal}
+use Rattle.std.specs.Option.{option_and_then, option_map, IsNone, IfSome}
+use Rattle.std.proofs.lemmas.Str.Pattern.{IsSplitOnceResult, split_parts}
+use Rattle.std.proofs.Common.{Bor}
+use Rattle.std.specs.Str.Parse.{digits_value}
+use Rattle.std.proofs.lemmas.Fmt.{decimal_is_IsNumeral, digits_decimal}
+use Rattle.std.proofs.Common.{lit<}
+use Rattle.std.proofs.lemmas.Bool.Decides.{nat_tests}
+use Rattle.std.proofs.Math.Dec.{eqb}
+use Rattle.std.proofs.lemmas.Bool.{eqb-true, eq-eqb}
+use Rattle.std.specs.Cmp.Lexicographic.{pointwise}
+use Rattle.mx_pay.specs.Names.{is_name_text, is_name, is_name_byte}
+use Rattle.std.specs.List.{list_all}
+use Rattle.std.specs.Int.{IsInRange}
+use Rattle.std.specs.Str.Parse.{AllDigits}
+use Rattle.std.proofs.lemmas.Str.Parse.{IsNumeralModel, numerals_by_value, tells_digits, not_in_digits}
+use Rattle.mx_pay.specs.Details.{Details}
+use Rattle.mx_pay.specs.Codes.{entry_text, IsDetails}
+use Rattle.mx_pay.specs.Reading.{cut, onto, same_bytes, number_of, up_to, limited, name_of, apart, made_of, entry_of}
+use Rattle.mx_pay.proofs.Texts.{left_true, right_true}
+use Rattle.mx_pay.proofs.SameLemmas.{same_names, name_itself}
+
+some_of : {A : Type 0} (b : Bool) (x y : A) → cond b (Some x) None ≡ Some y → (b ≡ true) × (x ≡ y)
+some_of true x y h = (refl, cc)
+some_of false x y h = cc
+
+-- the steps of a reading that gave something
+pub bind_some : {A B : Type 0} (f : A → Option B) (o : Option A) (y : B) → option_and_then f o ≡ Some y → (x : A) × ((o ≡ Some x) × (f x ≡ Some y))
+bind_some f None y h = cc
+bind_some f (Some x) y h = (x, (refl, h))
+
+same_number : (a b : ℕ) → (a == b) ≡ true → a ≡ b
+same_number a b h = grind (arith, nat_tests)
+
+number_itself : (a : ℕ) → (a == a) ≡ true
+number_itself a = grind (arith, nat_tests)
+
+bytes_same : (xs ys : List ℕ) → same_bytes xs ys ≡ true → xs ≡ ys
+bytes_same [] [] h = refl
+bytes_same [] (y ∷ ys) h = cc
+bytes_same (x ∷ xs) [] h = cc
+bytes_same (x ∷ xs) (y ∷ ys) h =
+    let one : x ≡ y = same_number x y (left_true _ _ h) in
+    let rest : xs ≡ ys = bytes_same xs ys (right_true (x == y) _ h) in cc
+
+bytes_itself : (xs : List ℕ) → same_bytes xs xs ≡ true
+bytes_itself [] = refl
+bytes_itself (x ∷ xs) = ap (λ b. b && same_bytes xs xs) (number_itself x) ∙ bytes_itself xs
+
+pub texts_same : (xs ys : List ℕ) → pointwise eqb xs ys ≡ true → xs ≡ ys
+texts_same [] [] h = refl
+texts_same [] (y ∷ ys) h = cc
+texts_same (x ∷ xs) [] h = cc
+texts_same (x ∷ xs) (y ∷ ys) h =
+    let one : x ≡ y = eqb-true x y (left_true _ _ h) in
+    let rest : xs ≡ ys = texts_same xs ys (right_true (eqb x y) _ h) in cc
+
+pub texts_itself : (xs : List ℕ) → pointwise eqb xs xs ≡ true
+texts_itself [] = refl
+texts_itself (x ∷ xs) = ap (λ b. b && pointwise eqb xs xs) (eq-eqb x x refl) ∙ texts_itself xs
+
+-- numbers
+pub number_takes : (t : List ℕ) (n : ℕ) → number_of t ≡ Some n → (t ≡ decimal n) × (n < 2 ^ 64)
+unfolding number_of
+number_takes t n h =
+    let s = some_of _ _ _ h in
+    let e : digits_value 10 t ≡ n = s.1 in
+    let low : nat_lt (digits_value 10 t) (2 ^ 64) ≡ true = left_true _ _ s.0 in
+    (bytes_same _ _ (right_true (nat_lt (digits_value 10 t) (2 ^ 64)) _ s.0) ∙ ap decimal e, subst (λ (k : ℕ). k < 2 ^ 64) e (below _ low))
+  where
+    below : (k : ℕ) → nat_lt k (2 ^ 64) ≡ true → k < 2 ^ 64
+    below k h = grind (arith, nat_tests)
+
+lt_true : (k : ℕ) → k < 2 ^ 64 → nat_lt k (2 ^ 64) ≡ true
+lt_true k h = grind (arith, nat_tests)
+
+pub number_again : (n : ℕ) → n < 2 ^ 64 → number_of (decimal n) ≡ Some n
+unfolding number_of
+number_again n h =
+    let v : digits_value 10 (decimal n) ≡ n = (decimal_is_IsNumeral n h).1 in
+    ap (λ (k : ℕ). cond (nat_lt k (2 ^ 64) && same_bytes (decimal n) (decimal k)) (Some k) None) v
+    ∙ ap (λ b. cond (b && same_bytes (decimal n) (decimal n)) (Some n) None) (lt_true n h)
+    ∙ ap (λ b. cond b (Some n) None) (bytes_itself (decimal n))
+
+none_or : (o : Option ℕ) → ((n : ℕ) → o ≡ Some n → ⊥) → o ≡ None
+none_or None h = refl
+none_or (Some n) h = absurd (h n refl)
+
+pub number_none : (t : List ℕ) → ((n : ℕ) → n < 2 ^ 64 → t ≡ decimal n → ⊥) → number_of t ≡ None
+number_none t h = none_or _ (λ n e. let k = number_takes t n e in h n k.1 k.0)
+
+-- cuts
+pub cut_at : (c : ℕ) (xs ys : List ℕ) → ((i : ℕ) → i < length xs → get_or xs i 0 ≢ c) → cut c (xs ++ c ∷ ys) ≡ Some (xs, ys)
+cut_at c [] ys h = ap (λ b. cond b (Some ([], ys)) (onto c (cut c ys))) (number_itself c)
+cut_at c (x ∷ xs) ys h =
+    ap (λ b. cond b (Some ([], xs ++ c ∷ ys)) (onto x (cut c (xs ++ c ∷ ys)))) (differs x c (h 0 (omega arith)))
+    ∙ ap (onto x) (cut_at c xs ys (λ i l. h (suc i) (omega arith)))
+  where
+    differs : (x c : ℕ) → x ≢ c → (x == c) ≡ false
+    differs x c h = grind (arith, nat_tests)
+
+pub cut_none : (c : ℕ) (bs : List ℕ) → ((i : ℕ) → i < length bs → get_or bs i 0 ≢ c) → cut c bs ≡ None
+cut_none c [] h = refl
+cut_none c (b ∷ bs) h =
+    ap (λ t. cond t (Some ([], bs)) (onto b (cut c bs))) (differs b c (h 0 (omega arith)))
+    ∙ ap (onto b) (cut_none c bs (λ i l. h (suc i) (omega arith)))
+  where
+    differs : (x c : ℕ) → x ≢ c → (x == c) ≡ false
+    differs x c h = grind (arith, nat_tests)
+
+cut_case : (c x : ℕ) (bs : List ℕ) (t : Bool) (r : Option (List ℕ × List ℕ)) (p : List ℕ × List ℕ) → (x == c) ≡ t → cond t (Some ([], bs)) (onto x r) ≡ Some p
+    → ((q : List ℕ × List ℕ) → r ≡ Some q → bs ≡ q.0 ++ c ∷ q.1) → x ∷ bs ≡ p.0 ++ c ∷ p.1
+cut_case c x bs true r p t h rest =
+    let one : x ≡ c = same_number x c t in
+    let e : p ≡ ([], bs) = cc in
+    ap (λ (k : ℕ). k ∷ bs) one ∙ ap (λ (q : List ℕ × List ℕ). q.0 ++ c ∷ q.1) (sym e)
+cut_case c x bs false None p t h rest = cc
+cut_case c x bs false (Some q) p t h rest =
+    let e : p ≡ (x ∷ q.0, q.1) = cc in
+    ap (λ ys. x ∷ ys) (rest q refl) ∙ ap (λ (q : List ℕ × List ℕ). q.0 ++ c ∷ q.1) (sym e)
+
+pub cut_parts : (c : ℕ) (bs : List ℕ) (p : List ℕ × List ℕ) → cut c bs ≡ Some p → bs ≡ p.0 ++ c ∷ p.1
+cut_parts c [] p h = cc
+cut_parts c (b ∷ bs) p h = cut_case c b bs (b == c) (cut c bs) p refl h (cut_parts c bs)
+
+-- one entry
+name_takes : (t n : List ℕ) → name_of t ≡ Some n → (t ≡ n) × (is_name_text n ≡ true)
+name_takes t n h = let s = some_of _ _ _ h in (s.1, subst (λ k. is_name_text k ≡ true) s.1 s.0)
+
+limited_takes : (most : ℕ) (t : List ℕ) (n : ℕ) → limited most t ≡ Some n → (t ≡ decimal n) × (n ≤ most)
+limited_takes most t n h =
+    let b = bind_some (up_to most) (number_of t) n h in
+    let s = some_of _ _ _ b.1.1 in
+    let e : b.0 ≡ n = s.1 in
+    (subst (λ (k : ℕ). t ≡ decimal k) e (number_takes t b.0 b.1.0).0, subst (λ (k : ℕ). k ≤ most) e (low most b.0 s.0))
+  where
+    low : (m k : ℕ) → nat_le k m ≡ true → k ≤ m
+    low m k h = grind (arith, nat_tests)
+
+-- what the calls give
+pub cut_is : (c : ℕ) (bs : List ℕ) (r : Option (Bor (List ℕ) × Bor (List ℕ))) → IsSplitOnceResult c bs r → c < 128 → option_map (λ (x : Bor (List ℕ) × Bor (List ℕ)). (x.0.now, x.1.now)) r ≡ cut c bs
+cut_is c bs None h low = sym (cut_none c bs (split_parts c bs None h low))
+cut_is c bs (Some x) h low =
+    let parts = split_parts c bs (Some x) h low in
+    sym (ap (cut c) parts.0 ∙ cut_at c x.0.now x.1.now parts.1)
+
+pub new_apart : (r : Option Details) (d : Details) → (IsNone r → d.from ≡ d.to) × (d.from ≡ d.to → IsNone r) → IfSome r (λ x. x ≡ d) → r ≡ apart d
+new_apart None d none new = sym (ap (λ b. cond b None (Some d)) (ap (is_name d.from) (sym (none.0 refl)) ∙ name_itself d.from))
+new_apart (Some x) d none new = ap Some new ∙ sym (ap (λ b. cond b None (Some d)) (not_true _ (λ e. some_none (none.1 (same_names _ _ e)))))
+  where
+    some_none : IsNone (Some x) → ⊥
+    some_none h = cc
+
+    not_true : (b : Bool) → (b ≡ true → ⊥) → b ≡ false
+    not_true true h = absurd (h refl)
+    not_true false h = refl
+
+apart_takes : (d e : Details) → apart d ≡ Some e → (d ≡ e) × (d.from ≡ d.to → ⊥)
+apart_takes d e h = by_case (is_name d.from d.to) refl h
+  where
+    by_case : (b : Bool) → is_name d.from d.to ≡ b → cond b None (Some d) ≡ Some e → (d ≡ e) × (d.from ≡ d.to → ⊥)
+    by_case true is h = cc
+    by_case false is h = (cc, λ same. (let yes : is_name d.from d.to ≡ true = ap (is_name d.from) (sym same) ∙ name_itself d.from in let no : true ≡ false = sym yes ∙ is in cc))
+
+pub made_takes : (a b c d e : List ℕ) (x : Details) → made_of a b c d e ≡ Some x → IsDetails x × (a ++ 44 ∷ (b ++ 44 ∷ (c ++ 44 ∷ (d ++ 44 ∷ e))) ≡ entry_text x)
+unfolding made_of
+made_takes a b c d e x h =
+    let s1 = bind_some _ (name_of a) x h in
+    let s2 = bind_some _ (name_of b) x s1.1.1 in
+    let s3 = bind_some _ (limited (10 ^ 12) c) x s2.1.1 in
+    let s4 = bind_some _ (limited (10 ^ 15) d) x s3.1.1 in
+    let s5 = bind_some _ (limited (10 ^ 15) e) x s4.1.1 in
+    let made = apart_takes _ x s5.1.1 in
+    let n1 = name_takes a _ s1.1.0 in
+    let n2 = name_takes b _ s2.1.0 in
+    let n3 = limited_takes (10 ^ 12) c _ s3.1.0 in
+    let n4 = limited_takes (10 ^ 15) d _ s4.1.0 in
+    let n5 = limited_takes (10 ^ 15) e _ s5.1.0 in (
+      subst IsDetails made.0 (record { from = n1.1; to = n2.1; value = n3.1; from_seq = n4.1; to_seq = n5.1; apart = made.1 }),
+      texts a b c d e n1.0 n2.0 n3.0 n4.0 n5.0 ∙ ap entry_text made.0,
+    )
+  where
+    texts : (a b c d e : List ℕ) {a' b' c' d' e' : List ℕ} → a ≡ a' → b ≡ b' → c ≡ c' → d ≡ d' → e ≡ e' → a ++ 44 ∷ (b ++ 44 ∷ (c ++ 44 ∷ (d ++ 44 ∷ e))) ≡ a' ++ 44 ∷ (b' ++ 44 ∷ (c' ++ 44 ∷ (d' ++ 44 ∷ e')))
+    texts a b c d e p q r s t = cc
+
+pub entry_takes : (t : List ℕ) (x : Details) → entry_of t ≡ Some x → IsDetails x × (t ≡ entry_text x)
+unfolding entry_of
+entry_takes t x h =
+    let s1 = bind_some _ (cut 44 t) x h in
+    let s2 = bind_some _ (cut 44 s1.0.1) x s1.1.1 in
+    let s3 = bind_some _ (cut 44 s2.0.1) x s2.1.1 in
+    let s4 = bind_some _ (cut 44 s3.0.1) x s3.1.1 in
+    let made = made_takes s1.0.0 s2.0.0 s3.0.0 s4.0.0 s4.0.1 x s4.1.1 in (
+      made.0,
+      cut_parts 44 t s1.0 s1.1.0
+          ∙ ap (λ r. s1.0.0 ++ 44 ∷ r) (cut_parts 44 s1.0.1 s2.0 s2.1.0
+          ∙ ap (λ r. s2.0.0 ++ 44 ∷ r) (cut_parts 44 s2.0.1 s3.0 s3.1.0
+          ∙ ap (λ r. s3.0.0 ++ 44 ∷ r) (cut_parts 44 s3.0.1 s4.0 s4.1.0)))
+          ∙ made.1,
+    )
+
+-- what is spelled so is read
+abbrev pub NoByte : ℕ → List ℕ → Type 0
+NoByte c xs = (i : ℕ) → i < length xs → get_or xs i 0 ≢ c
+
+name_again : (n : List ℕ) → is_name_text n ≡ true → name_of n ≡ Some n
+name_again n h = ap (λ b. cond b (Some n) None) h
+
+le_true : (m k : ℕ) → k ≤ m → nat_le k m ≡ true
+le_true m k h = grind (arith, nat_tests)
+
+limited_again : (most n : ℕ) → n < 2 ^ 64 → n ≤ most → limited most (decimal n) ≡ Some n
+limited_again most n small low = ap (option_and_then (up_to most)) (number_again n small) ∙ ap (λ b. cond b (Some n) None) (le_true most n low)
+
+apart_again : (d : Details) → (d.from ≡ d.to → ⊥) → apart d ≡ Some d
+apart_again d h = ap (λ b. cond b None (Some d)) (by_case (is_name d.from d.to) (λ e. h (same_names _ _ e)))
+  where
+    by_case : (b : Bool) → (b ≡ true → ⊥) → b ≡ false
+    by_case true h = absurd (h refl)
+    by_case false h = refl
+
+pub made_again : (x : Details) → IsDetails x → made_of x.from x.to (decimal x.value) (decimal x.from_seq) (decimal x.to_seq) ≡ Some x
+unfolding made_of
+made_again x h =
+    let v : limited (10 ^ 12) (decimal x.value) ≡ Some x.value = limited_again (10 ^ 12) x.value (let k : x.value ≤ 10 ^ 12 = h.value in omega arith) h.value in
+    let m : limited (10 ^ 15) (decimal x.from_seq) ≡ Some x.from_seq = limited_again (10 ^ 15) x.from_seq (let k : x.from_seq ≤ 10 ^ 15 = h.from_seq in omega arith) h.from_seq in
+    let n : limited (10 ^ 15) (decimal x.to_seq) ≡ Some x.to_seq = limited_again (10 ^ 15) x.to_seq (let k : x.to_seq ≤ 10 ^ 15 = h.to_seq in omega arith) h.to_seq in
+    rw (name_again x.from h.from, name_again x.to h.to, v, m, n) (apart_again x h.apart)
+
+names_lack : (c : ℕ) → is_name_byte c ≡ false → (n : List ℕ) → list_all is_name_byte n ≡ true → NoByte c n
+names_lack c other [] h i l e = omega arith
+names_lack c other (b ∷ bs) h zero l e =
+    let yes : is_name_byte b ≡ true = left_true _ _ h in
+    let same : b ≡ c = e in
+    let t : true ≡ false = sym yes ∙ ap is_name_byte same ∙ other in cc
+names_lack c other (b ∷ bs) h (suc i) l e = names_lack c other bs (right_true (is_name_byte b) _ h) i (omega arith) e
+
+pub name_lacks : (c : ℕ) → is_name_byte c ≡ false → (n : List ℕ) → is_name_text n ≡ true → NoByte c n
+name_lacks c other n h = names_lack c other n (right_true _ _ (right_true _ _ h))
+
+own : IsNumeralModel (AllDigits 10) (digits_value 10)
+own = numerals_by_value (AllDigits 10) tells_digits
+
+pub number_lacks_at : (c : ℕ) → (IsInRange 48 57 c → ⊥) → (n : ℕ) → n < 2 ^ 64 → NoByte c (decimal n)
+number_lacks_at c outside n small = not_in_digits own (decimal n) c (digits_decimal own n small) outside
+
+number_lacks : (c : ℕ) → c < 48 → (n : ℕ) → n < 2 ^ 64 → NoByte c (decimal n)
+number_lacks c low n small = number_lacks_at c (λ r. outside c low r) n small
+  where
+    outside : (c : ℕ) → c < 48 → IsInRange 48 57 c → ⊥
+    outside c low r = let k : 48 ≤ c = r.0 in omega arith
+
+pub entry_again : (x : Details) → IsDetails x → entry_of (entry_text x) ≡ Some x
+unfolding entry_of
+entry_again x h =
+    let vs : x.value < 2 ^ 64 = (let k : x.value ≤ 10 ^ 12 = h.value in omega arith) in
+    let ms : x.from_seq < 2 ^ 64 = (let k : x.from_seq ≤ 10 ^ 15 = h.from_seq in omega arith) in
+    rw (cut_at 44 x.from _ (name_lacks 44 refl x.from h.from), cut_at 44 x.to _ (name_lacks 44 refl x.to h.to), cut_at 44 (decimal x.value) _ (number_lacks 44 (lit< tt) x.value vs), cut_at 44 (decimal x.from_seq) _ (number_lacks 44 (lit< tt) x.from_seq ms))
+    (made_again x h)

@@ -1,0 +1,94 @@
+-- What compares alike is the same, and what a log has after an entry.
+use Rattle.std.proofs.Common.{◌≡◌, ℕ, ◌+◌, Bool, true, false, cond, ◌||◌, List, [], ◌∷◌, refl, sym, ◌∙◌, ap, Option, Some, None, inl, inr}
+use Rattle.std.specs.Prelude.{is_some, IsTrue, ◌↔◌}
+use Rattle.std.specs.List.{list_all, list_any}
+use Rattle.std.specs.declared.cmp.Ordering.{Ordering}
+use Rattle.std.specs.declared.cmp.Ordering.TheVariants.{Less, Equal, Greater}
+use Rattle.std.specs.Ordering.{is_eq}
+use Rattle.std.specs.Cmp.{tied_itself}
+use Rattle.std.proofs.lemmas.Cmp.{nat_list_cmp_total}
+use Rattle.std.specs.FinMap.{slice_cmp-IsAntisymmetric, nat_cmp-IsAntisymmetric}
+use Rattle.std.specs.FinMap as fmap
+use Rattle.mx_pay.specs.Names.{is_name}
+use Rattle.mx_pay.specs.Details.{Details, details_cmp, is_details}
+use Rattle.mx_pay.specs.Log.{Entries, log_len, has_logged, with_entry, none_logged, is_same_log, is_within, logged}
+use Rattle.mx_pay.proofs.LogLemmas.{details_total, details_exact}
+use Rattle.mx_pay.proofs.Texts.{left_true, right_true, both_true, or_case, or_left, or_right}
+
+is_equal : (o : Ordering) → is_eq o ≡ true → o ≡ Equal
+is_equal Less p = cc
+is_equal Equal p = refl
+is_equal Greater p = cc
+
+pub same_names : (a b : List ℕ) → is_name a b ≡ true → a ≡ b
+same_names a b h = slice_cmp-IsAntisymmetric nat_cmp-IsAntisymmetric a b (is_equal _ h)
+
+pub same_details : (a b : Details) → is_details a b ≡ true → a ≡ b
+same_details a b h = details_exact a b (is_equal _ h)
+
+pub details_itself : (a : Details) → is_details a a ≡ true
+details_itself a = ap is_eq (tied_itself details_total a)
+
+pub name_itself : (a : List ℕ) → is_name a a ≡ true
+name_itself a = ap is_eq (tied_itself nat_list_cmp_total a)
+
+some_is : (b : Bool) (o : Option (Unit {0})) → is_some (cond b (Some tt) o) ≡ (b || is_some o)
+some_is true o = refl
+some_is false o = refl
+
+pub has-with_entry : (s : Entries) (d e : Details) → has_logged (with_entry s d) e ≡ (is_details e d || has_logged s e)
+has-with_entry s d e = ap is_some (fmap.get-insert details_total s d tt e) ∙ some_is _ _
+
+pub len-with_entry : (s : Entries) (d : Details) → has_logged s d ≡ false → log_len (with_entry s d) ≡ log_len s + 1
+len-with_entry s d h = fmap.len-insert details_total s d tt ∙ ap (λ b. cond b (log_len s) (log_len s + 1)) h
+
+pub has-none_logged : (e : Details) → has_logged none_logged e ≡ false
+has-none_logged e = ap is_some (fmap.get-empty details_cmp e)
+
+pub len-none_logged : log_len none_logged ≡ 0
+len-none_logged = fmap.len-empty details_cmp (Unit {0})
+
+-- what a test of all details that passed says of one that is among them
+pub one_of : (f : Details → Bool) (d : Details) (ds : List Details) → list_all f ds ≡ true → list_any (is_details d) ds ≡ true → f d ≡ true
+one_of f d [] all any = cc
+one_of f d (e ∷ es) all any =
+    elim (or_case _ _ any) [
+      | inl same ↦ ap f (same_details d e same) ∙ left_true _ _ all
+      | inr there ↦ one_of f d es (right_true (f e) _ all) there
+    ]
+
+-- a test that each of the details passes
+pub all_of : (f : Details → Bool) (ds : List Details) → ((d : Details) → list_any (is_details d) ds ≡ true → f d ≡ true) → list_all f ds ≡ true
+all_of f [] h = refl
+all_of f (e ∷ es) h =
+    both_true _ _ (h e (or_left _ _ (details_itself e))) (all_of f es (λ d there. h d (or_right _ _ there)))
+
+-- what a log that is within another says of details
+within_means : (a b : Entries) → is_within a b ≡ true → (d : Details) → has_logged a d ≡ true → has_logged b d ≡ true
+within_means a b h d there = one_of (has_logged b) d (logged a) h (sym (fmap.contains_key-keys a d) ∙ there)
+
+-- a log is within itself
+within_itself : (a : Entries) → is_within a a ≡ true
+within_itself a = all_of (has_logged a) (logged a) (λ d there. fmap.contains_key-keys a d ∙ there)
+
+-- two marks that are there or not alike are the same
+marks_same : (x y : Option (Unit {0})) → (is_some x ≡ true → is_some y ≡ true) → (is_some y ≡ true → is_some x ≡ true) → x ≡ y
+marks_same None None there back = refl
+marks_same None (Some u) there back = let none : false ≡ true = back refl in cc
+marks_same (Some u) None there back = let none : false ≡ true = there refl in cc
+marks_same (Some u) (Some v) there back = refl
+
+-- two logs that have the same details are one
+pub same_logs : (a b : Entries) → is_same_log a b ≡ true → a ≡ b
+same_logs a b h =
+    fmap.same_map details_total details_exact a b
+    (λ d. marks_same _ _ (within_means a b (left_true _ _ h) d) (within_means b a (right_true (is_within a b) _ h) d))
+
+-- a log has the same details as itself
+pub log_itself : (a : Entries) → is_same_log a a ≡ true
+log_itself a = both_true _ _ (within_itself a) (within_itself a)
+
+-- what the test of logs answers is true exactly where they are one
+pub same_log_iff : (a b : Entries) (answer : Bool) → answer ≡ is_same_log a b → IsTrue answer ↔ (a ≡ b)
+same_log_iff a b answer is =
+    (λ h. same_logs a b (sym is ∙ h), λ e. is ∙ ap (is_same_log a) (sym e) ∙ log_itself a)
