@@ -1,4 +1,4 @@
-//! The rows of the first path: whole inputs, and the bytes that are written for them.
+//! Worked inputs, whole, and the bytes that are written for them.
 ghost use Rattle.std.specs.Prelude.{◌≤◌};
 
 use crate::counted::Counted;
@@ -122,7 +122,7 @@ fn joined(alloc: Global, texts: &[&str]) -> Result<String, AllocError> {
     Ok(all)
 }
 
-/// An office in which nothing is, for the operator of the rows.
+/// An office in which nothing is, for the operator of the worked inputs.
 fn empty_office(alloc: Global) -> Option<Office> {
     let operator = Token::read(OPERATOR)?;
     Some(Office::new(alloc, operator))
@@ -346,8 +346,8 @@ fn answered_in_the_end(
         && page.into_inner().text() == response.as_bytes()
 }
 
-/// With every growth granted this says what the first row says. Run with one growth refused, it says that a
-/// response is the row's or 503, and that the same request sent again has the row's.
+/// With every growth granted this says what the first worked input says. Run with one growth refused, it says that
+/// a response is the usual one or 503, and that the same request sent again has the usual one.
 #[test]
 fn a_refused_growth_is_unavailable_once(rt: HostRuntime) {
     let alloc = rt.alloc();
