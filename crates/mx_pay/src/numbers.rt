@@ -86,4 +86,14 @@ impl Seq {
     {
         Seq { number: 0 }
     }
+
+    /// The sequence number after this one, which has to be below 10^15.
+    pub fn next(self) -> Seq
+        requires { self < 10 ^ 15 }
+        ensures { result ≡ self + 1 }
+    {
+        Seq {
+            number: self.number + 1,
+        }
+    }
 }

@@ -1,2 +1,3 @@
 pub mod ConditionLemmas
 pub mod Laws
+pub mod OperationLemmas

@@ -1,12 +1,15 @@
-//! Purses: what a purse is, what always holds of one, and the messages between purses.
+//! Purses: what a purse is, what always holds of one, its operations, and the messages between purses.
 #![tactic(auto)]
 
+mod conditions;
 pub mod message;
 pub mod purse;
+pub mod refusals;
 pub mod status;
 #[cfg(test)]
 mod tests;
 
-pub use message::Message;
+pub use message::{Handled, Message};
 pub use purse::Purse;
+pub use refusals::StartRefusal;
 pub use status::Status;

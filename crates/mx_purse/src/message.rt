@@ -1,4 +1,4 @@
-//! The messages between purses.
+//! The messages between purses, and which of them a purse accepts.
 use mx_pay::PayDetails;
 
 /// A message that one purse sends to another, with the details of the payment that it belongs to.
@@ -10,4 +10,17 @@ pub enum Message {
     Val(PayDetails),
     /// The purse that was paid acknowledges the value of these details.
     Ack(PayDetails),
+}
+
+/// Which message a purse accepted, with the details of the payment that it belongs to.
+#[derive(Clone, Copy, Debug)]
+pub enum Handled {
+    /// The request for the value of these details: the purse has paid it.
+    Req(PayDetails),
+    /// The value of these details: the purse has received it.
+    Val(PayDetails),
+    /// The acknowledgement of these details: their payment is finished.
+    Ack(PayDetails),
+    /// None: the message isn't the one that the purse expects, and nothing changed.
+    Ignored,
 }

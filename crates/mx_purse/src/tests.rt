@@ -1,4 +1,6 @@
 //! A new purse and a purse of given parts, read part by part, and each condition of a purse broken once.
+mod operations;
+
 use crate::{Purse, Status};
 use mx_pay::{Log, Name, PayDetails, Seq, read_code};
 use std::test::Fail;

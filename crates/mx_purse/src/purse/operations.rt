@@ -1,0 +1,235 @@
+//! The operations of a purse.
+ghost use Rattle.std.specs.Prelude.{◌≡◌, None};
+ghost use Rattle.mx_purse.specs.State.{IsPurse};
+ghost use Rattle.mx_purse.specs.Operations.{or_refused, unless_refused, pending, aborted, start_worn, start_from_refusal, start_to_refusal, from_details, to_details, started, expects_req, expects_val, expects_ack, handled, after_message};
+
+use crate::conditions::MOST;
+use crate::message::{Handled, Message};
+use crate::purse::Purse;
+use crate::refusals::StartRefusal;
+use crate::status::Status;
+use mx_pay::{Amount, Log, Name, PayDetails, Seq};
+
+impl Purse {
+    /// What an abort would log now: the details of the payment under way where the purse expects its value or
+    /// its acknowledgement. None in every other status.
+    pub fn pending(&self) -> Option<PayDetails>
+        ensures { result ≡ pending self.now.status }
+    {
+        match self.status {
+            Status::EaFrom | Status::EaTo | Status::Epr(_) => None,
+            Status::Epv(details) | Status::Epa(details) => Some(details),
+        }
+    }
+
+    /// Gives up the payment under way, if there is one, and comes to rest. Where the purse expects the value
+    /// or the acknowledgement, the details are added to the log and the purse has one statement line more; the
+    /// answer is these details, and None in every other status. The balance and the next number stay.
+    pub fn abort(&mut self) -> Option<PayDetails>
+        ensures logged { result ≡ pending self.old.status }
+        ensures new { self.new ≡ aborted self.old }
+        ensures whole { IsPurse self.new }
+    {
+        let pending = self.pending();
+        let lines = self.lines_left();
+        self.log = self.log_left();
+        self.lines = lines;
+        self.status = Status::EaFrom;
+        pending
+    }
+
+    /// Starts a payment of `value` to the purse `peer`, whose own number for it is `seq`: aborts the payment
+    /// under way as `abort` does, takes the next number, which rises by one, and expects the request for the
+    /// value. The answer is the details of the payment. Err, and nothing changes, with the first of these that
+    /// is so: SamePurse where `peer` is the purse itself, NotEnough where the value is above the balance,
+    /// LogFull where the log that an abort leaves has 16 entries, Worn where the next number is 10^15 or there
+    /// are 10^15 statement lines or more.
+    pub fn start_from(
+        &mut self,
+        peer: Name,
+        value: Amount,
+        seq: Seq,
+    ) -> Result<PayDetails, StartRefusal>
+        ensures answer { result ≡ or_refused (start_from_refusal self.old peer value) (from_details self.old peer value seq) }
+        ensures new { self.new ≡ unless_refused (start_from_refusal self.old peer value) self.old (started self.old (Status.Epr (from_details self.old peer value seq))) }
+        ensures whole { IsPurse self.new }
+    {
+        let Some(details) = PayDetails::new(self.name, peer, value, self.next, seq) else {
+            return Err(StartRefusal::SamePurse);
+        };
+        if self.balance < value.get() {
+            return Err(StartRefusal::NotEnough);
+        }
+        if let Some(refusal) = self.start_worn() {
+            return Err(refusal);
+        }
+        self.begin(Status::Epr(details));
+        Ok(details)
+    }
+
+    /// Starts a payment of `value` from the purse `peer`, whose own number for it is `seq`: aborts the payment
+    /// under way as `abort` does, takes the next number, which rises by one, and expects the value. The answer
+    /// is the details of the payment. Err, and nothing changes, with the first of these that is so: SamePurse
+    /// where `peer` is the purse itself, LogFull where the log that an abort leaves has 16 entries, Worn where
+    /// the next number is 10^15 or there are 10^15 statement lines or more.
+    pub fn start_to(
+        &mut self,
+        peer: Name,
+        value: Amount,
+        seq: Seq,
+    ) -> Result<PayDetails, StartRefusal>
+        ensures answer { result ≡ or_refused (start_to_refusal self.old peer) (to_details self.old peer value seq) }
+        ensures new { self.new ≡ unless_refused (start_to_refusal self.old peer) self.old (started self.old (Status.Epv (to_details self.old peer value seq))) }
+        ensures whole { IsPurse self.new }
+    {
+        let Some(details) = PayDetails::new(peer, self.name, value, seq, self.next) else {
+            return Err(StartRefusal::SamePurse);
+        };
+        if let Some(refusal) = self.start_worn() {
+            return Err(refusal);
+        }
+        self.begin(Status::Epv(details));
+        Ok(details)
+    }
+
+    /// Handles a message, and answers which was accepted. A request is accepted where the purse expects the
+    /// request for these details: the balance falls by their value, and the purse expects the acknowledgement.
+    /// A value is accepted where the purse expects the value of these details and holds at most 10^15 with it:
+    /// the balance rises by it, and the purse comes to rest. An acknowledgement is accepted where the purse
+    /// expects that of these details: it comes to rest. A request and a value that are accepted are one
+    /// statement line each. Every other message is ignored, and nothing changes.
+    pub fn handle(&mut self, message: &Message) -> Handled
+        ensures answer { result ≡ handled self.old message.now }
+        ensures new { self.new ≡ after_message self.old (handled self.old message.now) }
+        ensures whole { IsPurse self.new }
+    {
+        match message {
+            Message::Req(details) => self.take_req(details),
+            Message::Val(details) => self.take_val(details),
+            Message::Ack(details) => self.take_ack(details),
+        }
+    }
+
+    /// The log that an abort leaves.
+    fn log_left(&self) -> Log
+        ensures { result ≡ (aborted self.now).log }
+    {
+        let mut log = self.log;
+        if let Some(details) = self.pending() {
+            log.add(details);
+        }
+        log
+    }
+
+    /// The count of statement lines that an abort leaves.
+    fn lines_left(&self) -> u64
+        ensures { result ≡ (aborted self.now).lines }
+    {
+        match self.pending() {
+            None => self.lines,
+            Some(_) => self.lines + 1,
+        }
+    }
+
+    /// The first of the guards that both starts have behind their own that fails.
+    fn start_worn(&self) -> Option<StartRefusal>
+        ensures { result ≡ start_worn self.now }
+    {
+        if self.log_left().is_full() {
+            return Some(StartRefusal::LogFull);
+        }
+        if self.next.get() >= MOST || self.lines >= MOST {
+            return Some(StartRefusal::Worn);
+        }
+        None
+    }
+
+    /// Aborts, takes the next number, and goes into a status.
+    fn begin(&mut self, status: Status)
+        requires guard { start_worn self.old ≡ None }
+        requires whole { IsPurse (started self.old status) }
+        ensures new { self.new ≡ started self.old status }
+        ensures whole { IsPurse self.new }
+    {
+        self.abort();
+        self.next = self.next.next();
+        self.status = status;
+    }
+
+    /// Pays the value of the details that are requested, where the request for them is expected.
+    fn take_req(&mut self, details: &PayDetails) -> Handled
+        ensures answer { result ≡ handled self.old (Message.Req details.now) }
+        ensures new { self.new ≡ after_message self.old (handled self.old (Message.Req details.now)) }
+        ensures whole { IsPurse self.new }
+    {
+        if !expects_req(&self.status, details) {
+            return Handled::Ignored;
+        }
+        self.balance -= details.value().get();
+        self.lines += 1;
+        self.status = Status::Epa(*details);
+        Handled::Req(*details)
+    }
+
+    /// Receives the value of the details, where it is expected and the balance stays within its limit.
+    fn take_val(&mut self, details: &PayDetails) -> Handled
+        ensures answer { result ≡ handled self.old (Message.Val details.now) }
+        ensures new { self.new ≡ after_message self.old (handled self.old (Message.Val details.now)) }
+        ensures whole { IsPurse self.new }
+    {
+        if !expects_val(&self.status, details) {
+            return Handled::Ignored;
+        }
+        let balance = self.balance + details.value().get();
+        if balance > MOST {
+            return Handled::Ignored;
+        }
+        self.balance = balance;
+        self.lines += 1;
+        self.status = Status::EaTo;
+        Handled::Val(*details)
+    }
+
+    /// Finishes the payment of the details, where the acknowledgement of them is expected.
+    fn take_ack(&mut self, details: &PayDetails) -> Handled
+        ensures answer { result ≡ handled self.old (Message.Ack details.now) }
+        ensures new { self.new ≡ after_message self.old (handled self.old (Message.Ack details.now)) }
+        ensures whole { IsPurse self.new }
+    {
+        if !expects_ack(&self.status, details) {
+            return Handled::Ignored;
+        }
+        self.status = Status::EaFrom;
+        Handled::Ack(*details)
+    }
+}
+
+/// Whether a purse in a status expects the request for these details.
+fn expects_req(status: &Status, details: &PayDetails) -> bool
+    ensures { result ≡ expects_req status.now details.now }
+{
+    match status {
+        Status::Epr(held) => held.cmp(details).is_eq(),
+        _ => false,
+    }
+}
+
+/// Whether a purse in a status expects the value of these details.
+fn expects_val(status: &Status, details: &PayDetails) -> bool
+    ensures { result ≡ expects_val status.now details.now }
+{
+    match status {
+        Status::Epv(held) => held.cmp(details).is_eq(),
+        _ => false,
+    }
+}
+
+/// Whether a purse in a status expects the acknowledgement of these details.
+fn expects_ack(status: &Status, details: &PayDetails) -> bool
+    ensures { result ≡ expects_ack status.now details.now }
+{
+    match status {
+        Status::Epa(held) => held.cmp(details).is_eq(),
+        _ => false,
+    }
+}
