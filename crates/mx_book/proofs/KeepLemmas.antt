@@ -296,7 +296,7 @@ module _ (w : World) (p : Name) (r s : Row) (at : fmap.get w.rows p ≡ Some r) 
     payments = set_payments paid h.payments;
   }
 
-  entry_here : IsWorld w → (d : Details) → fmap.contains_key w.tray (p, d) ≡ true → has_logged r.account.purse.log d ≡ true
+  pub entry_here : IsWorld w → (d : Details) → fmap.contains_key w.tray (p, d) ≡ true → has_logged r.account.purse.log d ≡ true
   entry_here h d there = let x = h.results.logged p d there in subst (λ (y : Row). has_logged y.account.purse.log d ≡ true) (inside x.0 r (sym x.1 ∙ at)) x.2
 
   -- only the inbox and the next message number are others

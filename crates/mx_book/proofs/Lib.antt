@@ -13,3 +13,4 @@ pub mod SumLemmas
 pub mod FoundLemmas
 pub mod KeepLemmas
 pub mod FirstLemmas
+pub mod PurseLemmas

@@ -23,7 +23,7 @@ pub struct PlainBook {
 impl PlainBook {
     /// A book that spells the World that has nothing but this token of the operator.
     pub fn new(alloc: Global, operator: Token) -> PlainBook
-        ensures { Spells (rows_of result.shelves) (opening operator) }
+        ensures { ⟦<PlainBook as Book>⟧.spells (⟦<PlainBook as Book>⟧.rows result) (opening operator) }
     {
         PlainBook {
             shelves: Shelves::new(alloc, operator),
