@@ -1,0 +1,172 @@
+-- A decision is the step's: its reply, and edits that fit and lead to its World.
+use Rattle.std.proofs.Common.{◌≡◌, ℕ, ◌<◌, ◌≤◌, ◌^◌, Bool, true, false, cond, List, [], ◌∷◌, Option, Some, None, refl, sym, ◌∙◌, ap, subst, arith, length, IsSome, IsNone, IsTrue, is_some, is_none, not, option_map, option_and_then}
+use Rattle.std.specs.Prelude.{nat_le, nat_lt, ◌&&◌}
+use Rattle.std.proofs.lemmas.Bool.Decides.{nat_tests}
+use Rattle.std.specs.FinMap as fmap
+use Rattle.mx_pay.specs.Names.{is_name_text}
+use Rattle.mx_book.specs.declared.edits.Edit.{Edit}
+use Rattle.mx_book.specs.declared.edits.Edit.TheVariants.{NewMember, NewHolder, NewPurse}
+use Rattle.mx_book.specs.declared.values.HolderRow.{HolderRow}
+use Rattle.mx_book.specs.declared.values.Account as given
+use Rattle.mx_book.specs.World.{World, Row, Name, Token, has_room}
+use Rattle.mx_book.specs.Conditions.{IsWorld}
+use Rattle.mx_book.specs.Reads.{from_row, who_of, purses_of, holder_of, account_of, account_with}
+use Rattle.mx_book.specs.Edits.{Fits, Suits, edited, all_edited}
+use Rattle.mx_book.proofs.FoundLemmas.{inside}
+use Rattle.mx_book.proofs.PurseLemmas.{member_stays, holder_stays, new_purse_stays}
+use Rattle.mx_office.specs.declared.values.Decided.{Decided}
+use Rattle.mx_office.specs.declared.values.Refusal.{Refusal}
+use Rattle.mx_office.specs.declared.values.Reply.{Reply}
+use Rattle.mx_office.specs.declared.values.Reply.TheVariants.{Added, Refused}
+use Rattle.mx_office.specs.Step.{Done, done, send, first_refusal, unless, is_of, new_member, new_holder, new_purse}
+use Rattle.mx_office.specs.Decides.{Decides, finds_place, purses_held}
+
+-- ---- decisions of no edit and of one
+
+-- nothing changes, and this is told
+pub told_decides : (w : World) (to : Done) (reply : Reply) (d : Decided) → IsWorld w → to ≡ done w reply → d.reply ≡ reply → d.edits ≡ [] → Decides w to d
+told_decides w to reply d h to_is reply_is edits_are = record {
+  reply = reply_is ∙ sym (ap (λ x. x.reply) to_is);
+  fits = subst (Fits w) (sym edits_are) (record { each = tt; end = h });
+  leads = ap (all_edited w) edits_are ∙ sym (ap (λ x. send x.world x.sent) to_is);
+}
+
+-- one edit leads there
+pub edit_decides : (w : World) (to : Done) (e : Edit) (reply : Reply) (d : Decided) → to ≡ done (edited w e) reply → Suits w e → IsWorld (edited w e) → d.reply ≡ reply → d.edits ≡ e ∷ [] → Decides w to d
+edit_decides w to e reply d to_is suits stays reply_is edits_are = record {
+  reply = reply_is ∙ sym (ap (λ x. x.reply) to_is);
+  fits = subst (Fits w) (sym edits_are) (record { each = (suits, tt); end = stays });
+  leads = ap (all_edited w) edits_are ∙ sym (ap (λ x. send x.world x.sent) to_is);
+}
+
+-- ---- the first refusal that applies
+
+pub first : (b : Bool) (r : Refusal) (xs : List (Bool × Refusal)) → b ≡ true → first_refusal ((b, r) ∷ xs) ≡ Some r
+unfolding first_refusal
+first b r xs t = ap (λ x. cond x (Some r) (first_refusal xs)) t
+
+pub next : (b : Bool) (r : Refusal) (xs : List (Bool × Refusal)) (o : Option Refusal) → b ≡ false → first_refusal xs ≡ o → first_refusal ((b, r) ∷ xs) ≡ o
+unfolding first_refusal
+next b r xs o f rest = ap (λ x. cond x (Some r) (first_refusal xs)) f ∙ rest
+
+pub none_left : first_refusal [] ≡ None
+unfolding first_refusal
+none_left = refl
+
+-- a refusal
+pub refused_decides : (w : World) (o : Option Refusal) (x : Done) (r : Refusal) (d : Decided) → IsWorld w → o ≡ Some r → d.reply ≡ Refused r → d.edits ≡ [] → Decides w (unless w o x) d
+refused_decides w o x r d h o_is = told_decides w (unless w o x) (Refused r) d h (ap (λ y. unless w y x) o_is)
+
+-- ---- what reads tell of rows
+
+-- a holder is given where it is there
+holder_case : (n : ℕ) (o : Option Name) → is_some (option_map (λ m. let row : HolderRow = record { member = m; purses = n } in row) o) ≡ is_some o
+holder_case n None = refl
+holder_case n (Some m) = refl
+
+pub holder_given : (w : World) (h : Name) (b : Bool) → is_some (holder_of w h) ≡ b → is_some (fmap.get w.holders h) ≡ b
+holder_given w h b is = sym (holder_case _ (fmap.get w.holders h)) ∙ is
+
+-- ---- new members, holders and purses
+
+not_some : {X : Type 0} (o : Option X) → is_some o ≡ false → IsNone o
+not_some None f = refl
+not_some (Some x) f = absurd (cc)
+
+not_none : {X : Type 0} (o : Option X) → is_none o ≡ false → IsSome o
+not_none None f = absurd (cc)
+not_none (Some x) f = refl
+
+pub new_member_decides : (w : World) (m : Name) (t : Token) (d : Decided) → IsWorld w → IsTrue (is_name_text m) → is_some (fmap.get w.members m) ≡ false → is_some (who_of w t) ≡ false → d.reply ≡ Added → d.edits ≡ NewMember m t ∷ [] → Decides w (new_member w m t) d
+new_member_decides w m t d h text no_member no_token reply edits =
+    let suits : Suits w (NewMember m t) = (not_some _ no_member, not_some _ no_token) in
+    edit_decides w (new_member w m t) (NewMember m t) Added d
+    (ap (λ o. unless w o (done (edited w (NewMember m t)) Added)) (next _ _ _ _ no_member (next _ _ _ _ no_token none_left)))
+    suits (member_stays w m t suits text h) reply edits
+
+pub new_holder_decides : (w : World) (m h : Name) (t : Token) (d : Decided) → IsWorld w → IsTrue (is_name_text h) → is_none (fmap.get w.members m) ≡ false → is_some (fmap.get w.holders h) ≡ false → is_some (who_of w t) ≡ false → d.reply ≡ Added → d.edits ≡ NewHolder h m t ∷ [] → Decides w (new_holder w m h t) d
+new_holder_decides w m h t d is text member no_holder no_token reply edits =
+    let suits : Suits w (NewHolder h m t) = (not_some _ no_holder, not_none _ member, not_some _ no_token) in
+    edit_decides w (new_holder w m h t) (NewHolder h m t) Added d
+    (ap (λ o. unless w o (done (edited w (NewHolder h m t)) Added)) (next _ _ _ _ member (next _ _ _ _ no_holder (next _ _ _ _ no_token none_left))))
+    suits (holder_stays w h m t suits text is) reply edits
+
+-- what the count of a holder's purses tells
+held_some : (b : Bool) (n k : ℕ) → cond b (Some k) None ≡ Some n → (b ≡ true) × (n ≡ k)
+held_some true n k e = (refl, sym (inside k n e))
+held_some false n k e = absurd (cc)
+
+held_none : (b : Bool) (k : ℕ) → cond b (Some k) None ≡ None → not b ≡ true
+held_none true k e = absurd (cc)
+held_none false k e = refl
+
+pub no_holder : (w : World) (m h : Name) → purses_held w m h ≡ None → not (is_of m (fmap.get w.holders h)) ≡ true
+no_holder w m h e = held_none _ _ e
+
+pub a_holder : (w : World) (m h : Name) (n : ℕ) → purses_held w m h ≡ Some n → not (is_of m (fmap.get w.holders h)) ≡ false
+a_holder w m h n e = ap not (held_some _ n _ e).0
+
+pub held_count : (w : World) (m h : Name) (n : ℕ) → purses_held w m h ≡ Some n → n ≡ length (purses_of w h)
+held_count w m h n e = (held_some _ n _ e).1
+
+pub many_held : (w : World) (m h : Name) (n : ℕ) (b : Bool) → purses_held w m h ≡ Some n → nat_le 64 n ≡ b → nat_le 64 (length (purses_of w h)) ≡ b
+many_held w m h n b e is = ap (nat_le 64) (sym (held_count w m h n e)) ∙ is
+
+-- a holder that is of a member is there
+of_there : (m : Name) (o : Option Name) → not (is_of m o) ≡ false → IsSome o
+of_there m None f = absurd (cc)
+of_there m (Some x) f = refl
+
+-- a purse is given exactly where it is there, since its holder is
+account_case : (w : World) (p : Name) (o : Option Row) → fmap.get w.rows p ≡ o → IsWorld w → is_some (option_and_then (λ (r : Row). option_map (account_with r) (fmap.get w.holders r.holder)) o) ≡ is_some o
+account_case w p None at h = refl
+account_case w p (Some r) at h = holder_there r (fmap.get w.holders r.holder) (h.purses.each p r at).held
+  where
+    holder_there : (r : Row) (o : Option Name) → IsSome o → is_some (option_map (account_with r) o) ≡ true
+    holder_there r None there = absurd (cc)
+    holder_there r (Some m) there = refl
+
+pub purse_given : (w : World) (p : Name) (b : Bool) → IsWorld w → is_some (account_of w p) ≡ b → is_some (fmap.get w.rows p) ≡ b
+purse_given w p b h is = sym (account_case w p (fmap.get w.rows p) refl h) ∙ is
+
+-- the test of two conditions, by the first of them
+test_second : (a b c : Bool) → a ≡ true → a && b ≡ c → b ≡ c
+test_second true b c t e = e
+test_second false b c t e = absurd (cc)
+
+test_first : (a b c : Bool) → a ≡ false → a && b ≡ c → a ≡ c
+test_first true b c f e = absurd (cc)
+test_first false b c f e = e
+
+pub few_held : (n : ℕ) (b c : Bool) → n < 32 → nat_lt n 32 && b ≡ c → b ≡ c
+few_held n b c lt = test_second (nat_lt n 32) b c (grind (arith, nat_tests, lt))
+
+pub many_messages : (n : ℕ) (b c : Bool) → 32 ≤ n → nat_lt n 32 && b ≡ c → nat_lt n 32 ≡ c
+many_messages n b c le = test_first (nat_lt n 32) b c (grind (arith, nat_tests, le))
+
+-- what a book gives of a purse tells of its row
+pub given_room : (w : World) (p : Name) (a : given.Account) → account_of w p ≡ Some a → nat_lt a.held 32 && nat_lt a.next_message (10 ^ 15) ≡ finds_place w p
+unfolding has_room
+given_room w p a is = given_case (fmap.get w.rows p) is
+  where
+    member_case : (r : Row) (o : Option Name) → option_map (account_with r) o ≡ Some a → nat_lt a.held 32 && nat_lt a.next_message (10 ^ 15) ≡ nat_lt (fmap.len r.account.inbox) 32 && nat_lt r.account.next_message (10 ^ 15)
+    member_case r None e = absurd (cc)
+    member_case r (Some m) e = ap (λ x. nat_lt x.held 32 && nat_lt x.next_message (10 ^ 15)) (sym (inside (account_with r m) a e))
+
+    given_case : (o : Option Row) → option_and_then (λ (r : Row). option_map (account_with r) (fmap.get w.holders r.holder)) o ≡ Some a → nat_lt a.held 32 && nat_lt a.next_message (10 ^ 15) ≡ from_row false (λ r. has_room r.account) o
+    given_case None e = absurd (cc)
+    given_case (Some r) e = member_case r (fmap.get w.holders r.holder) e
+
+pub new_purse_decides : (w : World) (m p h : Name) (d : Decided) → IsWorld w → IsTrue (is_name_text p) → not (is_of m (fmap.get w.holders h)) ≡ false → is_some (fmap.get w.rows p) ≡ false → nat_le 64 (length (purses_of w h)) ≡ false → d.reply ≡ Added → d.edits ≡ NewPurse p h ∷ [] → Decides w (new_purse w m p h) d
+new_purse_decides w m p h d is text holder no_purse few reply edits =
+    let suits : Suits w (NewPurse p h) = (nothing _ no_purse, of_there m _ holder) in
+    edit_decides w (new_purse w m p h) (NewPurse p h) Added d
+    (ap (λ o. unless w o (done (edited w (NewPurse p h)) Added)) (next _ _ _ _ holder (next _ _ _ _ no_purse (next _ _ _ _ few none_left))))
+    suits (new_purse_stays w p h suits text (below_64 _ few) is) reply edits
+  where
+    nothing : {X : Type 0} (o : Option X) → is_some o ≡ false → o ≡ None
+    nothing None f = refl
+    nothing (Some x) f = absurd (cc)
+
+    below_64 : (n : ℕ) → nat_le 64 n ≡ false → n < 64
+    below_64 n f = grind (arith, nat_tests, f)

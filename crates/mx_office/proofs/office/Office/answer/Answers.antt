@@ -1,0 +1,31 @@
+use Rattle.std.proofs.Common.{◌≡◌, rules, sym, ◌∙◌, subst}
+use Rattle.mx_office.proofs.RefuseLemmas.{refused_stays}
+use Rattle.mx_office.specs.Step.{after, answered}
+use Rattle.mx_office.proofs.office.Office.answer.Goals as goal
+
+pub returns-in-Refused-clause-ok : goal.returns-in-Refused-clause-ok
+returns-in-Refused-clause-ok g c = λ w honest spelled.
+    let decides = c.in_ok-decided.ensures.decides w honest spelled in
+    let same = refused_stays w c.args.caller c.args.command.now c.in-Refused.refusal (sym decides.reply ∙ c.in-Refused.is) in
+    rw (same, c.decide.ensures.keeps.same honest) spelled
+
+pub returns-in-Refused-clause-reply : goal.returns-in-Refused-clause-reply
+unfolding answered
+returns-in-Refused-clause-reply g c = λ w honest spelled. sym c.in-Refused.is ∙ (c.in_ok-decided.ensures.decides w honest spelled).reply
+
+pub returns-clause-ok : goal.returns-clause-ok
+unfolding after
+returns-clause-ok g c = λ w honest spelled.
+    let before : g.B.Book.doubt c.decide.new.self.book ≡ 0 = search rules in
+    let decides = c.in_ok-decided.ensures.decides w before spelled in
+    let still : g.B.Book.spells (g.B.Book.rows c.decide.new.self.book) w = rw (c.decide.ensures.keeps.same before) spelled in
+    subst (g.B.Book.spells (g.B.Book.rows c.commit.new.self.book)) decides.leads (c.in_ok-commit.ensures.ok w honest still)
+
+pub returns-clause-reply : goal.returns-clause-reply
+unfolding answered
+returns-clause-reply g c = λ w honest spelled.
+    let before : g.B.Book.doubt c.decide.new.self.book ≡ 0 = search rules in
+    (c.in_ok-decided.ensures.decides w before spelled).reply
+
+pub returns-clause-refused : goal.returns-clause-refused
+returns-clause-refused g c = λ honest refusal is. absurd (c.in_default.not-Refused refusal is)

@@ -1,0 +1,40 @@
+use Rattle.std.proofs.Common.{◌≡◌, rules, subst}
+use Rattle.std.proofs.lemmas.List.{take_all}
+use Rattle.mx_office.specs.Run.{Leads}
+use Rattle.mx_office.specs.Step.{after}
+use Rattle.mx_office.proofs.OutcomeLemmas.{run_replied_at, run_unavailable_at}
+use Rattle.mx_office.proofs.office.Office.run.Goals as goal
+use Rattle.mx_office.proofs.office.Office.run.Goals.{in-Ok, in-Err}
+
+pub loop-caller-init : goal.loop-caller-init
+loop-caller-init g c = record {
+  count = search rules;
+  room = search rules;
+  later = search rules;
+  run = λ w honest spelled. record { end = w; stands = spelled; run = search rules };
+}
+
+pub loop-caller-preserved : goal.loop-caller-preserved
+loop-caller-preserved g c = record {
+  count = search rules;
+  room = search rules;
+  later = search rules;
+  run = λ w honest spelled.
+      let before : g.B.Book.doubt c.loop-caller.self.book ≡ 0 = search rules in
+      let so_far = c.loop-caller.invariant.run w before spelled in
+      elim c.match-answer.branch [
+        | in-Ok v ↦ record {
+          end = after so_far.end c.loop-caller-item.result.0 c.loop-caller-item.result.1;
+          stands = v.in-Ok.ensures.ok so_far.end honest so_far.stands;
+          run = run_replied_at _ _ _ _ c.loop-caller-item.result _ _ _ _ c.loop-caller-test.true c.loop-caller-item.is so_far.run (v.in-Ok.ensures.reply so_far.end honest so_far.stands) v.outcome-is c.push_reserved.ensures.items;
+        }
+        | in-Err v ↦ record {
+          end = so_far.end;
+          stands = rw (v.in-Err.ensures.err honest) so_far.stands;
+          run = run_unavailable_at _ _ _ _ c.loop-caller-item.result _ _ _ c.loop-caller-test.true c.loop-caller-item.is so_far.run v.outcome-is c.push_reserved.ensures.items;
+        }
+      ];
+}
+
+pub returns-clause-run : goal.returns-clause-run
+returns-clause-run g c = λ w honest spelled. subst (λ cs. Leads (g.B.Book.spells (g.B.Book.rows c.loop-caller.self.book)) w cs c.loop-caller.outcomes.items) (take_all c.loop-caller.caller-index c.args.commands.now (search rules)) (c.loop-caller.invariant.run w honest spelled)

@@ -1,0 +1,53 @@
+-- What a decision is for a World, and the edits of a decision on a purse.
+use Rattle.std.specs.Prelude.{◌≡◌, ℕ, Bool, if◌then◌else◌, List, [], ◌∷◌, ◌++◌, length, Option, Some, None, map}
+use Rattle.std.specs.FinMap as fmap
+use Rattle.mx_pay.specs.Names.{is_name}
+use Rattle.mx_purse.specs.State.{State}
+use Rattle.mx_purse.specs.declared.message.Message.{Message}
+use Rattle.mx_book.specs.declared.edits.Edit.{Edit}
+use Rattle.mx_book.specs.declared.edits.Edit.TheVariants.{SetPurse, AddLine, AddMessage}
+use Rattle.mx_book.specs.declared.values.Line.{Line}
+use Rattle.mx_book.specs.World.{World, Row, Name, has_room}
+use Rattle.mx_book.specs.Reads.{of_purse, purses_of}
+use Rattle.mx_book.specs.Edits.{Fits, all_edited}
+use Rattle.mx_office.specs.declared.values.Decided.{Decided}
+use Rattle.mx_office.specs.Step.{Done, send, is_of, listed}
+
+-- the reply of what is done, and edits that fit the World and lead to what is done, with the message put
+pub record Decides (w : World) (to : Done) (d : Decided) : Type 0 where
+  pub reply : d.reply ≡ to.reply
+  pub fits : Fits w d.edits
+  pub leads : all_edited w d.edits ≡ send to.world to.sent
+
+-- how many purses a holder of a member has, and nothing where the member has no such holder
+abbrev pub purses_held : World → Name → Name → Option ℕ
+purses_held w m h = if is_of m (fmap.get w.holders h) then Some (length (purses_of w h)) else None
+
+-- the purse of a row, where it is the holder's
+abbrev pub owned_purse : Name → Row → Option State
+owned_purse h r = if is_name h r.holder then Some r.account.purse else None
+
+-- the purse of that name, where it is the holder's
+abbrev pub own_purse : World → Name → Name → Option State
+own_purse w h p = of_purse None (owned_purse h) w p
+
+-- whether a message to that purse finds a place
+abbrev pub finds_place : World → Name → Bool
+finds_place w p = of_purse Bool.false (λ r. has_room r.account) w p
+
+-- a message that was sent, where it finds a place
+abbrev pub placed : World → Option (Name × Message) → Option (Name × Message)
+placed w None = None
+placed w (Some m) = if finds_place w m.0 then Some m else None
+
+-- an edit for each line of a purse, and for each message
+abbrev pub line_edits : Name → List Line → List Edit
+line_edits p ls = map (λ l. AddLine p l) ls
+
+abbrev pub put_edits : Option (Name × Message) → List Edit
+put_edits None = []
+put_edits (Some m) = AddMessage m.0 m.1 ∷ []
+
+-- the edits for a purse as it is now, its new line, and a message that finds a place
+abbrev pub purse_edits : State → Option Line → Option (Name × Message) → List Edit
+purse_edits q line m = (SetPurse q ∷ line_edits q.name (listed line)) ++ put_edits m

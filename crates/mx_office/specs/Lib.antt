@@ -1,0 +1,6 @@
+pub mod Step
+pub mod Isolation
+pub mod Texts
+pub mod Run
+pub mod Lends
+pub mod Decides

@@ -1,0 +1,12 @@
+//! The office: what each caller's command does, over any book.
+#![tactic(auto)]
+
+mod decisions;
+pub mod isolation;
+mod members;
+pub mod office;
+mod purses;
+pub mod values;
+
+pub use office::Office;
+pub use values::{Command, Decided, Messages, Names, Outcome, Refusal, Reply};

@@ -1,0 +1,108 @@
+//! The commands of the operator and of clerks.
+ghost use Rattle.std.specs.Prelude.{◌≡◌, IfOk};
+ghost use Rattle.mx_book.specs.Keeps.{Keeps};
+ghost use Rattle.mx_book.specs.World.{World};
+ghost use Rattle.mx_office.specs.Decides.{Decides, purses_held};
+ghost use Rattle.mx_office.specs.Step.{new_member, new_holder, new_purse};
+
+use crate::decisions::{added, refuse};
+use crate::values::{Decided, Refusal};
+use mx_book::contract::{Book, StoreFault};
+use mx_book::edits::Edit;
+use mx_pay::names::same_name;
+use mx_pay::{Name, Token};
+use std::alloc::Global;
+
+/// The most purses of one holder.
+const MOST_PURSES: usize = 64;
+
+/// A new member with the token of its clerk.
+pub(crate) fn new_member<B: Book>(
+    book: &mut B,
+    alloc: Global,
+    member: Name,
+    token: Token,
+) -> Result<Decided, StoreFault>
+    ensures keeps { Keeps B.doubt B.rows book.old book.new }
+    ensures decides { (w : World) → B.doubt book.new ≡ 0 → B.spells (B.rows book.old) w → IfOk result (Decides w (new_member w member token)) }
+{
+    if book.member(alloc, member)?.is_some() {
+        return Ok(refuse(Refusal::NameTaken));
+    }
+    if book.who(alloc, &token)?.is_some() {
+        return Ok(refuse(Refusal::TokenTaken));
+    }
+    let _text = member.as_str();
+    Ok(added(Edit::NewMember {
+        member,
+        clerk: token,
+    }))
+}
+
+/// A new holder of a member with the holder's token.
+pub(crate) fn new_holder<B: Book>(
+    book: &mut B,
+    alloc: Global,
+    member: Name,
+    holder: Name,
+    token: Token,
+) -> Result<Decided, StoreFault>
+    ensures keeps { Keeps B.doubt B.rows book.old book.new }
+    ensures decides { (w : World) → B.doubt book.new ≡ 0 → B.spells (B.rows book.old) w → IfOk result (Decides w (new_holder w member holder token)) }
+{
+    if book.member(alloc, member)?.is_none() {
+        return Ok(refuse(Refusal::NoSuchMember));
+    }
+    if book.holder(alloc, holder)?.is_some() {
+        return Ok(refuse(Refusal::NameTaken));
+    }
+    if book.who(alloc, &token)?.is_some() {
+        return Ok(refuse(Refusal::TokenTaken));
+    }
+    let _text = holder.as_str();
+    Ok(added(Edit::NewHolder {
+        holder,
+        member,
+        token,
+    }))
+}
+
+/// How many purses a holder of a member has. None where the member has no such holder.
+fn purses_held<B: Book>(
+    book: &mut B,
+    alloc: Global,
+    member: Name,
+    holder: Name,
+) -> Result<Option<usize>, StoreFault>
+    ensures keeps { Keeps B.doubt B.rows book.old book.new }
+    ensures value { (w : World) → B.doubt book.new ≡ 0 → B.spells (B.rows book.old) w → IfOk result (λ o. o ≡ purses_held w member holder) }
+{
+    match book.holder(alloc, holder)? {
+        Some(row) if same_name(&member, &row.member) => Ok(Some(row.purses)),
+        _ => Ok(None),
+    }
+}
+
+/// A new purse of a holder of a member.
+pub(crate) fn new_purse<B: Book>(
+    book: &mut B,
+    alloc: Global,
+    member: Name,
+    purse: Name,
+    holder: Name,
+) -> Result<Decided, StoreFault>
+    ensures keeps { Keeps B.doubt B.rows book.old book.new }
+    ensures decides { (w : World) → B.doubt book.new ≡ 0 → B.spells (B.rows book.old) w → IfOk result (Decides w (new_purse w member purse holder)) }
+{
+    let Some(held) = purses_held(book, alloc, member, holder)? else {
+        return Ok(refuse(Refusal::NoSuchHolder));
+    };
+    if book.purse(alloc, purse)?.is_some() {
+        return Ok(refuse(Refusal::NameTaken));
+    }
+    if held >= MOST_PURSES {
+        return Ok(refuse(Refusal::TooManyPurses));
+    }
+    let _text = purse.as_str();
+    Ok(added(Edit::NewPurse { purse, holder }))
+}

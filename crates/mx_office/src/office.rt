@@ -1,0 +1,191 @@
+//! The office over any book.
+ghost use Rattle.std.specs.Borrow.{sem};
+ghost use Rattle.std.specs.Prelude.{◌≡◌, ◌≤◌, IfOk, OnOk, OnErr};
+ghost use Rattle.mx_book.specs.Edits.{Fits, all_edited};
+ghost use Rattle.mx_book.specs.Keeps.{Keeps};
+ghost use Rattle.mx_book.specs.World.{World};
+ghost use Rattle.mx_office.specs.declared.values.Refusal.{Refusal};
+ghost use Rattle.mx_office.specs.declared.values.Reply.TheVariants.{Refused};
+ghost use Rattle.mx_office.specs.Decides.{Decides};
+ghost use Rattle.mx_office.specs.Lends.{LendsBook};
+ghost use Rattle.mx_office.specs.Run.{Leads};
+ghost use Rattle.mx_office.specs.Step.{after, answered, base};
+
+use crate::decisions::refuse;
+use crate::members::{new_holder, new_member, new_purse};
+use crate::purses::{abort, discard, handle, inbox, purses, show, start_from, start_to};
+use crate::values::{Command, Decided, Outcome, Refusal, Reply};
+use mx_book::contract::{Book, StoreFault};
+use mx_book::values::Caller;
+use mx_pay::Name;
+use std::alloc::{AllocError, Global};
+
+/// The office of a scheme: it answers the commands of the operator, of clerks and of holders, and keeps what
+/// they do in a book.
+#[derive(Drop)]
+pub struct Office<B> {
+    /// What the office keeps.
+    pub(crate) book: B,
+}
+
+impl<B: Book> Office<B> {
+    /// An office over this book.
+    pub fn new(book: B) -> Self
+        ensures { result.book ≡ book }
+    {
+        Office { book }
+    }
+
+    /// The book of the office, lent for reading and for reports.
+    pub fn book(&mut self) -> &mut B
+        ensures* lends { sem 𝓛 (LendsBook B.row self.entry result) }
+        ensures value { result.now ≡ self.old.book }
+    {
+        &mut self.book
+    }
+
+    /// The book of the office, which ends.
+    pub fn into_book(self) -> B
+        ensures { result ≡ self.book }
+    {
+        self.book
+    }
+
+    /// What a command of a caller would do: its reply, and the edits that lead to its World. Nothing changes.
+    /// A fault is the book's.
+    pub fn decide(
+        &mut self,
+        alloc: Global,
+        caller: Caller,
+        command: &Command,
+    ) -> Result<Decided, StoreFault>
+        ensures keeps { Keeps B.doubt B.rows self.old.book self.new.book }
+        ensures decides { (w : World) → B.doubt self.new.book ≡ 0 → B.spells (B.rows self.old.book) w → IfOk result (Decides w (base w caller command.now)) }
+    {
+        match caller {
+            Caller::Operator => decide_operator(&mut self.book, alloc, command),
+            Caller::Clerk(member) => decide_clerk(&mut self.book, alloc, member, command),
+            Caller::Holder(holder) => decide_holder(&mut self.book, alloc, holder, command),
+        }
+    }
+
+    /// Makes the edits of a decision, all of them, or none where it answers a fault. They have to fit the
+    /// World, as they do when nothing has changed the book since `decide` gave them.
+    pub fn commit(&mut self, decided: &Decided) -> Result<(), StoreFault>
+        requires { (w : World) → B.doubt self.old.book ≡ 0 → B.spells (B.rows self.old.book) w → Fits w decided.now.edits }
+        ensures later { B.doubt self.old.book ≤ B.doubt self.new.book }
+        ensures ok { (w : World) → B.doubt self.new.book ≡ 0 → B.spells (B.rows self.old.book) w → OnOk result (B.spells (B.rows self.new.book) (all_edited w decided.now.edits)) }
+        ensures err { B.doubt self.new.book ≡ 0 → OnErr result (B.rows self.new.book ≡ B.rows self.old.book) }
+    {
+        self.book.apply(decided.edits.as_slice())
+    }
+
+    /// Answers a command of a caller: decides, and makes the edits. After a fault, which is the book's, and
+    /// after a refusal nothing is changed, whatever the book holds.
+    pub fn answer(
+        &mut self,
+        alloc: Global,
+        caller: Caller,
+        command: &Command,
+    ) -> Result<Reply, StoreFault>
+        ensures later { B.doubt self.old.book ≤ B.doubt self.new.book }
+        ensures ok { (w : World) → B.doubt self.new.book ≡ 0 → B.spells (B.rows self.old.book) w → OnOk result (B.spells (B.rows self.new.book) (after w caller command.now)) }
+        ensures reply { (w : World) → B.doubt self.new.book ≡ 0 → B.spells (B.rows self.old.book) w → IfOk result (λ r. r ≡ answered w caller command.now) }
+        ensures refused { B.doubt self.new.book ≡ 0 → IfOk result (λ r. (refusal : Refusal) → r ≡ Refused refusal → B.rows self.new.book ≡ B.rows self.old.book) }
+        ensures err { B.doubt self.new.book ≡ 0 → OnErr result (B.rows self.new.book ≡ B.rows self.old.book) }
+    {
+        let decided = self.decide(alloc, caller, command)?;
+        if let Reply::Refused(refusal) = decided.reply {
+            return Ok(Reply::Refused(refusal));
+        }
+        self.commit(&decided)?;
+        Ok(decided.reply)
+    }
+
+    /// Answers commands in order: one outcome a command, its reply or that the book could not do it. An
+    /// AllocError means that nothing was done.
+    pub fn run(
+        &mut self,
+        alloc: Global,
+        commands: &[(Caller, Command)],
+    ) -> Result<Vec<Outcome>, AllocError>
+        ensures later { B.doubt self.old.book ≤ B.doubt self.new.book }
+        ensures run { (w : World) → B.doubt self.new.book ≡ 0 → B.spells (B.rows self.old.book) w → IfOk result (λ outcomes. Leads (B.spells (B.rows self.new.book)) w commands.now outcomes.items) }
+        ensures err { OnErr result (self.new ≡ self.old) }
+    {
+        let mut outcomes = Vec::with_capacity(alloc, commands.len())?;
+        for (caller, command) in commands {
+            let outcome = match self.answer(alloc, *caller, command) {
+                Ok(reply) => Outcome::Reply(reply),
+                Err(_) => Outcome::Unavailable,
+            };
+            outcomes.push_reserved(outcome);
+        }
+        Ok(outcomes)
+    }
+}
+
+/// What a command of the operator would do.
+fn decide_operator<B: Book>(
+    book: &mut B,
+    alloc: Global,
+    command: &Command,
+) -> Result<Decided, StoreFault>
+    ensures keeps { Keeps B.doubt B.rows book.old book.new }
+    ensures decides { (w : World) → B.doubt book.new ≡ 0 → B.spells (B.rows book.old) w → IfOk result (Decides w (base w Caller.Operator command.now)) }
+{
+    match *command {
+        Command::NewMember { member, token } => new_member(book, alloc, member, token),
+        _ => Ok(refuse(Refusal::NotForCaller)),
+    }
+}
+
+/// What a command of the clerk of a member would do.
+fn decide_clerk<B: Book>(
+    book: &mut B,
+    alloc: Global,
+    member: Name,
+    command: &Command,
+) -> Result<Decided, StoreFault>
+    ensures keeps { Keeps B.doubt B.rows book.old book.new }
+    ensures decides { (w : World) → B.doubt book.new ≡ 0 → B.spells (B.rows book.old) w → IfOk result (Decides w (base w (Caller.Clerk member) command.now)) }
+{
+    match *command {
+        Command::NewHolder { holder, token } => new_holder(book, alloc, member, holder, token),
+        Command::NewPurse { purse, holder } => new_purse(book, alloc, member, purse, holder),
+        _ => Ok(refuse(Refusal::NotForCaller)),
+    }
+}
+
+/// What a command of a holder would do.
+fn decide_holder<B: Book>(
+    book: &mut B,
+    alloc: Global,
+    holder: Name,
+    command: &Command,
+) -> Result<Decided, StoreFault>
+    ensures keeps { Keeps B.doubt B.rows book.old book.new }
+    ensures decides { (w : World) → B.doubt book.new ≡ 0 → B.spells (B.rows book.old) w → IfOk result (Decides w (base w (Caller.Holder holder) command.now)) }
+{
+    match *command {
+        Command::Purses => purses(book, alloc, holder),
+        Command::Show { purse } => show(book, alloc, holder, purse),
+        Command::StartFrom {
+            purse,
+            peer,
+            value,
+            seq,
+        } => start_from(book, alloc, holder, purse, peer, value, seq),
+        Command::StartTo {
+            purse,
+            peer,
+            value,
+            seq,
+        } => start_to(book, alloc, holder, purse, peer, value, seq),
+        Command::Handle { purse, number } => handle(book, alloc, holder, purse, number),
+        Command::Discard { purse, number } => discard(book, alloc, holder, purse, number),
+        Command::Abort { purse } => abort(book, alloc, holder, purse),
+        Command::Inbox { purse } => inbox(book, alloc, holder, purse),
+        _ => Ok(refuse(Refusal::NotForCaller)),
+    }
+}

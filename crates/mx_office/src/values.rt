@@ -1,0 +1,250 @@
+//! Commands, replies and refusals.
+ghost use Rattle.std.specs.Prelude.{◌≡◌};
+ghost use Rattle.mx_office.specs.Texts.{refusal_text};
+
+use mx_book::edits::Edits;
+use mx_pay::{Amount, Name, PayDetails, Seq, Token};
+use mx_purse::{Handled, Message, Purse};
+use std::marker::Model;
+
+/// What is asked of the office. Who asks stands beside it.
+#[derive(Clone, Copy, Debug)]
+pub enum Command {
+    /// The operator adds a member.
+    NewMember {
+        /// The member.
+        member: Name,
+        /// The token of its clerk.
+        token: Token,
+    },
+    /// A clerk adds a holder of its member.
+    NewHolder {
+        /// The holder.
+        holder: Name,
+        /// The holder's token.
+        token: Token,
+    },
+    /// A clerk issues a purse to a holder of its member.
+    NewPurse {
+        /// The purse.
+        purse: Name,
+        /// The holder.
+        holder: Name,
+    },
+    /// A holder asks which purses are the holder's own.
+    Purses,
+    /// A holder asks to see a purse.
+    Show {
+        /// The purse.
+        purse: Name,
+    },
+    /// A holder starts a payment from a purse.
+    StartFrom {
+        /// The purse that is to pay.
+        purse: Name,
+        /// The purse that is to be paid.
+        peer: Name,
+        /// How much.
+        value: Amount,
+        /// The sequence number that the peer has for this payment.
+        seq: Seq,
+    },
+    /// A holder starts a payment to a purse.
+    StartTo {
+        /// The purse that is to be paid.
+        purse: Name,
+        /// The purse that is to pay.
+        peer: Name,
+        /// How much.
+        value: Amount,
+        /// The sequence number that the peer has for this payment.
+        seq: Seq,
+    },
+    /// A holder lets a purse handle a message that lies in its inbox. The message stays there.
+    Handle {
+        /// The purse.
+        purse: Name,
+        /// The number of the message.
+        number: Seq,
+    },
+    /// A holder throws a message away that lies in the inbox of a purse.
+    Discard {
+        /// The purse.
+        purse: Name,
+        /// The number of the message.
+        number: Seq,
+    },
+    /// A holder aborts the payment of a purse.
+    Abort {
+        /// The purse.
+        purse: Name,
+    },
+    /// A holder asks which messages lie in the inbox of a purse.
+    Inbox {
+        /// The purse.
+        purse: Name,
+    },
+}
+
+/// Why a command is refused. Each command has its refusals in an order, and the first that applies is given.
+#[derive(Clone, Copy, Debug, PartialEq, Eq)]
+pub enum Refusal {
+    /// The command is of another class than the caller's.
+    NotForCaller,
+    /// There is no such purse, or it is another holder's.
+    NoSuchPurse,
+    /// There is no such holder, or it is another member's.
+    NoSuchHolder,
+    /// There is no such member.
+    NoSuchMember,
+    /// No message of that number lies in the inbox of the purse.
+    NoSuchMessage,
+    /// A member, a holder or a purse has that name already.
+    NameTaken,
+    /// The operator, a clerk or a holder has that token already.
+    TokenTaken,
+    /// The holder has 64 purses already.
+    TooManyPurses,
+    /// A purse was to pay itself.
+    SamePurse,
+    /// The purse holds less than the value.
+    NotEnough,
+    /// The exception log of the purse has, or would have after an abort, 16 entries.
+    LogFull,
+    /// The next number or the line count of the purse is at its limit.
+    Worn,
+}
+
+impl Refusal {
+    /// The words of the refusal, as they stand in a response.
+    pub fn text(&self) -> &'static str
+        ensures { result.now ≡ refusal_text self.now }
+    {
+        match self {
+            Refusal::NotForCaller => "not for this caller",
+            Refusal::NoSuchPurse => "no such purse",
+            Refusal::NoSuchHolder => "no such holder",
+            Refusal::NoSuchMember => "no such member",
+            Refusal::NoSuchMessage => "no such message",
+            Refusal::NameTaken => "name taken",
+            Refusal::TokenTaken => "token taken",
+            Refusal::TooManyPurses => "too many purses",
+            Refusal::SamePurse => "same purse",
+            Refusal::NotEnough => "not enough",
+            Refusal::LogFull => "log full",
+            Refusal::Worn => "purse worn",
+        }
+    }
+}
+
+/// Names in order. A contract sees the list of them.
+#[derive(Drop, Debug)]
+pub struct Names {
+    list: Vec<Name>,
+}
+
+impl Model for Names {
+    ghost use Rattle.std.specs.Prelude.{List, ℕ};
+    ghost use Rattle.std.specs.Coded.{coded_list, coded_ℕ};
+
+    ghost Value = { List (List ℕ) };
+
+    ghost coded = { coded_list (coded_list coded_ℕ) };
+
+    ghost view = { λ n. n.list.items };
+}
+
+impl Names {
+    /// These names.
+    pub fn new(list: Vec<Name>) -> Names
+        ensures { result ≡ list.items }
+    {
+        Names { list }
+    }
+
+    /// The names, in order.
+    pub fn as_slice(&self) -> &[Name]
+        ensures { result.now ≡ self.now }
+    {
+        self.list.as_slice()
+    }
+}
+
+/// Messages with their numbers, by number. A contract sees the list of them.
+#[derive(Drop, Debug)]
+pub struct Messages {
+    list: Vec<(u64, Message)>,
+}
+
+impl Model for Messages {
+    ghost use Rattle.std.specs.Prelude.{List, ℕ};
+    ghost use Rattle.std.specs.Coded.{coded_list, coded_ℕ, coded×};
+    ghost use Rattle.mx_purse.specs.declared.message.Message.{Message};
+    ghost use Rattle.mx_purse.specs.contracts.message.Message as message;
+
+    ghost Value = { List (ℕ × Message) };
+
+    ghost coded = { coded_list (coded× coded_ℕ (message.the_row).coded) };
+
+    ghost view = { λ m. m.list.items };
+}
+
+impl Messages {
+    /// These messages.
+    pub fn new(list: Vec<(u64, Message)>) -> Messages
+        ensures { result ≡ list.items }
+    {
+        Messages { list }
+    }
+
+    /// The messages with their numbers, by number.
+    pub fn as_slice(&self) -> &[(u64, Message)]
+        ensures { result.now ≡ self.now }
+    {
+        self.list.as_slice()
+    }
+}
+
+/// The answer to a command.
+#[derive(Drop, Debug)]
+pub enum Reply {
+    /// The command is refused, and nothing changed.
+    Refused(Refusal),
+    /// The member, the holder or the purse is added.
+    Added,
+    /// These are the holder's purses.
+    Purses(Names),
+    /// This is the purse.
+    Shown(Purse),
+    /// A payment of these details is started.
+    Started(PayDetails),
+    /// The purse handled the message so.
+    Handled(Handled),
+    /// The message is thrown away.
+    Discarded,
+    /// The purse is at rest, and a payment was logged or none was.
+    Aborted {
+        /// Whether a payment was logged.
+        logged: bool,
+    },
+    /// These messages lie in the inbox.
+    Inbox(Messages),
+}
+
+/// What a command would do: the reply, and the edits of the book that lead to its World.
+#[derive(Drop)]
+pub struct Decided {
+    /// The reply.
+    pub reply: Reply,
+    /// The edits, in order.
+    pub edits: Edits,
+}
+
+/// What came of one of several commands.
+#[derive(Drop, Debug)]
+pub enum Outcome {
+    /// It was answered so.
+    Reply(Reply),
+    /// The book could not do it, and nothing changed.
+    Unavailable,
+}
