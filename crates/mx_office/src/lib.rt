@@ -6,6 +6,8 @@ pub mod isolation;
 mod members;
 pub mod office;
 mod purses;
+#[cfg(test)]
+mod tests;
 pub mod values;
 
 pub use office::Office;
