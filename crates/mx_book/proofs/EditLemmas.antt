@@ -1,6 +1,6 @@
 -- An edit of the rows is the edit of the World.
-use Rattle.std.proofs.Common.{◌≡◌, ℕ, ◌+◌, ◌<◌, false, cond, List, [], ◌∷◌, ◌++◌, map, refl, sym, ◌∙◌, ap, subst, Option, Some, None, IsSome, option_and_then}
-use Rattle.std.specs.Prelude.{◌^◌, option_map}
+use Rattle.std.proofs.Common.{◌≡◌, ℕ, ◌+◌, ◌<◌, Bool, true, false, cond, List, [], ◌∷◌, ◌++◌, map, refl, sym, ◌∙◌, ap, subst, Option, Some, None, IsSome, option_and_then}
+use Rattle.std.specs.Prelude.{◌^◌, ◌||◌, option_map, IsNone}
 use Rattle.std.specs.Ordering.{nat_cmp}
 use Rattle.std.specs.Cmp.{nat_cmp_total}
 use Rattle.std.specs.FinMap as fmap
@@ -8,23 +8,24 @@ use Rattle.std.specs.FinMap.{nat_cmp-IsAntisymmetric}
 use Rattle.mx_pay.specs.Names.{name_cmp, is_name}
 use Rattle.mx_purse.specs.State.{State, new_purse}
 use Rattle.mx_purse.specs.declared.message.Message.{Message}
-use Rattle.mx_book.specs.World.{World, Name, delivered, new_row}
+use Rattle.mx_book.specs.World.{World, Row, Name, delivered, new_row, is_of, is_of_member, collected_row}
 use Rattle.mx_book.specs.declared.values.Line.{Line}
 use Rattle.mx_book.specs.Maps.{pick}
 use Rattle.mx_book.specs.Conditions.{AreNumbered}
-use Rattle.mx_book.proofs.MapLemmas.{get-pick}
+use Rattle.mx_book.proofs.MapLemmas.{get-pick, pick-insert, pick-skip}
 use Rattle.mx_book.proofs.NameLemmas.{names_total, names_exact}
 use Rattle.mx_book.proofs.NameLemmas.{get-inserted}
 use Rattle.mx_book.specs.declared.values.PurseRow.{PurseRow}
+use Rattle.mx_book.specs.declared.values.Redemption.{Redemption}
 use Rattle.mx_book.specs.declared.edits.Edit.{Edit}
-use Rattle.mx_book.specs.declared.edits.Edit.TheVariants.{NewMember, NewHolder, NewPurse, SetPurse, AddMessage, DropMessage, AddLine}
-use Rattle.mx_book.specs.Under.{under}
+use Rattle.mx_book.specs.declared.edits.Edit.TheVariants.{NewMember, SetMember, NewHolder, NewPurse, SetPurse, AddMessage, DropMessage, AddLine, AddLoad, AddRedemption, Collect}
+use Rattle.mx_book.specs.Under.{pair_cmp, under, remake}
 use Rattle.mx_book.specs.Rows.{Rows, world_of, row_of, row_from, IsProper, Spelled, line_row, line_at, lines_from, amount_of, mark_of}
 use Rattle.mx_book.specs.Edits.{edited, all_edited, AllSuit, Suits}
-use Rattle.mx_book.specs.RowEdits.{rewritten, all_rewritten, Able, AllAble, on_purse}
-use Rattle.mx_book.proofs.UnderLemmas.{under-insert, under-insert_other, under-remove, under-remove_other, under-none, entries_empty}
+use Rattle.mx_book.specs.RowEdits.{rewritten, all_rewritten, Able, AllAble, on_purse, member_at, marked}
+use Rattle.mx_book.proofs.UnderLemmas.{under-insert, under-insert_other, under-remove, under-remove_other, under-none, under-remake, get-remake, pair_exact, entries_empty}
 use Rattle.mx_book.proofs.LineLemmas.{lines-insert}
-use Rattle.mx_book.proofs.RowLemmas.{rows_put, row_is, found, found_row, not_there, change_is, NoStray-insert, NoStray-remove, proper_purse}
+use Rattle.mx_book.proofs.RowLemmas.{rows_put, get_rows, row_is, found, found_row, not_there, change_is, NoStray-insert, NoStray-remove, proper_purse}
 
 -- another key after a write
 get-other : {X : Type 0} (m : fmap.FinMap name_cmp X) (p q : Name) (x : X) → is_name q p ≡ false → fmap.get (fmap.insert m p x) q ≡ fmap.get m q
@@ -98,16 +99,142 @@ add_line r h p l x at next =
       proper = record { inbox = h.inbox; lines = NoStray-insert nat_cmp nat_cmp_total r.purses r.lines h.lines p l.number (line_row l) x at; loads = h.loads; redemptions = h.redemptions };
     }
 
+-- ---- loads and redemptions
+
+add_load : (r : Rows) (h : IsProper r) (p ref : Name) (amount : ℕ) (x : PurseRow) → fmap.get r.purses p ≡ Some x → Spelled (rewritten r (AddLoad p ref amount)) (edited (world_of r) (AddLoad p ref amount))
+add_load r h p ref amount x at =
+    let s : Rows = record r { loads = fmap.insert r.loads (p, ref) amount } in
+    record {
+      world = change_is r s p (λ row. record row { loads = fmap.insert row.loads ref amount }) x x at at
+          (ap (λ i. record (row_of r p x) { loads = i }) (under-insert names_total names_total names_exact p r.loads ref amount))
+          (λ n f. ap (λ i. option_map (λ z. record (row_of r n z) { loads = i }) (fmap.get r.purses n)) (under-insert_other names_total names_total names_exact p n r.loads ref amount f));
+      proper = record { inbox = h.inbox; lines = h.lines; loads = NoStray-insert name_cmp names_total r.purses r.loads h.loads p ref amount x at; redemptions = h.redemptions };
+    }
+
+unpicked_case : (o : Option Redemption) → option_and_then amount_of o ≡ None → option_and_then mark_of o ≡ None
+unpicked_case None h = refl
+unpicked_case (Some x) h = cc
+
+add_redemption : (r : Rows) (h : IsProper r) (p ref : Name) (amount : ℕ) (x : PurseRow) → fmap.get r.purses p ≡ Some x → fmap.get (row_of r p x).account.redemptions ref ≡ None
+    → Spelled (rewritten r (AddRedemption p ref amount)) (edited (world_of r) (AddRedemption p ref amount))
+add_redemption r h p ref amount x at new =
+    let y : Redemption = record { amount = amount; collected = false } in
+    let m = under name_cmp name_cmp p r.redemptions in
+    let s : Rows = record r { redemptions = fmap.insert r.redemptions (p, ref) y } in
+    let amounts = pick-insert names_total amount_of names_exact m ref y amount refl in
+    let marks = pick-skip names_total mark_of names_exact m ref y refl (unpicked_case (fmap.get m ref) (sym (get-pick names_total amount_of m ref) ∙ new)) in
+    record {
+      world = change_is r s p (λ row. record row { account = record row.account { redemptions = fmap.insert row.account.redemptions ref amount } }) x x at at
+          (ap (λ i. record (row_of r p x) { account = record (row_of r p x).account { redemptions = pick amount_of i }; collected = pick mark_of i }) (under-insert names_total names_total names_exact p r.redemptions ref y)
+          ∙ (λ i. record (row_of r p x) { account = record (row_of r p x).account { redemptions = amounts i }; collected = marks i }))
+          (λ n f. ap (λ i. option_map (λ z. record (row_of r n z) { account = record (row_of r n z).account { redemptions = pick amount_of i }; collected = pick mark_of i }) (fmap.get r.purses n)) (under-insert_other names_total names_total names_exact p n r.redemptions ref y f));
+      proper = record { inbox = h.inbox; lines = h.lines; loads = h.loads; redemptions = NoStray-insert name_cmp names_total r.purses r.redemptions h.redemptions p ref y x at };
+    }
+
+-- ---- a collect
+
+-- a redemption that is collected, or stays, by a test
+abbrev collected_by : Bool → Name → Redemption → Redemption
+collected_by c ref y = record y { collected = y.collected || c }
+
+or_true : (b : Bool) → (b || true) ≡ true
+or_true true = refl
+or_true false = refl
+
+or_false : (b : Bool) → (b || false) ≡ b
+or_false true = refl
+or_false false = refl
+
+amount_case : (c : Bool) (ref : Name) (o : Option Redemption) → option_and_then amount_of (option_map (collected_by c ref) o) ≡ option_and_then amount_of o
+amount_case c ref None = refl
+amount_case c ref (Some y) = refl
+
+amounts_stay : (c : Bool) (m : fmap.FinMap name_cmp Redemption) → pick amount_of (remake (collected_by c) m) ≡ pick amount_of m
+amounts_stay c m = fmap.same_map names_total names_exact _ _ (λ q.
+    get-pick names_total amount_of (remake (collected_by c) m) q ∙ ap (option_and_then amount_of) (get-remake name_cmp (collected_by c) names_exact m q)
+    ∙ amount_case c q (fmap.get m q) ∙ sym (get-pick names_total amount_of m q))
+
+abbrev each_mark : ℕ → Option (Unit {0})
+each_mark amount = Some tt
+
+all_case : (ref : Name) (o : Option Redemption) → option_and_then mark_of (option_map (collected_by true ref) o) ≡ option_and_then each_mark (option_and_then amount_of o)
+all_case ref None = refl
+all_case ref (Some y) = ap (λ b. cond b (Some tt) None) (or_true y.collected)
+
+same_case : (ref : Name) (o : Option Redemption) → option_and_then mark_of (option_map (collected_by false ref) o) ≡ option_and_then mark_of o
+same_case ref None = refl
+same_case ref (Some y) = ap (λ b. cond b (Some tt) None) (or_false y.collected)
+
+marks_are : (c : Bool) (m : fmap.FinMap name_cmp Redemption) → pick mark_of (remake (collected_by c) m) ≡ cond c (pick each_mark (pick amount_of m)) (pick mark_of m)
+marks_are true m = fmap.same_map names_total names_exact _ _ (λ q.
+    get-pick names_total mark_of (remake (collected_by true) m) q ∙ ap (option_and_then mark_of) (get-remake name_cmp (collected_by true) names_exact m q)
+    ∙ all_case q (fmap.get m q) ∙ ap (option_and_then each_mark) (sym (get-pick names_total amount_of m q)) ∙ sym (get-pick names_total each_mark (pick amount_of m) q))
+marks_are false m = fmap.same_map names_total names_exact _ _ (λ q.
+    get-pick names_total mark_of (remake (collected_by false) m) q ∙ ap (option_and_then mark_of) (get-remake name_cmp (collected_by false) names_exact m q)
+    ∙ same_case q (fmap.get m q) ∙ sym (get-pick names_total mark_of m q))
+
+-- a row's set of collected redemptions, by a test
+row_case : (c : Bool) (row : Row) → record row { collected = cond c (pick each_mark row.account.redemptions) row.collected } ≡ cond c (collected_row row) row
+row_case true row = refl
+row_case false row = refl
+
+module _ (r : Rows) (m : Name) where
+  abbrev collect_one : Name → Row → Row
+  collect_one p row = cond (is_of_member (world_of r) m row) (collected_row row) row
+
+  collected_at : (q : Name) (x : PurseRow) → fmap.get r.purses q ≡ Some x → row_of (rewritten r (Collect m)) q x ≡ collect_one q (row_of r q x)
+  collected_at q x at =
+      let c : Bool = is_of m (member_at r.holders (fmap.get r.purses q)) in
+      let u = under name_cmp name_cmp q r.redemptions in
+      let amounts = amounts_stay c u in
+      let marks = marks_are c u in
+      ap (λ i. record (row_of r q x) { account = record (row_of r q x).account { redemptions = pick amount_of i }; collected = pick mark_of i })
+      (under-remake names_total names_total names_exact names_exact (marked r.purses r.holders m) q r.redemptions)
+      ∙ (λ i. record (row_of r q x) { account = record (row_of r q x).account { redemptions = amounts i }; collected = marks i })
+      ∙ ap (λ b. record (row_of r q x) { collected = cond b (pick each_mark (pick amount_of u)) (pick mark_of u) }) (ap (λ o. is_of m (member_at r.holders o)) at)
+      ∙ row_case (is_of_member (world_of r) m (row_of r q x)) (row_of r q x)
+
+  collected_case : (q : Name) (o : Option PurseRow) → fmap.get r.purses q ≡ o → option_map (collect_one q) (option_map (row_of r q) o) ≡ option_map (row_of (rewritten r (Collect m)) q) o
+  collected_case q None at = refl
+  collected_case q (Some x) at = ap Some (sym (collected_at q x at))
+
+  gone_still : (f : Name × Name → Redemption → Redemption) (k : Name × Name) (o : Option Redemption) → o ≡ None → option_map (f k) o ≡ None
+  gone_still f k o e = ap (option_map (f k)) e
+
+  collect : (h : IsProper r) → Spelled (rewritten r (Collect m)) (edited (world_of r) (Collect m))
+  collect h =
+      let s : Rows = rewritten r (Collect m) in
+      record {
+        world = ap (λ rows. record (world_of r) { rows = rows }) (fmap.same_map names_total names_exact _ _ (λ q.
+            get-remake name_cmp collect_one names_exact (world_of r).rows q
+            ∙ ap (option_map (collect_one q)) (get_rows r q) ∙ collected_case q (fmap.get r.purses q) refl ∙ sym (get_rows s q)));
+        proper = record {
+          inbox = h.inbox;
+          lines = h.lines;
+          loads = h.loads;
+          redemptions = λ p k gone. get-remake (pair_cmp name_cmp name_cmp) (marked r.purses r.holders m) (pair_exact names_exact names_exact) r.redemptions (p, k)
+              ∙ gone_still (marked r.purses r.holders m) (p, k) _ (h.redemptions p k gone);
+        };
+      }
+
 -- ---- each edit
+
+no_value : {X : Type 0} (o : Option X) → IsNone o → o ≡ None
+no_value None h = refl
+no_value (Some x) h = absurd (cc)
 
 pub edit_is : (r : Rows) (e : Edit) → IsProper r → Suits (world_of r) e → Spelled (rewritten r e) (edited (world_of r) e)
 edit_is r (NewMember m t) h fits = record { world = refl; proper = h }
+edit_is r (SetMember m granted float) h fits = record { world = refl; proper = h }
 edit_is r (NewHolder g m t) h fits = record { world = refl; proper = h }
 edit_is r (NewPurse p g) h fits = new_purse_row r h p g (not_there r p fits.0)
 edit_is r (SetPurse q) h fits = let x = found_row r q.name fits in set_purse r h q x.0 x.1
 edit_is r (AddMessage p m) h fits = let x = found r p (λ row. (fmap.len row.account.inbox < 32) × (row.account.next_message < 10 ^ 15)) fits in add_message r h p m x.0 x.1
 edit_is r (DropMessage p k) h fits = let x = found r p (λ row. IsSome (fmap.get row.account.inbox k)) fits in drop_message r h p k x.0 x.1
 edit_is r (AddLine p l) h fits = let x = found r p (λ row. AreNumbered 1 (row.account.lines ++ l ∷ [])) fits in add_line r h p l x.0 x.1 x.2
+edit_is r (AddLoad p ref amount) h fits = let x = found r p (λ row. IsNone (fmap.get row.loads ref)) fits in add_load r h p ref amount x.0 x.1
+edit_is r (AddRedemption p ref amount) h fits = let x = found r p (λ row. IsNone (fmap.get row.account.redemptions ref)) fits in add_redemption r h p ref amount x.0 x.1 (no_value _ x.2)
+edit_is r (Collect m) h fits = collect r m h
 
 -- and so of a list of edits
 pub edit_spelled : (r : Rows) (w : World) (e : Edit) → Spelled r w → Suits w e → Spelled (rewritten r e) (edited w e)
@@ -124,6 +251,7 @@ same_row x y e = cc
 
 able : (r : Rows) (e : Edit) → Suits (world_of r) e → Able r e
 able r (NewMember m t) fits = tt
+able r (SetMember m granted float) fits = tt
 able r (NewHolder g m t) fits = tt
 able r (NewPurse p g) fits = tt
 able r (SetPurse q) fits = tt
@@ -132,6 +260,9 @@ able r (AddMessage p m) fits = λ x is.
     subst (λ (y : PurseRow). y.next_message < 10 ^ 15) (same_row z.0 x (sym z.1 ∙ is)) z.2.1
 able r (DropMessage p k) fits = tt
 able r (AddLine p l) fits = tt
+able r (AddLoad p ref amount) fits = tt
+able r (AddRedemption p ref amount) fits = tt
+able r (Collect m) fits = tt
 
 pub all_able : (r : Rows) (w : World) (es : List Edit) → Spelled r w → AllSuit w es → AllAble r es
 all_able r w [] h fits = tt

@@ -7,6 +7,8 @@ pub mod EditLemmas
 pub mod ReadLemmas
 pub mod PlaceLemmas
 pub mod TableLemmas
+pub mod TurnLemmas
+pub mod UncollectedLemmas
 pub mod SpellLemmas
 pub mod Opening
 pub mod SumLemmas
@@ -14,3 +16,4 @@ pub mod FoundLemmas
 pub mod KeepLemmas
 pub mod FirstLemmas
 pub mod PurseLemmas
+pub mod MoneyLemmas

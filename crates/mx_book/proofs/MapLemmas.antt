@@ -49,7 +49,7 @@ module _ {K X Y : Type 0} (R : K → K → Ordering) (f : X → Option Y) where
 
 module _ {K X : Type 0} {R : K → K → Ordering} (o : IsTotalOrder R) where
   -- nothing is found at a key below all
-  find_below : (q x : K) (es : List (K × X)) → R q x ≡ Equal → T (below_all R x es) → find R q es ≡ None
+  pub find_below : (q x : K) (es : List (K × X)) → R q x ≡ Equal → T (below_all R x es) → find R q es ≡ None
   find_below q x [] t h = refl
   find_below q x (e ∷ es) t h =
       let less : R q e.0 ≡ Less = o.congr q x e.0 t ∙ is_less _ (first_true _ _ h) in

@@ -9,12 +9,14 @@ use Rattle.mx_pay.specs.Names.{name_cmp, is_name}
 use Rattle.mx_book.specs.World.{Row, Name}
 use Rattle.mx_book.specs.declared.values.Line.{Line}
 use Rattle.mx_book.proofs.NameLemmas.{names_total}
+use Rattle.mx_book.proofs.MapLemmas.{get-pick}
 use Rattle.mx_book.specs.declared.values.PurseRow.{PurseRow}
 use Rattle.mx_book.specs.declared.values.LineRow.{LineRow}
+use Rattle.mx_book.specs.declared.values.Redemption.{Redemption}
 use Rattle.mx_book.specs.Under.{under, those, with_second, remade}
-use Rattle.mx_book.specs.Rows.{Rows, world_of, row_of, line_at, IsProper}
-use Rattle.mx_book.specs.Reads.{of_purse, from_row, purses_of, holder_of, account_of, account_with, inbox_of, message_of, lines_of}
-use Rattle.mx_book.specs.RowReads.{of_name, held_by, row_purses_of, row_holder_of, row_account_of, row_account_with, row_inbox_of, row_lines_of, line_of_row}
+use Rattle.mx_book.specs.Rows.{Rows, world_of, row_of, line_at, amount_of, IsProper}
+use Rattle.mx_book.specs.Reads.{of_purse, from_row, purses_of, holder_of, account_of, account_with, inbox_of, message_of, lines_of, members_of, load_of, redemption_of}
+use Rattle.mx_book.specs.RowReads.{of_name, held_by, row_purses_of, row_holder_of, row_account_of, row_account_with, row_inbox_of, row_lines_of, row_members_of, row_load_of, row_redemption_of, line_of_row}
 use Rattle.mx_book.proofs.UnderLemmas.{get-under, entries-under, len-under, entries-remake, under-none, entries_empty}
 use Rattle.mx_book.proofs.RowLemmas.{get_rows}
 
@@ -110,3 +112,21 @@ module _ (r : Rows) (h : IsProper r) where
 
   pub lines_are : (p : Name) (after most : ℕ) → lines_of (world_of r) p after most ≡ row_lines_of r p after most
   lines_are p after most = ap (λ ls. take most (filter (λ (l : Line). nat_lt after l.number) ls)) (all_lines p) ∙ ap (take most) (lines_above p after (fmap.entries r.lines)) ∙ take-map line_of_row most _
+
+  pub load_is : (p ref : Name) → load_of (world_of r) p ref ≡ row_load_of r p ref
+  load_is p ref = of_purse_is None _ p (row_load_of r p ref) (λ gone. sym (h.loads p ref gone)) (λ z at. get-under name_cmp name_cmp names_total p r.loads ref)
+
+  amount_step : (o : Option Redemption) → option_and_then amount_of o ≡ option_map (λ (x : Redemption). x.amount) o
+  amount_step None = refl
+  amount_step (Some x) = refl
+
+  pub redemption_is : (p ref : Name) → redemption_of (world_of r) p ref ≡ row_redemption_of r p ref
+  redemption_is p ref = of_purse_is None _ p (row_redemption_of r p ref)
+      (λ gone. sym (ap (option_map (λ (x : Redemption). x.amount)) (h.redemptions p ref gone)))
+      (λ z at. get-pick names_total amount_of (under name_cmp name_cmp p r.redemptions) ref
+      ∙ ap (option_and_then amount_of) (get-under name_cmp name_cmp names_total p r.redemptions ref) ∙ amount_step (fmap.get r.redemptions (p, ref)))
+
+-- ---- the members
+
+pub members_are : (r : Rows) → members_of (world_of r) ≡ row_members_of r
+members_are r = refl

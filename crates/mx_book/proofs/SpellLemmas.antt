@@ -4,14 +4,15 @@ use Rattle.std.specs.FinMap as fmap
 use Rattle.mx_book.specs.declared.edits.Edit.{Edit}
 use Rattle.mx_book.specs.World.{World, Name, Token}
 use Rattle.mx_book.specs.Rows.{Rows, world_of}
-use Rattle.mx_book.specs.Reads.{who_of, member_of, holder_of, purses_of, account_of, message_of, inbox_of, lines_of}
-use Rattle.mx_book.specs.RowReads.{row_who_of, row_holder_of, row_purses_of, row_account_of, row_inbox_of, row_lines_of}
+use Rattle.mx_book.specs.Reads.{who_of, member_of, holder_of, purses_of, account_of, message_of, inbox_of, lines_of, members_of, load_of, redemption_of, uncollected_of}
+use Rattle.mx_book.specs.RowReads.{row_who_of, row_holder_of, row_purses_of, row_account_of, row_inbox_of, row_lines_of, row_members_of, row_load_of, row_redemption_of, row_uncollected_of}
 use Rattle.mx_book.specs.Edits.{all_edited, Fits}
 use Rattle.mx_book.specs.RowEdits.{rewritten, all_rewritten, Able, AllAble}
-use Rattle.mx_book.specs.declared.edits.Edit.TheVariants.{NewMember, NewHolder, NewPurse, SetPurse, AddMessage, DropMessage, AddLine}
+use Rattle.mx_book.specs.declared.edits.Edit.TheVariants.{NewMember, SetMember, NewHolder, NewPurse, SetPurse, AddMessage, DropMessage, AddLine, AddLoad, AddRedemption, Collect}
 use Rattle.std.proofs.Props.{props}
 use mathlib.Core.Logic.{∥∥₁_elim, ∥∥₁_map}
-use Rattle.mx_book.proofs.ReadLemmas.{purses_are, holder_is, account_is, message_is, inbox_is, lines_are}
+use Rattle.mx_book.proofs.ReadLemmas.{purses_are, holder_is, account_is, message_is, inbox_is, lines_are, members_are, load_is, redemption_is}
+use Rattle.mx_book.proofs.UncollectedLemmas.{uncollected_is}
 use Rattle.mx_book.proofs.EditLemmas.{edits_spelled, all_able}
 use Rattle.mx_book.specs.Spells.{Spells}
 
@@ -43,6 +44,18 @@ inbox_at r w p h = read_at (λ z. inbox_of z p) r w _ h (inbox_is r h.spelled.pr
 pub lines_at : (r : Rows) (w : World) (p : Name) (after most : ℕ) → Spells r w → row_lines_of r p after most ≡ lines_of w p after most
 lines_at r w p after most h = read_at (λ z. lines_of z p after most) r w _ h (lines_are r h.spelled.proper p after most)
 
+pub members_at : (r : Rows) (w : World) → Spells r w → row_members_of r ≡ members_of w
+members_at r w h = read_at members_of r w _ h (members_are r)
+
+pub load_at : (r : Rows) (w : World) (p ref : Name) → Spells r w → row_load_of r p ref ≡ load_of w p ref
+load_at r w p ref h = read_at (λ z. load_of z p ref) r w _ h (load_is r h.spelled.proper p ref)
+
+pub redemption_at : (r : Rows) (w : World) (p ref : Name) → Spells r w → row_redemption_of r p ref ≡ redemption_of w p ref
+redemption_at r w p ref h = read_at (λ z. redemption_of z p ref) r w _ h (redemption_is r h.spelled.proper p ref)
+
+pub uncollected_at : (r : Rows) (w : World) (m : Name) → Spells r w → row_uncollected_of r m ≡ uncollected_of w m
+uncollected_at r w m h = read_at (λ z. uncollected_of z m) r w _ h (uncollected_is r m h.spelled.proper)
+
 pub applied : (r s : Rows) (w : World) (es : List Edit) → Spells r w → Fits w es → s ≡ all_rewritten r es → Spells s (all_edited w es)
 applied r s w es h fits is = subst (λ (z : Rows). Spells z (all_edited w es)) (sym is) (record { spelled = edits_spelled r w es h.spelled fits.each; sound = fits.end })
 
@@ -57,12 +70,16 @@ able_of r w es h fits = all_able r w es h.spelled fits.each
 
 Able-prop : (r : Rows) (e : Edit) → IsProp (Able r e)
 Able-prop r (NewMember m t) = hlevel props
+Able-prop r (SetMember m granted float) = hlevel props
 Able-prop r (NewHolder g m t) = hlevel props
 Able-prop r (NewPurse p g) = hlevel props
 Able-prop r (SetPurse q) = hlevel props
 Able-prop r (AddMessage p m) = hlevel props
 Able-prop r (DropMessage p k) = hlevel props
 Able-prop r (AddLine p l) = hlevel props
+Able-prop r (AddLoad p ref amount) = hlevel props
+Able-prop r (AddRedemption p ref amount) = hlevel props
+Able-prop r (Collect m) = hlevel props
 
 AllAble-prop : (r : Rows) (es : List Edit) → IsProp (AllAble r es)
 AllAble-prop r [] = hlevel props

@@ -10,7 +10,8 @@ use Rattle.mx_book.specs.declared.values.MemberRow.{MemberRow}
 use Rattle.mx_book.specs.declared.values.HolderRow.{HolderRow}
 use Rattle.mx_book.specs.declared.values.Line.{Line}
 use Rattle.mx_book.specs.declared.values.Account as given
-use Rattle.mx_book.specs.World.{World, Row, Name, Token}
+use Rattle.mx_book.specs.Sums.{sum_values, sum_entries}
+use Rattle.mx_book.specs.World.{World, Row, Name, Token, is_of_member}
 
 -- whose token it is
 abbrev pub who_of : World → Token → Option Caller
@@ -56,3 +57,23 @@ message_of w p n = of_purse None (λ r. fmap.get r.account.inbox n) w p
 -- the first lines of a purse that are numbered above `after`, at most `most` of them
 abbrev pub lines_of : World → Name → ℕ → ℕ → List Line
 lines_of w p after most = take most (filter (λ (l : Line). nat_lt after l.number) (of_purse [] (λ r. r.account.lines) w p))
+
+-- the amount of the load of a purse with that reference
+abbrev pub load_of : World → Name → Name → Option ℕ
+load_of w p reference = of_purse None (λ r. fmap.get r.loads reference) w p
+
+-- the amount of the redemption of a purse with that reference
+abbrev pub redemption_of : World → Name → Name → Option ℕ
+redemption_of w p reference = of_purse None (λ r. fmap.get r.account.redemptions reference) w p
+
+-- the names of the members, in order
+abbrev pub members_of : World → List Name
+members_of w = fmap.keys w.members
+
+-- what the redemptions of a purse come to that aren't collected
+abbrev pub uncollected_row : Row → ℕ
+uncollected_row r = sum_entries (λ reference amount. if fmap.contains_key r.collected reference then 0 else amount) r.account.redemptions
+
+-- what the redemptions of the member's purses come to that aren't collected
+abbrev pub uncollected_of : World → Name → ℕ
+uncollected_of w m = sum_values (λ r. if is_of_member w m r then uncollected_row r else 0) w.rows

@@ -1,7 +1,7 @@
 -- What the reads of a book give, from its rows.
-use Rattle.std.specs.Prelude.{ℕ, ◌&&◌, List, map, filter, take, length, Option, Some, option_map, option_and_then, nat_lt, if◌then◌else◌}
+use Rattle.std.specs.Prelude.{ℕ, ◌&&◌, List, map, filter, take, length, Option, Some, option_map, option_and_then, nat_lt, not, if◌then◌else◌}
 use Rattle.std.specs.FinMap as fmap
-use Rattle.mx_pay.specs.Names.{is_name}
+use Rattle.mx_pay.specs.Names.{name_cmp, is_name}
 use Rattle.mx_pay.specs.Tokens.{is_token}
 use Rattle.mx_purse.specs.declared.message.Message.{Message}
 use Rattle.mx_book.specs.declared.values.Caller.{Caller}
@@ -12,7 +12,10 @@ use Rattle.mx_book.specs.declared.values.HolderRow.{HolderRow}
 use Rattle.mx_book.specs.declared.values.Line.{Line}
 use Rattle.mx_book.specs.declared.values.Account as given
 use Rattle.mx_book.specs.World.{Name, Token}
+use Rattle.mx_book.specs.declared.values.Redemption.{Redemption}
+use Rattle.mx_book.specs.Sums.{sum_entries}
 use Rattle.mx_book.specs.Rows.{Rows, line_at}
+use Rattle.mx_book.specs.RowEdits.{is_redeemed_of}
 
 -- whose token it is
 abbrev pub row_who_of : Rows → Token → Option Caller
@@ -53,3 +56,23 @@ line_of_row e = line_at (e.0.1, e.1)
 -- the first lines of a purse that are numbered above `after`, at most `most` of them
 abbrev pub row_lines_of : Rows → Name → ℕ → ℕ → List Line
 row_lines_of r p after most = map line_of_row (take most (filter (λ (e : (Name × ℕ) × LineRow). is_name p e.0.0 && nat_lt after e.0.1) (fmap.entries r.lines)))
+
+-- the names of the members, in order
+abbrev pub row_members_of : Rows → List Name
+row_members_of r = fmap.keys r.members
+
+-- the amount of the load of a purse with that reference
+abbrev pub row_load_of : Rows → Name → Name → Option ℕ
+row_load_of r p reference = fmap.get r.loads (p, reference)
+
+-- the amount of the redemption of a purse with that reference
+abbrev pub row_redemption_of : Rows → Name → Name → Option ℕ
+row_redemption_of r p reference = option_map (λ (x : Redemption). x.amount) (fmap.get r.redemptions (p, reference))
+
+-- what a redemption adds to the sum of those that aren't collected
+abbrev pub uncollected_amount : fmap.FinMap name_cmp PurseRow → fmap.FinMap name_cmp Name → Name → Name × Name → Redemption → ℕ
+uncollected_amount purses holders m key x = if not x.collected && is_redeemed_of purses holders m key then x.amount else 0
+
+-- what the redemptions of the member's purses come to that aren't collected
+abbrev pub row_uncollected_of : Rows → Name → ℕ
+row_uncollected_of r m = sum_entries (uncollected_amount r.purses r.holders m) r.redemptions

@@ -2,7 +2,7 @@
 use Rattle.std.specs.Prelude.{ℕ, ◌+◌, ◌^◌, nat_lt, ◌&&◌, Bool, if◌then◌else◌, List, [], Option, Some, None}
 use Rattle.std.specs.Ordering.{nat_cmp}
 use Rattle.std.specs.FinMap as fmap
-use Rattle.mx_pay.specs.Names.{name_cmp}
+use Rattle.mx_pay.specs.Names.{name_cmp, is_name}
 use Rattle.mx_pay.specs.Tokens.{token_cmp}
 use Rattle.mx_pay.specs.Details.{Details, details_cmp}
 use Rattle.mx_purse.specs.State.{State, new_purse}
@@ -10,7 +10,8 @@ use Rattle.mx_purse.specs.declared.message.Message.{Message}
 use Rattle.mx_book.specs.declared.values.Caller.{Caller}
 use Rattle.mx_book.specs.declared.values.Line.{Line}
 use Rattle.mx_book.specs.declared.values.MemberRow.{MemberRow}
-use Rattle.mx_book.specs.Under.{pair_cmp}
+use Rattle.mx_book.specs.Maps.{pick}
+use Rattle.mx_book.specs.Under.{pair_cmp, remake}
 
 -- a name is the list of its bytes
 abbrev pub Name : Type 0
@@ -106,3 +107,20 @@ change_account w p f = change_row w p (λ r. record r { account = f r.account })
 -- finds no place
 abbrev pub put : World → Name → Message → World
 put w p m = change_account w p (λ a. with_message a m)
+
+-- whether the member of a holder, if there is one, is m
+abbrev pub is_of : Name → Option Name → Bool
+is_of m None = Bool.false
+is_of m (Some member) = is_name m member
+
+-- whether the purse of a row is of a holder of the member m
+abbrev pub is_of_member : World → Name → Row → Bool
+is_of_member w m r = is_of m (fmap.get w.holders r.holder)
+
+-- a row with all its redemptions collected
+abbrev pub collected_row : Row → Row
+collected_row r = record r { collected = pick (λ amount. Some tt) r.account.redemptions }
+
+-- a World in which all redemptions of the member's purses are collected
+abbrev pub collected : World → Name → World
+collected w m = record w { rows = remake (λ p r. if is_of_member w m r then collected_row r else r) w.rows }

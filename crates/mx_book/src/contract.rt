@@ -2,7 +2,7 @@
 ghost use Rattle.std.specs.Prelude.{◌≡◌, ℕ, ◌≤◌, IfOk, IfErr, OnOk, OnErr, ◌⊎◌};
 ghost use Rattle.mx_book.specs.World.{World};
 ghost use Rattle.mx_book.specs.Conditions.{IsWorld};
-ghost use Rattle.mx_book.specs.Reads.{who_of, member_of, holder_of, account_of, purses_of, inbox_of, message_of, lines_of};
+ghost use Rattle.mx_book.specs.Reads.{who_of, member_of, holder_of, account_of, purses_of, inbox_of, message_of, lines_of, members_of, load_of, redemption_of, uncollected_of};
 ghost use Rattle.mx_book.specs.Edits.{Fits, all_edited};
 ghost use Rattle.mx_book.specs.Keeps.{Keeps};
 ghost use Rattle.mx_book.specs.declared.contract.StoreFault.{StoreFault};
@@ -10,7 +10,7 @@ ghost use Rattle.mx_book.specs.declared.contract.StoreFault.TheVariants.{Memory}
 
 use crate::edits::Edit;
 use crate::values::{Account, Caller, HolderRow, Line, MemberRow};
-use mx_pay::{Name, Token};
+use mx_pay::{Amount, Name, Token};
 use mx_purse::message::Message;
 use std::alloc::Global;
 
@@ -103,6 +103,41 @@ pub trait Book {
         ensures keeps { Keeps doubt rows self.old self.new }
         ensures value { (w : World) → doubt self.new ≡ 0 → spells (rows self.old) w → IfOk result (λ r. r.items ≡ lines_of w purse after most) }
         ensures fault { IfErr result (λ e. (e ≡ Memory) ⊎ fails e) };
+
+    /// The names of the members, in order.
+    fn members(&mut self, alloc: Global) -> Result<Vec<Name>, StoreFault>
+        ensures keeps { Keeps doubt rows self.old self.new }
+        ensures value { (w : World) → doubt self.new ≡ 0 → spells (rows self.old) w → IfOk result (λ r. r.items ≡ members_of w) }
+        ensures fault { IfErr result (λ e. (e ≡ Memory) ⊎ fails e) };
+
+    /// The amount of the load of a purse with that reference, or None where there is none.
+    fn load_of(
+        &mut self,
+        alloc: Global,
+        purse: Name,
+        reference: Name,
+    ) -> Result<Option<Amount>, StoreFault>
+        ensures keeps { Keeps doubt rows self.old self.new }
+        ensures value { (w : World) → doubt self.new ≡ 0 → spells (rows self.old) w → IfOk result (λ r. r ≡ load_of w purse reference) }
+        ensures fault { IfErr result fails };
+
+    /// The amount of the redemption of a purse with that reference, or None where there is none.
+    fn redemption_of(
+        &mut self,
+        alloc: Global,
+        purse: Name,
+        reference: Name,
+    ) -> Result<Option<Amount>, StoreFault>
+        ensures keeps { Keeps doubt rows self.old self.new }
+        ensures value { (w : World) → doubt self.new ≡ 0 → spells (rows self.old) w → IfOk result (λ r. r ≡ redemption_of w purse reference) }
+        ensures fault { IfErr result fails };
+
+    /// The sum of the redemptions of the purses of a member's holders that aren't collected; 0 where there is
+    /// no such member.
+    fn uncollected(&mut self, alloc: Global, member: Name) -> Result<u128, StoreFault>
+        ensures keeps { Keeps doubt rows self.old self.new }
+        ensures value { (w : World) → doubt self.new ≡ 0 → spells (rows self.old) w → IfOk result (λ r. r ≡ uncollected_of w member) }
+        ensures fault { IfErr result fails };
 
     /// Makes these edits in order, all of them, or none where it answers a fault. Where a World is spelled
     /// they fit it.

@@ -3,7 +3,7 @@ ghost use Rattle.std.specs.Prelude.{◌≡◌, ◌≤◌, [], length};
 
 use crate::values::Line;
 use arrayvec::ArrayVec;
-use mx_pay::{Name, Token};
+use mx_pay::{Amount, Name, Token};
 use mx_purse::Purse;
 use mx_purse::message::Message;
 use std::marker::Model;
@@ -17,6 +17,15 @@ pub enum Edit {
         member: Name,
         /// The token of its clerk.
         clerk: Token,
+    },
+    /// What is kept of a member becomes this.
+    SetMember {
+        /// The member.
+        member: Name,
+        /// The sum of all grants to the member, from 0 to 10^15.
+        granted: u64,
+        /// What is left to load purses with, from 0 to 10^15.
+        float: u64,
     },
     /// A new holder of a member, and the holder's token.
     NewHolder {
@@ -59,6 +68,29 @@ pub enum Edit {
         purse: Name,
         /// The line.
         line: Line,
+    },
+    /// A load of a purse.
+    AddLoad {
+        /// The purse.
+        purse: Name,
+        /// The reference of the load, which no other load of the purse has.
+        reference: Name,
+        /// How much was loaded.
+        amount: Amount,
+    },
+    /// A redemption of a purse, which isn't collected.
+    AddRedemption {
+        /// The purse.
+        purse: Name,
+        /// The reference of the redemption, which no other redemption of the purse has.
+        reference: Name,
+        /// How much was redeemed.
+        amount: Amount,
+    },
+    /// All redemptions of the purses of a member's holders are collected.
+    Collect {
+        /// The member.
+        member: Name,
     },
 }
 

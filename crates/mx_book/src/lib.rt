@@ -5,6 +5,7 @@
 pub mod contract;
 pub mod edits;
 pub mod plain_book;
+mod redemptions;
 pub mod shelves;
 pub mod table;
 #[cfg(test)]

@@ -8,7 +8,7 @@ use crate::contract::{Book, StoreFault};
 use crate::edits::Edit;
 use crate::shelves::Shelves;
 use crate::values::{Account, Caller, HolderRow, Line, MemberRow};
-use mx_pay::{Name, Token};
+use mx_pay::{Amount, Name, Token};
 use mx_purse::message::Message;
 use std::alloc::Global;
 
@@ -92,6 +92,35 @@ impl Book for PlainBook {
             Ok(lines) => Ok(lines),
             Err(_) => Err(StoreFault::Memory),
         }
+    }
+
+    fn members(&mut self, alloc: Global) -> Result<Vec<Name>, StoreFault> {
+        match self.shelves.members_of(alloc) {
+            Ok(members) => Ok(members),
+            Err(_) => Err(StoreFault::Memory),
+        }
+    }
+
+    fn load_of(
+        &mut self,
+        _alloc: Global,
+        purse: Name,
+        reference: Name,
+    ) -> Result<Option<Amount>, StoreFault> {
+        Ok(self.shelves.load_of(purse, reference))
+    }
+
+    fn redemption_of(
+        &mut self,
+        _alloc: Global,
+        purse: Name,
+        reference: Name,
+    ) -> Result<Option<Amount>, StoreFault> {
+        Ok(self.shelves.redemption_of(purse, reference))
+    }
+
+    fn uncollected(&mut self, _alloc: Global, member: Name) -> Result<u128, StoreFault> {
+        Ok(self.shelves.uncollected_of(member))
     }
 
     fn apply(&mut self, edits: &[Edit]) -> Result<(), StoreFault> {

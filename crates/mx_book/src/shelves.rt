@@ -4,13 +4,17 @@ ghost use Rattle.std.specs.FinMap.{get};
 ghost use Rattle.mx_pay.specs.Names.{is_name};
 ghost use Rattle.mx_purse.specs.declared.message.Message.{Message as Kept};
 ghost use Rattle.mx_book.specs.declared.values.LineRow.{LineRow as KeptLine};
+ghost use Rattle.mx_book.specs.declared.values.MemberRow.{MemberRow as KeptMember};
 ghost use Rattle.mx_book.specs.declared.values.PurseRow.{PurseRow as KeptPurse};
 ghost use Rattle.mx_book.specs.RowEdits.{rewritten, all_rewritten, Able, AllAble};
-ghost use Rattle.mx_book.specs.RowReads.{of_name, row_who_of, row_holder_of, row_purses_of, row_account_of, row_inbox_of, row_lines_of, line_of_row};
+ghost use Rattle.mx_book.specs.RowReads.{of_name, row_who_of, row_holder_of, row_purses_of, row_account_of, row_inbox_of, row_lines_of, row_members_of, row_load_of, row_redemption_of, row_uncollected_of, line_of_row};
 ghost use Rattle.mx_book.specs.Shelves.{rows_of, HasRoom, SpendsOne};
 ghost use Rattle.mx_book.specs.Spells.{opening_rows};
 
+mod writes;
+
 use crate::edits::Edit;
+use crate::redemptions::uncollected_in;
 use crate::table::Table;
 use crate::values::{Account, Caller, HolderRow, Line, LineRow, MemberRow, PurseRow, Redemption};
 use mx_pay::names::same_name;
@@ -76,59 +80,35 @@ impl Shelves {
         ensures room { SpendsOne self.old self.new }
     {
         match edit {
-            Edit::NewMember { member, clerk } => {
-                let row = MemberRow {
-                    granted: 0,
-                    float: 0,
-                };
-                self.members.put(member, row);
-                self.tokens.put(clerk, Caller::Clerk(member));
-            }
+            Edit::NewMember { member, clerk } => self.add_member(member, clerk),
+            Edit::SetMember {
+                member,
+                granted,
+                float,
+            } => self.members.put(member, MemberRow { granted, float }),
             Edit::NewHolder {
                 holder,
                 member,
                 token,
-            } => {
-                self.holders.put(holder, member);
-                self.tokens.put(token, Caller::Holder(holder));
-            }
-            Edit::NewPurse { purse, holder } => {
-                let row = PurseRow {
-                    holder,
-                    purse: Purse::new(purse),
-                    next_message: 0,
-                };
-                self.purses.put(purse, row);
-            }
-            Edit::SetPurse { purse } => {
-                let name = purse.name();
-                if let Some(row) = self.purses.get(name) {
-                    self.purses.put(name, PurseRow { purse, ..row });
-                }
-            }
-            Edit::AddMessage { purse, message } => {
-                if let Some(row) = self.purses.get(purse) {
-                    let number = row.next_message;
-                    let next_message = number + 1;
-                    self.purses.put(
-                        purse,
-                        PurseRow {
-                            next_message,
-                            ..row
-                        },
-                    );
-                    self.inbox.put((purse, number), message);
-                }
-            }
+            } => self.add_holder(holder, member, token),
+            Edit::NewPurse { purse, holder } => self.add_purse(purse, holder),
+            Edit::SetPurse { purse } => self.set_purse(purse),
+            Edit::AddMessage { purse, message } => self.add_message(purse, message),
             Edit::DropMessage { purse, number } => self.inbox.remove((purse, number)),
-            Edit::AddLine { purse, line } => {
-                let row = LineRow {
-                    kind: line.kind,
-                    amount: line.amount,
-                    balance: line.balance,
-                    note: line.note,
-                };
-                self.lines.put((purse, line.number), row);
+            Edit::AddLine { purse, line } => self.add_line(purse, line),
+            Edit::AddLoad {
+                purse,
+                reference,
+                amount,
+            } => self.loads.put((purse, reference), amount),
+            Edit::AddRedemption {
+                purse,
+                reference,
+                amount,
+            } => self.add_redemption(purse, reference, amount),
+            Edit::Collect { member } => {
+                self.redemptions
+                    .collect(&self.purses, &self.holders, member);
             }
         }
     }
@@ -156,6 +136,8 @@ impl Shelves {
         self.purses.reserve(more)?;
         self.inbox.reserve(more)?;
         self.lines.reserve(more)?;
+        self.loads.reserve(more)?;
+        self.redemptions.reserve(more)?;
         Ok(())
     }
 
@@ -220,6 +202,35 @@ impl Shelves {
     {
         lines_above(alloc, self.lines.rows(), purse, after, most)
     }
+
+    /// The names of the members, in order.
+    pub fn members_of(&self, alloc: Global) -> Result<Vec<Name>, AllocError>
+        ensures { IfOk result (λ r. r.items ≡ row_members_of (rows_of self.now)) }
+    {
+        member_names(alloc, self.members.rows())
+    }
+
+    /// The amount of the load of a purse with that reference, or None where there is none.
+    pub fn load_of(&self, purse: Name, reference: Name) -> Option<Amount>
+        ensures { result ≡ row_load_of (rows_of self.now) purse reference }
+    {
+        self.loads.get((purse, reference))
+    }
+
+    /// The amount of the redemption of a purse with that reference, or None where there is none.
+    pub fn redemption_of(&self, purse: Name, reference: Name) -> Option<Amount>
+        ensures { result ≡ row_redemption_of (rows_of self.now) purse reference }
+    {
+        let redemption = self.redemptions.get((purse, reference))?;
+        Some(redemption.amount)
+    }
+
+    /// What the redemptions of the member's purses come to that aren't collected.
+    pub fn uncollected_of(&self, member: Name) -> u128
+        ensures { result ≡ row_uncollected_of (rows_of self.now) member }
+    {
+        uncollected_in(self.redemptions.rows(), &self.purses, &self.holders, member)
+    }
 }
 
 /// How many of these purses the holder has.
@@ -243,6 +254,13 @@ fn names_held(
         .filter(|row| same_name(&holder, &row.1.holder))
         .map(|row| row.0)
         .collect(alloc)
+}
+
+/// The names of these members, in order.
+fn member_names(alloc: Global, rows: &[(Name, MemberRow)]) -> Result<Vec<Name>, AllocError>
+    ensures { IfOk result (λ r. r.items ≡ map (λ (e : List ℕ × KeptMember). e.0) rows.now) }
+{
+    rows.iter().map(|row| row.0).collect(alloc)
 }
 
 /// How many of these messages are to the purse.

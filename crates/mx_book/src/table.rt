@@ -14,7 +14,12 @@ ghost use Rattle.mx_book.specs.Place.{MatchPlace};
 ghost use Rattle.std.specs.FinMap.{slice_cmp-IsAntisymmetric};
 ghost use Rattle.std.proofs.lemmas.Map.Lookups.{exact_pairs};
 ghost use Rattle.mx_book.specs.Exact.{exact_details};
+ghost use Rattle.mx_pay.specs.Names.{name_cmp};
+ghost use Rattle.mx_book.specs.Under.{pair_cmp, remake};
+ghost use Rattle.mx_book.specs.RowEdits.{marked};
 
+use crate::redemptions::collect_rows;
+use crate::values::{PurseRow, Redemption};
 use mx_pay::{Name, PayDetails, Token};
 use std::alloc::{AllocError, Global};
 use std::cmp::Ordering;
@@ -165,5 +170,20 @@ impl<K: Key, V: Copy> Table<K, V> {
         ensures room { self.old.room ≤ self.new.room }
     {
         remove_row(&mut self.rows, key);
+    }
+}
+
+impl Table<(Name, Name), Redemption> {
+    /// Collects each redemption, by purse and reference, that is of a purse of the member.
+    pub fn collect(
+        &mut self,
+        purses: &Table<Name, PurseRow>,
+        holders: &Table<Name, Name>,
+        member: Name,
+    )
+        ensures map { map_of (pair_cmp name_cmp name_cmp) self.new ≡ remake (marked (map_of name_cmp purses.now) (map_of name_cmp holders.now) member) (map_of (pair_cmp name_cmp name_cmp) self.old) }
+        ensures room { self.old.room ≤ self.new.room }
+    {
+        collect_rows(&mut self.rows, purses, holders, member);
     }
 }

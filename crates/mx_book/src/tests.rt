@@ -3,6 +3,8 @@ ghost use Rattle.std.specs.Prelude.{◌≡◌, IfOk, IsTrue, false};
 ghost use Rattle.mx_pay.specs.Names.{is_name_text};
 ghost use Rattle.mx_pay.specs.Tokens.{is_token};
 
+mod money;
+
 use crate::shelves::Shelves;
 use crate::{
     Account, Book, Caller, Edit, Edits, HolderRow, Line, LineKind, MemberRow, Note, PlainBook,

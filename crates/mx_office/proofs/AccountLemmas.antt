@@ -53,7 +53,7 @@ other_case w h p f None e = refl
 other_case w h p f (Some r) e = other_row w h p f r (is_name h r.holder) e
 
 -- what a deed does is on the row that is there
-own_there : (w : World) (h p : Name) (f : Account → Deed) (r : Row) → fmap.get w.rows p ≡ Some r → is_name h r.holder ≡ true → on_own w h p f ≡ on_row w p r (f r.account)
+pub own_there : (w : World) (h p : Name) (f : Account → Deed) (r : Row) → fmap.get w.rows p ≡ Some r → is_name h r.holder ≡ true → on_own w h p f ≡ on_row w p r (f r.account)
 own_there w h p f r at t = ap (on_own_row w h p f) at ∙ ap (λ b. cond b (on_row w p r (f r.account)) (refused w NoSuchPurse)) t
 
 -- ---- nothing changes
@@ -125,11 +125,11 @@ abbrev pub IsNext : State → State → Option Line → Type 0
 IsNext p q None = q.lines ≡ p.lines
 IsNext p q (Some l) = (q.lines ≡ p.lines + 1) × (l.number ≡ q.lines)
 
-numbered_next : (p q : State) (ls : List Line) (line : Option Line) → IsNext p q line → AreNumbered 1 ls → length ls ≡ p.lines → AreNumbered 1 (ls ++ listed line)
+pub numbered_next : (p q : State) (ls : List Line) (line : Option Line) → IsNext p q line → AreNumbered 1 ls → length ls ≡ p.lines → AreNumbered 1 (ls ++ listed line)
 numbered_next p q ls None is h count = subst (AreNumbered 1) (sym (append_nil ls)) h
 numbered_next p q ls (Some l) is h count = numbered_more 1 ls l h (let a = is.0 in let b = is.1 in omega (arith, a, b, count))
 
-counted_next : (p q : State) (ls : List Line) (line : Option Line) → IsNext p q line → length ls ≡ p.lines → length (ls ++ listed line) ≡ q.lines
+pub counted_next : (p q : State) (ls : List Line) (line : Option Line) → IsNext p q line → length ls ≡ p.lines → length (ls ++ listed line) ≡ q.lines
 counted_next p q ls None is count = ap length (append_nil ls) ∙ count ∙ sym is
 counted_next p q ls (Some l) is count = length-append ls (l ∷ []) ∙ (let a = is.0 in omega (arith, a, count))
 

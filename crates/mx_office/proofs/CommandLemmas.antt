@@ -33,7 +33,7 @@ unfolding show
 show_decides w h p q d is own_is = let own = is_own w h p q own_is in
     own_told_decides w h p show (reply.Shown q) d own.row is own.at own.owned (ap (λ x. tell own.row.account (reply.Shown x)) own.purse)
 
-some_value : {X : Type 0} (o : Option X) → is_none o ≡ false → (x : X) × (o ≡ Some x)
+pub some_value : {X : Type 0} (o : Option X) → is_none o ≡ false → (x : X) × (o ≡ Some x)
 some_value None f = absurd (cc)
 some_value (Some x) f = (x, refl)
 
@@ -79,11 +79,11 @@ discard_decides w h p n d is there message =
 
 -- ---- operations on the purse
 
-next_case : (p q : State) (o : Option Details) → q.lines ≡ lines_with p.lines o → IsNext p q (abort_line q o)
+pub next_case : (p q : State) (o : Option Details) → q.lines ≡ lines_with p.lines o → IsNext p q (abort_line q o)
 next_case p q None is = is
 next_case p q (Some d) is = (is, refl)
 
-logged_case : (log : Entries) (o : Option Details) (d : Details) → has_logged log d ≡ true → has_logged (with_pending log o) d ≡ true
+pub logged_case : (log : Entries) (o : Option Details) (d : Details) → has_logged log d ≡ true → has_logged (with_pending log o) d ≡ true
 logged_case log None d there = there
 logged_case log (Some e) d there = has-with_entry log e d ∙ ap (λ b. is_details d e || b) there ∙ or_true (is_details d e)
   where
@@ -92,7 +92,7 @@ logged_case log (Some e) d there = has-with_entry log e d ∙ ap (λ b. is_detai
     or_true false = refl
 
 -- what an abort leaves follows the purse, and so does what a start makes of it
-abort_follows : (p : State) → IsPurse p → Follows p (aborted p) (abort_line (aborted p) (pending p.status))
+pub abort_follows : (p : State) → IsPurse p → Follows p (aborted p) (abort_line (aborted p) (pending p.status))
 abort_follows p is = record { name = refl; whole = aborted_is p is; next = next_case p (aborted p) (pending p.status) refl; logged = logged_case p.log (pending p.status) }
 
 from_follows : (p : State) (peer : Name) (value seq : ℕ) → IsPurse p → start_from_refusal p peer value ≡ None → (q : State) → q ≡ started p (Epr (from_details p peer value seq)) → Follows p q (abort_line q (pending p.status))
@@ -130,11 +130,11 @@ message_follows p m is = record {
 }
 
 -- the answer of a start tells whether it is refused
-not_refused : {A R : Type 0} (o : Option R) (a x : A) → or_refused o a ≡ Ok x → o ≡ None
+pub not_refused : {A R : Type 0} (o : Option R) (a x : A) → or_refused o a ≡ Ok x → o ≡ None
 not_refused None a x e = refl
 not_refused (Some r) a x e = absurd (cc)
 
-is_refused : {A R : Type 0} (o : Option R) (a : A) (r : R) → or_refused o a ≡ Err r → o ≡ Some r
+pub is_refused : {A R : Type 0} (o : Option R) (a : A) (r : R) → or_refused o a ≡ Err r → o ≡ Some r
 is_refused None a r e = absurd (cc)
 is_refused {A = A} {R = R} (Some s) a r e = ap err_or e
   where

@@ -8,7 +8,7 @@ use Rattle.mx_book.specs.declared.edits.Edit.{Edit}
 use Rattle.mx_book.specs.declared.edits.Edit.TheVariants.{NewMember, NewHolder, NewPurse}
 use Rattle.mx_book.specs.declared.values.HolderRow.{HolderRow}
 use Rattle.mx_book.specs.declared.values.Account as given
-use Rattle.mx_book.specs.World.{World, Row, Name, Token, has_room}
+use Rattle.mx_book.specs.World.{World, Row, Name, Token, is_of, has_room}
 use Rattle.mx_book.specs.Conditions.{IsWorld}
 use Rattle.mx_book.specs.Reads.{from_row, who_of, purses_of, holder_of, account_of, account_with}
 use Rattle.mx_book.specs.Edits.{Fits, Suits, edited, all_edited}
@@ -18,7 +18,7 @@ use Rattle.mx_office.specs.declared.values.Decided.{Decided}
 use Rattle.mx_office.specs.declared.values.Refusal.{Refusal}
 use Rattle.mx_office.specs.declared.values.Reply.{Reply}
 use Rattle.mx_office.specs.declared.values.Reply.TheVariants.{Added, Refused}
-use Rattle.mx_office.specs.Step.{Done, done, send, first_refusal, unless, is_of, new_member, new_holder, new_purse}
+use Rattle.mx_office.specs.Step.{Done, done, send, first_refusal, unless, new_member, new_holder, new_purse}
 use Rattle.mx_office.specs.Decides.{Decides, finds_place, purses_held}
 
 -- ---- decisions of no edit and of one

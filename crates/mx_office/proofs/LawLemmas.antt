@@ -1,21 +1,24 @@
 -- Each command's change of the World, cut to one holder, is what the holder's view alone gives.
-use Rattle.std.proofs.Common.{◌≡◌, Bool, true, false, cond, List, [], ◌∷◌, ◌++◌, refl, sym, ◌∙◌, ap, Option, Some, None, ◌&&◌, option_and_then}
-use Rattle.std.specs.Prelude.{is_none, is_some}
+use Rattle.std.proofs.Common.{◌≡◌, Bool, true, false, cond, List, [], ◌∷◌, ◌++◌, refl, sym, ◌∙◌, ap, Option, Some, None, ◌&&◌, option_and_then, option_map, ℕ}
+use Rattle.std.specs.Prelude.{◌-◌, is_none, is_some}
 use Rattle.std.specs.FinMap as fmap
 use Rattle.mx_pay.specs.Names.{name_cmp, is_name}
 use Rattle.mx_purse.specs.declared.message.Message.{Message}
 use Rattle.mx_book.specs.declared.values.Caller.{Caller}
 use Rattle.mx_book.specs.declared.values.Caller.TheVariants.{Operator, Clerk, Holder}
-use Rattle.mx_book.specs.World.{World, Row, Account, Name, set_row, change_row, changed_row, has_room, delivered, with_message, new_row}
+use Rattle.mx_book.specs.World.{World, Row, Account, Name, is_of_member, collected_row, collected, set_row, change_row, changed_row, has_room, delivered, with_message, new_row}
+use Rattle.mx_book.specs.declared.values.MemberRow.{MemberRow}
 use Rattle.mx_book.proofs.NameLemmas.{names_total, names_exact, same_name}
 use Rattle.mx_office.specs.declared.values.Command.{Command}
-use Rattle.mx_office.specs.declared.values.Command.TheVariants.{NewMember, NewHolder, NewPurse, Purses, Show, StartFrom, StartTo, Handle, Discard, Abort, Inbox}
+use Rattle.mx_office.specs.declared.values.Command.TheVariants.{NewMember, Grant, NewHolder, NewPurse, Load, Collect, Purses, Show, StartFrom, StartTo, Handle, Discard, Abort, Redeem, Inbox}
 use Rattle.mx_office.specs.declared.values.Refusal.{Refusal}
 use Rattle.mx_office.specs.declared.values.Refusal.TheVariants.{NoSuchPurse}
+use Rattle.mx_office.specs.declared.values.Reply.{Reply}
 use Rattle.mx_office.specs.declared.values.Reply.TheVariants as reply
-use Rattle.mx_office.specs.Step.{Deed, Done, first_refusal, on_own, on_own_row, on_row, refused, done, unless, new_purse_refusal, base, after, send, show, start_from, start_to, handle, discard, abort, inbox}
-use Rattle.mx_office.specs.Isolation.{Event, Accounts, own_event, issued_event, put_event, view_of, enters, on_account, on_account_at, own, happens, change, changed, local, owned_account, cut}
+use Rattle.mx_office.specs.Step.{Deed, Done, loaded_account, loaded_row, load_done, not_loaded, changed_member, change_member, first_refusal, on_own, on_own_row, on_row, refused, done, unless, new_purse_refusal, base, after, send, show, start_from, start_to, handle, discard, abort, redeem, inbox}
+use Rattle.mx_office.specs.Isolation.{Event, Accounts, is_owned, own_event, issued_event, put_event, view_of, enters, on_account, on_account_at, own, happens, change, changed, local, owned_account, cut}
 use Rattle.mx_book.proofs.MapLemmas.{get-pick, pick-insert, pick-skip}
+use Rattle.mx_book.proofs.UnderLemmas.{get-remake}
 
 -- ---- what is cut out
 
@@ -177,6 +180,50 @@ issued_law : (w : World) (h m p g : Name) (o : Option Refusal) → new_purse_ref
 issued_law w h m p g (Some r) e = refl
 issued_law w h m p g None e = issued_case w h p g (is_new w m p g e) (is_name h g) refl
 
+-- ---- grants, loads and collects
+
+member_case : (w : World) (h m : Name) (f : MemberRow → MemberRow) (o : Option MemberRow) → cut (changed_member w m f o) h ≡ cut w h
+member_case w h m f None = refl
+member_case w h m f (Some row) = refl
+
+cut-change_member : (w : World) (h m : Name) (f : MemberRow → MemberRow) → cut (change_member w m f) h ≡ cut w h
+cut-change_member w h m f = member_case w h m f (fmap.get w.members m)
+
+load_owner : (w : World) (h p : Name) (amount : ℕ) (reference : Name) (r : Row) (b : Bool) → fmap.get w.rows p ≡ Some r → is_name h r.holder ≡ b
+    → change (cut w h) p (λ a. loaded_account a amount reference) ≡ local (cut w h) (cond b (Event.Loaded p reference amount ∷ []) [])
+load_owner w h p amount reference r true at t = refl
+load_owner w h p amount reference r false at t = change-none (cut w h) p (λ a. loaded_account a amount reference) (get-not_owned w h p r at t)
+
+load_case : (w : World) (h p : Name) (amount : ℕ) (reference : Name) (o : Option Row) → fmap.get w.rows p ≡ o
+    → change (cut w h) p (λ a. loaded_account a amount reference) ≡ local (cut w h) (cond (is_owned h o) (Event.Loaded p reference amount ∷ []) [])
+load_case w h p amount reference None at = change-none (cut w h) p (λ a. loaded_account a amount reference) (get-cut w h p None at)
+load_case w h p amount reference (Some r) at = load_owner w h p amount reference r (is_name h r.holder) at refl
+
+-- a load is an event where it adds a row
+load_law : (w : World) (h m p : Name) (amount : ℕ) (reference : Name) (x : Option Reply)
+    → cut (load_done w m p amount reference x).world h ≡ local (cut w h) (cond (is_none x && is_owned h (fmap.get w.rows p)) (Event.Loaded p reference amount ∷ []) [])
+load_law w h m p amount reference (Some r) = refl
+load_law w h m p amount reference None =
+    cut-change_member (change_row w p (loaded_row amount reference)) h m (λ row. record row { float = row.float - amount })
+    ∙ cut-change w h p (loaded_row amount reference) (λ a. loaded_account a amount reference) (λ r. refl) (λ r. refl)
+    ∙ load_case w h p amount reference (fmap.get w.rows p) refl
+
+-- collected redemptions are none of what is cut out
+collected_case : (w : World) (h m : Name) (r : Row) (b : Bool) → owned_account h (cond b (collected_row r) r) ≡ owned_account h r
+collected_case w h m r true = refl
+collected_case w h m r false = refl
+
+each_case : (w : World) (h m : Name) (o : Option Row) → option_and_then (owned_account h) (option_map (λ r. cond (is_of_member w m r) (collected_row r) r) o) ≡ option_and_then (owned_account h) o
+each_case w h m None = refl
+each_case w h m (Some r) = collected_case w h m r (is_of_member w m r)
+
+cut-collected : (w : World) (h m : Name) → cut (collected w m) h ≡ cut w h
+cut-collected w h m = fmap.same_map names_total names_exact _ _ (λ q.
+    get-pick names_total (owned_account h) (collected w m).rows q
+    ∙ ap (option_and_then (owned_account h)) (get-remake name_cmp (λ p r. cond (is_of_member w m r) (collected_row r) r) names_exact w.rows q)
+    ∙ each_case w h m (fmap.get w.rows q)
+    ∙ sym (get-pick names_total (owned_account h) w.rows q))
+
 -- ---- each command
 
 -- a command leaves what is cut out for h
@@ -187,8 +234,11 @@ quiet w h None d same = same
 -- before a message that it sends is put
 base_law : (w : World) (h : Name) (caller : Caller) (c : Command) → cut (base w caller c).world h ≡ local (cut w h) (own_event h caller c ++ issued_event w h caller c)
 base_law w h Operator (NewMember m t) = quiet w h _ _ refl
+base_law w h Operator (Grant m amount) = quiet w h _ _ (cut-change_member w h m _)
 base_law w h (Clerk m) (NewHolder g t) = quiet w h _ _ refl
 base_law w h (Clerk m) (NewPurse p g) = issued_law w h m p g (new_purse_refusal w m p g) refl
+base_law w h (Clerk m) (Load p amount reference) = load_law w h m p amount reference (not_loaded w m p amount reference)
+base_law w h (Clerk m) Collect = quiet w h _ _ (cut-change_member (collected w m) h m _ ∙ cut-collected w h m)
 base_law w h (Holder g) Purses = still_law w h g Purses (λ m. refl)
 base_law w h (Holder g) (Show p) = on_own_law w h g p show (Show p) (λ m. refl)
 base_law w h (Holder g) (StartFrom p peer value seq) = on_own_law w h g p (start_from peer value seq) (StartFrom p peer value seq) (λ m. refl)
@@ -196,6 +246,7 @@ base_law w h (Holder g) (StartTo p peer value seq) = on_own_law w h g p (start_t
 base_law w h (Holder g) (Handle p number) = on_own_law w h g p (handle number) (Handle p number) (λ m. refl)
 base_law w h (Holder g) (Discard p number) = on_own_law w h g p (discard number) (Discard p number) (λ m. refl)
 base_law w h (Holder g) (Abort p) = on_own_law w h g p abort (Abort p) (λ m. refl)
+base_law w h (Holder g) (Redeem p amount reference) = on_own_law w h g p (redeem amount reference) (Redeem p amount reference) (λ m. refl)
 base_law w h (Holder g) (Inbox p) = on_own_law w h g p inbox (Inbox p) (λ m. refl)
 base_law w h Operator c = refl
 base_law w h (Clerk m) c = refl

@@ -1,7 +1,14 @@
 pub mod DecideLemmas
 pub mod AccountLemmas
 pub mod CommandLemmas
+pub mod MoneyLemmas
 pub mod LawLemmas
 pub mod RunLemmas
 pub mod RefuseLemmas
 pub mod OutcomeLemmas
+pub mod EntrySumLemmas
+pub mod BalanceLemmas
+pub mod BalanceAccountLemmas
+pub mod BalanceCommandLemmas
+pub mod ReachLemmas
+pub mod GrantedLemmas

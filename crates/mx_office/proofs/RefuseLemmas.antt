@@ -1,20 +1,22 @@
 -- A refused command leaves the World.
 use Rattle.std.proofs.Common.{◌≡◌, ℕ, Bool, true, false, cond, refl, ◌∙◌, ap, Option, Some, None}
-use Rattle.std.specs.Prelude.{is_some}
+use Rattle.std.specs.Prelude.{◌==◌, is_some}
 use Rattle.std.specs.FinMap as fmap
 use Rattle.mx_pay.specs.Names.{is_name}
 use Rattle.mx_purse.specs.declared.message.Message.{Message}
 use Rattle.mx_purse.specs.declared.refusals.StartRefusal.{StartRefusal}
-use Rattle.mx_purse.specs.Operations.{start_from_refusal, start_to_refusal}
+use Rattle.mx_purse.specs.declared.refusals.RedeemRefusal.{RedeemRefusal}
+use Rattle.mx_purse.specs.Operations.{start_from_refusal, start_to_refusal, redeem_refusal}
 use Rattle.mx_book.specs.declared.values.Caller.{Caller}
 use Rattle.mx_book.specs.declared.values.Caller.TheVariants.{Operator, Clerk, Holder}
 use Rattle.mx_book.specs.World.{World, Row, Account, Name, set_row}
 use Rattle.mx_office.specs.declared.values.Command.{Command}
-use Rattle.mx_office.specs.declared.values.Command.TheVariants.{NewMember, NewHolder, NewPurse, Purses, Show, StartFrom, StartTo, Handle, Discard, Abort, Inbox}
+use Rattle.mx_office.specs.declared.values.Command.TheVariants.{NewMember, Grant, NewHolder, NewPurse, Load, Collect, Purses, Show, StartFrom, StartTo, Handle, Discard, Abort, Redeem, Inbox}
 use Rattle.mx_office.specs.declared.values.Refusal.{Refusal}
-use Rattle.mx_office.specs.declared.values.Refusal.TheVariants.{NoSuchPurse, NoSuchMessage}
+use Rattle.mx_office.specs.declared.values.Refusal.TheVariants.{NoSuchPurse, NoSuchMessage, RefReused}
+use Rattle.mx_office.specs.declared.values.Reply.{Reply}
 use Rattle.mx_office.specs.declared.values.Reply.TheVariants as reply
-use Rattle.mx_office.specs.Step.{Deed, Done, refuse, tell, refused, done, unless, on_row, on_own, on_own_row, send, base, after, show, start_from, start_from_by, start_to, start_to_by, handle, handle_message, discard, abort, inbox}
+use Rattle.mx_office.specs.Step.{Deed, Done, refuse, tell, refused, done, unless, on_row, on_own, on_own_row, send, base, after, show, start_from, start_from_by, start_to, start_to_by, handle, handle_message, discard, abort, redeem, redeem_by, redeem_new, load_done, not_loaded, inbox}
 use Rattle.mx_office.proofs.LawLemmas.{insert-same}
 
 -- ---- deeds
@@ -63,6 +65,22 @@ abort_leaves : (a : Account) → Leaves a (abort a)
 unfolding abort
 abort_leaves a r e = cc
 
+redeem_case : (amount : ℕ) (reference : Name) (a : Account) (o : Option RedeemRefusal) → Leaves a (redeem_by a amount reference o)
+redeem_case amount reference a None r e = cc
+redeem_case amount reference a (Some x) r e = (refl, refl)
+
+again_case : (a : Account) (b : Bool) → Leaves a (cond b (tell a reply.Redeemed) (refuse a RefReused))
+again_case a true r e = (refl, refl)
+again_case a false r e = (refl, refl)
+
+redeem_new_case : (amount : ℕ) (reference : Name) (a : Account) (o : Option ℕ) → Leaves a (redeem_new a amount reference o)
+redeem_new_case amount reference a None = redeem_case amount reference a (redeem_refusal a.purse amount)
+redeem_new_case amount reference a (Some before) = again_case a (before == amount)
+
+redeem_leaves : (amount : ℕ) (reference : Name) (a : Account) → Leaves a (redeem amount reference a)
+unfolding redeem
+redeem_leaves amount reference a = redeem_new_case amount reference a (fmap.get a.redemptions reference)
+
 inbox_leaves : (a : Account) → Leaves a (inbox a)
 unfolding inbox
 inbox_leaves a r e = (refl, refl)
@@ -76,6 +94,18 @@ Stays w d = (r : Refusal) → d.reply ≡ reply.Refused r → send d.world d.sen
 added_stays : (w v : World) (o : Option Refusal) → Stays w (unless w o (done v reply.Added))
 added_stays w v None r e = cc
 added_stays w v (Some x) r e = refl
+
+granted_stays : (w v : World) (o : Option Refusal) → Stays w (unless w o (done v reply.Granted))
+granted_stays w v None r e = cc
+granted_stays w v (Some x) r e = refl
+
+collected_stays : (w v : World) (n : ℕ) (o : Option Refusal) → Stays w (unless w o (done v (reply.Collected n)))
+collected_stays w v n None r e = cc
+collected_stays w v n (Some x) r e = refl
+
+load_stays : (w : World) (m p : Name) (amount : ℕ) (reference : Name) (o : Option Reply) → Stays w (load_done w m p amount reference o)
+load_stays w m p amount reference None r e = cc
+load_stays w m p amount reference (Some x) r e = refl
 
 -- a row whose account stays is written
 row_stays : (w : World) (p : Name) (row : Row) (d : Deed) → fmap.get w.rows p ≡ Some row → Leaves row.account d → Stays w (on_row w p row d)
@@ -98,8 +128,11 @@ own_stays w h p f leaves = own_row_stays w h p f leaves (fmap.get w.rows p) refl
 
 base_stays : (w : World) (caller : Caller) (c : Command) → Stays w (base w caller c)
 base_stays w Operator (NewMember m t) r e = added_stays w _ _ r e
+base_stays w Operator (Grant m amount) r e = granted_stays w _ _ r e
 base_stays w (Clerk m) (NewHolder h t) r e = added_stays w _ _ r e
 base_stays w (Clerk m) (NewPurse p h) r e = added_stays w _ _ r e
+base_stays w (Clerk m) (Load p amount reference) r e = load_stays w m p amount reference (not_loaded w m p amount reference) r e
+base_stays w (Clerk m) Collect r e = collected_stays w _ _ _ r e
 base_stays w (Holder h) Purses r e = refl
 base_stays w (Holder h) (Show p) r e = own_stays w h p show show_leaves r e
 base_stays w (Holder h) (StartFrom p peer value seq) r e = own_stays w h p (start_from peer value seq) (start_from_leaves peer value seq) r e
@@ -107,6 +140,7 @@ base_stays w (Holder h) (StartTo p peer value seq) r e = own_stays w h p (start_
 base_stays w (Holder h) (Handle p number) r e = own_stays w h p (handle number) (handle_leaves number) r e
 base_stays w (Holder h) (Discard p number) r e = own_stays w h p (discard number) (discard_leaves number) r e
 base_stays w (Holder h) (Abort p) r e = own_stays w h p abort abort_leaves r e
+base_stays w (Holder h) (Redeem p amount reference) r e = own_stays w h p (redeem amount reference) (redeem_leaves amount reference) r e
 base_stays w (Holder h) (Inbox p) r e = own_stays w h p inbox inbox_leaves r e
 base_stays w Operator c r e = refl
 base_stays w (Clerk m) c r e = refl

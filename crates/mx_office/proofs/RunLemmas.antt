@@ -1,5 +1,5 @@
 -- The replies to a holder, and whole runs.
-use Rattle.std.proofs.Common.{◌≡◌, Bool, true, false, cond, List, [], ◌∷◌, ◌++◌, refl, sym, ◌∙◌, ap, Option, Some, None}
+use Rattle.std.proofs.Common.{◌≡◌, Bool, true, false, cond, List, [], ◌∷◌, ◌++◌, refl, sym, ◌∙◌, ap, Option, Some, None, ℕ}
 use Rattle.std.specs.Prelude.{map, filter}
 use Rattle.std.specs.FinMap as fmap
 use Rattle.mx_pay.specs.Names.{is_name}
@@ -11,9 +11,9 @@ use Rattle.mx_book.specs.World.{World, Row, Account, Name}
 use Rattle.mx_book.specs.Reads.{purses_of}
 use Rattle.mx_book.proofs.NameLemmas.{names_total, same_name}
 use Rattle.mx_office.specs.declared.values.Command.{Command}
-use Rattle.mx_office.specs.declared.values.Command.TheVariants.{NewPurse, Purses, Show, StartFrom, StartTo, Handle, Discard, Abort, Inbox}
+use Rattle.mx_office.specs.declared.values.Command.TheVariants.{NewPurse, Load, Purses, Show, StartFrom, StartTo, Handle, Discard, Abort, Redeem, Inbox}
 use Rattle.mx_office.specs.declared.values.Reply.TheVariants as reply
-use Rattle.mx_office.specs.Step.{Deed, Asked, on_own, base, after, answered, replies, world_after, show, start_from, start_to, handle, discard, abort, inbox}
+use Rattle.mx_office.specs.Step.{Deed, Asked, on_own, base, after, answered, replies, world_after, show, start_from, start_to, handle, discard, abort, redeem, inbox}
 use Rattle.mx_office.specs.Isolation.{Event, Accounts, own_event, issued_event, put_event, view_of, view, on_account, own, happens, local, local_replies, owned_account, cut, reply_for, told_to}
 use Rattle.mx_book.proofs.MapLemmas.{entries-pick}
 use Rattle.mx_office.proofs.LawLemmas.{reply_row, local-append, one_command}
@@ -48,6 +48,7 @@ own_reply w h (StartTo p peer value seq) = on_own_reply w h p (start_to peer val
 own_reply w h (Handle p number) = on_own_reply w h p (handle number)
 own_reply w h (Discard p number) = on_own_reply w h p (discard number)
 own_reply w h (Abort p) = on_own_reply w h p abort
+own_reply w h (Redeem p amount reference) = on_own_reply w h p (redeem amount reference)
 own_reply w h (Inbox p) = on_own_reply w h p inbox
 own_reply w h c = refl
 
@@ -55,6 +56,7 @@ replies-append : (m : Accounts) (xs ys : List Event) → local_replies m (xs ++ 
 replies-append m [] ys = refl
 replies-append m (Event.Own c ∷ xs) ys = ap (λ rs. (own m c).reply ∷ rs) (replies-append (own m c).accounts xs ys)
 replies-append m (Event.Issued p ∷ xs) ys = replies-append (happens m (Event.Issued p)) xs ys
+replies-append m (Event.Loaded p reference amount ∷ xs) ys = replies-append (happens m (Event.Loaded p reference amount)) xs ys
 replies-append m (Event.Put p message ∷ xs) ys = replies-append (happens m (Event.Put p message)) xs ys
 
 own_case : (w : World) (h g : Name) (c : Command) (b : Bool) → is_name h g ≡ b → local_replies (cut w h) (cond b (Event.Own c ∷ []) []) ≡ cond b (answered w (Holder g) c ∷ []) []
@@ -71,12 +73,17 @@ issued_case : (m : Accounts) (b : Bool) (p : Name) → local_replies m (cond b (
 issued_case m true p = refl
 issued_case m false p = refl
 
+loaded_case : (m : Accounts) (b : Bool) (p reference : Name) (amount : ℕ) → local_replies m (cond b (Event.Loaded p reference amount ∷ []) []) ≡ []
+loaded_case m true p reference amount = refl
+loaded_case m false p reference amount = refl
+
 put_case : (m : Accounts) (b : Bool) (p : Name) (message : Message) → local_replies m (cond b (Event.Put p message ∷ []) []) ≡ []
 put_case m true p message = refl
 put_case m false p message = refl
 
 issued_silent : (m : Accounts) (w : World) (h : Name) (caller : Caller) (c : Command) → local_replies m (issued_event w h caller c) ≡ []
 issued_silent m w h (Clerk k) (NewPurse p g) = issued_case m _ p
+issued_silent m w h (Clerk k) (Load p amount reference) = loaded_case m _ p reference amount
 issued_silent m w h caller c = refl
 
 put_silent : (m : Accounts) (w : World) (h : Name) (sent : Option (Name × Message)) → local_replies m (put_event w h sent) ≡ []

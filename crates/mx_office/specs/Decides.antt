@@ -1,17 +1,19 @@
 -- What a decision is for a World, and the edits of a decision on a purse.
-use Rattle.std.specs.Prelude.{◌≡◌, ℕ, Bool, if◌then◌else◌, List, [], ◌∷◌, ◌++◌, length, Option, Some, None, map}
+use Rattle.std.specs.Prelude.{◌≡◌, ℕ, ◌-◌, Bool, if◌then◌else◌, List, [], ◌∷◌, ◌++◌, length, Option, Some, None, map, option_map, unwrap_or}
 use Rattle.std.specs.FinMap as fmap
 use Rattle.mx_pay.specs.Names.{is_name}
 use Rattle.mx_purse.specs.State.{State}
 use Rattle.mx_purse.specs.declared.message.Message.{Message}
 use Rattle.mx_book.specs.declared.edits.Edit.{Edit}
-use Rattle.mx_book.specs.declared.edits.Edit.TheVariants.{SetPurse, AddLine, AddMessage}
+use Rattle.mx_book.specs.declared.edits.Edit.TheVariants.{SetMember, SetPurse, AddLine, AddMessage, AddLoad, AddRedemption}
 use Rattle.mx_book.specs.declared.values.Line.{Line}
-use Rattle.mx_book.specs.World.{World, Row, Name, has_room}
+use Rattle.mx_book.specs.declared.values.LineKind.TheVariants as kind
+use Rattle.mx_book.specs.declared.values.MemberRow.{MemberRow}
+use Rattle.mx_book.specs.World.{World, Row, Name, is_of, is_of_member, has_room}
 use Rattle.mx_book.specs.Reads.{of_purse, purses_of}
 use Rattle.mx_book.specs.Edits.{Fits, all_edited}
 use Rattle.mx_office.specs.declared.values.Decided.{Decided}
-use Rattle.mx_office.specs.Step.{Done, send, is_of, listed}
+use Rattle.mx_office.specs.Step.{Done, send, listed, money_line}
 
 -- the reply of what is done, and edits that fit the World and lead to what is done, with the message put
 pub record Decides (w : World) (to : Done) (d : Decided) : Type 0 where
@@ -51,3 +53,22 @@ put_edits (Some m) = AddMessage m.0 m.1 ∷ []
 -- the edits for a purse as it is now, its new line, and a message that finds a place
 abbrev pub purse_edits : State → Option Line → Option (Name × Message) → List Edit
 purse_edits q line m = (SetPurse q ∷ line_edits q.name (listed line)) ++ put_edits m
+
+-- how much a member was granted, and nothing where there is no such member
+abbrev pub granted_to : World → Name → ℕ
+granted_to w m = unwrap_or (option_map (λ (row : MemberRow). row.granted) (fmap.get w.members m)) 0
+
+-- the purse of that name, where it is of a holder of the member
+abbrev pub member_purse : World → Name → Name → Option State
+member_purse w m p = of_purse None (λ r. if is_of_member w m r then Some r.account.purse else None) w p
+
+-- the edits of a load: the purse as it is now, its line, the load, and the member's row
+abbrev pub load_edits : State → ℕ → Name → Name → MemberRow → List Edit
+load_edits q amount reference m row =
+    SetPurse q ∷ AddLine q.name (money_line q kind.Loaded amount reference) ∷ AddLoad q.name reference amount
+    ∷ SetMember m row.granted (row.float - amount) ∷ []
+
+-- the edits of a redemption: the purse as it is now, its lines, and the redemption
+abbrev pub redeem_edits : State → Option Line → ℕ → Name → List Edit
+redeem_edits q logged amount reference =
+    SetPurse q ∷ (line_edits q.name (listed logged) ++ AddLine q.name (money_line q kind.Redeemed amount reference) ∷ AddRedemption q.name reference amount ∷ [])

@@ -1,5 +1,5 @@
 -- What a holder sees, and what the holder's purses are on that view alone.
-use Rattle.std.specs.Prelude.{Bool, ◌&&◌, if◌then◌else◌, List, [], ◌∷◌, ◌++◌, Option, Some, None, is_none}
+use Rattle.std.specs.Prelude.{ℕ, Bool, ◌&&◌, if◌then◌else◌, List, [], ◌∷◌, ◌++◌, Option, Some, None, is_none}
 use Rattle.std.specs.FinMap as fmap
 use Rattle.mx_pay.specs.Names.{name_cmp, is_name}
 use Rattle.mx_purse.specs.declared.message.Message.{Message}
@@ -7,20 +7,21 @@ use Rattle.mx_book.specs.declared.values.Caller.{Caller}
 use Rattle.mx_book.specs.declared.values.Caller.TheVariants.{Clerk, Holder}
 use Rattle.mx_book.specs.World.{World, Row, Account, Name, new_account, has_room, with_message}
 use Rattle.mx_book.specs.Maps.{pick}
-use Rattle.mx_office.specs.Step.{Deed, Asked, show, start_from, start_to, handle, discard, abort, inbox, new_purse_refusal, base, after}
+use Rattle.mx_office.specs.Step.{Deed, Asked, show, start_from, start_to, handle, discard, abort, redeem, inbox, loaded_account, not_loaded, new_purse_refusal, base, after}
 use Rattle.mx_office.specs.declared.values.Command.{Command}
-use Rattle.mx_office.specs.declared.values.Command.TheVariants.{NewPurse, Purses, Show, StartFrom, StartTo, Handle, Discard, Abort, Inbox}
+use Rattle.mx_office.specs.declared.values.Command.TheVariants.{NewPurse, Load, Purses, Show, StartFrom, StartTo, Handle, Discard, Abort, Redeem, Inbox}
 use Rattle.mx_office.specs.declared.values.Refusal.TheVariants.{NotForCaller, NoSuchPurse}
 use Rattle.mx_office.specs.declared.values.Reply.{Reply}
 use Rattle.mx_office.specs.declared.values.Reply.TheVariants as reply
 
 -- ---- the view
 
--- what happens to a holder: a command of the holder's own, a purse that is issued to the holder, and a message
--- that enters the inbox of a purse of the holder
+-- what happens to a holder: a command of the holder's own, a purse that is issued to the holder, a load of a
+-- purse of the holder with its reference and amount, and a message that enters the inbox of one
 pub data Event : Type 0 where
   Own : Command → Event
   Issued : Name → Event
+  Loaded : Name → Name → ℕ → Event
   Put : Name → Message → Event
 
 -- a command of the holder's own
@@ -28,8 +29,15 @@ abbrev pub own_event : Name → Caller → Command → List Event
 own_event h (Holder g) command = if is_name h g then Event.Own command ∷ [] else []
 own_event h caller command = []
 
--- a purse that is issued to the holder, and not refused
+-- whether the purse of that name is the holder's
+abbrev pub is_owned : Name → Option Row → Bool
+is_owned h None = Bool.false
+is_owned h (Some r) = is_name h r.holder
+
+-- a purse that is issued to the holder, and not refused; and a load that is added to a purse of the holder
 abbrev pub issued_event : World → Name → Caller → Command → List Event
+issued_event w h (Clerk m) (Load p amount reference) =
+    if is_none (not_loaded w m p amount reference) && is_owned h (fmap.get w.rows p) then Event.Loaded p reference amount ∷ [] else []
 issued_event w h (Clerk m) (NewPurse p g) = if is_none (new_purse_refusal w m p g) && is_name h g then Event.Issued p ∷ [] else []
 issued_event w h caller command = []
 
@@ -80,6 +88,7 @@ own m (StartTo p peer value seq) = on_account m p (start_to peer value seq)
 own m (Handle p number) = on_account m p (handle number)
 own m (Discard p number) = on_account m p (discard number)
 own m (Abort p) = on_account m p abort
+own m (Redeem p amount reference) = on_account m p (redeem amount reference)
 own m (Inbox p) = on_account m p inbox
 own m command = record { accounts = m; reply = reply.Refused NotForCaller }
 
@@ -95,6 +104,7 @@ change m p f = changed m p f (fmap.get m p)
 abbrev pub happens : Accounts → Event → Accounts
 happens m (Event.Own command) = (own m command).accounts
 happens m (Event.Issued p) = fmap.insert m p (new_account p)
+happens m (Event.Loaded p reference amount) = change m p (λ a. loaded_account a amount reference)
 happens m (Event.Put p message) = change m p (λ a. with_message a message)
 
 -- the map after events, in order
@@ -107,6 +117,7 @@ abbrev pub local_replies : Accounts → List Event → List Reply
 local_replies m [] = []
 local_replies m (Event.Own command ∷ es) = (own m command).reply ∷ local_replies (own m command).accounts es
 local_replies m (Event.Issued p ∷ es) = local_replies (happens m (Event.Issued p)) es
+local_replies m (Event.Loaded p reference amount ∷ es) = local_replies (happens m (Event.Loaded p reference amount)) es
 local_replies m (Event.Put p message ∷ es) = local_replies (happens m (Event.Put p message)) es
 
 -- ---- what is cut out of the World for a holder

@@ -4,3 +4,5 @@ pub mod Texts
 pub mod Run
 pub mod Lends
 pub mod Decides
+pub mod Balance
+pub mod Reachable

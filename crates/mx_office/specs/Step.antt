@@ -1,5 +1,5 @@
 -- What a command does to the World, and what is answered.
-use Rattle.std.specs.Prelude.{ℕ, nat_le, not, Bool, if◌then◌else◌, List, [], ◌∷◌, ◌++◌, length, Option, Some, None, is_some, is_none}
+use Rattle.std.specs.Prelude.{ℕ, ◌+◌, ◌-◌, ◌^◌, ◌==◌, nat_lt, nat_le, unwrap_or, option_map, not, Bool, if◌then◌else◌, List, [], ◌∷◌, ◌++◌, length, Option, Some, None, is_some, is_none}
 use Rattle.std.specs.FinMap as fmap
 use Rattle.mx_pay.specs.Names.{is_name}
 use Rattle.mx_pay.specs.Details.{Details}
@@ -11,19 +11,25 @@ use Rattle.mx_purse.specs.declared.message.Handled.{Handled}
 use Rattle.mx_purse.specs.declared.message.Handled.TheVariants as took
 use Rattle.mx_purse.specs.declared.refusals.StartRefusal.{StartRefusal}
 use Rattle.mx_purse.specs.declared.refusals.StartRefusal.TheVariants as start
-use Rattle.mx_purse.specs.Operations.{pending, aborted, start_from_refusal, start_to_refusal, from_details, to_details, started, handled, after_message, sent_for}
+use Rattle.mx_purse.specs.declared.refusals.LoadRefusal.{LoadRefusal}
+use Rattle.mx_purse.specs.declared.refusals.LoadRefusal.TheVariants as no_load
+use Rattle.mx_purse.specs.declared.refusals.RedeemRefusal.{RedeemRefusal}
+use Rattle.mx_purse.specs.declared.refusals.RedeemRefusal.TheVariants as no_redeem
+use Rattle.mx_purse.specs.Operations.{pending, aborted, start_from_refusal, start_to_refusal, from_details, to_details, started, handled, after_message, sent_for, load_refusal, loaded, redeem_refusal, redeemed}
 use Rattle.mx_book.specs.declared.values.Caller.{Caller}
 use Rattle.mx_book.specs.declared.values.Caller.TheVariants.{Operator, Clerk, Holder}
 use Rattle.mx_book.specs.declared.values.Line.{Line}
 use Rattle.mx_book.specs.declared.values.LineKind.{LineKind}
 use Rattle.mx_book.specs.declared.values.LineKind.TheVariants as kind
+use Rattle.mx_book.specs.declared.values.MemberRow.{MemberRow}
 use Rattle.mx_book.specs.declared.values.Note.TheVariants as note
-use Rattle.mx_book.specs.World.{World, Row, Account, Name, Token, set_row, new_row, put}
-use Rattle.mx_book.specs.Reads.{who_of, purses_of}
+use Rattle.mx_book.specs.World.{World, Row, Account, Name, Token, is_of, is_of_member, set_row, change_row, collected, new_row, put}
+use Rattle.mx_book.specs.Conditions.{all_granted}
+use Rattle.mx_book.specs.Reads.{who_of, purses_of, uncollected_of}
 use Rattle.mx_office.specs.declared.values.Command.{Command}
-use Rattle.mx_office.specs.declared.values.Command.TheVariants.{NewMember, NewHolder, NewPurse, Purses, Show, StartFrom, StartTo, Handle, Discard, Abort, Inbox}
+use Rattle.mx_office.specs.declared.values.Command.TheVariants.{NewMember, Grant, NewHolder, NewPurse, Load, Collect, Purses, Show, StartFrom, StartTo, Handle, Discard, Abort, Redeem, Inbox}
 use Rattle.mx_office.specs.declared.values.Refusal.{Refusal}
-use Rattle.mx_office.specs.declared.values.Refusal.TheVariants.{NotForCaller, NoSuchPurse, NoSuchHolder, NoSuchMember, NoSuchMessage, NameTaken, TokenTaken, TooManyPurses, SamePurse, NotEnough, LogFull, Worn}
+use Rattle.mx_office.specs.declared.values.Refusal.TheVariants.{NotForCaller, NoSuchPurse, NoSuchHolder, NoSuchMember, NoSuchMessage, NameTaken, TokenTaken, TooManyPurses, SamePurse, NotEnough, LogFull, Worn, RefReused, FloatTooSmall, FloatFull, GrantTooLarge, OverCap}
 use Rattle.mx_office.specs.declared.values.Reply.{Reply}
 use Rattle.mx_office.specs.declared.values.Reply.TheVariants as reply
 
@@ -129,6 +135,35 @@ discard number a =
 unfoldable pub abort : Account → Deed
 abort a = tell (with_aborted a (aborted a.purse)) (reply.Aborted (is_some (pending a.purse.status)))
 
+-- the line of a load or a redemption in a purse that is now so
+abbrev pub money_line : State → LineKind → ℕ → Name → Line
+money_line q k amount reference = record { number = q.lines; kind = k; amount = amount; balance = q.balance; note = note.Reference reference }
+
+-- the refusal of a redemption, as the office names it
+abbrev pub redeem_as : RedeemRefusal → Refusal
+redeem_as no_redeem.NotEnough = NotEnough
+redeem_as no_redeem.Worn = Worn
+
+-- the lines of a redemption that leaves the purse so: that of its abort, where something is logged, and its own
+abbrev pub redeem_lines : State → State → ℕ → Name → List Line
+redeem_lines p q amount reference = listed (abort_line (aborted p) (pending p.status)) ++ money_line q kind.Redeemed amount reference ∷ []
+
+-- an account after a redemption
+abbrev pub with_redemption : Account → State → ℕ → Name → Account
+with_redemption a q amount reference = record a { purse = q; lines = a.lines ++ redeem_lines a.purse q amount reference; redemptions = fmap.insert a.redemptions reference amount }
+
+-- redeem: redeem, unless a redemption has that reference; a repeat with the same amount is told the same again
+abbrev pub redeem_by : Account → ℕ → Name → Option RedeemRefusal → Deed
+redeem_by a amount reference (Some r) = refuse a (redeem_as r)
+redeem_by a amount reference None = tell (with_redemption a (redeemed a.purse amount) amount reference) reply.Redeemed
+
+abbrev pub redeem_new : Account → ℕ → Name → Option ℕ → Deed
+redeem_new a amount reference (Some before) = if before == amount then tell a reply.Redeemed else refuse a RefReused
+redeem_new a amount reference None = redeem_by a amount reference (redeem_refusal a.purse amount)
+
+unfoldable pub redeem : ℕ → Name → Account → Deed
+redeem amount reference a = redeem_new a amount reference (fmap.get a.redemptions reference)
+
 -- inbox: the messages, by number
 unfoldable pub inbox : Account → Deed
 inbox a = tell a (reply.Inbox (fmap.entries a.inbox))
@@ -187,11 +222,6 @@ new_holder w m h t =
     unless w (new_holder_refusal w m h t)
     (done (record w { holders = fmap.insert w.holders h m; tokens = fmap.insert w.tokens t (Holder h) }) reply.Added)
 
--- whether the member of a holder, if there is one, is m
-abbrev pub is_of : Name → Option Name → Bool
-is_of m None = Bool.false
-is_of m (Some member) = is_name m member
-
 -- new purse, by the clerk of m; a holder of another member is refused as one that isn't there
 abbrev pub new_purse_refusal : World → Name → Name → Name → Option Refusal
 new_purse_refusal w m p h =
@@ -203,11 +233,89 @@ new_purse_refusal w m p h =
 abbrev pub new_purse : World → Name → Name → Name → Done
 new_purse w m p h = unless w (new_purse_refusal w m p h) (done (set_row w p (new_row h p)) reply.Added)
 
+-- what is left to the member for loads
+abbrev pub float_of : World → Name → ℕ
+float_of w m = unwrap_or (option_map (λ (row : MemberRow). row.float) (fmap.get w.members m)) 0
+
+-- the row of a member who is there is changed
+abbrev pub changed_member : World → Name → (MemberRow → MemberRow) → Option MemberRow → World
+changed_member w m f None = w
+changed_member w m f (Some row) = record w { members = fmap.insert w.members m (f row) }
+
+abbrev pub change_member : World → Name → (MemberRow → MemberRow) → World
+change_member w m f = changed_member w m f (fmap.get w.members m)
+
+-- grant, by the operator: grants and float rise
+abbrev pub grant_refusal : World → Name → ℕ → Option Refusal
+grant_refusal w m amount =
+    first_refusal (
+    (is_none (fmap.get w.members m), NoSuchMember)
+    ∷ (nat_lt (10 ^ 15) (all_granted w + amount), GrantTooLarge)
+    ∷ (nat_lt (10 ^ 15) (float_of w m + amount), FloatFull) ∷ [])
+
+abbrev pub grant : World → Name → ℕ → Done
+grant w m amount = unless w (grant_refusal w m amount) (done (change_member w m (λ row. record { granted = row.granted + amount; float = row.float + amount })) reply.Granted)
+
+-- the refusal of a load, as the office names it
+abbrev pub load_as : LoadRefusal → Refusal
+load_as no_load.Worn = Worn
+load_as no_load.OverCap = OverCap
+
+-- what is the holder's own of a purse after a load, with its line; where the purse's guard fails it stays
+abbrev pub loaded_by : Account → ℕ → Name → Option LoadRefusal → Account
+loaded_by a amount reference (Some r) = a
+loaded_by a amount reference None = with_purse a (loaded a.purse amount) (Some (money_line (loaded a.purse amount) kind.Loaded amount reference))
+
+unfoldable pub loaded_account : Account → ℕ → Name → Account
+loaded_account a amount reference = loaded_by a amount reference (load_refusal a.purse amount)
+
+-- a row after a load
+abbrev pub loaded_row : ℕ → Name → Row → Row
+loaded_row amount reference r = record r { account = loaded_account r.account amount reference; loads = fmap.insert r.loads reference amount }
+
+-- the reply to a load by the clerk of m that adds nothing: a refusal, or a repeat with the same amount
+abbrev pub load_again : ℕ → ℕ → Reply
+load_again before amount = if before == amount then reply.Loaded else reply.Refused RefReused
+
+abbrev pub load_refused : ℕ → MemberRow → Row → Option Reply
+load_refused amount member r = if nat_lt member.float amount then Some (reply.Refused FloatTooSmall) else option_map (λ x. reply.Refused (load_as x)) (load_refusal r.account.purse amount)
+
+abbrev pub load_new : ℕ → MemberRow → Row → Option ℕ → Option Reply
+load_new amount member r (Some before) = Some (load_again before amount)
+load_new amount member r None = load_refused amount member r
+
+abbrev pub load_row : World → Name → ℕ → Name → Option Row → Option MemberRow → Option Reply
+load_row w m amount reference (Some r) (Some member) =
+    if is_of_member w m r then load_new amount member r (fmap.get r.loads reference) else Some (reply.Refused NoSuchPurse)
+load_row w m amount reference _ _ = Some (reply.Refused NoSuchPurse)
+
+unfoldable pub not_loaded : World → Name → Name → ℕ → Name → Option Reply
+not_loaded w m p amount reference = load_row w m amount reference (fmap.get w.rows p) (fmap.get w.members m)
+
+-- load, by the clerk of m: the purse is loaded, and the float falls
+abbrev pub load_done : World → Name → Name → ℕ → Name → Option Reply → Done
+load_done w m p amount reference (Some r) = done w r
+load_done w m p amount reference None =
+    done (change_member (change_row w p (loaded_row amount reference)) m (λ row. record row { float = row.float - amount })) reply.Loaded
+
+abbrev pub load_purse : World → Name → Name → ℕ → Name → Done
+load_purse w m p amount reference = load_done w m p amount reference (not_loaded w m p amount reference)
+
+-- collect, by the clerk of m: the float rises by what isn't collected, which is then
+abbrev pub collect_refusal : World → Name → Option Refusal
+collect_refusal w m = first_refusal ((is_none (fmap.get w.members m), NoSuchMember) ∷ (nat_lt (10 ^ 15) (float_of w m + uncollected_of w m), FloatFull) ∷ [])
+
+abbrev pub collect : World → Name → Done
+collect w m = unless w (collect_refusal w m) (done (change_member (collected w m) m (λ row. record row { float = row.float + uncollected_of w m })) (reply.Collected (uncollected_of w m)))
+
 -- each command of each caller; a command of another class is refused
 abbrev pub base : World → Caller → Command → Done
 base w Operator (NewMember m t) = new_member w m t
+base w Operator (Grant m amount) = grant w m amount
 base w (Clerk m) (NewHolder h t) = new_holder w m h t
 base w (Clerk m) (NewPurse p h) = new_purse w m p h
+base w (Clerk m) (Load p amount reference) = load_purse w m p amount reference
+base w (Clerk m) Collect = collect w m
 base w (Holder h) Purses = done w (reply.Purses (purses_of w h))
 base w (Holder h) (Show p) = on_own w h p show
 base w (Holder h) (StartFrom p peer value seq) = on_own w h p (start_from peer value seq)
@@ -215,6 +323,7 @@ base w (Holder h) (StartTo p peer value seq) = on_own w h p (start_to peer value
 base w (Holder h) (Handle p number) = on_own w h p (handle number)
 base w (Holder h) (Discard p number) = on_own w h p (discard number)
 base w (Holder h) (Abort p) = on_own w h p abort
+base w (Holder h) (Redeem p amount reference) = on_own w h p (redeem amount reference)
 base w (Holder h) (Inbox p) = on_own w h p inbox
 base w caller command = refused w NotForCaller
 

@@ -1,14 +1,15 @@
 //! What decisions are made of.
-ghost use Rattle.std.specs.Prelude.{◌≡◌, ◌∷◌, []};
+ghost use Rattle.mx_pay.specs.Names.{is_name_text};
+ghost use Rattle.std.specs.Prelude.{◌≡◌, ◌≤◌, ◌^◌, IsTrue, ◌==◌, ◌∷◌, [], if◌then◌else◌};
 ghost use Rattle.mx_purse.specs.Operations.{sent_for};
-ghost use Rattle.mx_office.specs.Step.{abort_line, message_line, payment_line, start_as};
-ghost use Rattle.mx_office.specs.Decides.{purse_edits};
+ghost use Rattle.mx_office.specs.Step.{abort_line, load_as, message_line, money_line, payment_line, redeem_as, start_as};
+ghost use Rattle.mx_office.specs.Decides.{purse_edits, redeem_edits};
 
 use crate::values::{Decided, Refusal, Reply};
 use mx_book::edits::{Edit, Edits};
 use mx_book::values::{Line, LineKind, Note};
-use mx_pay::{Name, PayDetails};
-use mx_purse::{Handled, Message, Purse, StartRefusal};
+use mx_pay::{Amount, Name, PayDetails};
+use mx_purse::{Handled, LoadRefusal, Message, Purse, RedeemRefusal, StartRefusal};
 
 /// The command is refused, and nothing is to change.
 pub(crate) fn refuse(refusal: Refusal) -> Decided
@@ -129,5 +130,85 @@ pub(crate) fn purse_edits(
                 },
             ]),
         },
+    }
+}
+
+/// The refusal of a load, as the office names it.
+pub(crate) fn load_refusal(refusal: LoadRefusal) -> Refusal
+    ensures { result ≡ load_as refusal }
+{
+    match refusal {
+        LoadRefusal::Worn => Refusal::Worn,
+        LoadRefusal::OverCap => Refusal::OverCap,
+    }
+}
+
+/// The refusal of a redemption, as the office names it.
+pub(crate) fn redeem_refusal(refusal: RedeemRefusal) -> Refusal
+    ensures { result ≡ redeem_as refusal }
+{
+    match refusal {
+        RedeemRefusal::NotEnough => Refusal::NotEnough,
+        RedeemRefusal::Worn => Refusal::Worn,
+    }
+}
+
+/// The line of a load or a redemption in a purse that is now so.
+pub(crate) fn money_line(purse: &Purse, kind: LineKind, amount: Amount, reference: Name) -> Line
+    ensures { result ≡ money_line purse.now kind amount reference }
+{
+    Line {
+        number: purse.lines(),
+        kind,
+        amount,
+        balance: purse.balance(),
+        note: Note::Reference(reference),
+    }
+}
+
+/// A reference is a name, and an amount is within its limit: what their types hold, said for what follows.
+pub(crate) fn are_within(reference: &Name, amount: Amount)
+    ensures text { IsTrue (is_name_text reference.now) }
+    ensures most { amount ≤ 10 ^ 12 }
+{
+    let _text = reference.as_str();
+    let _most = amount.get();
+}
+
+/// The answer where the reference was used with the amount `before`: the same reply again, or a refusal.
+pub(crate) fn again(before: Amount, amount: Amount, reply: Reply) -> Decided
+    ensures reply { result.reply ≡ (if before == amount then reply else Reply.Refused Refusal.RefReused) }
+    ensures edits { result.edits ≡ [] }
+{
+    if before.get() == amount.get() {
+        tell(reply)
+    } else {
+        refuse(Refusal::RefReused)
+    }
+}
+
+/// The edits of a redemption: the purse as it is now, its lines, and the redemption.
+pub(crate) fn redeem_edits(
+    purse: &Purse,
+    logged: Option<Line>,
+    amount: Amount,
+    reference: Name,
+) -> Edits
+    ensures { result ≡ redeem_edits purse.now logged amount reference }
+{
+    let name = purse.name();
+    let set = Edit::SetPurse { purse: *purse };
+    let own = Edit::AddLine {
+        purse: name,
+        line: money_line(purse, LineKind::Redeemed, amount, reference),
+    };
+    let redemption = Edit::AddRedemption {
+        purse: name,
+        reference,
+        amount,
+    };
+    match logged {
+        None => Edits::of(&[set, own, redemption]),
+        Some(line) => Edits::of(&[set, Edit::AddLine { purse: name, line }, own, redemption]),
     }
 }

@@ -1,9 +1,11 @@
 //! The office: what each caller's command does, over any book.
 #![tactic(auto)]
 
+pub mod balance;
 mod decisions;
 pub mod isolation;
 mod members;
+mod money;
 pub mod office;
 mod purses;
 #[cfg(test)]

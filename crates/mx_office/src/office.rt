@@ -8,12 +8,14 @@ ghost use Rattle.mx_office.specs.declared.values.Refusal.{Refusal};
 ghost use Rattle.mx_office.specs.declared.values.Reply.TheVariants.{Refused};
 ghost use Rattle.mx_office.specs.Decides.{Decides};
 ghost use Rattle.mx_office.specs.Lends.{LendsBook};
+ghost use Rattle.mx_office.specs.Reachable.{IsReachable, StandsBalanced};
 ghost use Rattle.mx_office.specs.Run.{Leads};
 ghost use Rattle.mx_office.specs.Step.{after, answered, base};
 
 use crate::decisions::refuse;
 use crate::members::{new_holder, new_member, new_purse};
-use crate::purses::{abort, discard, handle, inbox, purses, show, start_from, start_to};
+use crate::money::{collect, grant, load};
+use crate::purses::{abort, discard, handle, inbox, purses, redeem, show, start_from, start_to};
 use crate::values::{Command, Decided, Outcome, Refusal, Reply};
 use mx_book::contract::{Book, StoreFault};
 use mx_book::values::Caller;
@@ -25,7 +27,7 @@ use std::alloc::{AllocError, Global};
 #[derive(Drop)]
 pub struct Office<B> {
     /// What the office keeps.
-    pub(crate) book: B,
+    pub book: B,
 }
 
 impl<B: Book> Office<B> {
@@ -103,7 +105,8 @@ impl<B: Book> Office<B> {
     }
 
     /// Answers commands in order: one outcome a command, its reply or that the book could not do it. An
-    /// AllocError means that nothing was done.
+    /// AllocError means that nothing was done. From a World that commands can lead to it ends in such a World, in
+    /// which each member's account is balanced.
     pub fn run(
         &mut self,
         alloc: Global,
@@ -111,6 +114,7 @@ impl<B: Book> Office<B> {
     ) -> Result<Vec<Outcome>, AllocError>
         ensures later { B.doubt self.old.book ≤ B.doubt self.new.book }
         ensures run { (w : World) → B.doubt self.new.book ≡ 0 → B.spells (B.rows self.old.book) w → IfOk result (λ outcomes. Leads (B.spells (B.rows self.new.book)) w commands.now outcomes.items) }
+        ensures reachable { (w : World) → B.doubt self.new.book ≡ 0 → B.spells (B.rows self.old.book) w → IsReachable w → IfOk result (λ _. StandsBalanced (B.spells (B.rows self.new.book))) }
         ensures err { OnErr result (self.new ≡ self.old) }
     {
         let mut outcomes = Vec::with_capacity(alloc, commands.len())?;
@@ -136,6 +140,7 @@ fn decide_operator<B: Book>(
 {
     match *command {
         Command::NewMember { member, token } => new_member(book, alloc, member, token),
+        Command::Grant { member, amount } => grant(book, alloc, member, amount),
         _ => Ok(refuse(Refusal::NotForCaller)),
     }
 }
@@ -153,6 +158,12 @@ fn decide_clerk<B: Book>(
     match *command {
         Command::NewHolder { holder, token } => new_holder(book, alloc, member, holder, token),
         Command::NewPurse { purse, holder } => new_purse(book, alloc, member, purse, holder),
+        Command::Load {
+            purse,
+            amount,
+            reference,
+        } => load(book, alloc, member, purse, amount, reference),
+        Command::Collect => collect(book, alloc, member),
         _ => Ok(refuse(Refusal::NotForCaller)),
     }
 }
@@ -185,6 +196,11 @@ fn decide_holder<B: Book>(
         Command::Handle { purse, number } => handle(book, alloc, holder, purse, number),
         Command::Discard { purse, number } => discard(book, alloc, holder, purse, number),
         Command::Abort { purse } => abort(book, alloc, holder, purse),
+        Command::Redeem {
+            purse,
+            amount,
+            reference,
+        } => redeem(book, alloc, holder, purse, amount, reference),
         Command::Inbox { purse } => inbox(book, alloc, holder, purse),
         _ => Ok(refuse(Refusal::NotForCaller)),
     }

@@ -4,10 +4,11 @@ ghost use Rattle.mx_book.specs.Keeps.{Keeps};
 ghost use Rattle.mx_book.specs.World.{World};
 ghost use Rattle.mx_book.specs.Reads.{purses_of};
 ghost use Rattle.mx_office.specs.Decides.{Decides, finds_place, own_purse, placed};
-ghost use Rattle.mx_office.specs.Step.{abort, discard, done, handle, inbox, on_own, show, start_from, start_to};
+ghost use Rattle.mx_office.specs.Step.{abort, discard, done, handle, inbox, on_own, redeem, show, start_from, start_to};
 
 use crate::decisions::{
-    abort_line, message_line, purse_edits, refuse, sent_for, start_refusal, tell,
+    abort_line, again, are_within, message_line, purse_edits, redeem_edits, redeem_refusal, refuse,
+    sent_for, start_refusal, tell,
 };
 use crate::values::{Decided, Messages, Names, Refusal, Reply};
 use mx_book::contract::{Book, StoreFault};
@@ -240,4 +241,34 @@ pub(crate) fn abort<B: Book>(
         },
         edits: purse_edits(&after, abort_line(&after, logged), None),
     })
+}
+
+/// An amount of the purse is redeemed.
+pub(crate) fn redeem<B: Book>(
+    book: &mut B,
+    alloc: Global,
+    holder: Name,
+    purse: Name,
+    amount: Amount,
+    reference: Name,
+) -> Result<Decided, StoreFault>
+    ensures keeps { Keeps B.doubt B.rows book.old book.new }
+    ensures decides { (w : World) → B.doubt book.new ≡ 0 → B.spells (B.rows book.old) w → IfOk result (Decides w (on_own w holder purse (redeem amount reference))) }
+{
+    let Some(mut after) = own_purse(book, alloc, holder, purse)? else {
+        return Ok(refuse(Refusal::NoSuchPurse));
+    };
+    if let Some(before) = book.redemption_of(alloc, purse, reference)? {
+        return Ok(again(before, amount, Reply::Redeemed));
+    }
+    are_within(&reference, amount);
+    let mut rested = after;
+    let logged = rested.abort();
+    match after.redeem(amount) {
+        Err(refusal) => Ok(refuse(redeem_refusal(refusal))),
+        Ok(()) => Ok(Decided {
+            reply: Reply::Redeemed,
+            edits: redeem_edits(&after, abort_line(&rested, logged), amount, reference),
+        }),
+    }
 }

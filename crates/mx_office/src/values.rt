@@ -17,6 +17,13 @@ pub enum Command {
         /// The token of its clerk.
         token: Token,
     },
+    /// The operator grants a member an amount, by which its grants and its float rise.
+    Grant {
+        /// The member.
+        member: Name,
+        /// How much.
+        amount: Amount,
+    },
     /// A clerk adds a holder of its member.
     NewHolder {
         /// The holder.
@@ -31,6 +38,18 @@ pub enum Command {
         /// The holder.
         holder: Name,
     },
+    /// A clerk loads a purse of a holder of its member from the member's float. The same reference and amount
+    /// again changes nothing.
+    Load {
+        /// The purse.
+        purse: Name,
+        /// How much.
+        amount: Amount,
+        /// The reference of the load.
+        reference: Name,
+    },
+    /// A clerk collects what the purses of its member's holders redeemed.
+    Collect,
     /// A holder asks which purses are the holder's own.
     Purses,
     /// A holder asks to see a purse.
@@ -79,6 +98,15 @@ pub enum Command {
         /// The purse.
         purse: Name,
     },
+    /// A holder redeems an amount of a purse. The same reference and amount again changes nothing.
+    Redeem {
+        /// The purse.
+        purse: Name,
+        /// How much.
+        amount: Amount,
+        /// The reference of the redemption.
+        reference: Name,
+    },
     /// A holder asks which messages lie in the inbox of a purse.
     Inbox {
         /// The purse.
@@ -113,6 +141,16 @@ pub enum Refusal {
     LogFull,
     /// The next number or the line count of the purse is at its limit.
     Worn,
+    /// The purse has a load or a redemption with that reference and another amount.
+    RefReused,
+    /// The float of the member is less than the amount.
+    FloatTooSmall,
+    /// The float of the member would be above 10^15.
+    FloatFull,
+    /// All grants would be above 10^15.
+    GrantTooLarge,
+    /// The balance of the purse would be above 10^15.
+    OverCap,
 }
 
 impl Refusal {
@@ -133,6 +171,11 @@ impl Refusal {
             Refusal::NotEnough => "not enough",
             Refusal::LogFull => "log full",
             Refusal::Worn => "purse worn",
+            Refusal::RefReused => "reference reused",
+            Refusal::FloatTooSmall => "float too small",
+            Refusal::FloatFull => "float full",
+            Refusal::GrantTooLarge => "grant too large",
+            Refusal::OverCap => "over cap",
         }
     }
 }
@@ -212,6 +255,12 @@ pub enum Reply {
     Refused(Refusal),
     /// The member, the holder or the purse is added.
     Added,
+    /// The grant is made.
+    Granted,
+    /// The purse is loaded, now or by an earlier load with that reference and amount.
+    Loaded,
+    /// So much is collected.
+    Collected(u128),
     /// These are the holder's purses.
     Purses(Names),
     /// This is the purse.
@@ -227,6 +276,8 @@ pub enum Reply {
         /// Whether a payment was logged.
         logged: bool,
     },
+    /// The purse is redeemed, now or by an earlier redemption with that reference and amount.
+    Redeemed,
     /// These messages lie in the inbox.
     Inbox(Messages),
 }

@@ -14,8 +14,10 @@ use Rattle.mx_purse.specs.declared.message.Message.TheVariants.{Req, Val, Ack}
 use Rattle.mx_purse.specs.declared.message.Handled.{Handled}
 use Rattle.mx_purse.specs.declared.message.Handled.TheVariants as took
 use Rattle.mx_purse.specs.declared.refusals.StartRefusal.TheVariants.{SamePurse, NotEnough}
+use Rattle.mx_purse.specs.declared.refusals.LoadRefusal.TheVariants as load
+use Rattle.mx_purse.specs.declared.refusals.RedeemRefusal.TheVariants as redeem
 use Rattle.mx_purse.specs.State.{State, IsPurse, IsInStatus, IsOwnEntry}
-use Rattle.mx_purse.specs.Operations.{or_refused, unless_refused, pending, with_pending, lines_with, aborted, start_worn, start_from_refusal, start_to_refusal, from_details, to_details, started, expects_req, expects_val, expects_ack, handled, after_message}
+use Rattle.mx_purse.specs.Operations.{or_refused, unless_refused, pending, with_pending, lines_with, aborted, start_worn, start_from_refusal, start_to_refusal, from_details, to_details, started, expects_req, expects_val, expects_ack, handled, after_message, load_refusal, loaded, redeem_refusal, redeemed}
 
 -- ---- abort
 
@@ -350,6 +352,71 @@ after_message_is p (Val d) h =
     (λ both. val_is p d h (left_true _ _ both) (within _ (right_true (expects_val p.status d) _ both)))
 after_message_is p (Ack d) h = by_guard p (expects_ack p.status d) (took.Ack d) h (ack_is p d h)
 
+-- ---- loads and redemptions
+
+-- what a load that isn't refused says: there are few lines, and the balance stays within its limit
+pub record LoadGuards (p : State) (amount : ℕ) : Type 0 where
+  pub lines : p.lines < 10 ^ 15
+  pub balance : p.balance + amount ≤ 10 ^ 15
+
+within_most : (n : ℕ) → nat_lt (10 ^ 15) n ≡ false → n ≤ 10 ^ 15
+within_most n h = grind (arith, nat_tests)
+
+pub load_guards : (p : State) (amount : ℕ) → load_refusal p amount ≡ None → LoadGuards p amount
+load_guards p amount h =
+    let both = first_of_two (nat_le (10 ^ 15) p.lines) (nat_lt (10 ^ 15) (p.balance + amount)) load.Worn load.OverCap h in
+    record { lines = below_most _ both.0; balance = within_most _ both.1 }
+
+status_loaded : (p : State) (amount : ℕ) (s : Status) → p.lines < 10 ^ 15 → IsInStatus p s → IsInStatus (loaded p amount) s
+status_loaded p amount EaFrom low h = omega arith
+status_loaded p amount EaTo low h = omega arith
+status_loaded p amount (Epr d) low h = (h.0, omega arith, h.2, h.3, h.4, omega arith)
+status_loaded p amount (Epv d) low h = (h.0, h.1, h.2, h.3, omega arith)
+status_loaded p amount (Epa d) low h = (h.0, h.1, h.2, h.3, omega arith)
+
+-- a purse is one after a load within its limits
+pub load_is : (p : State) (amount : ℕ) → IsPurse p → p.lines < 10 ^ 15 → p.balance + amount ≤ 10 ^ 15 → IsPurse (loaded p amount)
+load_is p amount h low below = record {
+  balance = below;
+  next = h.next;
+  status = status_loaded p amount p.status low h.status;
+  room = h.room;
+  entries = h.entries;
+}
+
+-- a purse is one after a load that isn't refused
+pub loaded_is : (p : State) (amount : ℕ) → IsPurse p → load_refusal p amount ≡ None → IsPurse (loaded p amount)
+loaded_is p amount h free =
+    let guards = load_guards p amount free in load_is p amount h guards.lines guards.balance
+
+-- what a redemption that isn't refused says: the balance covers the amount, and there are few lines
+pub record RedeemGuards (p : State) (amount : ℕ) : Type 0 where
+  pub enough : amount ≤ p.balance
+  pub lines : p.lines < 10 ^ 15
+
+pub redeem_guards : (p : State) (amount : ℕ) → redeem_refusal p amount ≡ None → RedeemGuards p amount
+redeem_guards p amount h =
+    let both = first_of_two (nat_lt p.balance amount) (nat_le (10 ^ 15) p.lines) redeem.NotEnough redeem.Worn h in
+    record { enough = not_less _ _ both.0; lines = below_most _ both.1 }
+
+-- a purse is one after a redemption where its lines are few
+pub redeem_is : (p : State) (amount : ℕ) → IsPurse p → p.lines < 10 ^ 15 → IsPurse (redeemed p amount)
+redeem_is p amount h low =
+    let a : IsPurse (aborted p) = aborted_is p h in
+    let b : p.balance ≤ 10 ^ 15 = h.balance in
+    let k : lines_with p.lines (pending p.status) ≤ 10 ^ 15 = lines_started p (pending p.status) low in
+    record {
+      balance = omega arith;
+      next = h.next;
+      status = omega arith;
+      room = a.room;
+      entries = own_aborted p h;
+    }
+
+-- a purse is one after a redemption that isn't refused
+pub redeemed_is : (p : State) (amount : ℕ) → IsPurse p → redeem_refusal p amount ≡ None → IsPurse (redeemed p amount)
+redeemed_is p amount h free = redeem_is p amount h (redeem_guards p amount free).lines
+
 -- ---- the name stays
 
 pub aborted_name : (p : State) → (aborted p).name ≡ p.name
@@ -363,6 +430,12 @@ after_message_name p (took.Req d) = refl
 after_message_name p (took.Val d) = refl
 after_message_name p (took.Ack d) = refl
 after_message_name p took.Ignored = refl
+
+pub loaded_name : (p : State) (amount : ℕ) → (loaded p amount).name ≡ p.name
+loaded_name p amount = refl
+
+pub redeemed_name : (p : State) (amount : ℕ) → (redeemed p amount).name ≡ p.name
+redeemed_name p amount = refl
 
 pub unless_refused_name : {R : Type 0} (o : Option R) (p q : State) → q.name ≡ p.name → (unless_refused o p q).name ≡ p.name
 unless_refused_name None p q same = same

@@ -13,6 +13,10 @@ use Rattle.mx_purse.specs.declared.message.Handled.{Handled}
 use Rattle.mx_purse.specs.declared.message.Handled.TheVariants as took
 use Rattle.mx_purse.specs.declared.refusals.StartRefusal.{StartRefusal}
 use Rattle.mx_purse.specs.declared.refusals.StartRefusal.TheVariants.{SamePurse, NotEnough, LogFull, Worn}
+use Rattle.mx_purse.specs.declared.refusals.LoadRefusal.{LoadRefusal}
+use Rattle.mx_purse.specs.declared.refusals.LoadRefusal.TheVariants as load
+use Rattle.mx_purse.specs.declared.refusals.RedeemRefusal.{RedeemRefusal}
+use Rattle.mx_purse.specs.declared.refusals.RedeemRefusal.TheVariants as redeem
 use Rattle.mx_purse.specs.State.{State}
 
 -- ---- an answer and a purse, by the first guard that fails
@@ -114,3 +118,21 @@ abbrev pub sent_for : Handled → Option (List ℕ × Message)
 sent_for (took.Req d) = Some (d.to, Val d)
 sent_for (took.Val d) = Some (d.from, Ack d)
 sent_for _ = None
+
+-- ---- loads and redemptions (own)
+
+-- the first guard of load that fails: the line count is below 10^15, and the balance stays within 10^15
+abbrev pub load_refusal : State → ℕ → Option LoadRefusal
+load_refusal p amount = if nat_le (10 ^ 15) p.lines then Some load.Worn else (if nat_lt (10 ^ 15) (p.balance + amount) then Some load.OverCap else None)
+
+-- the purse after a load: the balance rises, and there is one line more; it doesn't abort
+abbrev pub loaded : State → ℕ → State
+loaded p amount = record p { balance = p.balance + amount; lines = p.lines + 1 }
+
+-- the first guard of redeem that fails: the amount is at most the balance, and the line count is below 10^15
+abbrev pub redeem_refusal : State → ℕ → Option RedeemRefusal
+redeem_refusal p amount = if nat_lt p.balance amount then Some redeem.NotEnough else (if nat_le (10 ^ 15) p.lines then Some redeem.Worn else None)
+
+-- the purse after an abort and a redemption: the balance falls, and there is one line more
+abbrev pub redeemed : State → ℕ → State
+redeemed p amount = record (aborted p) { balance = p.balance - amount; lines = (aborted p).lines + 1 }

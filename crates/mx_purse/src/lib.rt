@@ -11,5 +11,5 @@ mod tests;
 
 pub use message::{Handled, Message};
 pub use purse::Purse;
-pub use refusals::StartRefusal;
+pub use refusals::{LoadRefusal, RedeemRefusal, StartRefusal};
 pub use status::Status;

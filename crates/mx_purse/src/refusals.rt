@@ -13,3 +13,21 @@ pub enum StartRefusal {
     /// The next sequence number is 10^15, or the purse has 10^15 statement lines or more.
     Worn,
 }
+
+/// Why a purse refuses a load, in the order in which the guards are looked at.
+#[derive(Clone, Copy, Debug, PartialEq, Eq)]
+pub enum LoadRefusal {
+    /// The purse has 10^15 statement lines or more.
+    Worn,
+    /// The balance would be above 10^15.
+    OverCap,
+}
+
+/// Why a purse refuses a redemption, in the order in which the guards are looked at.
+#[derive(Clone, Copy, Debug, PartialEq, Eq)]
+pub enum RedeemRefusal {
+    /// The amount is above the balance.
+    NotEnough,
+    /// The purse has 10^15 statement lines or more.
+    Worn,
+}

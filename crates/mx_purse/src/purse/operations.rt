@@ -1,12 +1,12 @@
 //! The operations of a purse.
 ghost use Rattle.std.specs.Prelude.{◌≡◌, None};
 ghost use Rattle.mx_purse.specs.State.{IsPurse};
-ghost use Rattle.mx_purse.specs.Operations.{or_refused, unless_refused, pending, aborted, start_worn, start_from_refusal, start_to_refusal, from_details, to_details, started, expects_req, expects_val, expects_ack, handled, after_message};
+ghost use Rattle.mx_purse.specs.Operations.{or_refused, unless_refused, pending, aborted, start_worn, start_from_refusal, start_to_refusal, from_details, to_details, started, expects_req, expects_val, expects_ack, handled, after_message, load_refusal, loaded, redeem_refusal, redeemed};
 
 use crate::conditions::MOST;
 use crate::message::{Handled, Message};
 use crate::purse::Purse;
-use crate::refusals::StartRefusal;
+use crate::refusals::{LoadRefusal, RedeemRefusal, StartRefusal};
 use crate::status::Status;
 use mx_pay::{Amount, Log, Name, PayDetails, Seq};
 
@@ -108,6 +108,46 @@ impl Purse {
             Message::Val(details) => self.take_val(details),
             Message::Ack(details) => self.take_ack(details),
         }
+    }
+
+    /// Adds `amount` to the balance: one statement line more. It doesn't abort, and the payment under way goes
+    /// on. Err, and nothing changes, with the first of these that is so: Worn where there are 10^15 statement
+    /// lines or more, OverCap where the balance would be above 10^15.
+    pub fn load(&mut self, amount: Amount) -> Result<(), LoadRefusal>
+        ensures answer { result ≡ or_refused (load_refusal self.old amount) tt }
+        ensures new { self.new ≡ unless_refused (load_refusal self.old amount) self.old (loaded self.old amount) }
+        ensures whole { IsPurse self.new }
+    {
+        if self.lines >= MOST {
+            return Err(LoadRefusal::Worn);
+        }
+        let balance = self.balance + amount.get();
+        if balance > MOST {
+            return Err(LoadRefusal::OverCap);
+        }
+        self.balance = balance;
+        self.lines += 1;
+        Ok(())
+    }
+
+    /// Takes `amount` from the balance: aborts the payment under way as `abort` does, and then the balance
+    /// falls, which is one statement line more. Err, and nothing changes, with the first of these that is so:
+    /// NotEnough where the amount is above the balance, Worn where there are 10^15 statement lines or more.
+    pub fn redeem(&mut self, amount: Amount) -> Result<(), RedeemRefusal>
+        ensures answer { result ≡ or_refused (redeem_refusal self.old amount) tt }
+        ensures new { self.new ≡ unless_refused (redeem_refusal self.old amount) self.old (redeemed self.old amount) }
+        ensures whole { IsPurse self.new }
+    {
+        if self.balance < amount.get() {
+            return Err(RedeemRefusal::NotEnough);
+        }
+        if self.lines >= MOST {
+            return Err(RedeemRefusal::Worn);
+        }
+        self.abort();
+        self.balance -= amount.get();
+        self.lines += 1;
+        Ok(())
     }
 
     /// The log that an abort leaves.

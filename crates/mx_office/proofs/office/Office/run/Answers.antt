@@ -3,6 +3,8 @@ use Rattle.std.proofs.lemmas.List.{take_all}
 use Rattle.mx_office.specs.Run.{Leads}
 use Rattle.mx_office.specs.Step.{after}
 use Rattle.mx_office.proofs.OutcomeLemmas.{run_replied_at, run_unavailable_at}
+use Rattle.mx_office.proofs.BalanceCommandLemmas.{reachable_balanced}
+use Rattle.mx_office.proofs.ReachLemmas.{reachable_run}
 use Rattle.mx_office.proofs.office.Office.run.Goals as goal
 use Rattle.mx_office.proofs.office.Office.run.Goals.{in-Ok, in-Err}
 
@@ -38,3 +40,9 @@ loop-caller-preserved g c = record {
 
 pub returns-clause-run : goal.returns-clause-run
 returns-clause-run g c = λ w honest spelled. subst (λ cs. Leads (g.B.Book.spells (g.B.Book.rows c.loop-caller.self.book)) w cs c.loop-caller.outcomes.items) (take_all c.loop-caller.caller-index c.args.commands.now (search rules)) (c.loop-caller.invariant.run w honest spelled)
+
+pub returns-clause-reachable : goal.returns-clause-reachable
+returns-clause-reachable g c = λ w honest spelled reachable.
+    let led = returns-clause-run g c w honest spelled in
+    let ends = reachable_run w led.end c.args.commands.now c.loop-caller.outcomes.items led.run reachable in
+    record { end = led.end; stands = led.stands; reachable = ends; balanced = reachable_balanced led.end ends }

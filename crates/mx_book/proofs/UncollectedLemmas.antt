@@ -1,0 +1,203 @@
+-- What isn't collected: the sum over all rows is the sum over the purses of the sums over their redemptions.
+use Rattle.std.proofs.Common.{◌≡◌, ℕ, ◌+◌, Bool, true, false, cond, ◌&&◌, List, [], ◌∷◌, refl, sym, ◌∙◌, ap, arith, Option, Some, None, T, option_and_then}
+use Rattle.std.specs.Prelude.{sum_by, is_some, not}
+use Rattle.std.specs.declared.cmp.Ordering.{Ordering}
+use Rattle.std.specs.declared.cmp.Ordering.TheVariants.{Less, Equal, Greater}
+use Rattle.std.specs.Ordering.{eq_by_cmp, is_eq}
+use Rattle.std.specs.Cmp.{IsTotalOrder, eq_by_cmp_equiv, tied_itself}
+use Rattle.std.proofs.lemmas.List.Sums.{sum_by-cons}
+use Rattle.std.specs.FinMap as fmap
+use Rattle.std.specs.FinMap.Entries.{find, is_sorted, below_all}
+use Rattle.mx_pay.specs.Names.{name_cmp, is_name}
+use Rattle.mx_book.specs.declared.values.PurseRow.{PurseRow}
+use Rattle.mx_book.specs.declared.values.Redemption.{Redemption}
+use Rattle.mx_book.specs.Maps.{pick, picked}
+use Rattle.mx_book.specs.Under.{pair_cmp, under, those, with_second, remade}
+use Rattle.mx_book.specs.Sums.{sum_values, sum_entries}
+use Rattle.mx_book.specs.World.{Row, Name, is_of, is_of_member}
+use Rattle.mx_book.specs.Rows.{Rows, world_of, row_of, amount_of, mark_of, IsProper, NoStray}
+use Rattle.mx_book.specs.Reads.{uncollected_row, uncollected_of}
+use Rattle.mx_book.specs.RowEdits.{member_at}
+use Rattle.mx_book.specs.RowReads.{uncollected_amount, row_uncollected_of}
+use Rattle.mx_book.proofs.NameLemmas.{names_total, same_name}
+use Rattle.mx_book.proofs.FoundLemmas.{none_found}
+use Rattle.mx_book.proofs.MapLemmas.{first_true, second_true, is_less, find_below, entries-pick, get-pick}
+use Rattle.mx_book.proofs.UnderLemmas.{entries-under, entries-remake, pair_total}
+
+is_equal : (o : Ordering) → is_eq o ≡ true → o ≡ Equal
+is_equal Less p = cc
+is_equal Equal p = refl
+is_equal Greater p = cc
+
+-- ---- what is found of a map holds of each of its entries
+
+abbrev AllEntries : {Q V : Type 0} → (Q → V → Type 0) → List (Q × V) → Type 0
+AllEntries P [] = Unit {0}
+AllEntries P (e ∷ es) = P e.0 e.1 × AllEntries P es
+
+module _ {Q V : Type 0} {R : Q → Q → Ordering} (o : IsTotalOrder R) (P : Q → V → Type 0) where
+  rest_case : (e : Q × V) (es : List (Q × V)) (q : Q) (x : V) (b : Bool) → eq_by_cmp R q e.0 ≡ b → T (below_all R e.0 es) → (cond b (Some e.1) (find R q es) ≡ Some x → P q x) → find R q es ≡ Some x → P q x
+  rest_case e es q x true t below h at = none_found (find R q es) x (find_below o q e.0 es (is_equal _ t) below) at
+  rest_case e es q x false t below h at = h at
+
+  all_listed : (es : List (Q × V)) → T (is_sorted R es) → ((q : Q) (x : V) → find R q es ≡ Some x → P q x) → AllEntries P es
+  all_listed [] s h = tt
+  all_listed (e ∷ es) s h = (
+    h e.0 e.1 (ap (λ r. cond (is_eq r) (Some e.1) (find R e.0 es)) (tied_itself o e.0)),
+    all_listed es (second_true _ _ s) (λ q x at. rest_case e es q x (eq_by_cmp R q e.0) refl (first_true _ _ s) (h q x) at),
+  )
+
+  all_entries : (m : fmap.FinMap R V) → ((q : Q) (x : V) → fmap.get m q ≡ Some x → P q x) → AllEntries P (fmap.entries m)
+  all_entries m h = all_listed (fmap.entries m) (fmap.entries_sorted m) (λ q x at. h q x (fmap.get-entries m q ∙ at))
+
+-- ---- sums, from the front
+
+abbrev total : {X : Type 0} → (X → ℕ) → List X → ℕ
+total f [] = 0
+total f (x ∷ xs) = f x + total f xs
+
+total_is : {X : Type 0} (f : X → ℕ) (xs : List X) → sum_by f xs ≡ total f xs
+total_is f [] = refl
+total_is f (x ∷ xs) = sum_by-cons f x xs ∙ ap (λ n. f x + n) (total_is f xs)
+
+-- n for each purse of that name
+abbrev hits : List (Name × PurseRow) → Name → ℕ → ℕ
+hits ps q n = total (λ (p : Name × PurseRow). cond (is_name q p.0) n 0) ps
+
+regroup : (a b c d x y : ℕ) → x ≡ a + b → y ≡ c + d → x + y ≡ (a + c) + (b + d)
+regroup a b c d x y h k = omega arith
+
+module _ {K V : Type 0} (f : Name × K → V → ℕ) where
+  -- over all rows
+  abbrev flat : List ((Name × K) × V) → ℕ
+  flat es = total (λ (e : (Name × K) × V). f e.0 e.1) es
+
+  -- over the rows of one purse
+  abbrev of_one : Name → List ((Name × K) × V) → ℕ
+  of_one p es = total (λ (e : K × V). f (p, e.0) e.1) (those name_cmp p es)
+
+  abbrev by_purse : List (Name × PurseRow) → List ((Name × K) × V) → ℕ
+  by_purse ps es = total (λ (p : Name × PurseRow). of_one p.0 es) ps
+
+  one_case : (p : Name) (b : Bool) (e : (Name × K) × V) (es : List (K × V)) → is_name p e.0.0 ≡ b
+      → total (λ (x : K × V). f (p, x.0) x.1) (with_second b e es) ≡ cond b (f e.0 e.1) 0 + total (λ (x : K × V). f (p, x.0) x.1) es
+  one_case p true e es t = ap (λ q. f (q, e.0.1) e.1 + total (λ (x : K × V). f (p, x.0) x.1) es) (same_name p e.0.0 t)
+  one_case p false e es t = omega arith
+
+  more : (ps : List (Name × PurseRow)) (e : (Name × K) × V) (es : List ((Name × K) × V)) → by_purse ps (e ∷ es) ≡ hits ps e.0.0 (f e.0 e.1) + by_purse ps es
+  more [] e es = omega arith
+  more (p ∷ ps) e es = regroup (cond (is_name e.0.0 p.0) (f e.0 e.1) 0) (of_one p.0 es) (hits ps e.0.0 (f e.0 e.1)) (by_purse ps es) (of_one p.0 (e ∷ es)) (by_purse ps (e ∷ es))
+      (one_case p.0 (is_name p.0 e.0.0) e (those name_cmp p.0 es) refl ∙ ap (λ b. cond b (f e.0 e.1) 0 + of_one p.0 es) ((eq_by_cmp_equiv names_total).symm p.0 e.0.0)) (more ps e es)
+
+  none_of : (ps : List (Name × PurseRow)) → by_purse ps [] ≡ 0
+  none_of [] = refl
+  none_of (p ∷ ps) = omega (arith, none_of ps)
+
+miss : (ps : List (Name × PurseRow)) (q x : Name) (n : ℕ) → name_cmp q x ≡ Equal → T (below_all name_cmp x ps) → hits ps q n ≡ 0
+miss [] q x n t h = refl
+miss (p ∷ ps) q x n t h =
+    let less : name_cmp q p.0 ≡ Less = names_total.congr q x p.0 t ∙ is_less (name_cmp x p.0) (first_true _ _ h) in
+    ap (λ r. cond (is_eq r) n 0 + hits ps q n) less ∙ omega (arith, miss ps q x n t (second_true _ _ h))
+
+hit_case : (p : Name × PurseRow) (ps : List (Name × PurseRow)) (q : Name) (n : ℕ) (x : PurseRow) (b : Bool) → is_name q p.0 ≡ b → T (below_all name_cmp p.0 ps)
+    → (find name_cmp q ps ≡ Some x → hits ps q n ≡ n) → cond b (Some p.1) (find name_cmp q ps) ≡ Some x → cond b n 0 + hits ps q n ≡ n
+hit_case p ps q n x true t h rest at = omega (arith, miss ps q p.0 n (is_equal _ t) h)
+hit_case p ps q n x false t h rest at = omega (arith, rest at)
+
+-- exactly one purse has the name
+hit : (ps : List (Name × PurseRow)) (q : Name) (n : ℕ) (x : PurseRow) → T (is_sorted name_cmp ps) → find name_cmp q ps ≡ Some x → hits ps q n ≡ n
+hit [] q n x h at = absurd (cc)
+hit (p ∷ ps) q n x h at = hit_case p ps q n x (is_name q p.0) refl (first_true _ _ h) (hit ps q n x (second_true _ _ h)) at
+
+abbrev HasPurse : {K V : Type 0} → List (Name × PurseRow) → Name × K → V → Type 0
+HasPurse ps k v = (x : PurseRow) × (find name_cmp k.0 ps ≡ Some x)
+
+flat_is : {K V : Type 0} (f : Name × K → V → ℕ) (ps : List (Name × PurseRow)) (es : List ((Name × K) × V)) → T (is_sorted name_cmp ps) → AllEntries (HasPurse ps) es → flat f es ≡ by_purse f ps es
+flat_is f ps [] h all = sym (none_of f ps)
+flat_is f ps (e ∷ es) h all =
+    let here = hit ps e.0.0 (f e.0 e.1) all.0.0 h all.0.1 in
+    let rest = flat_is f ps es h all.1 in
+    let step = more f ps e es in
+    omega (arith, here, rest, step)
+
+purse_found : {K V : Type 0} (R : K → K → Ordering) (purses : fmap.FinMap name_cmp PurseRow) (m : fmap.FinMap (pair_cmp name_cmp R) V) → NoStray R purses m
+    → (q : Name × K) (v : V) (o : Option PurseRow) → fmap.get purses q.0 ≡ o → fmap.get m q ≡ Some v → HasPurse {V = V} (fmap.entries purses) q v
+purse_found R purses m none q v None at here = none_found (fmap.get m q) v (none q.0 q.1 at) here
+purse_found R purses m none q v (Some x) at here = (x, sym (fmap.get-entries purses q.0) ∙ at)
+
+-- the sum over all rows
+sum_under : {K V : Type 0} (R : K → K → Ordering) (t : IsTotalOrder R) (f : Name × K → V → ℕ) (purses : fmap.FinMap name_cmp PurseRow) (m : fmap.FinMap (pair_cmp name_cmp R) V) → NoStray R purses m
+    → flat f (fmap.entries m) ≡ by_purse f (fmap.entries purses) (fmap.entries m)
+sum_under R t f purses m none = flat_is f (fmap.entries purses) (fmap.entries m) (fmap.entries_sorted purses)
+    (all_entries (pair_total names_total t) (HasPurse (fmap.entries purses)) m (λ q v at. purse_found R purses m none q v (fmap.get purses q.0) refl at))
+
+-- ---- what isn't collected of one purse
+
+abbrev left_of : Name × Redemption → ℕ
+left_of e = cond (not e.1.collected) e.1.amount 0
+
+turned : (x : Redemption) (n : ℕ) → cond (is_some (mark_of x)) 0 n ≡ cond (not x.collected) n 0
+turned x n = by_case x.collected
+  where
+    by_case : (b : Bool) → cond (is_some (mark_of (record x { collected = b }))) 0 n ≡ cond (not b) n 0
+    by_case true = refl
+    by_case false = refl
+
+module _ (u : fmap.FinMap name_cmp Redemption) where
+  abbrev left_at : Name × ℕ → ℕ
+  left_at e = cond (fmap.contains_key (pick mark_of u) e.0) 0 e.1
+
+  left_one : (e : Name × Redemption) → fmap.get u e.0 ≡ Some e.1 → left_at (e.0, e.1.amount) ≡ left_of e
+  left_one e at = ap (λ o. cond (is_some o) 0 e.1.amount) (get-pick names_total mark_of u e.0 ∙ ap (option_and_then mark_of) at) ∙ turned e.1 e.1.amount
+
+  left_all : (es : List (Name × Redemption)) → AllEntries (λ k x. fmap.get u k ≡ Some x) es → total left_at (picked amount_of es) ≡ total left_of es
+  left_all [] h = refl
+  left_all (e ∷ es) h = λ i. left_one e h.0 i + left_all es h.1 i
+
+  left_is : sum_entries (λ ref amount. cond (fmap.contains_key (pick mark_of u) ref) 0 amount) (pick amount_of u) ≡ total left_of (fmap.entries u)
+  unfolding sum_entries
+  left_is = total_is left_at (fmap.entries (pick amount_of u)) ∙ ap (total left_at) (entries-pick names_total amount_of u)
+      ∙ left_all (fmap.entries u) (all_entries names_total (λ k x. fmap.get u k ≡ Some x) u (λ k x at. at))
+
+and_true : (b : Bool) → (b && true) ≡ b
+and_true true = refl
+and_true false = refl
+
+and_false : (b : Bool) → (b && false) ≡ false
+and_false true = refl
+and_false false = refl
+
+scaled : (c : Bool) (es : List (Name × Redemption)) → total (λ (e : Name × Redemption). cond (not e.1.collected && c) e.1.amount 0) es ≡ cond c (total left_of es) 0
+scaled true [] = refl
+scaled false [] = refl
+scaled true (e ∷ es) = λ i. cond (and_true (not e.1.collected) i) e.1.amount 0 + scaled true es i
+scaled false (e ∷ es) = λ i. cond (and_false (not e.1.collected) i) e.1.amount 0 + scaled false es i
+
+-- ---- and of all
+
+module _ (r : Rows) (m : Name) where
+  abbrev left_amount : Name × Name → Redemption → ℕ
+  left_amount = uncollected_amount r.purses r.holders m
+
+  abbrev left_row : Row → ℕ
+  left_row row = cond (is_of_member (world_of r) m row) (uncollected_row row) 0
+
+  row_is : (p : Name) (x : PurseRow) → fmap.get r.purses p ≡ Some x → left_row (row_of r p x) ≡ of_one left_amount p (fmap.entries r.redemptions)
+  row_is p x at =
+      let c : Bool = is_of m (member_at r.holders (Some x)) in
+      let u = under name_cmp name_cmp p r.redemptions in
+      ap (λ n. cond c n 0) (left_is u) ∙ sym (scaled c (fmap.entries u))
+      ∙ ap (λ o. total (λ (e : Name × Redemption). cond (not e.1.collected && is_of m (member_at r.holders o)) e.1.amount 0) (fmap.entries u)) (sym at)
+      ∙ ap (total (λ (e : Name × Redemption). left_amount (p, e.0) e.1)) (entries-under name_cmp name_cmp names_total p r.redemptions)
+
+  rows_are : (ps : List (Name × PurseRow)) → AllEntries (λ p x. fmap.get r.purses p ≡ Some x) ps → total (λ (e : Name × Row). left_row e.1) (remade (row_of r) ps) ≡ by_purse left_amount ps (fmap.entries r.redemptions)
+  rows_are [] h = refl
+  rows_are (p ∷ ps) h = λ i. row_is p.0 p.1 h.0 i + rows_are ps h.1 i
+
+  pub uncollected_is : IsProper r → uncollected_of (world_of r) m ≡ row_uncollected_of r m
+  unfolding sum_values sum_entries
+  uncollected_is h =
+      total_is (λ (e : Name × Row). left_row e.1) (fmap.entries (world_of r).rows)
+      ∙ ap (total (λ (e : Name × Row). left_row e.1)) (entries-remake name_cmp (row_of r) r.purses)
+      ∙ rows_are (fmap.entries r.purses) (all_entries names_total (λ p x. fmap.get r.purses p ≡ Some x) r.purses (λ p x at. at))
+      ∙ sym (total_is (λ (e : (Name × Name) × Redemption). left_amount e.0 e.1) (fmap.entries r.redemptions) ∙ sum_under name_cmp names_total left_amount r.purses r.redemptions h.redemptions)

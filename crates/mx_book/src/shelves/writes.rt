@@ -1,0 +1,112 @@
+//! The writes of an edit that is more than one row or not its row alone.
+ghost use Rattle.std.specs.Prelude.{◌≡◌};
+ghost use Rattle.mx_book.specs.RowEdits.{rewritten, Able};
+ghost use Rattle.mx_book.specs.Shelves.{rows_of, HasRoom, SpendsOne};
+
+use crate::edits::Edit;
+use crate::shelves::Shelves;
+use crate::values::{Caller, Line, LineRow, MemberRow, PurseRow, Redemption};
+use mx_pay::{Amount, Name, Token};
+use mx_purse::message::Message;
+use mx_purse::purse::Purse;
+
+impl Shelves {
+    /// Adds a member with grants 0 and float 0, and the token of its clerk.
+    pub(super) fn add_member(&mut self, member: Name, clerk: Token)
+        requires { HasRoom 1 self.old }
+        ensures edited { rows_of self.new ≡ rewritten (rows_of self.old) (Edit.NewMember member clerk) }
+        ensures room { SpendsOne self.old self.new }
+    {
+        let row = MemberRow {
+            granted: 0,
+            float: 0,
+        };
+        self.members.put(member, row);
+        self.tokens.put(clerk, Caller::Clerk(member));
+    }
+
+    /// Adds a holder of a member, and the holder's token.
+    pub(super) fn add_holder(&mut self, holder: Name, member: Name, token: Token)
+        requires { HasRoom 1 self.old }
+        ensures edited { rows_of self.new ≡ rewritten (rows_of self.old) (Edit.NewHolder holder member token) }
+        ensures room { SpendsOne self.old self.new }
+    {
+        self.holders.put(holder, member);
+        self.tokens.put(token, Caller::Holder(holder));
+    }
+
+    /// Adds a purse of a holder.
+    pub(super) fn add_purse(&mut self, purse: Name, holder: Name)
+        requires { HasRoom 1 self.old }
+        ensures edited { rows_of self.new ≡ rewritten (rows_of self.old) (Edit.NewPurse purse holder) }
+        ensures room { SpendsOne self.old self.new }
+    {
+        let row = PurseRow {
+            holder,
+            purse: Purse::new(purse),
+            next_message: 0,
+        };
+        self.purses.put(purse, row);
+    }
+
+    /// Sets a purse that is there.
+    pub(super) fn set_purse(&mut self, purse: Purse)
+        requires { HasRoom 1 self.old }
+        ensures edited { rows_of self.new ≡ rewritten (rows_of self.old) (Edit.SetPurse purse) }
+        ensures room { SpendsOne self.old self.new }
+    {
+        let name = purse.name();
+        if let Some(row) = self.purses.get(name) {
+            self.purses.put(name, PurseRow { purse, ..row });
+        }
+    }
+
+    /// Adds a message to the inbox of a purse that is there, under its next number.
+    pub(super) fn add_message(&mut self, purse: Name, message: Message)
+        requires able { Able (rows_of self.old) (Edit.AddMessage purse message) }
+        requires room { HasRoom 1 self.old }
+        ensures edited { rows_of self.new ≡ rewritten (rows_of self.old) (Edit.AddMessage purse message) }
+        ensures room { SpendsOne self.old self.new }
+    {
+        if let Some(row) = self.purses.get(purse) {
+            let number = row.next_message;
+            let next_message = number + 1;
+            self.purses.put(
+                purse,
+                PurseRow {
+                    next_message,
+                    ..row
+                },
+            );
+            self.inbox.put((purse, number), message);
+        }
+    }
+
+    /// Adds a line to the statement of a purse.
+    pub(super) fn add_line(&mut self, purse: Name, line: Line)
+        requires { HasRoom 1 self.old }
+        ensures edited { rows_of self.new ≡ rewritten (rows_of self.old) (Edit.AddLine purse line) }
+        ensures room { SpendsOne self.old self.new }
+    {
+        let row = LineRow {
+            kind: line.kind,
+            amount: line.amount,
+            balance: line.balance,
+            note: line.note,
+        };
+        self.lines.put((purse, line.number), row);
+    }
+
+    /// Adds a redemption of a purse, which isn't collected.
+    pub(super) fn add_redemption(&mut self, purse: Name, reference: Name, amount: Amount)
+        requires { HasRoom 1 self.old }
+        ensures edited { rows_of self.new ≡ rewritten (rows_of self.old) (Edit.AddRedemption purse reference amount) }
+        ensures room { SpendsOne self.old self.new }
+    {
+        let row = Redemption {
+            amount,
+            collected: false,
+        };
+        self.redemptions.put((purse, reference), row);
+    }
+}

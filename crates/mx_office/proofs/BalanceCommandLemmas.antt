@@ -1,0 +1,341 @@
+-- Each command keeps the balance equation.
+use Rattle.std.proofs.Common.{◌≡◌, ℕ, ◌+◌, ◌-◌, ◌≤◌, Bool, true, false, cond, List, [], ◌∷◌, refl, sym, ◌∙◌, ap, subst, Option, Some, None, IsSome, is_some, option_and_then, option_map, arith}
+use Rattle.std.specs.Prelude.{nat_lt, is_none, not}
+use Rattle.std.specs.FinMap as fmap
+use Rattle.mx_pay.specs.Names.{name_cmp}
+use Rattle.mx_purse.specs.Operations.{load_refusal}
+use Rattle.mx_purse.specs.declared.refusals.LoadRefusal.{LoadRefusal}
+use Rattle.mx_book.specs.declared.values.Caller.{Caller}
+use Rattle.mx_book.specs.declared.values.Caller.TheVariants.{Operator, Clerk, Holder}
+use Rattle.mx_book.specs.declared.values.MemberRow.{MemberRow}
+use Rattle.mx_book.specs.Sums.{sum_entries, sum_values}
+use Rattle.mx_book.specs.Reads.{uncollected_row, uncollected_of}
+use Rattle.mx_book.specs.World.{World, Row, Account, Name, Token, is_of, is_of_member, collected_row, collected, set_row, change_row, new_row, opening}
+use Rattle.mx_book.proofs.FoundLemmas.{inside, value_found}
+use Rattle.mx_book.proofs.MapLemmas.{get-pick}
+use Rattle.mx_book.proofs.NameLemmas.{names_total, names_exact, same_name}
+use Rattle.mx_book.proofs.PurseLemmas.{change_there}
+use Rattle.mx_book.proofs.SumLemmas.{value_of, sum_values-insert}
+use Rattle.mx_book.proofs.UnderLemmas.{get-remake}
+use Rattle.mx_office.specs.declared.values.Command.{Command}
+use Rattle.mx_office.specs.declared.values.Command.TheVariants.{NewMember, Grant, NewHolder, NewPurse, Load, Collect, Purses, Show, StartFrom, StartTo, Handle, Discard, Abort, Redeem, Inbox}
+use Rattle.mx_office.specs.declared.values.Refusal.{Refusal}
+use Rattle.mx_office.specs.declared.values.Reply.{Reply}
+use Rattle.mx_office.specs.Balance.{IsBalanced, issued_row, redeemed_row, is_chosen, of_purses}
+use Rattle.mx_office.specs.Reachable.{IsReachable}
+use Rattle.mx_office.specs.Step.{Asked, Done, unless, first_refusal, show, start_from, start_to, handle, discard, abort, redeem, inbox, new_member, new_member_refusal, new_holder, new_holder_refusal, new_purse, new_purse_refusal, changed_member, change_member, grant, grant_refusal, loaded_by, loaded_account, loaded_row, load_new, load_row, not_loaded, load_done, load_purse, collect, collect_refusal, base, after, world_after}
+use Rattle.mx_office.proofs.BalanceLemmas.{Choice, IsAccounted, IsRow, left, right, left_row, counted, is_counted, none_counts, same_change, with_member, left_member, right_member, new_member_accounted, left_set, right_set, rows_stay, new_row_accounted, new_holder_accounted, opening_accounted, is_balanced}
+use Rattle.mx_office.proofs.BalanceAccountLemmas.{own_accounted, send_accounted, show_redeems, start_from_redeems, start_to_redeems, handle_redeems, discard_redeems, abort_redeems, redeem_redeems, inbox_redeems}
+use Rattle.mx_office.proofs.EntrySumLemmas.{sum_entries-same, sum_entries-add, sum_entries-empty, sum_values-empty, sum_values-zero, sum_values-remake, values_are}
+
+-- ---- refusals
+
+none_refused : (b : Bool) (r : Refusal) (xs : List (Bool × Refusal)) → first_refusal ((b, r) ∷ xs) ≡ None → (b ≡ false) × (first_refusal xs ≡ None)
+unfolding first_refusal
+none_refused true r xs e = cc
+none_refused false r xs e = (refl, e)
+
+none_of : {X : Type 0} (o : Option X) → is_some o ≡ false → o ≡ None
+none_of None e = refl
+none_of (Some x) e = cc
+
+some_of : {X : Type 0} (o : Option X) → is_none o ≡ false → IsSome o
+some_of None e = cc
+some_of (Some x) e = refl
+
+-- a refusal leaves the World
+unless_accounted : (w : World) (o : Option Refusal) (d : Done) → IsAccounted w → (o ≡ None → IsAccounted d.world) → IsAccounted (unless w o d).world
+unless_accounted w (Some r) d is rest = is
+unless_accounted w None d is rest = rest refl
+
+-- ---- what is new
+
+member_accounted : (w : World) (m : Name) (t : Token) → IsAccounted w → IsAccounted (new_member w m t).world
+member_accounted w m t is = unless_accounted w (new_member_refusal w m t) _ is (λ e.
+    let new : IsAccounted (with_member w m (record { granted = 0; float = 0 })) = new_member_accounted w m (record { granted = 0; float = 0 }) (none_of _ (none_refused _ _ _ e).0) refl refl is in
+    record { equal = new.equal; rows = new.rows })
+
+holder_accounted : (w : World) (m h : Name) (t : Token) → IsAccounted w → IsAccounted (new_holder w m h t).world
+holder_accounted w m h t is = unless_accounted w (new_holder_refusal w m h t) _ is (λ e.
+    let new = new_holder_accounted w h m (none_of _ (none_refused _ _ _ (none_refused _ _ _ e).1).0) is in
+    record { equal = new.equal; rows = new.rows })
+
+there_of : (m : Name) (o : Option Name) → not (is_of m o) ≡ false → IsSome o
+there_of m None e = cc
+there_of m (Some x) e = refl
+
+purse_accounted : (w : World) (m p h : Name) → IsAccounted w → IsAccounted (new_purse w m p h).world
+purse_accounted w m p h is = unless_accounted w (new_purse_refusal w m p h) _ is (λ e.
+    new_row_accounted w p (new_row h p) (none_of _ (none_refused _ _ _ (none_refused _ _ _ e).1).0)
+    (sum_entries-empty (λ k n. cond (fmap.contains_key fmap.empty k) 0 n)) (sum_values-empty (λ n. n)) (sum_values-empty (λ n. n))
+    (record { held = there_of m _ (none_refused _ _ _ e).0; collected = λ k t. absurd (let f : true ≡ false = sym t ∙ ap is_some (fmap.get-empty name_cmp k) in cc) })
+    is)
+
+-- ---- a grant
+
+change_to : (w : World) (m : Name) (f : MemberRow → MemberRow) (row : MemberRow) → fmap.get w.members m ≡ Some row → change_member w m f ≡ with_member w m (f row)
+change_to w m f row at = ap (changed_member w m f) at
+
+granted_accounted : (w : World) (m : Name) (amount : ℕ) (row : MemberRow) → fmap.get w.members m ≡ Some row → IsAccounted w
+    → IsAccounted (change_member w m (λ x. record { granted = x.granted + amount; float = x.float + amount }))
+granted_accounted w m amount row at is =
+    let new : MemberRow = record { granted = row.granted + amount; float = row.float + amount } in
+    subst IsAccounted (sym (change_to w m (λ x. record { granted = x.granted + amount; float = x.float + amount }) row at))
+    (record {
+      equal = λ chosen. same_change (chosen m) _ _ _ _ row.float new.float row.granted new.granted (left_member w m new row at chosen) (right_member w m new row at chosen) (omega arith) (is.equal chosen);
+      rows = is.rows;
+    })
+
+grant_accounted : (w : World) (m : Name) (amount : ℕ) → IsAccounted w → IsAccounted (grant w m amount).world
+grant_accounted w m amount is = unless_accounted w (grant_refusal w m amount) _ is (λ e.
+    let row = value_found (fmap.get w.members m) (some_of _ (none_refused _ _ _ e).0) in
+    granted_accounted w m amount row.0 row.1 is)
+
+-- ---- a load
+
+-- what a load that isn't refused is of
+record IsLoad (w : World) (m p : Name) (amount : ℕ) (reference : Name) : Type 0 where
+  row : Row
+  at : fmap.get w.rows p ≡ Some row
+  member : MemberRow
+  there : fmap.get w.members m ≡ Some member
+  owned : is_of_member w m row ≡ true
+  fresh : fmap.get row.loads reference ≡ None
+  enough : amount ≤ member.float
+
+enough_case : {X : Type 0} (amount float : ℕ) (x : X) (o : Option X) (b : Bool) → nat_lt float amount ≡ b → cond b (Some x) o ≡ None → amount ≤ float
+enough_case amount float x o true t e = cc
+enough_case amount float x o false t e = grind arith
+
+module _ (w : World) (m p : Name) (amount : ℕ) (reference : Name) where
+  fresh_case : (member : MemberRow) (r : Row) (o : Option ℕ) → fmap.get r.loads reference ≡ o → load_new amount member r o ≡ None → (fmap.get r.loads reference ≡ None) × (amount ≤ member.float)
+  fresh_case member r None at e = (at, enough_case amount member.float _ _ (nat_lt member.float amount) refl e)
+  fresh_case member r (Some before) at e = cc
+
+  owned_case : (r : Row) (member : MemberRow) (b : Bool) (x : Reply) → fmap.get w.rows p ≡ Some r → fmap.get w.members m ≡ Some member → is_of_member w m r ≡ b
+      → cond b (load_new amount member r (fmap.get r.loads reference)) (Some x) ≡ None → IsLoad w m p amount reference
+  owned_case r member false x at there t e = cc
+  owned_case r member true x at there t e =
+      let f = fresh_case member r (fmap.get r.loads reference) refl e in
+      record { row = r; at = at; member = member; there = there; owned = t; fresh = f.0; enough = f.1 }
+
+  load_case : (o : Option Row) (u : Option MemberRow) → fmap.get w.rows p ≡ o → fmap.get w.members m ≡ u → load_row w m amount reference o u ≡ None → IsLoad w m p amount reference
+  load_case None None at there e = cc
+  load_case None (Some member) at there e = cc
+  load_case (Some r) None at there e = cc
+  load_case (Some r) (Some member) at there e = owned_case r member (is_of_member w m r) _ at there refl e
+
+  is_load : not_loaded w m p amount reference ≡ None → IsLoad w m p amount reference
+  unfolding not_loaded
+  is_load e = load_case (fmap.get w.rows p) (fmap.get w.members m) refl refl e
+
+loaded_case : (a : Account) (amount : ℕ) (reference : Name) (o : Option LoadRefusal) → (loaded_by a amount reference o).redemptions ≡ a.redemptions
+loaded_case a amount reference (Some x) = refl
+loaded_case a amount reference None = refl
+
+loaded_redemptions : (a : Account) (amount : ℕ) (reference : Name) → (loaded_account a amount reference).redemptions ≡ a.redemptions
+unfolding loaded_account
+loaded_redemptions a amount reference = loaded_case a amount reference (load_refusal a.purse amount)
+
+-- the left side has the load, and not the float
+load_change : (c : Bool) (l l1 l2 r r1 r2 x y a f g amount : ℕ) → l1 + cond c x 0 ≡ l + cond c y 0 → l2 + cond c f 0 ≡ l1 + cond c (f - amount) 0 → r1 + cond c a 0 ≡ r + cond c a 0 → r2 + cond c g 0 ≡ r1 + cond c g 0
+    → y ≡ x + amount → amount ≤ f → l ≡ r → l2 ≡ r2
+load_change true l l1 l2 r r1 r2 x y a f g amount row member redeemed granted loaded enough equal = omega arith
+load_change false l l1 l2 r r1 r2 x y a f g amount row member redeemed granted loaded enough equal = omega arith
+
+-- the holder of a purse of m counts where m is chosen
+counts_as : (chosen : Choice) (m : Name) (o : Option Name) → is_of m o ≡ true → is_chosen chosen o ≡ chosen m
+counts_as chosen m None t = absurd (cc)
+counts_as chosen m (Some x) t = ap chosen (sym (same_name m x t))
+
+module _ (w : World) (m p : Name) (amount : ℕ) (reference : Name) (load : IsLoad w m p amount reference) (is : IsAccounted w) where
+  abbrev new : Row
+  new = loaded_row amount reference load.row
+
+  abbrev paid : MemberRow
+  paid = record load.member { float = load.member.float - amount }
+
+  abbrev loaded_world : World
+  loaded_world = with_member (set_row w p new) m paid
+
+  redemptions : new.account.redemptions ≡ load.row.account.redemptions
+  redemptions = loaded_redemptions load.row.account amount reference
+
+  new_left : left_row new ≡ left_row load.row + amount
+  new_left =
+      let e1 : uncollected_row new ≡ uncollected_row load.row = ap (sum_entries (λ k n. cond (fmap.contains_key load.row.collected k) 0 n)) redemptions in
+      let e2 : issued_row new + value_of (λ n. n) (fmap.get load.row.loads reference) ≡ issued_row load.row + amount = sum_values-insert names_total (λ n. n) load.row.loads reference amount in
+      let e3 : value_of (λ n. n) (fmap.get load.row.loads reference) ≡ 0 = ap (value_of (λ n. n)) load.fresh in
+      omega (arith, e1, e2, e3)
+
+  new_right : redeemed_row new ≡ redeemed_row load.row
+  new_right = ap (sum_values (λ n. n)) redemptions
+
+  loaded_equal : (chosen : Choice) → left loaded_world chosen ≡ right loaded_world chosen
+  loaded_equal chosen =
+      let w1 : World = set_row w p new in
+      let counts : is_counted w chosen load.row ≡ chosen m = counts_as chosen m (fmap.get w.holders load.row.holder) load.owned in
+      load_change (chosen m) (left w chosen) (left w1 chosen) (left loaded_world chosen) (right w chosen) (right w1 chosen) (right loaded_world chosen)
+      (left_row load.row) (left_row new) (redeemed_row load.row) load.member.float load.member.granted amount
+      (subst (λ c. left w1 chosen + cond c (left_row load.row) 0 ≡ left w chosen + cond c (left_row new) 0) counts (left_set w p new load.row load.at refl chosen))
+      (left_member w1 m paid load.member load.there chosen)
+      (subst (λ n. right w1 chosen + cond (chosen m) (redeemed_row load.row) 0 ≡ right w chosen + cond (chosen m) n 0) new_right
+      (subst (λ c. right w1 chosen + cond c (redeemed_row load.row) 0 ≡ right w chosen + cond c (redeemed_row new) 0) counts (right_set w p new load.row load.at refl chosen)))
+      (right_member w1 m paid load.member load.there chosen)
+      new_left load.enough (is.equal chosen)
+
+  new_is_row : IsRow w.holders new
+  new_is_row = record { held = (is.rows p load.row load.at).held; collected = λ k t. subst (λ x. IsSome (fmap.get x k)) (sym redemptions) ((is.rows p load.row load.at).collected k t) }
+
+  loaded_accounted : IsAccounted (change_member (change_row w p (loaded_row amount reference)) m (λ x. record x { float = x.float - amount }))
+  loaded_accounted = subst IsAccounted
+      (sym (ap (λ x. change_member x m (λ y. record y { float = y.float - amount })) (change_there w p (loaded_row amount reference) load.row load.at)
+      ∙ change_to (set_row w p new) m (λ x. record x { float = x.float - amount }) load.member load.there))
+      (record { equal = loaded_equal; rows = rows_stay w p new new_is_row is })
+
+load_reply : (w : World) (m p : Name) (amount : ℕ) (reference : Name) → IsAccounted w → (o : Option Reply) → not_loaded w m p amount reference ≡ o → IsAccounted (load_done w m p amount reference o).world
+load_reply w m p amount reference is (Some x) e = is
+load_reply w m p amount reference is None e = loaded_accounted w m p amount reference (is_load w m p amount reference e) is
+
+load_accounted : (w : World) (m p : Name) (amount : ℕ) (reference : Name) → IsAccounted w → IsAccounted (load_purse w m p amount reference).world
+load_accounted w m p amount reference is = load_reply w m p amount reference is (not_loaded w m p amount reference) refl
+
+-- ---- a collect
+
+-- each redemption is collected
+abbrev mark : ℕ → Option (Unit {0})
+mark amount = Some tt
+
+mark_found : (o : Option ℕ) → is_some (option_and_then mark o) ≡ true → IsSome o
+mark_found None t = t
+mark_found (Some n) t = refl
+
+-- nothing is left to collect of a row that is collected
+nothing_left : (r : Row) → uncollected_row (collected_row r) ≡ 0
+nothing_left r =
+    sum_entries-same (λ k n. cond (fmap.contains_key (collected_row r).collected k) 0 n) (λ k n. 0) r.account.redemptions
+    (λ k n at. ap (λ o. cond (is_some o) 0 n) (get-pick names_total mark r.account.redemptions k ∙ ap (option_and_then mark) at))
+    ∙ sym (values_are (λ n. 0) r.account.redemptions)
+    ∙ sum_values-zero r.account.redemptions
+
+collect_change : (c : Bool) (l l1 l2 r r1 r2 f g u : ℕ) → l1 + cond c u 0 ≡ l → l2 + cond c f 0 ≡ l1 + cond c (f + u) 0 → r1 ≡ r → r2 + cond c g 0 ≡ r1 + cond c g 0 → l ≡ r → l2 ≡ r2
+collect_change true l l1 l2 r r1 r2 f g u rows member redeemed granted equal = omega arith
+collect_change false l l1 l2 r r1 r2 f g u rows member redeemed granted equal = omega arith
+
+module _ (w : World) (m : Name) where
+  -- the row that stands in the place of another
+  abbrev taken : Name → Row → Row
+  taken p r = cond (is_of_member w m r) (collected_row r) r
+
+  module _ (chosen : Choice) where
+    collected_sum : (f : Row → ℕ) → of_purses (collected w m) chosen f ≡ sum_entries (λ p r. counted w chosen f (taken p r)) w.rows
+    collected_sum f = sum_values-remake taken (counted w chosen f) w.rows
+
+    same_case : (f : Row → ℕ) (r : Row) (b : Bool) → f (collected_row r) ≡ f r → counted w chosen f (cond b (collected_row r) r) ≡ counted w chosen f r
+    same_case f r true same = ap (λ n. cond (is_counted w chosen r) n 0) same
+    same_case f r false same = refl
+
+    -- what doesn't look at what is collected
+    same_sum : (f : Row → ℕ) → ((r : Row) → f (collected_row r) ≡ f r) → of_purses (collected w m) chosen f ≡ of_purses w chosen f
+    same_sum f same =
+        collected_sum f
+        ∙ sum_entries-same (λ p r. counted w chosen f (taken p r)) (λ p r. counted w chosen f r) w.rows (λ p r _. same_case f r (is_of_member w m r) (same r))
+        ∙ sym (values_are (counted w chosen f) w.rows)
+
+    -- what the member collects of a row, where the member is chosen
+    abbrev gained : Row → ℕ
+    gained r = cond (chosen m) (cond (is_of_member w m r) (uncollected_row r) 0) 0
+
+    gained_case : (r : Row) (b : Bool) → is_of_member w m r ≡ b → counted w chosen uncollected_row (cond b (collected_row r) r) + cond (chosen m) (cond b (uncollected_row r) 0) 0 ≡ counted w chosen uncollected_row r
+    gained_case r true t =
+        let counts : is_counted w chosen r ≡ chosen m = counts_as chosen m (fmap.get w.holders r.holder) t in
+        let e1 : counted w chosen uncollected_row (collected_row r) ≡ 0 = ap (λ n. cond (is_counted w chosen r) n 0) (nothing_left r) ∙ none_counts (is_counted w chosen r) in
+        let e2 : counted w chosen uncollected_row r ≡ cond (chosen m) (uncollected_row r) 0 = ap (λ c. cond c (uncollected_row r) 0) counts in
+        omega (arith, e1, e2)
+    gained_case r false t = omega (arith, none_counts (chosen m))
+
+    gained_sum : (b : Bool) → sum_values (λ r. cond b (cond (is_of_member w m r) (uncollected_row r) 0) 0) w.rows ≡ cond b (uncollected_of w m) 0
+    gained_sum true = refl
+    gained_sum false = sum_values-zero w.rows
+
+    open_sum : of_purses (collected w m) chosen uncollected_row + cond (chosen m) (uncollected_of w m) 0 ≡ of_purses w chosen uncollected_row
+    open_sum =
+        (λ i. collected_sum uncollected_row i + (sym (gained_sum (chosen m)) ∙ values_are gained w.rows) i)
+        ∙ sum_entries-add (λ p r. counted w chosen uncollected_row (taken p r)) (λ p r. gained r) w.rows
+        ∙ sum_entries-same _ _ w.rows (λ p r _. gained_case r (is_of_member w m r) refl)
+        ∙ sym (values_are (counted w chosen uncollected_row) w.rows)
+
+    collected_left_side : left (collected w m) chosen + cond (chosen m) (uncollected_of w m) 0 ≡ left w chosen
+    collected_left_side =
+        let e1 : of_purses (collected w m) chosen uncollected_row + cond (chosen m) (uncollected_of w m) 0 ≡ of_purses w chosen uncollected_row = open_sum in
+        let e2 : of_purses (collected w m) chosen issued_row ≡ of_purses w chosen issued_row = same_sum issued_row (λ r. refl) in
+        omega (arith, e1, e2)
+
+    collected_right_side : right (collected w m) chosen ≡ right w chosen
+    collected_right_side =
+        let e1 : of_purses (collected w m) chosen redeemed_row ≡ of_purses w chosen redeemed_row = same_sum redeemed_row (λ r. refl) in
+        omega (arith, e1)
+
+  taken_case : (r : Row) (b : Bool) → IsRow w.holders r → IsRow w.holders (cond b (collected_row r) r)
+  taken_case r true is = record { held = is.held; collected = λ k t. mark_found (fmap.get r.account.redemptions k) (sym (ap is_some (get-pick names_total mark r.account.redemptions k)) ∙ t) }
+  taken_case r false is = is
+
+  taken_found : (p : Name) (y : Row) (o : Option Row) → fmap.get w.rows p ≡ o → option_map (taken p) o ≡ Some y → IsAccounted w → IsRow w.holders y
+  taken_found p y None at e is = cc
+  taken_found p y (Some r) at e is = subst (IsRow w.holders) (inside _ y e) (taken_case r (is_of_member w m r) (is.rows p r at))
+
+  collected_rows : IsAccounted w → (p : Name) (y : Row) → fmap.get (collected w m).rows p ≡ Some y → IsRow w.holders y
+  collected_rows is p y e = taken_found p y (fmap.get w.rows p) refl (sym (get-remake name_cmp taken names_exact w.rows p) ∙ e) is
+
+  collected_accounted : (row : MemberRow) → fmap.get w.members m ≡ Some row → IsAccounted w → IsAccounted (change_member (collected w m) m (λ x. record x { float = x.float + uncollected_of w m }))
+  collected_accounted row at is =
+      let new : MemberRow = record row { float = row.float + uncollected_of w m } in
+      subst IsAccounted (sym (change_to (collected w m) m (λ x. record x { float = x.float + uncollected_of w m }) row at))
+      (record {
+        equal = λ chosen. collect_change (chosen m) _ _ _ _ _ _ row.float row.granted (uncollected_of w m) (collected_left_side chosen) (left_member (collected w m) m new row at chosen)
+            (collected_right_side chosen) (right_member (collected w m) m new row at chosen) (is.equal chosen);
+        rows = collected_rows is;
+      })
+
+collect_accounted : (w : World) (m : Name) → IsAccounted w → IsAccounted (collect w m).world
+collect_accounted w m is = unless_accounted w (collect_refusal w m) _ is (λ e.
+    let row = value_found (fmap.get w.members m) (some_of _ (none_refused _ _ _ e).0) in
+    collected_accounted w m row.0 row.1 is)
+
+-- ---- each command
+
+base_accounted : (w : World) → IsAccounted w → (caller : Caller) (c : Command) → IsAccounted (base w caller c).world
+base_accounted w is Operator (NewMember m t) = member_accounted w m t is
+base_accounted w is Operator (Grant m amount) = grant_accounted w m amount is
+base_accounted w is (Clerk m) (NewHolder h t) = holder_accounted w m h t is
+base_accounted w is (Clerk m) (NewPurse p h) = purse_accounted w m p h is
+base_accounted w is (Clerk m) (Load p amount reference) = load_accounted w m p amount reference is
+base_accounted w is (Clerk m) Collect = collect_accounted w m is
+base_accounted w is (Holder h) Purses = is
+base_accounted w is (Holder h) (Show p) = own_accounted w h p show is show_redeems
+base_accounted w is (Holder h) (StartFrom p peer value seq) = own_accounted w h p (start_from peer value seq) is (start_from_redeems peer value seq)
+base_accounted w is (Holder h) (StartTo p peer value seq) = own_accounted w h p (start_to peer value seq) is (start_to_redeems peer value seq)
+base_accounted w is (Holder h) (Handle p number) = own_accounted w h p (handle number) is (handle_redeems number)
+base_accounted w is (Holder h) (Discard p number) = own_accounted w h p (discard number) is (discard_redeems number)
+base_accounted w is (Holder h) (Abort p) = own_accounted w h p abort is abort_redeems
+base_accounted w is (Holder h) (Redeem p amount reference) = own_accounted w h p (redeem amount reference) is (redeem_redeems amount reference)
+base_accounted w is (Holder h) (Inbox p) = own_accounted w h p inbox is inbox_redeems
+base_accounted w is Operator c = is
+base_accounted w is (Clerk m) c = is
+base_accounted w is (Holder h) c = is
+
+pub after_accounted : (w : World) → IsAccounted w → (caller : Caller) (c : Command) → IsAccounted (after w caller c)
+unfolding after
+after_accounted w is caller c = send_accounted (base w caller c).world (base_accounted w is caller c) (base w caller c).sent
+
+run_accounted : (w : World) (cs : List Asked) → IsAccounted w → IsAccounted (world_after w cs)
+run_accounted w [] is = is
+run_accounted w (c ∷ cs) is = run_accounted (after w c.0 c.1) cs (after_accounted w is c.0 c.1)
+
+-- ---- Worlds that commands lead to
+
+pub reachable_accounted : (w : World) → IsReachable w → IsAccounted w
+reachable_accounted w r = subst IsAccounted r.2 (run_accounted (opening r.0) r.1 (opening_accounted r.0))
+
+pub reachable_balanced : (w : World) → IsReachable w → IsBalanced w
+reachable_balanced w r = is_balanced w (reachable_accounted w r)

@@ -1,0 +1,49 @@
+-- What members owe and own.
+use Rattle.std.specs.Prelude.{◌≡◌, ℕ, ◌+◌, Bool, if◌then◌else◌, Option, Some, None}
+use Rattle.std.specs.FinMap as fmap
+use Rattle.mx_book.specs.declared.values.MemberRow.{MemberRow}
+use Rattle.mx_book.specs.Sums.{sum_values, sum_entries}
+use Rattle.mx_book.specs.World.{World, Row, Name, is_of_member}
+use Rattle.mx_book.specs.Reads.{uncollected_row, uncollected_of}
+
+-- what the loads of a purse come to, and what its redemptions come to
+abbrev pub issued_row : Row → ℕ
+issued_row r = sum_values (λ n. n) r.loads
+
+abbrev pub redeemed_row : Row → ℕ
+redeemed_row r = sum_values (λ n. n) r.account.redemptions
+
+-- ---- one member
+
+-- the sum of a number of each purse of the member's holders
+abbrev pub of_member : World → Name → (Row → ℕ) → ℕ
+of_member w m f = sum_values (λ r. if is_of_member w m r then f r else 0) w.rows
+
+-- float, what isn't collected, and what was issued to the member's purses are what was granted and redeemed
+abbrev pub IsMemberBalanced : World → Name → MemberRow → Type 0
+IsMemberBalanced w m row = (row.float + uncollected_of w m) + of_member w m issued_row ≡ row.granted + of_member w m redeemed_row
+
+-- ---- any choice of members
+
+-- whether the member of a holder, if there is one, is chosen
+abbrev pub is_chosen : (Name → Bool) → Option Name → Bool
+is_chosen chosen None = Bool.false
+is_chosen chosen (Some m) = chosen m
+
+-- the sum of a number of each chosen member, and of each purse of the chosen members' holders
+abbrev pub of_members : World → (Name → Bool) → (MemberRow → ℕ) → ℕ
+of_members w chosen f = sum_entries (λ m row. if chosen m then f row else 0) w.members
+
+abbrev pub of_purses : World → (Name → Bool) → (Row → ℕ) → ℕ
+of_purses w chosen f = sum_values (λ r. if is_chosen chosen (fmap.get w.holders r.holder) then f r else 0) w.rows
+
+-- the same equation for the chosen members together; with all of them chosen it is the scheme's
+abbrev pub AreBalanced : World → (Name → Bool) → Type 0
+AreBalanced w chosen =
+    (of_members w chosen (λ row. row.float) + of_purses w chosen uncollected_row) + of_purses w chosen issued_row
+    ≡ of_members w chosen (λ row. row.granted) + of_purses w chosen redeemed_row
+
+-- the equation of every choice of members, and of each member
+pub record IsBalanced (w : World) : Type 0 where
+  pub chosen : (chosen : Name → Bool) → AreBalanced w chosen
+  pub each : (m : Name) (row : MemberRow) → fmap.get w.members m ≡ Some row → IsMemberBalanced w m row
