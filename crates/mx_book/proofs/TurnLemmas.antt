@@ -5,6 +5,7 @@ use Rattle.mx_book.specs.Under.{remade}
 use Rattle.mx_book.specs.declared.values.Redemption.{Redemption}
 
 module _ {K V : Type 0} (f : K → V → V) where
+  -- the rows where those before i have their new values
   abbrev mid : List (K × V) → ℕ → List (K × V)
   mid xs i = remade f (take i xs) ++ drop i xs
 
@@ -26,6 +27,8 @@ module _ {K V : Type 0} (f : K → V → V) where
       ∙ ap (λ zs. set zs i ((get_or zs i d).0, f (get_or zs i d).0 (get_or zs i d).1)) is
       ∙ ap (λ (e : K × V). set (mid xs i) i (e.0, f e.0 e.1)) (mid_get xs i d) ∙ mid_set xs i d h ∙ ap (mid xs) (sym (add-one i))
 
+-- ---- a redemption in its turn
+
 or_true : (b : Bool) → true ≡ (b || true)
 or_true true = refl
 or_true false = refl
@@ -34,8 +37,10 @@ or_false : (b : Bool) → b ≡ (b || false)
 or_false true = refl
 or_false false = refl
 
+-- one that is collected
 pub collected_now : (x : Redemption) (b : Bool) → b ≡ true → record x { collected = true } ≡ record x { collected = x.collected || b }
 collected_now x b e = ap (λ c. record x { collected = c }) (or_true x.collected ∙ ap (λ c. x.collected || c) (sym e))
 
+-- one that stays as it is
 pub collected_before : (x : Redemption) (b : Bool) → b ≡ false → x ≡ record x { collected = x.collected || b }
 collected_before x b e = ap (λ c. record x { collected = c }) (or_false x.collected ∙ ap (λ c. x.collected || c) (sym e))
