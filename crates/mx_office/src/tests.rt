@@ -1,7 +1,10 @@
 //! The office over a book in memory: commands in lists, and the words of their outcomes, worked out by hand.
 mod faults;
+mod money;
 mod rows;
+mod scripts;
 
+use self::scripts::{OPENINGS, script};
 use crate::{Command, Messages, Names, Office, Outcome, Reply};
 use mx_book::{Caller, PlainBook};
 use mx_pay::{Amount, Log, Name, PayDetails, Seq, Token, code_text};
@@ -21,6 +24,10 @@ fn number(value: u64) -> Result<Seq, Fail> {
     Ok(Seq::new(value).ok_or("no number")?)
 }
 
+fn amount(value: u64) -> Result<Amount, Fail> {
+    Ok(Amount::new(value).ok_or("no amount")?)
+}
+
 fn clerk(member: &str) -> Result<Caller, Fail> {
     Ok(Caller::Clerk(name(member)?))
 }
@@ -33,6 +40,13 @@ fn new_member(member: &str, clerk: &str) -> Result<Command, Fail> {
     Ok(Command::NewMember {
         member: name(member)?,
         token: token(clerk)?,
+    })
+}
+
+fn grant(member: &str, value: u64) -> Result<Command, Fail> {
+    Ok(Command::Grant {
+        member: name(member)?,
+        amount: amount(value)?,
     })
 }
 
@@ -50,29 +64,25 @@ fn new_purse(purse: &str, holder: &str) -> Result<Command, Fail> {
     })
 }
 
+fn load(purse: &str, value: u64, reference: &str) -> Result<Command, Fail> {
+    Ok(Command::Load {
+        purse: name(purse)?,
+        amount: amount(value)?,
+        reference: name(reference)?,
+    })
+}
+
+fn redeem(purse: &str, value: u64, reference: &str) -> Result<Command, Fail> {
+    Ok(Command::Redeem {
+        purse: name(purse)?,
+        amount: amount(value)?,
+        reference: name(reference)?,
+    })
+}
+
 fn show(purse: &str) -> Result<Command, Fail> {
     Ok(Command::Show {
         purse: name(purse)?,
-    })
-}
-
-/// A start-from with the peer's number 0.
-fn start_from(purse: &str, peer: &str, value: u64) -> Result<Command, Fail> {
-    Ok(Command::StartFrom {
-        purse: name(purse)?,
-        peer: name(peer)?,
-        value: Amount::new(value).ok_or("no amount")?,
-        seq: number(0)?,
-    })
-}
-
-/// A start-to with the peer's number 0.
-fn start_to(purse: &str, peer: &str, value: u64) -> Result<Command, Fail> {
-    Ok(Command::StartTo {
-        purse: name(purse)?,
-        peer: name(peer)?,
-        value: Amount::new(value).ok_or("no amount")?,
-        seq: number(0)?,
     })
 }
 
@@ -171,6 +181,9 @@ fn reply(alloc: Global, reply: &Reply) -> Result<String, Fail> {
     match reply {
         Reply::Refused(refusal) => Ok(String::from_str(alloc, refusal.text())?),
         Reply::Added => Ok(String::from_str(alloc, "added")?),
+        Reply::Granted => Ok(String::from_str(alloc, "granted")?),
+        Reply::Loaded => Ok(String::from_str(alloc, "loaded")?),
+        Reply::Collected(sum) => Ok(format!(in alloc; "collected {sum}")?),
         Reply::Purses(list) => names(alloc, list),
         Reply::Shown(shown) => purse(alloc, shown),
         Reply::Started(details) => {
@@ -180,6 +193,7 @@ fn reply(alloc: Global, reply: &Reply) -> Result<String, Fail> {
         Reply::Handled(so) => Ok(String::from_str(alloc, handled(so))?),
         Reply::Discarded => Ok(String::from_str(alloc, "discarded")?),
         Reply::Aborted { logged } => Ok(format!(in alloc; "aborted {logged}")?),
+        Reply::Redeemed => Ok(String::from_str(alloc, "redeemed")?),
         Reply::Inbox(held) => messages(alloc, held),
     }
 }
@@ -209,29 +223,10 @@ fn told(
 
 const OPERATOR: &str = "00000000000000000000000000000001";
 
-const CLERK: &str = "00000000000000000000000000000002";
-
-const ANN: &str = "0000000000000000000000000000000a";
-
-const BOB: &str = "0000000000000000000000000000000b";
-
-/// What sets up the standing office.
-fn openings() -> Result<[(Caller, Command); 7], Fail> {
-    let clerk = clerk("m")?;
-    Ok([
-        (Caller::Operator, new_member("m", CLERK)?),
-        (clerk, new_holder("ann", ANN)?),
-        (clerk, new_holder("bob", BOB)?),
-        (clerk, new_purse("p1", "ann")?),
-        (clerk, new_purse("q1", "bob")?),
-        (clerk, new_purse("q2", "bob")?),
-        (clerk, new_purse("q3", "bob")?),
-    ])
-}
-
 /// The member m with its holders: ann with the purse p1, and bob with q1, q2 and q3.
 fn standing(alloc: Global) -> Result<Office<PlainBook>, Fail> {
+    let openings = script(alloc, OPENINGS)?;
     let mut office = Office::new(PlainBook::new(alloc, token(OPERATOR)?));
-    office.run(alloc, &openings()?)?;
+    office.run(alloc, openings.as_slice())?;
     Ok(office)
 }

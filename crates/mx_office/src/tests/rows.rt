@@ -1,25 +1,19 @@
 //! What each caller is told.
-use super::{
-    ANN, BOB, CLERK, OPERATOR, abort, clerk, discard, handle, holder, inbox, name, new_holder,
-    new_member, new_purse, openings, show, standing, start_from, start_to, token, told,
-};
-use crate::{Command, Office, Refusal};
-use mx_book::{Book, Caller, PlainBook};
-use std::alloc::Global;
+use super::scripts::{OPENINGS, answered, answered_after, office_after, script};
+use super::{OPERATOR, name, standing, token, told};
+use crate::{Office, Refusal};
+use mx_book::{Book, PlainBook};
 use std::test::Fail;
 
-/// What the standing office answers to commands, a line each.
-fn told_there(alloc: Global, commands: &[(Caller, Command)]) -> Result<String, Fail> {
-    let mut office = standing(alloc)?;
-    told(&mut office, alloc, commands)
-}
+/// Two starts, each to be paid 1 by p1; 16 times they are 32 messages to it.
+const CROWD: &str = "bob start-to q1 p1 1\nbob start-to q2 p1 1";
 
 #[test]
 fn what_is_new_is_added(rt: HostRuntime) -> Result<(), Fail> {
     let alloc = rt.alloc();
-    let openings = openings()?;
+    let openings = script(alloc, OPENINGS)?;
     let mut office = Office::new(PlainBook::new(alloc, token(OPERATOR)?));
-    let said = told(&mut office, alloc, &openings)?;
+    let said = told(&mut office, alloc, openings.as_slice())?;
     assert_eq!(rt;
         said.as_str(),
         "added\nadded\nadded\nadded\nadded\nadded\nadded\n"
@@ -29,30 +23,18 @@ fn what_is_new_is_added(rt: HostRuntime) -> Result<(), Fail> {
 
 #[test]
 fn a_holder_has_purses(rt: HostRuntime) -> Result<(), Fail> {
-    let bob = holder("bob")?;
-    let commands = [(bob, Command::Purses), (bob, show("q1")?)];
-    let said = told_there(rt.alloc(), &commands)?;
+    let said = answered(rt.alloc(), "", "bob purses\nbob show q1")?;
     assert_eq!(rt; said.as_str(), "q1 q2 q3 \nq1 0 0 eaFrom\n");
     Ok(())
 }
 
 #[test]
 fn a_name_and_a_token_stand_once(rt: HostRuntime) -> Result<(), Fail> {
-    let alloc = rt.alloc();
-    let (m, n) = (clerk("m")?, clerk("n")?);
-    let other = "0000000000000000000000000000000c";
-    let commands = [
-        (Caller::Operator, new_member("m", other)?),
-        (Caller::Operator, new_member("n", ANN)?),
-        (m, new_holder("bob", other)?),
-        (m, new_holder("cy", OPERATOR)?),
-        (m, new_holder("cy", CLERK)?),
-        (n, new_holder("cy", other)?),
-        (m, new_purse("p1", "bob")?),
-        (m, new_purse("p2", "cy")?),
-        (n, new_purse("p2", "bob")?),
-    ];
-    let said = told_there(alloc, &commands)?;
+    let said = answered(
+        rt.alloc(),
+        "",
+        "operator new-member m 0000000000000000000000000000000c\noperator new-member n 0000000000000000000000000000000a\nclerk new-holder bob 0000000000000000000000000000000c\nclerk new-holder cy 00000000000000000000000000000001\nclerk new-holder cy 00000000000000000000000000000002\nforeign-clerk new-holder cy 0000000000000000000000000000000c\nclerk new-purse p1 bob\nclerk new-purse p2 cy\nforeign-clerk new-purse p2 bob",
+    )?;
     assert_eq!(rt;
         said.as_str(),
         "name taken\ntoken taken\nname taken\ntoken taken\ntoken taken\nno such member\nname taken\nno such holder\nno such holder\n"
@@ -62,17 +44,11 @@ fn a_name_and_a_token_stand_once(rt: HostRuntime) -> Result<(), Fail> {
 
 #[test]
 fn anothers_purse_is_answered_as_an_unknown_one(rt: HostRuntime) -> Result<(), Fail> {
-    let alloc = rt.alloc();
-    let bob = holder("bob")?;
-    let commands = [
-        (bob, show("p1")?),
-        (bob, show("zz")?),
-        (bob, abort("p1")?),
-        (bob, inbox("p1")?),
-        (bob, handle("p1", 0)?),
-        (bob, start_from("p1", "q1", 0)?),
-    ];
-    let said = told_there(alloc, &commands)?;
+    let said = answered(
+        rt.alloc(),
+        "",
+        "bob show p1\nbob show zz\nbob abort p1\nbob inbox p1\nbob handle p1 0\nbob start-from p1 q1 0",
+    )?;
     assert_eq!(rt;
         said.as_str(),
         "no such purse\nno such purse\nno such purse\nno such purse\nno such purse\nno such purse\n"
@@ -82,19 +58,11 @@ fn anothers_purse_is_answered_as_an_unknown_one(rt: HostRuntime) -> Result<(), F
 
 #[test]
 fn a_payment_of_nothing_in_five_steps(rt: HostRuntime) -> Result<(), Fail> {
-    let alloc = rt.alloc();
-    let (ann, bob) = (holder("ann")?, holder("bob")?);
-    let commands = [
-        (ann, start_from("p1", "q1", 0)?),
-        (bob, start_to("q1", "p1", 0)?),
-        (ann, handle("p1", 0)?),
-        (bob, handle("q1", 0)?),
-        (ann, handle("p1", 1)?),
-        (bob, handle("q1", 0)?),
-        (ann, show("p1")?),
-        (bob, show("q1")?),
-    ];
-    let said = told_there(alloc, &commands)?;
+    let said = answered(
+        rt.alloc(),
+        "",
+        "ann start-from p1 q1 0\nbob start-to q1 p1 0\nann handle p1 0\nbob handle q1 0\nann handle p1 1\nbob handle q1 0\nann show p1\nbob show q1",
+    )?;
     assert_eq!(rt;
         said.as_str(),
         "started p1,q1,0,0,0\nstarted p1,q1,0,0,0\nvalue-sent\nreceived\nfinished\nignored\np1 0 1 eaFrom\nq1 0 1 eaTo\n"
@@ -104,19 +72,11 @@ fn a_payment_of_nothing_in_five_steps(rt: HostRuntime) -> Result<(), Fail> {
 
 #[test]
 fn a_value_that_comes_too_late_is_ignored(rt: HostRuntime) -> Result<(), Fail> {
-    let alloc = rt.alloc();
-    let (ann, bob) = (holder("ann")?, holder("bob")?);
-    let commands = [
-        (bob, start_to("q1", "p1", 0)?),
-        (bob, abort("q1")?),
-        (bob, abort("q1")?),
-        (ann, start_from("p1", "q1", 0)?),
-        (ann, handle("p1", 0)?),
-        (bob, handle("q1", 0)?),
-        (ann, show("p1")?),
-        (bob, show("q1")?),
-    ];
-    let said = told_there(alloc, &commands)?;
+    let said = answered(
+        rt.alloc(),
+        "",
+        "bob start-to q1 p1 0\nbob abort q1\nbob abort q1\nann start-from p1 q1 0\nann handle p1 0\nbob handle q1 0\nann show p1\nbob show q1",
+    )?;
     assert_eq!(rt;
         said.as_str(),
         "started p1,q1,0,0,0\naborted true\naborted false\nstarted p1,q1,0,0,0\nvalue-sent\nignored\np1 0 1 epa\nq1 0 1 eaFrom\n"
@@ -126,19 +86,11 @@ fn a_value_that_comes_too_late_is_ignored(rt: HostRuntime) -> Result<(), Fail> {
 
 #[test]
 fn a_message_lies_in_its_inbox_until_it_is_discarded(rt: HostRuntime) -> Result<(), Fail> {
-    let alloc = rt.alloc();
-    let (ann, bob) = (holder("ann")?, holder("bob")?);
-    let commands = [
-        (ann, inbox("p1")?),
-        (bob, start_to("q1", "p1", 60)?),
-        (ann, handle("p1", 0)?),
-        (ann, inbox("p1")?),
-        (ann, discard("p1", 0)?),
-        (ann, discard("p1", 0)?),
-        (ann, handle("p1", 0)?),
-        (ann, inbox("p1")?),
-    ];
-    let said = told_there(alloc, &commands)?;
+    let said = answered(
+        rt.alloc(),
+        "",
+        "ann inbox p1\nbob start-to q1 p1 60\nann handle p1 0\nann inbox p1\nann discard p1 0\nann discard p1 0\nann handle p1 0\nann inbox p1",
+    )?;
     assert_eq!(rt;
         said.as_str(),
         "\nstarted p1,q1,60,0,0\nignored\n0 req p1,q1,60,0,0 \ndiscarded\nno such message\nno such message\n\n"
@@ -147,41 +99,28 @@ fn a_message_lies_in_its_inbox_until_it_is_discarded(rt: HostRuntime) -> Result<
 }
 
 #[test]
-fn a_start_towards_no_purse_is_answered_alike(rt: HostRuntime) -> Result<(), Fail> {
-    let alloc = rt.alloc();
-    let bob = holder("bob")?;
-    let towards_none = [(bob, start_to("q1", "nobody", 5)?)];
-    let towards_one = [(bob, start_to("q1", "p1", 5)?)];
-    let said = told_there(alloc, &towards_none)?;
+fn a_start_towards_no_purse_is_answered(rt: HostRuntime) -> Result<(), Fail> {
+    let said = answered(rt.alloc(), "", "bob start-to q1 nobody 5")?;
     assert_eq!(rt; said.as_str(), "started nobody,q1,5,0,0\n");
-    let said = told_there(alloc, &towards_one)?;
+    Ok(())
+}
+
+#[test]
+fn a_start_towards_a_purse_is_answered_alike(rt: HostRuntime) -> Result<(), Fail> {
+    let said = answered(rt.alloc(), "", "bob start-to q1 p1 5")?;
     assert_eq!(rt; said.as_str(), "started p1,q1,5,0,0\n");
     Ok(())
 }
 
-/// The standing office after 16 starts of q1 and 16 of q2, each to be paid 1 by p1.
-fn crowded(alloc: Global) -> Result<Office<PlainBook>, Fail> {
-    let bob = holder("bob")?;
-    let first = [(bob, start_to("q1", "p1", 1)?); 16];
-    let second = [(bob, start_to("q2", "p1", 1)?); 16];
-    let mut office = standing(alloc)?;
-    office.run(alloc, &first)?;
-    office.run(alloc, &second)?;
-    Ok(office)
-}
-
 #[test]
 fn an_inbox_holds_32_messages_and_a_log_16_entries(rt: HostRuntime) -> Result<(), Fail> {
-    let alloc = rt.alloc();
-    let (ann, bob) = (holder("ann")?, holder("bob")?);
-    let commands = [
-        (bob, start_to("q3", "p1", 1)?),
-        (bob, start_to("q1", "p1", 1)?),
-        (ann, handle("p1", 31)?),
-        (ann, handle("p1", 32)?),
-    ];
-    let mut office = crowded(alloc)?;
-    let said = told(&mut office, alloc, &commands)?;
+    let said = answered_after(
+        rt.alloc(),
+        "",
+        16,
+        CROWD,
+        "bob start-to q3 p1 1\nbob start-to q1 p1 1\nann handle p1 31\nann handle p1 32",
+    )?;
     assert_eq!(rt;
         said.as_str(),
         "started p1,q3,1,0,0\nlog full\nignored\nno such message\n"
@@ -192,10 +131,8 @@ fn an_inbox_holds_32_messages_and_a_log_16_entries(rt: HostRuntime) -> Result<()
 #[test]
 fn a_message_that_vanishes_has_no_number(rt: HostRuntime) -> Result<(), Fail> {
     let alloc = rt.alloc();
-    let commands = [(holder("bob")?, start_to("q3", "p1", 1)?)];
     let p1 = name("p1")?;
-    let mut office = crowded(alloc)?;
-    office.run(alloc, &commands)?;
+    let mut office = office_after(alloc, "", 17, CROWD)?;
     let account = office.book().purse(alloc, p1)?.ok_or("no purse")?;
     assert_eq!(rt; account.held, 32);
     assert_eq!(rt; account.next_message, 32);
@@ -204,15 +141,11 @@ fn a_message_that_vanishes_has_no_number(rt: HostRuntime) -> Result<(), Fail> {
 
 #[test]
 fn a_purse_does_not_pay_itself(rt: HostRuntime) -> Result<(), Fail> {
-    let alloc = rt.alloc();
-    let ann = holder("ann")?;
-    let commands = [
-        (ann, start_from("p1", "p1", 101)?),
-        (ann, start_to("p1", "p1", 1)?),
-        (ann, start_from("p1", "q1", 1)?),
-        (ann, show("p1")?),
-    ];
-    let said = told_there(alloc, &commands)?;
+    let said = answered(
+        rt.alloc(),
+        "",
+        "ann start-from p1 p1 101\nann start-to p1 p1 1\nann start-from p1 q1 1\nann show p1",
+    )?;
     assert_eq!(rt;
         said.as_str(),
         "same purse\nsame purse\nnot enough\np1 0 0 eaFrom\n"
@@ -222,16 +155,11 @@ fn a_purse_does_not_pay_itself(rt: HostRuntime) -> Result<(), Fail> {
 
 #[test]
 fn a_command_of_another_class_is_not_for_the_caller(rt: HostRuntime) -> Result<(), Fail> {
-    let alloc = rt.alloc();
-    let commands = [
-        (holder("ann")?, new_member("n", BOB)?),
-        (holder("ann")?, new_purse("p1", "ann")?),
-        (clerk("m")?, show("p1")?),
-        (clerk("m")?, new_member("n", BOB)?),
-        (Caller::Operator, Command::Purses),
-        (Caller::Operator, new_holder("bob", BOB)?),
-    ];
-    let said = told_there(alloc, &commands)?;
+    let said = answered(
+        rt.alloc(),
+        "",
+        "ann new-member n 0000000000000000000000000000000b\nann new-purse p1 ann\nclerk show p1\nclerk new-member n 0000000000000000000000000000000b\noperator purses\noperator new-holder bob 0000000000000000000000000000000b",
+    )?;
     assert_eq!(rt;
         said.as_str(),
         "not for this caller\nnot for this caller\nnot for this caller\nnot for this caller\nnot for this caller\nnot for this caller\n"
@@ -241,7 +169,7 @@ fn a_command_of_another_class_is_not_for_the_caller(rt: HostRuntime) -> Result<(
 
 #[test]
 fn an_empty_list_has_no_outcomes(rt: HostRuntime) -> Result<(), Fail> {
-    let said = told_there(rt.alloc(), &[])?;
+    let said = answered(rt.alloc(), "", "")?;
     assert_eq!(rt; said.as_str(), "");
     Ok(())
 }
