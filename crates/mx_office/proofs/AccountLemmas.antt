@@ -22,6 +22,7 @@ use Rattle.mx_office.specs.declared.values.Reply.TheVariants.{Refused}
 use Rattle.mx_office.specs.declared.values.Refusal.TheVariants.{NoSuchPurse}
 use Rattle.mx_office.specs.Step.{Deed, Done, done, refused, tell, send, on_own, on_own_row, on_row, listed, with_purse}
 use Rattle.mx_office.specs.Decides.{Decides, owned_purse, own_purse, finds_place, placed, line_edits, put_edits, purse_edits}
+use Rattle.mx_office.proofs.RunLemmas.{append-nil}
 use Rattle.mx_office.proofs.DecideLemmas.{told_decides, edit_decides}
 
 -- ---- a purse of the holder
@@ -116,21 +117,17 @@ puts w (Some m) = put_case w m.0 m.1 (fmap.get w.rows m.0) refl
 
 -- ---- a purse that changes
 
-append_nil : {X : Type 0} (xs : List X) → xs ++ [] ≡ xs
-append_nil [] = refl
-append_nil (x ∷ xs) = ap (λ ys. x ∷ ys) (append_nil xs)
-
 -- the new line is numbered on, and counted
 abbrev pub IsNext : State → State → Option Line → Type 0
 IsNext p q None = q.lines ≡ p.lines
 IsNext p q (Some l) = (q.lines ≡ p.lines + 1) × (l.number ≡ q.lines)
 
 pub numbered_next : (p q : State) (ls : List Line) (line : Option Line) → IsNext p q line → AreNumbered 1 ls → length ls ≡ p.lines → AreNumbered 1 (ls ++ listed line)
-numbered_next p q ls None is h count = subst (AreNumbered 1) (sym (append_nil ls)) h
+numbered_next p q ls None is h count = subst (AreNumbered 1) (sym (append-nil ls)) h
 numbered_next p q ls (Some l) is h count = numbered_more 1 ls l h (let a = is.0 in let b = is.1 in omega (arith, a, b, count))
 
 pub counted_next : (p q : State) (ls : List Line) (line : Option Line) → IsNext p q line → length ls ≡ p.lines → length (ls ++ listed line) ≡ q.lines
-counted_next p q ls None is count = ap length (append_nil ls) ∙ count ∙ sym is
+counted_next p q ls None is count = ap length (append-nil ls) ∙ count ∙ sym is
 counted_next p q ls (Some l) is count = length-append ls (l ∷ []) ∙ (let a = is.0 in omega (arith, a, count))
 
 -- the purse after an operation, with its line, is one that the World can have

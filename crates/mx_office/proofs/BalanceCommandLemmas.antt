@@ -23,17 +23,13 @@ use Rattle.mx_office.specs.declared.values.Refusal.{Refusal}
 use Rattle.mx_office.specs.declared.values.Reply.{Reply}
 use Rattle.mx_office.specs.Balance.{IsBalanced, issued_row, redeemed_row, is_chosen, of_purses}
 use Rattle.mx_office.specs.Reachable.{IsReachable}
-use Rattle.mx_office.specs.Step.{Asked, Done, unless, first_refusal, show, start_from, start_to, handle, discard, abort, redeem, inbox, new_member, new_member_refusal, new_holder, new_holder_refusal, new_purse, new_purse_refusal, changed_member, change_member, grant, grant_refusal, loaded_by, loaded_account, loaded_row, load_new, load_row, not_loaded, load_done, load_purse, collect, collect_refusal, base, after, world_after}
+use Rattle.mx_office.specs.Step.{Asked, Done, unless, show, start_from, start_to, handle, discard, abort, redeem, inbox, new_member, new_member_refusal, new_holder, new_holder_refusal, new_purse, new_purse_refusal, changed_member, change_member, grant, grant_refusal, loaded_by, loaded_account, loaded_row, load_new, load_row, not_loaded, load_done, load_purse, collect, collect_refusal, base, after, world_after}
+use Rattle.mx_office.proofs.LawLemmas.{none_refused}
 use Rattle.mx_office.proofs.BalanceLemmas.{Choice, IsAccounted, IsRow, left, right, left_row, counted, is_counted, none_counts, same_change, with_member, left_member, right_member, new_member_accounted, left_set, right_set, rows_stay, new_row_accounted, new_holder_accounted, opening_accounted, is_balanced}
 use Rattle.mx_office.proofs.BalanceAccountLemmas.{own_accounted, send_accounted, show_redeems, start_from_redeems, start_to_redeems, handle_redeems, discard_redeems, abort_redeems, redeem_redeems, inbox_redeems}
 use Rattle.mx_office.proofs.EntrySumLemmas.{sum_entries-same, sum_entries-add, sum_entries-empty, sum_values-empty, sum_values-zero, sum_values-remake, values_are}
 
 -- ---- refusals
-
-none_refused : (b : Bool) (r : Refusal) (xs : List (Bool × Refusal)) → first_refusal ((b, r) ∷ xs) ≡ None → (b ≡ false) × (first_refusal xs ≡ None)
-unfolding first_refusal
-none_refused true r xs e = cc
-none_refused false r xs e = (refl, e)
 
 none_of : {X : Type 0} (o : Option X) → is_some o ≡ false → o ≡ None
 none_of None e = refl

@@ -158,7 +158,7 @@ still_law w h g c is = still_case (cut w h) c (is (cut w h)) (is_name h g)
 
 -- ---- a new purse
 
-none_refused : (b : Bool) (r : Refusal) (xs : List (Bool × Refusal)) → first_refusal ((b, r) ∷ xs) ≡ None → (b ≡ false) × (first_refusal xs ≡ None)
+pub none_refused : (b : Bool) (r : Refusal) (xs : List (Bool × Refusal)) → first_refusal ((b, r) ∷ xs) ≡ None → (b ≡ false) × (first_refusal xs ≡ None)
 unfolding first_refusal
 none_refused true r xs e = cc
 none_refused false r xs e = (refl, e)

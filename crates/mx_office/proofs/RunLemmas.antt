@@ -90,7 +90,7 @@ put_silent : (m : Accounts) (w : World) (h : Name) (sent : Option (Name × Messa
 put_silent m w h None = refl
 put_silent m w h (Some x) = put_case m _ x.0 x.1
 
-append-nil : {A : Type 0} (xs : List A) → xs ++ [] ≡ xs
+pub append-nil : {A : Type 0} (xs : List A) → xs ++ [] ≡ xs
 append-nil [] = refl
 append-nil (x ∷ xs) = ap (λ ys. x ∷ ys) (append-nil xs)
 
