@@ -8,7 +8,7 @@ use Rattle.std.specs.FinMap.{nat_cmp-IsAntisymmetric}
 use Rattle.mx_pay.specs.Names.{name_cmp, is_name}
 use Rattle.mx_purse.specs.State.{State, new_purse}
 use Rattle.mx_purse.specs.declared.message.Message.{Message}
-use Rattle.mx_book.specs.World.{World, Row, Name, delivered, new_row, is_of, is_of_member, collected_row}
+use Rattle.mx_book.specs.World.{World, Row, Name, delivered, new_row, is_of, is_of_member, with_collected}
 use Rattle.mx_book.specs.declared.values.Line.{Line}
 use Rattle.mx_book.specs.Maps.{pick}
 use Rattle.mx_book.specs.Conditions.{AreNumbered}
@@ -45,8 +45,8 @@ new_purse_row r h p g gone =
     ∙ ap (λ i. row_from y fmap.empty i (under name_cmp name_cmp p r.loads) (under name_cmp name_cmp p r.redemptions)) (under-none names_total nat_cmp_total nat_cmp-IsAntisymmetric p r.lines (λ k. h.lines p k gone))
     ∙ ap (λ i. row_from y fmap.empty fmap.empty i (under name_cmp name_cmp p r.redemptions)) (under-none names_total names_total names_exact p r.loads (λ k. h.loads p k gone))
     ∙ ap (λ i. row_from y fmap.empty fmap.empty fmap.empty i) (under-none names_total names_total names_exact p r.redemptions (λ k. h.redemptions p k gone))
-    ∙ ap (λ es. record (new_row g p) { account = record (new_row g p).account { lines = map line_at es; redemptions = pick amount_of fmap.empty }; collected = pick mark_of fmap.empty }) (entries_empty nat_cmp)
-    ∙ (λ i. record (new_row g p) { account = record (new_row g p).account { redemptions = pick-empty amount_of i }; collected = pick-empty mark_of i }) in
+    ∙ ap (λ es. record (new_row g p) { holding = record (new_row g p).holding { lines = map line_at es; redemptions = pick amount_of fmap.empty }; collected = pick mark_of fmap.empty }) (entries_empty nat_cmp)
+    ∙ (λ i. record (new_row g p) { holding = record (new_row g p).holding { redemptions = pick-empty amount_of i }; collected = pick-empty mark_of i }) in
     record {
       world = ap (λ rows. record (world_of r) { rows = rows }) (sym (rows_put r s p (new_row g p) (row_is s p y (get-inserted r.purses p y) ∙ ap Some fresh) (λ n f. ap (option_map (row_of r n)) (get-other r.purses p n y f))));
       proper = proper_purse r p y h;
@@ -59,7 +59,7 @@ set_purse r h q x at =
     let y : PurseRow = record x { purse = q } in
     let s : Rows = record r { purses = fmap.insert r.purses q.name y } in
     subst (λ (z : Rows). Spelled z (edited (world_of r) (SetPurse q))) (ap (λ o. on_purse o r (λ x. record r { purses = fmap.insert r.purses q.name (record x { purse = q }) })) (sym at)) (record {
-      world = change_is r s q.name (λ row. record row { account = record row.account { purse = q } }) x y at (get-inserted r.purses q.name y) refl (λ n f. ap (option_map (row_of r n)) (get-other r.purses q.name n y f));
+      world = change_is r s q.name (λ row. record row { holding = record row.holding { purse = q } }) x y at (get-inserted r.purses q.name y) refl (λ n f. ap (option_map (row_of r n)) (get-other r.purses q.name n y f));
       proper = proper_purse r q.name y h;
     })
 
@@ -70,10 +70,10 @@ add_message r h p m x at =
     let s : Rows = record t { purses = fmap.insert r.purses p y } in
     let proper : IsProper t = record { inbox = NoStray-insert nat_cmp nat_cmp_total r.purses r.inbox h.inbox p x.next_message m x at; lines = h.lines; loads = h.loads; redemptions = h.redemptions } in
     subst (λ (z : Rows). Spelled z (edited (world_of r) (AddMessage p m))) (ap (λ o. on_purse o r (λ x. record r { purses = fmap.insert r.purses p (record x { next_message = x.next_message + 1 }); inbox = fmap.insert r.inbox (p, x.next_message) m })) (sym at)) (record {
-      world = change_is r s p (λ row. record row { account = delivered row.account m }) x y at (get-inserted r.purses p y)
-          (ap (λ i. record (row_of r p y) { account = record (row_of r p y).account { inbox = i } }) (under-insert names_total nat_cmp_total nat_cmp-IsAntisymmetric p r.inbox x.next_message m))
+      world = change_is r s p (λ row. record row { holding = delivered row.holding m }) x y at (get-inserted r.purses p y)
+          (ap (λ i. record (row_of r p y) { holding = record (row_of r p y).holding { inbox = i } }) (under-insert names_total nat_cmp_total nat_cmp-IsAntisymmetric p r.inbox x.next_message m))
           (λ n f. ap (option_map (row_of s n)) (get-other r.purses p n y f)
-          ∙ ap (λ i. option_map (λ z. record (row_of r n z) { account = record (row_of r n z).account { inbox = i } }) (fmap.get r.purses n)) (under-insert_other names_total nat_cmp_total nat_cmp-IsAntisymmetric p n r.inbox x.next_message m f));
+          ∙ ap (λ i. option_map (λ z. record (row_of r n z) { holding = record (row_of r n z).holding { inbox = i } }) (fmap.get r.purses n)) (under-insert_other names_total nat_cmp_total nat_cmp-IsAntisymmetric p n r.inbox x.next_message m f));
       proper = proper_purse t p y proper;
     })
 
@@ -83,19 +83,19 @@ drop_message : (r : Rows) (h : IsProper r) (p : Name) (k : ℕ) (x : PurseRow) �
 drop_message r h p k x at =
     let s : Rows = record r { inbox = fmap.remove r.inbox (p, k) } in
     record {
-      world = change_is r s p (λ row. record row { account = record row.account { inbox = fmap.remove row.account.inbox k } }) x x at at
-          (ap (λ i. record (row_of r p x) { account = record (row_of r p x).account { inbox = i } }) (under-remove names_total nat_cmp_total nat_cmp-IsAntisymmetric p r.inbox k))
-          (λ n f. ap (λ i. option_map (λ z. record (row_of r n z) { account = record (row_of r n z).account { inbox = i } }) (fmap.get r.purses n)) (under-remove_other names_total nat_cmp_total nat_cmp-IsAntisymmetric p n r.inbox k f));
+      world = change_is r s p (λ row. record row { holding = record row.holding { inbox = fmap.remove row.holding.inbox k } }) x x at at
+          (ap (λ i. record (row_of r p x) { holding = record (row_of r p x).holding { inbox = i } }) (under-remove names_total nat_cmp_total nat_cmp-IsAntisymmetric p r.inbox k))
+          (λ n f. ap (λ i. option_map (λ z. record (row_of r n z) { holding = record (row_of r n z).holding { inbox = i } }) (fmap.get r.purses n)) (under-remove_other names_total nat_cmp_total nat_cmp-IsAntisymmetric p n r.inbox k f));
       proper = record { inbox = NoStray-remove nat_cmp nat_cmp_total r.purses r.inbox h.inbox p k; lines = h.lines; loads = h.loads; redemptions = h.redemptions };
     }
 
-add_line : (r : Rows) (h : IsProper r) (p : Name) (l : Line) (x : PurseRow) → fmap.get r.purses p ≡ Some x → AreNumbered 1 ((row_of r p x).account.lines ++ l ∷ []) → Spelled (rewritten r (AddLine p l)) (edited (world_of r) (AddLine p l))
+add_line : (r : Rows) (h : IsProper r) (p : Name) (l : Line) (x : PurseRow) → fmap.get r.purses p ≡ Some x → AreNumbered 1 ((row_of r p x).holding.lines ++ l ∷ []) → Spelled (rewritten r (AddLine p l)) (edited (world_of r) (AddLine p l))
 add_line r h p l x at next =
     let s : Rows = record r { lines = fmap.insert r.lines (p, l.number) (line_row l) } in
     record {
-      world = change_is r s p (λ row. record row { account = record row.account { lines = row.account.lines ++ l ∷ [] } }) x x at at
-          (ap (λ i. record (row_of r p x) { account = record (row_of r p x).account { lines = i } }) (ap lines_from (under-insert names_total nat_cmp_total nat_cmp-IsAntisymmetric p r.lines l.number (line_row l)) ∙ lines-insert (under name_cmp nat_cmp p r.lines) l next))
-          (λ n f. ap (λ i. option_map (λ z. record (row_of r n z) { account = record (row_of r n z).account { lines = lines_from i } }) (fmap.get r.purses n)) (under-insert_other names_total nat_cmp_total nat_cmp-IsAntisymmetric p n r.lines l.number (line_row l) f));
+      world = change_is r s p (λ row. record row { holding = record row.holding { lines = row.holding.lines ++ l ∷ [] } }) x x at at
+          (ap (λ i. record (row_of r p x) { holding = record (row_of r p x).holding { lines = i } }) (ap lines_from (under-insert names_total nat_cmp_total nat_cmp-IsAntisymmetric p r.lines l.number (line_row l)) ∙ lines-insert (under name_cmp nat_cmp p r.lines) l next))
+          (λ n f. ap (λ i. option_map (λ z. record (row_of r n z) { holding = record (row_of r n z).holding { lines = lines_from i } }) (fmap.get r.purses n)) (under-insert_other names_total nat_cmp_total nat_cmp-IsAntisymmetric p n r.lines l.number (line_row l) f));
       proper = record { inbox = h.inbox; lines = NoStray-insert nat_cmp nat_cmp_total r.purses r.lines h.lines p l.number (line_row l) x at; loads = h.loads; redemptions = h.redemptions };
     }
 
@@ -115,7 +115,7 @@ unpicked_case : (o : Option Redemption) → option_and_then amount_of o ≡ None
 unpicked_case None h = refl
 unpicked_case (Some x) h = cc
 
-add_redemption : (r : Rows) (h : IsProper r) (p ref : Name) (amount : ℕ) (x : PurseRow) → fmap.get r.purses p ≡ Some x → fmap.get (row_of r p x).account.redemptions ref ≡ None
+add_redemption : (r : Rows) (h : IsProper r) (p ref : Name) (amount : ℕ) (x : PurseRow) → fmap.get r.purses p ≡ Some x → fmap.get (row_of r p x).holding.redemptions ref ≡ None
     → Spelled (rewritten r (AddRedemption p ref amount)) (edited (world_of r) (AddRedemption p ref amount))
 add_redemption r h p ref amount x at new =
     let y : Redemption = record { amount = amount; collected = false } in
@@ -124,10 +124,10 @@ add_redemption r h p ref amount x at new =
     let amounts = pick-insert names_total amount_of names_exact m ref y amount refl in
     let marks = pick-skip names_total mark_of names_exact m ref y refl (unpicked_case (fmap.get m ref) (sym (get-pick names_total amount_of m ref) ∙ new)) in
     record {
-      world = change_is r s p (λ row. record row { account = record row.account { redemptions = fmap.insert row.account.redemptions ref amount } }) x x at at
-          (ap (λ i. record (row_of r p x) { account = record (row_of r p x).account { redemptions = pick amount_of i }; collected = pick mark_of i }) (under-insert names_total names_total names_exact p r.redemptions ref y)
-          ∙ (λ i. record (row_of r p x) { account = record (row_of r p x).account { redemptions = amounts i }; collected = marks i }))
-          (λ n f. ap (λ i. option_map (λ z. record (row_of r n z) { account = record (row_of r n z).account { redemptions = pick amount_of i }; collected = pick mark_of i }) (fmap.get r.purses n)) (under-insert_other names_total names_total names_exact p n r.redemptions ref y f));
+      world = change_is r s p (λ row. record row { holding = record row.holding { redemptions = fmap.insert row.holding.redemptions ref amount } }) x x at at
+          (ap (λ i. record (row_of r p x) { holding = record (row_of r p x).holding { redemptions = pick amount_of i }; collected = pick mark_of i }) (under-insert names_total names_total names_exact p r.redemptions ref y)
+          ∙ (λ i. record (row_of r p x) { holding = record (row_of r p x).holding { redemptions = amounts i }; collected = marks i }))
+          (λ n f. ap (λ i. option_map (λ z. record (row_of r n z) { holding = record (row_of r n z).holding { redemptions = pick amount_of i }; collected = pick mark_of i }) (fmap.get r.purses n)) (under-insert_other names_total names_total names_exact p n r.redemptions ref y f));
       proper = record { inbox = h.inbox; lines = h.lines; loads = h.loads; redemptions = NoStray-insert name_cmp names_total r.purses r.redemptions h.redemptions p ref y x at };
     }
 
@@ -174,13 +174,13 @@ marks_are false m = fmap.same_map names_total names_exact _ _ (λ q.
     ∙ same_case q (fmap.get m q) ∙ sym (get-pick names_total mark_of m q))
 
 -- a row's set of collected redemptions, by a test
-row_case : (c : Bool) (row : Row) → record row { collected = cond c (pick each_mark row.account.redemptions) row.collected } ≡ cond c (collected_row row) row
+row_case : (c : Bool) (row : Row) → record row { collected = cond c (pick each_mark row.holding.redemptions) row.collected } ≡ cond c (with_collected row) row
 row_case true row = refl
 row_case false row = refl
 
 module _ (r : Rows) (m : Name) where
   abbrev collect_one : Name → Row → Row
-  collect_one p row = cond (is_of_member (world_of r) m row) (collected_row row) row
+  collect_one p row = cond (is_of_member (world_of r) m row) (with_collected row) row
 
   collected_at : (q : Name) (x : PurseRow) → fmap.get r.purses q ≡ Some x → row_of (rewritten r (Collect m)) q x ≡ collect_one q (row_of r q x)
   collected_at q x at =
@@ -188,9 +188,9 @@ module _ (r : Rows) (m : Name) where
       let u = under name_cmp name_cmp q r.redemptions in
       let amounts = amounts_stay c u in
       let marks = marks_are c u in
-      ap (λ i. record (row_of r q x) { account = record (row_of r q x).account { redemptions = pick amount_of i }; collected = pick mark_of i })
+      ap (λ i. record (row_of r q x) { holding = record (row_of r q x).holding { redemptions = pick amount_of i }; collected = pick mark_of i })
       (under-remake names_total names_total names_exact names_exact (marked r.purses r.holders m) q r.redemptions)
-      ∙ (λ i. record (row_of r q x) { account = record (row_of r q x).account { redemptions = amounts i }; collected = marks i })
+      ∙ (λ i. record (row_of r q x) { holding = record (row_of r q x).holding { redemptions = amounts i }; collected = marks i })
       ∙ ap (λ b. record (row_of r q x) { collected = cond b (pick each_mark (pick amount_of u)) (pick mark_of u) }) (ap (λ o. is_of m (member_at r.holders o)) at)
       ∙ row_case (is_of_member (world_of r) m (row_of r q x)) (row_of r q x)
 
@@ -229,11 +229,11 @@ edit_is r (SetMember m granted float) h fits = record { world = refl; proper = h
 edit_is r (NewHolder g m t) h fits = record { world = refl; proper = h }
 edit_is r (NewPurse p g) h fits = new_purse_row r h p g (not_there r p fits.0)
 edit_is r (SetPurse q) h fits = let x = found_row r q.name fits in set_purse r h q x.0 x.1
-edit_is r (AddMessage p m) h fits = let x = found r p (λ row. (fmap.len row.account.inbox < 32) × (row.account.next_message < 10 ^ 15)) fits in add_message r h p m x.0 x.1
-edit_is r (DropMessage p k) h fits = let x = found r p (λ row. IsSome (fmap.get row.account.inbox k)) fits in drop_message r h p k x.0 x.1
-edit_is r (AddLine p l) h fits = let x = found r p (λ row. AreNumbered 1 (row.account.lines ++ l ∷ [])) fits in add_line r h p l x.0 x.1 x.2
+edit_is r (AddMessage p m) h fits = let x = found r p (λ row. (fmap.len row.holding.inbox < 32) × (row.holding.next_message < 10 ^ 15)) fits in add_message r h p m x.0 x.1
+edit_is r (DropMessage p k) h fits = let x = found r p (λ row. IsSome (fmap.get row.holding.inbox k)) fits in drop_message r h p k x.0 x.1
+edit_is r (AddLine p l) h fits = let x = found r p (λ row. AreNumbered 1 (row.holding.lines ++ l ∷ [])) fits in add_line r h p l x.0 x.1 x.2
 edit_is r (AddLoad p ref amount) h fits = let x = found r p (λ row. IsNone (fmap.get row.loads ref)) fits in add_load r h p ref amount x.0 x.1
-edit_is r (AddRedemption p ref amount) h fits = let x = found r p (λ row. IsNone (fmap.get row.account.redemptions ref)) fits in add_redemption r h p ref amount x.0 x.1 (no_value _ x.2)
+edit_is r (AddRedemption p ref amount) h fits = let x = found r p (λ row. IsNone (fmap.get row.holding.redemptions ref)) fits in add_redemption r h p ref amount x.0 x.1 (no_value _ x.2)
 edit_is r (Collect m) h fits = collect r m h
 
 -- and so of a list of edits
@@ -256,7 +256,7 @@ able r (NewHolder g m t) fits = tt
 able r (NewPurse p g) fits = tt
 able r (SetPurse q) fits = tt
 able r (AddMessage p m) fits = λ x is.
-    let z = found r p (λ row. (fmap.len row.account.inbox < 32) × (row.account.next_message < 10 ^ 15)) fits in
+    let z = found r p (λ row. (fmap.len row.holding.inbox < 32) × (row.holding.next_message < 10 ^ 15)) fits in
     subst (λ (y : PurseRow). y.next_message < 10 ^ 15) (same_row z.0 x (sym z.1 ∙ is)) z.2.1
 able r (DropMessage p k) fits = tt
 able r (AddLine p l) fits = tt

@@ -74,7 +74,7 @@ module _ (op s t : Token) (m h : Name) (clerk : is_token s op ≡ false) (holder
     next = omega arith
 
     message_suits : Suits with_purse (AddMessage p x)
-    message_suits = subst (λ (o : Option Row). IsSomeAnd o (λ r. (fmap.len r.account.inbox < 32) × (r.account.next_message < 10 ^ 15))) (sym here) (room, next)
+    message_suits = subst (λ (o : Option Row). IsSomeAnd o (λ r. (fmap.len r.holding.inbox < 32) × (r.holding.next_message < 10 ^ 15))) (sym here) (room, next)
 
     -- and a purse with a message
     pub four_fit : Fits (opening op) (NewMember m s ∷ NewHolder h m t ∷ NewPurse p h ∷ AddMessage p x ∷ [])

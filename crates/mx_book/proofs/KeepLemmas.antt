@@ -15,7 +15,7 @@ use Rattle.mx_book.specs.declared.values.Caller.{Caller}
 use Rattle.mx_book.specs.declared.values.Caller.TheVariants.{Operator, Clerk, Holder}
 use Rattle.mx_book.specs.declared.values.MemberRow.{MemberRow}
 use Rattle.mx_book.specs.Sums.{sum_values}
-use Rattle.mx_book.specs.World.{World, Row, Account, Name, Token, set_row, changed_row, delivered, new_row}
+use Rattle.mx_book.specs.World.{World, Row, Holding, Name, Token, set_row, changed_row, delivered, new_row}
 use Rattle.mx_book.specs.Reads.{who_of, purses_of}
 use Rattle.mx_book.specs.Conditions.{IsWorld, IsOwner, HasToken, TokensHold, MembersHold, PursesHold, InboxesHold, LinesHold, ResultsHold, PaymentsHold, IsPurseRow, IsInbox, AreLines, IsEntry, IsPaid}
 use Rattle.mx_book.specs.declared.edits.Edit.TheVariants.{NewMember, NewHolder, NewPurse, AddMessage, DropMessage}
@@ -118,7 +118,7 @@ module _ (w : World) (m : Name) (t : Token) (suits : Suits w (NewMember m t)) wh
   member_world text h = record {
     tokens = member_tokens h.tokens;
     members = member_members text h.members;
-    purses = record { each = λ p r at. let x = h.purses.each p r at in record { text = x.text; named = x.named; held = x.held; purse = x.purse }; few = h.purses.few };
+    purses = record { each = λ p r at. let x = h.purses.each p r at in record { text = x.text; named = x.named; holder = x.holder; purse = x.purse }; few = h.purses.few };
     inboxes = record { each = h.inboxes.each };
     lines = record { each = h.lines.each };
     results = record { archived = h.results.archived; logged = h.results.logged; apart = h.results.apart };
@@ -156,7 +156,7 @@ module _ (w : World) (g m : Name) (t : Token) (suits : Suits w (NewHolder g m t)
   holder_world text h = record {
     tokens = holder_tokens h.tokens;
     members = holder_members text h.members;
-    purses = record { each = λ p r at. let x = h.purses.each p r at in record { text = x.text; named = x.named; held = still_some w.holders g m r.holder x.held; purse = x.purse }; few = h.purses.few };
+    purses = record { each = λ p r at. let x = h.purses.each p r at in record { text = x.text; named = x.named; holder = still_some w.holders g m r.holder x.holder; purse = x.purse }; few = h.purses.few };
     inboxes = record { each = h.inboxes.each };
     lines = record { each = h.lines.each };
     results = record { archived = h.results.archived; logged = h.results.logged; apart = h.results.apart };
@@ -198,7 +198,7 @@ module _ (w : World) (p g : Name) (suits : Suits w (NewPurse p g)) where
 
   pub purse_purses : IsTrue (is_name_text p) → length (purses_of w g) < 64 → PursesHold w → PursesHold with_purse
   purse_purses text room h = record {
-    each = each_inserted w.rows p (new_row g p) (λ q r. IsPurseRow with_purse q r) (record { text = text; named = refl; held = suits.1; purse = new_is p }) (λ q r at. let x = h.each q r at in record { text = x.text; named = x.named; held = x.held; purse = x.purse });
+    each = each_inserted w.rows p (new_row g p) (λ q r. IsPurseRow with_purse q r) (record { text = text; named = refl; holder = suits.1; purse = new_is p }) (λ q r at. let x = h.each q r at in record { text = x.text; named = x.named; holder = x.holder; purse = x.purse });
     few = λ x. let few = few_case x (is_name x g) refl room (h.few x) in let is = purse_count x in omega (arith, few, is);
   }
 
@@ -259,7 +259,7 @@ module _ (w : World) (p : Name) (r s : Row) (at : fmap.get w.rows p ≡ Some r) 
 
   pub set_purses : s.holder ≡ r.holder → IsPurseRow w p s → PursesHold w → PursesHold (set_row w p s)
   set_purses same one h = record {
-    each = each_inserted w.rows p s (λ q x. IsPurseRow (set_row w p s) q x) (record { text = one.text; named = one.named; held = one.held; purse = one.purse }) (λ q x here. let y = h.each q x here in record { text = y.text; named = y.named; held = y.held; purse = y.purse });
+    each = each_inserted w.rows p s (λ q x. IsPurseRow (set_row w p s) q x) (record { text = one.text; named = one.named; holder = one.holder; purse = one.purse }) (λ q x here. let y = h.each q x here in record { text = y.text; named = y.named; holder = y.holder; purse = y.purse });
     few = λ x. let is = set_count same x in let few = h.few x in omega (arith, is, few);
   }
 
@@ -269,11 +269,11 @@ module _ (w : World) (p : Name) (r s : Row) (at : fmap.get w.rows p ≡ Some r) 
   pub set_lines : AreLines s → LinesHold w → LinesHold (set_row w p s)
   set_lines one h = record { each = each_inserted w.rows p s (λ q x. AreLines x) one h.each }
 
-  entry_case : (q : Name) (d : Details) (b : Bool) → is_name q p ≡ b → ((q ≡ p) → has_logged s.account.purse.log d ≡ true) → IsEntry w q d → (x : Row) × (cond b (Some s) (fmap.get w.rows q) ≡ Some x) × (has_logged x.account.purse.log d ≡ true)
+  entry_case : (q : Name) (d : Details) (b : Bool) → is_name q p ≡ b → ((q ≡ p) → has_logged s.holding.purse.log d ≡ true) → IsEntry w q d → (x : Row) × (cond b (Some s) (fmap.get w.rows q) ≡ Some x) × (has_logged x.holding.purse.log d ≡ true)
   entry_case q d true t new old = (s, refl, new (same_name q p t))
   entry_case q d false t new old = old
 
-  pub set_results : ((d : Details) → fmap.contains_key w.tray (p, d) ≡ true → has_logged s.account.purse.log d ≡ true) → ResultsHold w → ResultsHold (set_row w p s)
+  pub set_results : ((d : Details) → fmap.contains_key w.tray (p, d) ≡ true → has_logged s.holding.purse.log d ≡ true) → ResultsHold w → ResultsHold (set_row w p s)
   set_results still h = record {
     archived = λ q d there. still_some w.rows p s q (h.archived q d there);
     logged = λ q d there.
@@ -285,7 +285,7 @@ module _ (w : World) (p : Name) (r s : Row) (at : fmap.get w.rows p ≡ Some r) 
   pub set_payments : IsPaid s → PaymentsHold w → PaymentsHold (set_row w p s)
   set_payments one h = record { each = each_inserted w.rows p s (λ q x. IsPaid x) one h.each }
 
-  pub set_world : s.holder ≡ r.holder → IsPurseRow w p s → IsInbox s → AreLines s → IsPaid s → ((d : Details) → fmap.contains_key w.tray (p, d) ≡ true → has_logged s.account.purse.log d ≡ true) → IsWorld w → IsWorld (set_row w p s)
+  pub set_world : s.holder ≡ r.holder → IsPurseRow w p s → IsInbox s → AreLines s → IsPaid s → ((d : Details) → fmap.contains_key w.tray (p, d) ≡ true → has_logged s.holding.purse.log d ≡ true) → IsWorld w → IsWorld (set_row w p s)
   set_world same purse inbox lines paid still h = record {
     tokens = set_tokens h.tokens;
     members = set_members h.members;
@@ -296,22 +296,22 @@ module _ (w : World) (p : Name) (r s : Row) (at : fmap.get w.rows p ≡ Some r) 
     payments = set_payments paid h.payments;
   }
 
-  pub entry_here : IsWorld w → (d : Details) → fmap.contains_key w.tray (p, d) ≡ true → has_logged r.account.purse.log d ≡ true
-  entry_here h d there = let x = h.results.logged p d there in subst (λ (y : Row). has_logged y.account.purse.log d ≡ true) (inside x.0 r (sym x.1 ∙ at)) x.2
+  pub entry_here : IsWorld w → (d : Details) → fmap.contains_key w.tray (p, d) ≡ true → has_logged r.holding.purse.log d ≡ true
+  entry_here h d there = let x = h.results.logged p d there in subst (λ (y : Row). has_logged y.holding.purse.log d ≡ true) (inside x.0 r (sym x.1 ∙ at)) x.2
 
   -- only the inbox and the next message number are others
-  pub inbox_world : s ≡ record r { account = record r.account { inbox = s.account.inbox; next_message = s.account.next_message } } → IsInbox s → IsWorld w → IsWorld (set_row w p s)
+  pub inbox_world : s ≡ record r { holding = record r.holding { inbox = s.holding.inbox; next_message = s.holding.next_message } } → IsInbox s → IsWorld w → IsWorld (set_row w p s)
   inbox_world is inbox h =
-      let a : Account = record r.account { inbox = s.account.inbox; next_message = s.account.next_message } in
+      let a : Holding = record r.holding { inbox = s.holding.inbox; next_message = s.holding.next_message } in
       let purse = h.purses.each p r at in
       let lines = h.lines.each p r at in
       let paid = h.payments.each p r at in
       set_world (ap (λ x. x.holder) is)
-      (subst (IsPurseRow w p) (sym is) (record { text = purse.text; named = purse.named; held = purse.held; purse = purse.purse }))
+      (subst (IsPurseRow w p) (sym is) (record { text = purse.text; named = purse.named; holder = purse.holder; purse = purse.purse }))
       inbox
       (subst AreLines (sym is) (record { numbered = lines.numbered; counted = lines.counted }))
       (subst IsPaid (sym is) (record { loads = paid.loads; redemptions = paid.redemptions; collected = paid.collected }))
-      (λ d there. subst (λ (x : Row). has_logged x.account.purse.log d ≡ true) (sym is) (entry_here h d there))
+      (λ d there. subst (λ (x : Row). has_logged x.holding.purse.log d ≡ true) (sym is) (entry_here h d there))
       h
 
 -- ---- a message more or less
@@ -324,14 +324,14 @@ at_least : (b : Bool) (n : ℕ) → cond b (n - 1) n ≤ n
 at_least true n = omega arith
 at_least false n = omega arith
 
-below_case : (r : Row) (m : Message) (k : ℕ) (b : Bool) → eq_by_cmp nat_cmp k r.account.next_message ≡ b → IsInbox r → IsSome (cond b (Some m) (fmap.get r.account.inbox k)) → k < r.account.next_message + 1
-below_case r m k true t h there = let e : k ≡ r.account.next_message = same_number k r.account.next_message t in omega (arith, e)
+below_case : (r : Row) (m : Message) (k : ℕ) (b : Bool) → eq_by_cmp nat_cmp k r.holding.next_message ≡ b → IsInbox r → IsSome (cond b (Some m) (fmap.get r.holding.inbox k)) → k < r.holding.next_message + 1
+below_case r m k true t h there = let e : k ≡ r.holding.next_message = same_number k r.holding.next_message t in omega (arith, e)
 below_case r m k false t h there = let old = h.below k there in omega (arith, old)
 
-pub delivered_inbox : (r : Row) (m : Message) → IsInbox r → fmap.len r.account.inbox < 32 → r.account.next_message < 10 ^ 15 → IsInbox (record r { account = delivered r.account m })
+pub delivered_inbox : (r : Row) (m : Message) → IsInbox r → fmap.len r.holding.inbox < 32 → r.holding.next_message < 10 ^ 15 → IsInbox (record r { holding = delivered r.holding m })
 delivered_inbox r m h room next = record {
-  few = let is = fmap.len-insert nat_cmp_total r.account.inbox r.account.next_message m in let most = at_most (fmap.contains_key r.account.inbox r.account.next_message) (fmap.len r.account.inbox) in omega (arith, is, most, room);
-  below = λ k there. below_case r m k (eq_by_cmp nat_cmp k r.account.next_message) refl h (subst IsSome (fmap.get-insert nat_cmp_total r.account.inbox r.account.next_message m k) there);
+  few = let is = fmap.len-insert nat_cmp_total r.holding.inbox r.holding.next_message m in let most = at_most (fmap.contains_key r.holding.inbox r.holding.next_message) (fmap.len r.holding.inbox) in omega (arith, is, most, room);
+  below = λ k there. below_case r m k (eq_by_cmp nat_cmp k r.holding.next_message) refl h (subst IsSome (fmap.get-insert nat_cmp_total r.holding.inbox r.holding.next_message m k) there);
   next = omega (arith, next);
 }
 
@@ -339,17 +339,17 @@ gone_case : (b : Bool) (o : Option Message) → IsSome (cond b None o) → IsSom
 gone_case true o h = absurd (cc)
 gone_case false o h = h
 
-pub dropped_inbox : (r : Row) (n : ℕ) → IsInbox r → IsInbox (record r { account = record r.account { inbox = fmap.remove r.account.inbox n } })
+pub dropped_inbox : (r : Row) (n : ℕ) → IsInbox r → IsInbox (record r { holding = record r.holding { inbox = fmap.remove r.holding.inbox n } })
 dropped_inbox r n h = record {
-  few = let is = fmap.len-remove nat_cmp_total r.account.inbox n in let most = at_least (fmap.contains_key r.account.inbox n) (fmap.len r.account.inbox) in let few = h.few in omega (arith, is, most, few);
-  below = λ k there. h.below k (gone_case (eq_by_cmp nat_cmp k n) (fmap.get r.account.inbox k) (subst IsSome (fmap.get-remove nat_cmp_total r.account.inbox n k) there));
+  few = let is = fmap.len-remove nat_cmp_total r.holding.inbox n in let most = at_least (fmap.contains_key r.holding.inbox n) (fmap.len r.holding.inbox) in let few = h.few in omega (arith, is, most, few);
+  below = λ k there. h.below k (gone_case (eq_by_cmp nat_cmp k n) (fmap.get r.holding.inbox k) (subst IsSome (fmap.get-remove nat_cmp_total r.holding.inbox n k) there));
   next = h.next;
 }
 
-pub message_world : (w : World) (p : Name) (m : Message) (r : Row) → fmap.get w.rows p ≡ Some r → fmap.len r.account.inbox < 32 → r.account.next_message < 10 ^ 15 → IsWorld w → IsWorld (edited w (AddMessage p m))
+pub message_world : (w : World) (p : Name) (m : Message) (r : Row) → fmap.get w.rows p ≡ Some r → fmap.len r.holding.inbox < 32 → r.holding.next_message < 10 ^ 15 → IsWorld w → IsWorld (edited w (AddMessage p m))
 message_world w p m r at room next h =
-    subst IsWorld (ap (changed_row w p (λ x. record x { account = delivered x.account m })) (sym at)) (inbox_world w p r (record r { account = delivered r.account m }) at refl (delivered_inbox r m (h.inboxes.each p r at) room next) h)
+    subst IsWorld (ap (changed_row w p (λ x. record x { holding = delivered x.holding m })) (sym at)) (inbox_world w p r (record r { holding = delivered r.holding m }) at refl (delivered_inbox r m (h.inboxes.each p r at) room next) h)
 
 pub dropped_world : (w : World) (p : Name) (n : ℕ) (r : Row) → fmap.get w.rows p ≡ Some r → IsWorld w → IsWorld (edited w (DropMessage p n))
 dropped_world w p n r at h =
-    subst IsWorld (ap (changed_row w p (λ x. record x { account = record x.account { inbox = fmap.remove x.account.inbox n } })) (sym at)) (inbox_world w p r (record r { account = record r.account { inbox = fmap.remove r.account.inbox n } }) at refl (dropped_inbox r n (h.inboxes.each p r at)) h)
+    subst IsWorld (ap (changed_row w p (λ x. record x { holding = record x.holding { inbox = fmap.remove x.holding.inbox n } })) (sym at)) (inbox_world w p r (record r { holding = record r.holding { inbox = fmap.remove r.holding.inbox n } }) at refl (dropped_inbox r n (h.inboxes.each p r at)) h)

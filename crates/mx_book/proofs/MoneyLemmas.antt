@@ -12,7 +12,7 @@ use Rattle.mx_book.specs.declared.values.Line.{Line}
 use Rattle.mx_book.specs.declared.values.MemberRow.{MemberRow}
 use Rattle.mx_book.specs.declared.edits.Edit.{Edit}
 use Rattle.mx_book.specs.declared.edits.Edit.TheVariants.{SetMember, SetPurse, AddLine, AddLoad, AddRedemption, Collect}
-use Rattle.mx_book.specs.World.{World, Row, Account, Name, is_of_member, collected_row, collected, set_row, change_row, changed_row}
+use Rattle.mx_book.specs.World.{World, Row, Holding, Name, is_of_member, with_collected, all_collected, set_row, change_row, changed_row}
 use Rattle.mx_book.specs.Reads.{purses_of}
 use Rattle.mx_book.specs.Conditions.{IsOwner, IsWorld, IsPurseRow, IsInbox, IsPaid, AreLines, AreNumbered, IsEntry, PursesHold, all_granted}
 use Rattle.mx_book.specs.Edits.{edited, all_edited, Suits, AllSuit}
@@ -32,7 +32,7 @@ abbrev pub with_load : Row → Name → ℕ → Row
 with_load r reference amount = record r { loads = fmap.insert r.loads reference amount }
 
 abbrev pub with_redemption : Row → Name → ℕ → Row
-with_redemption r reference amount = record r { account = record r.account { redemptions = fmap.insert r.account.redemptions reference amount } }
+with_redemption r reference amount = record r { holding = record r.holding { redemptions = fmap.insert r.holding.redemptions reference amount } }
 
 none_is : {X : Type 0} (o : Option X) → o ≡ None → IsNone o
 none_is None e = refl
@@ -75,7 +75,7 @@ module _ (w : World) (m : Name) (granted float : ℕ) (there : IsSome (fmap.get 
       floats = each_inserted w.members m row (λ n x. x.float ≤ 10 ^ 15) room h.members.floats;
       holders = λ g n at. let x = h.members.holders g n at in (x.0, still_some w.members m row n x.1);
     };
-    purses = record { each = λ p r at. let x = h.purses.each p r at in record { text = x.text; named = x.named; held = x.held; purse = x.purse }; few = h.purses.few };
+    purses = record { each = λ p r at. let x = h.purses.each p r at in record { text = x.text; named = x.named; holder = x.holder; purse = x.purse }; few = h.purses.few };
     inboxes = record { each = h.inboxes.each };
     lines = record { each = h.lines.each };
     results = record { archived = h.results.archived; logged = h.results.logged; apart = h.results.apart };
@@ -93,8 +93,8 @@ granted_after w m granted float old at =
 -- ---- a purse with loads or redemptions more
 
 -- what is kept of loads
-pub loads_stay : (w : World) (p : Name) (r : Row) (q : State) (ls : List Line) (reference : Name) (amount : ℕ) → fmap.get w.rows p ≡ Some r → q.name ≡ p → IsPurse q → AreNumbered 1 (r.account.lines ++ ls) → length (r.account.lines ++ ls) ≡ q.lines
-    → ((d : Details) → has_logged r.account.purse.log d ≡ true → has_logged q.log d ≡ true) → IsTrue (is_name_text reference) → amount ≤ 10 ^ 12
+pub loads_stay : (w : World) (p : Name) (r : Row) (q : State) (ls : List Line) (reference : Name) (amount : ℕ) → fmap.get w.rows p ≡ Some r → q.name ≡ p → IsPurse q → AreNumbered 1 (r.holding.lines ++ ls) → length (r.holding.lines ++ ls) ≡ q.lines
+    → ((d : Details) → has_logged r.holding.purse.log d ≡ true → has_logged q.log d ≡ true) → IsTrue (is_name_text reference) → amount ≤ 10 ^ 12
     → IsWorld w → IsWorld (set_row w p (with_load (with_lines r q ls) reference amount))
 loads_stay w p r q ls reference amount at name purse numbered counted logged text small h =
     let s : Row = with_load (with_lines r q ls) reference amount in
@@ -102,7 +102,7 @@ loads_stay w p r q ls reference amount at name purse numbered counted logged tex
     let inbox = h.inboxes.each p r at in
     let paid = h.payments.each p r at in
     set_world w p r s at refl
-    (record { text = old.text; named = name; held = old.held; purse = purse })
+    (record { text = old.text; named = name; holder = old.holder; purse = purse })
     (record { few = inbox.few; below = inbox.below; next = inbox.next })
     (record { numbered = numbered; counted = counted })
     (record { loads = each_inserted r.loads reference amount (λ k n. IsTrue (is_name_text k) × (n ≤ 10 ^ 12)) (text, small) paid.loads; redemptions = paid.redemptions; collected = paid.collected })
@@ -110,8 +110,8 @@ loads_stay w p r q ls reference amount at name purse numbered counted logged tex
     h
 
 -- what is kept of redemptions
-pub redemptions_stay : (w : World) (p : Name) (r : Row) (q : State) (ls : List Line) (reference : Name) (amount : ℕ) → fmap.get w.rows p ≡ Some r → q.name ≡ p → IsPurse q → AreNumbered 1 (r.account.lines ++ ls) → length (r.account.lines ++ ls) ≡ q.lines
-    → ((d : Details) → has_logged r.account.purse.log d ≡ true → has_logged q.log d ≡ true) → IsTrue (is_name_text reference) → amount ≤ 10 ^ 12
+pub redemptions_stay : (w : World) (p : Name) (r : Row) (q : State) (ls : List Line) (reference : Name) (amount : ℕ) → fmap.get w.rows p ≡ Some r → q.name ≡ p → IsPurse q → AreNumbered 1 (r.holding.lines ++ ls) → length (r.holding.lines ++ ls) ≡ q.lines
+    → ((d : Details) → has_logged r.holding.purse.log d ≡ true → has_logged q.log d ≡ true) → IsTrue (is_name_text reference) → amount ≤ 10 ^ 12
     → IsWorld w → IsWorld (set_row w p (with_redemption (with_lines r q ls) reference amount))
 redemptions_stay w p r q ls reference amount at name purse numbered counted logged text small h =
     let s : Row = with_redemption (with_lines r q ls) reference amount in
@@ -119,13 +119,13 @@ redemptions_stay w p r q ls reference amount at name purse numbered counted logg
     let inbox = h.inboxes.each p r at in
     let paid = h.payments.each p r at in
     set_world w p r s at refl
-    (record { text = old.text; named = name; held = old.held; purse = purse })
+    (record { text = old.text; named = name; holder = old.holder; purse = purse })
     (record { few = inbox.few; below = inbox.below; next = inbox.next })
     (record { numbered = numbered; counted = counted })
     (record {
       loads = paid.loads;
-      redemptions = each_inserted r.account.redemptions reference amount (λ k n. IsTrue (is_name_text k) × (n ≤ 10 ^ 12)) (text, small) paid.redemptions;
-      collected = λ k there. still_some r.account.redemptions reference amount k (paid.collected k there);
+      redemptions = each_inserted r.holding.redemptions reference amount (λ k n. IsTrue (is_name_text k) × (n ≤ 10 ^ 12)) (text, small) paid.redemptions;
+      collected = λ k there. still_some r.holding.redemptions reference amount k (paid.collected k there);
     })
     (λ d there. logged d (entry_here w p r s at h d there))
     h
@@ -138,7 +138,7 @@ load_leads w p r q ls reference amount at name =
     ∙ ap (λ z. edited z (AddLoad p reference amount)) (purse_leads w p r q ls at name)
     ∙ change_set w p (with_lines r q ls) (λ x. with_load x reference amount)
 
-pub load_suits : (w : World) (p : Name) (r : Row) (q : State) (ls : List Line) (reference : Name) (amount : ℕ) → fmap.get w.rows p ≡ Some r → q.name ≡ p → AreNumbered 1 (r.account.lines ++ ls) → fmap.get r.loads reference ≡ None
+pub load_suits : (w : World) (p : Name) (r : Row) (q : State) (ls : List Line) (reference : Name) (amount : ℕ) → fmap.get w.rows p ≡ Some r → q.name ≡ p → AreNumbered 1 (r.holding.lines ++ ls) → fmap.get r.loads reference ≡ None
     → AllSuit w ((SetPurse q ∷ line_edits p ls) ++ AddLoad p reference amount ∷ [])
 load_suits w p r q ls reference amount at name numbered new =
     suits_append w (SetPurse q ∷ line_edits p ls) (AddLoad p reference amount ∷ []) (purse_suits w p r q ls at name numbered)
@@ -152,20 +152,20 @@ redemption_leads w p r q ls reference amount at name =
     ∙ ap (λ z. edited z (AddRedemption p reference amount)) (purse_leads w p r q ls at name)
     ∙ change_set w p (with_lines r q ls) (λ x. with_redemption x reference amount)
 
-pub redemption_suits : (w : World) (p : Name) (r : Row) (q : State) (ls : List Line) (reference : Name) (amount : ℕ) → fmap.get w.rows p ≡ Some r → q.name ≡ p → AreNumbered 1 (r.account.lines ++ ls) → fmap.get r.account.redemptions reference ≡ None
+pub redemption_suits : (w : World) (p : Name) (r : Row) (q : State) (ls : List Line) (reference : Name) (amount : ℕ) → fmap.get w.rows p ≡ Some r → q.name ≡ p → AreNumbered 1 (r.holding.lines ++ ls) → fmap.get r.holding.redemptions reference ≡ None
     → AllSuit w ((SetPurse q ∷ line_edits p ls) ++ AddRedemption p reference amount ∷ [])
 redemption_suits w p r q ls reference amount at name numbered new =
     suits_append w (SetPurse q ∷ line_edits p ls) (AddRedemption p reference amount ∷ []) (purse_suits w p r q ls at name numbered)
     (subst (λ (z : World). AllSuit z (AddRedemption p reference amount ∷ [])) (sym (purse_leads w p r q ls at name))
-    (subst (λ (o : Option Row). IsSomeAnd o (λ x. IsNone (fmap.get x.account.redemptions reference))) (sym (get-inserted w.rows p (with_lines r q ls))) (none_is _ new), tt))
+    (subst (λ (o : Option Row). IsSomeAnd o (λ x. IsNone (fmap.get x.holding.redemptions reference))) (sym (get-inserted w.rows p (with_lines r q ls))) (none_is _ new), tt))
 
 -- ---- a collect
 
 -- the row of a purse when the member's redemptions are collected
 abbrev pub collect_row : World → Name → Row → Row
-collect_row w m r = cond (is_of_member w m r) (collected_row r) r
+collect_row w m r = cond (is_of_member w m r) (with_collected r) r
 
-pub get_collected : (w : World) (m p : Name) → fmap.get (collected w m).rows p ≡ option_map (collect_row w m) (fmap.get w.rows p)
+pub get_collected : (w : World) (m p : Name) → fmap.get (all_collected w m).rows p ≡ option_map (collect_row w m) (fmap.get w.rows p)
 get_collected w m p = get-remake name_cmp (λ q r. collect_row w m r) names_exact w.rows p
 
 -- what holds of each row when it may be collected holds of each row afterwards
@@ -173,11 +173,11 @@ back_case : (w : World) (m p : Name) (P : Name → Row → Type 0) (x : Row) (o 
 back_case w m p P x None each e = absurd (cc)
 back_case w m p P x (Some r) each e = subst (P p) (inside (collect_row w m r) x e) (each r refl)
 
-back : (w : World) (m : Name) (P : Name → Row → Type 0) → ((p : Name) (r : Row) → fmap.get w.rows p ≡ Some r → P p (collect_row w m r)) → (p : Name) (x : Row) → fmap.get (collected w m).rows p ≡ Some x → P p x
+back : (w : World) (m : Name) (P : Name → Row → Type 0) → ((p : Name) (r : Row) → fmap.get w.rows p ≡ Some r → P p (collect_row w m r)) → (p : Name) (x : Row) → fmap.get (all_collected w m).rows p ≡ Some x → P p x
 back w m P each p x at = back_case w m p P x (fmap.get w.rows p) (each p) (sym (get_collected w m p) ∙ at)
 
 -- a collect leaves the holder and what is the holder's own
-same_holder : (w : World) (m : Name) (r : Row) (b : Bool) → (cond b (collected_row r) r).holder ≡ r.holder
+same_holder : (w : World) (m : Name) (r : Row) (b : Bool) → (cond b (with_collected r) r).holder ≡ r.holder
 same_holder w m r true = refl
 same_holder w m r false = refl
 
@@ -195,7 +195,7 @@ names_remade w m g (e ∷ es) =
     ap (λ b. map (λ (x : Name × Row). x.0) (cond b ((e.0, collect_row w m e.1) ∷ rest) rest)) same
     ∙ name_case g e.0 e.1 (collect_row w m e.1) (is_name g e.1.holder) rest (filter (λ (x : Name × Row). is_name g x.1.holder) es) (names_remade w m g es)
 
-same_purses : (w : World) (m g : Name) → purses_of (collected w m) g ≡ purses_of w g
+same_purses : (w : World) (m g : Name) → purses_of (all_collected w m) g ≡ purses_of w g
 same_purses w m g = ap (λ es. map (λ (e : Name × Row). e.0) (filter (λ (e : Name × Row). is_name g e.1.holder) es)) (entries-remake name_cmp (λ p r. collect_row w m r) w.rows) ∙ names_remade w m g (fmap.entries w.rows)
 
 -- what is collected of a purse are its redemptions
@@ -203,44 +203,44 @@ marked_case : (o : Option ℕ) → IsSome (option_and_then (λ (n : ℕ). Some (
 marked_case None there = there
 marked_case (Some n) there = refl
 
-paid_case : (r : Row) (b : Bool) → IsPaid r → IsPaid (cond b (collected_row r) r)
+paid_case : (r : Row) (b : Bool) → IsPaid r → IsPaid (cond b (with_collected r) r)
 paid_case r true paid = record {
   loads = paid.loads;
   redemptions = paid.redemptions;
-  collected = λ k there. marked_case (fmap.get r.account.redemptions k) (ap is_some (sym (get-pick names_total _ r.account.redemptions k)) ∙ there);
+  collected = λ k there. marked_case (fmap.get r.holding.redemptions k) (ap is_some (sym (get-pick names_total _ r.holding.redemptions k)) ∙ there);
 }
 paid_case r false paid = paid
 
-row_case : (w v : World) (p : Name) (r : Row) (b : Bool) → v.holders ≡ w.holders → IsPurseRow w p r → IsPurseRow v p (cond b (collected_row r) r)
-row_case w v p r true same is = record { text = is.text; named = is.named; held = subst (λ (hs : fmap.FinMap name_cmp Name). IsSome (fmap.get hs r.holder)) (sym same) is.held; purse = is.purse }
-row_case w v p r false same is = record { text = is.text; named = is.named; held = subst (λ (hs : fmap.FinMap name_cmp Name). IsSome (fmap.get hs r.holder)) (sym same) is.held; purse = is.purse }
+row_case : (w v : World) (p : Name) (r : Row) (b : Bool) → v.holders ≡ w.holders → IsPurseRow w p r → IsPurseRow v p (cond b (with_collected r) r)
+row_case w v p r true same is = record { text = is.text; named = is.named; holder = subst (λ (hs : fmap.FinMap name_cmp Name). IsSome (fmap.get hs r.holder)) (sym same) is.holder; purse = is.purse }
+row_case w v p r false same is = record { text = is.text; named = is.named; holder = subst (λ (hs : fmap.FinMap name_cmp Name). IsSome (fmap.get hs r.holder)) (sym same) is.holder; purse = is.purse }
 
-inbox_case : (r : Row) (b : Bool) → IsInbox r → IsInbox (cond b (collected_row r) r)
+inbox_case : (r : Row) (b : Bool) → IsInbox r → IsInbox (cond b (with_collected r) r)
 inbox_case r true is = record { few = is.few; below = is.below; next = is.next }
 inbox_case r false is = is
 
-lines_case : (r : Row) (b : Bool) → AreLines r → AreLines (cond b (collected_row r) r)
+lines_case : (r : Row) (b : Bool) → AreLines r → AreLines (cond b (with_collected r) r)
 lines_case r true is = record { numbered = is.numbered; counted = is.counted }
 lines_case r false is = is
 
-purse_case : (r : Row) (b : Bool) → (cond b (collected_row r) r).account.purse ≡ r.account.purse
+purse_case : (r : Row) (b : Bool) → (cond b (with_collected r) r).holding.purse ≡ r.holding.purse
 purse_case r true = refl
 purse_case r false = refl
 
-found_row : (w : World) (m p : Name) (r : Row) → fmap.get w.rows p ≡ Some r → fmap.get (collected w m).rows p ≡ Some (collect_row w m r)
+found_row : (w : World) (m p : Name) (r : Row) → fmap.get w.rows p ≡ Some r → fmap.get (all_collected w m).rows p ≡ Some (collect_row w m r)
 found_row w m p r at = get_collected w m p ∙ ap (option_map (collect_row w m)) at
 
 still_there : (w : World) (m p : Name) (o : Option Row) → IsSome o → IsSome (option_map (collect_row w m) o)
 still_there w m p None there = there
 still_there w m p (Some r) there = refl
 
-pub collect_stays : (w : World) (m : Name) → IsWorld w → IsWorld (collected w m)
+pub collect_stays : (w : World) (m : Name) → IsWorld w → IsWorld (all_collected w m)
 collect_stays w m h = record {
   tokens = record { operator = h.tokens.operator; owners = h.tokens.owners; clerks = h.tokens.clerks; holders = h.tokens.holders; single = h.tokens.single };
   members = record { named = h.members.named; granted = h.members.granted; floats = h.members.floats; holders = h.members.holders };
   purses = record {
-    each = back w m (λ p r. IsPurseRow (collected w m) p r) (λ p r at. row_case w (collected w m) p r (is_of_member w m r) refl (h.purses.each p r at));
-    few = λ g. let same : length (purses_of (collected w m) g) ≡ length (purses_of w g) = ap length (same_purses w m g) in let few = h.purses.few g in omega (arith, same, few);
+    each = back w m (λ p r. IsPurseRow (all_collected w m) p r) (λ p r at. row_case w (all_collected w m) p r (is_of_member w m r) refl (h.purses.each p r at));
+    few = λ g. let same : length (purses_of (all_collected w m) g) ≡ length (purses_of w g) = ap length (same_purses w m g) in let few = h.purses.few g in omega (arith, same, few);
   };
   inboxes = record { each = back w m (λ p r. IsInbox r) (λ p r at. inbox_case r (is_of_member w m r) (h.inboxes.each p r at)) };
   lines = record { each = back w m (λ p r. AreLines r) (λ p r at. lines_case r (is_of_member w m r) (h.lines.each p r at)) };

@@ -9,7 +9,7 @@ use Rattle.mx_pay.specs.Log.{has_logged}
 use Rattle.mx_purse.specs.State.{State, IsPurse}
 use Rattle.mx_purse.specs.declared.message.Message.{Message}
 use Rattle.mx_book.specs.declared.values.Line.{Line}
-use Rattle.mx_book.specs.World.{World, Row, Account, Name, Token, set_row, change_row, changed_row, has_room, delivered, with_message, put}
+use Rattle.mx_book.specs.World.{World, Row, Holding, Name, Token, set_row, change_row, changed_row, has_room, delivered, with_message, put}
 use Rattle.mx_book.specs.Reads.{purses_of}
 use Rattle.mx_book.specs.Conditions.{IsWorld, IsPurseRow, AreNumbered}
 use Rattle.mx_book.specs.declared.edits.Edit.{Edit}
@@ -67,7 +67,7 @@ suits_append w (e ∷ es) fs h g = (h.0, suits_append (edited w e) es fs h.1 g)
 
 -- the row with another purse and more lines
 abbrev pub with_lines : Row → State → List Line → Row
-with_lines r q ls = record r { account = record r.account { purse = q; lines = r.account.lines ++ ls } }
+with_lines r q ls = record r { holding = record r.holding { purse = q; lines = r.holding.lines ++ ls } }
 
 -- an edit for each line
 abbrev pub line_edits : Name → List Line → List Edit
@@ -80,52 +80,52 @@ append_none (x ∷ xs) = ap (λ ys. x ∷ ys) (append_none xs)
 
 -- the row with more lines
 abbrev more_lines : Row → List Line → Row
-more_lines r ls = record r { account = record r.account { lines = r.account.lines ++ ls } }
+more_lines r ls = record r { holding = record r.holding { lines = r.holding.lines ++ ls } }
 
 line_leads : (w : World) (p : Name) (r : Row) (l : Line) → edited (set_row w p r) (AddLine p l) ≡ set_row w p (more_lines r (l ∷ []))
 line_leads w p r l = change_set w p r (λ x. more_lines x (l ∷ []))
 
 lines_lead : (w : World) (p : Name) (r : Row) (ls : List Line) → all_edited (set_row w p r) (line_edits p ls) ≡ set_row w p (more_lines r ls)
-lines_lead w p r [] = ap (λ xs. set_row w p (record r { account = record r.account { lines = xs } })) (sym (append_none r.account.lines))
+lines_lead w p r [] = ap (λ xs. set_row w p (record r { holding = record r.holding { lines = xs } })) (sym (append_none r.holding.lines))
 lines_lead w p r (l ∷ ls) =
     ap (λ z. all_edited z (line_edits p ls)) (line_leads w p r l)
     ∙ lines_lead w p (more_lines r (l ∷ [])) ls
-    ∙ ap (λ xs. set_row w p (record r { account = record r.account { lines = xs } })) (append_assoc r.account.lines (l ∷ []) ls)
+    ∙ ap (λ xs. set_row w p (record r { holding = record r.holding { lines = xs } })) (append_assoc r.holding.lines (l ∷ []) ls)
 
 -- the first part of lines with numbers
 first_numbered : (n : ℕ) (ls ms : List Line) → AreNumbered n (ls ++ ms) → AreNumbered n ls
 first_numbered n [] ms h = tt
 first_numbered n (l ∷ ls) ms h = (h.0, first_numbered (n + 1) ls ms h.1)
 
-lines_suit : (w : World) (p : Name) (r : Row) (ls : List Line) → AreNumbered 1 (r.account.lines ++ ls) → AllSuit (set_row w p r) (line_edits p ls)
+lines_suit : (w : World) (p : Name) (r : Row) (ls : List Line) → AreNumbered 1 (r.holding.lines ++ ls) → AllSuit (set_row w p r) (line_edits p ls)
 lines_suit w p r [] h = tt
 lines_suit w p r (l ∷ ls) h =
     let s : Row = more_lines r (l ∷ []) in
-    let all : AreNumbered 1 (s.account.lines ++ ls) = subst (AreNumbered 1) (sym (append_assoc r.account.lines (l ∷ []) ls)) h in (
-      subst (λ (o : Option Row). IsSomeAnd o (λ x. AreNumbered 1 (x.account.lines ++ l ∷ []))) (sym (get-inserted w.rows p r)) (first_numbered 1 s.account.lines ls all),
+    let all : AreNumbered 1 (s.holding.lines ++ ls) = subst (AreNumbered 1) (sym (append_assoc r.holding.lines (l ∷ []) ls)) h in (
+      subst (λ (o : Option Row). IsSomeAnd o (λ x. AreNumbered 1 (x.holding.lines ++ l ∷ []))) (sym (get-inserted w.rows p r)) (first_numbered 1 s.holding.lines ls all),
       subst (λ (z : World). AllSuit z (line_edits p ls)) (sym (line_leads w p r l)) (lines_suit w p s ls all),
     )
 
-purse_leads_one : (w : World) (p : Name) (r : Row) (q : State) → fmap.get w.rows p ≡ Some r → q.name ≡ p → edited w (SetPurse q) ≡ set_row w p (record r { account = record r.account { purse = q } })
-purse_leads_one w p r q at name = ap (λ n. change_row w n (λ x. record x { account = record x.account { purse = q } })) name ∙ change_there w p (λ x. record x { account = record x.account { purse = q } }) r at
+purse_leads_one : (w : World) (p : Name) (r : Row) (q : State) → fmap.get w.rows p ≡ Some r → q.name ≡ p → edited w (SetPurse q) ≡ set_row w p (record r { holding = record r.holding { purse = q } })
+purse_leads_one w p r q at name = ap (λ n. change_row w n (λ x. record x { holding = record x.holding { purse = q } })) name ∙ change_there w p (λ x. record x { holding = record x.holding { purse = q } }) r at
 
 pub purse_leads : (w : World) (p : Name) (r : Row) (q : State) (ls : List Line) → fmap.get w.rows p ≡ Some r → q.name ≡ p → all_edited w (SetPurse q ∷ line_edits p ls) ≡ set_row w p (with_lines r q ls)
-purse_leads w p r q ls at name = ap (λ z. all_edited z (line_edits p ls)) (purse_leads_one w p r q at name) ∙ lines_lead w p (record r { account = record r.account { purse = q } }) ls
+purse_leads w p r q ls at name = ap (λ z. all_edited z (line_edits p ls)) (purse_leads_one w p r q at name) ∙ lines_lead w p (record r { holding = record r.holding { purse = q } }) ls
 
-pub purse_suits : (w : World) (p : Name) (r : Row) (q : State) (ls : List Line) → fmap.get w.rows p ≡ Some r → q.name ≡ p → AreNumbered 1 (r.account.lines ++ ls) → AllSuit w (SetPurse q ∷ line_edits p ls)
+pub purse_suits : (w : World) (p : Name) (r : Row) (q : State) (ls : List Line) → fmap.get w.rows p ≡ Some r → q.name ≡ p → AreNumbered 1 (r.holding.lines ++ ls) → AllSuit w (SetPurse q ∷ line_edits p ls)
 purse_suits w p r q ls at name numbered = (
   some_of _ r (ap (fmap.get w.rows) name ∙ at),
-  subst (λ (z : World). AllSuit z (line_edits p ls)) (sym (purse_leads_one w p r q at name)) (lines_suit w p (record r { account = record r.account { purse = q } }) ls numbered),
+  subst (λ (z : World). AllSuit z (line_edits p ls)) (sym (purse_leads_one w p r q at name)) (lines_suit w p (record r { holding = record r.holding { purse = q } }) ls numbered),
 )
 
-pub purse_stays : (w : World) (p : Name) (r : Row) (q : State) (ls : List Line) → fmap.get w.rows p ≡ Some r → q.name ≡ p → IsPurse q → AreNumbered 1 (r.account.lines ++ ls) → length (r.account.lines ++ ls) ≡ q.lines
-    → ((d : Details) → has_logged r.account.purse.log d ≡ true → has_logged q.log d ≡ true) → IsWorld w → IsWorld (set_row w p (with_lines r q ls))
+pub purse_stays : (w : World) (p : Name) (r : Row) (q : State) (ls : List Line) → fmap.get w.rows p ≡ Some r → q.name ≡ p → IsPurse q → AreNumbered 1 (r.holding.lines ++ ls) → length (r.holding.lines ++ ls) ≡ q.lines
+    → ((d : Details) → has_logged r.holding.purse.log d ≡ true → has_logged q.log d ≡ true) → IsWorld w → IsWorld (set_row w p (with_lines r q ls))
 purse_stays w p r q ls at name purse numbered counted logged h =
     let old : IsPurseRow w p r = h.purses.each p r at in
     let inbox = h.inboxes.each p r at in
     let paid = h.payments.each p r at in
     set_world w p r (with_lines r q ls) at refl
-    (record { text = old.text; named = name; held = old.held; purse = purse })
+    (record { text = old.text; named = name; holder = old.holder; purse = purse })
     (record { few = inbox.few; below = inbox.below; next = inbox.next })
     (record { numbered = numbered; counted = counted })
     (record { loads = paid.loads; redemptions = paid.redemptions; collected = paid.collected })
@@ -142,34 +142,34 @@ both_of true b h = (refl, h)
 both_of false b h = absurd (cc)
 
 -- where there is room, the inbox is below its limit and so is the next number
-room_is : (a : Account) → has_room a ≡ true → (fmap.len a.inbox < 32) × (a.next_message < 10 ^ 15)
+room_is : (a : Holding) → has_room a ≡ true → (fmap.len a.inbox < 32) × (a.next_message < 10 ^ 15)
 unfolding has_room
 room_is a room = let x = both_of (nat_lt (fmap.len a.inbox) 32) (nat_lt a.next_message (10 ^ 15)) room in (ltb-true _ _ x.0, ltb-true _ _ x.1)
 
-put_there : (w : World) (p : Name) (m : Message) (r : Row) (b : Bool) → fmap.get w.rows p ≡ Some r → has_room r.account ≡ b → put w p m ≡ set_row w p (record r { account = cond b (delivered r.account m) r.account })
-put_there w p m r b at room = change_there w p (λ x. record x { account = with_message x.account m }) r at ∙ ap (λ c. set_row w p (record r { account = cond c (delivered r.account m) r.account })) room
+put_there : (w : World) (p : Name) (m : Message) (r : Row) (b : Bool) → fmap.get w.rows p ≡ Some r → has_room r.holding ≡ b → put w p m ≡ set_row w p (record r { holding = cond b (delivered r.holding m) r.holding })
+put_there w p m r b at room = change_there w p (λ x. record x { holding = with_message x.holding m }) r at ∙ ap (λ c. set_row w p (record r { holding = cond c (delivered r.holding m) r.holding })) room
 
 -- a message that finds a place is put by an edit
-pub put_leads : (w : World) (p : Name) (m : Message) (r : Row) → fmap.get w.rows p ≡ Some r → has_room r.account ≡ true → edited w (AddMessage p m) ≡ put w p m
-put_leads w p m r at room = change_there w p (λ x. record x { account = delivered x.account m }) r at ∙ sym (put_there w p m r true at room)
+pub put_leads : (w : World) (p : Name) (m : Message) (r : Row) → fmap.get w.rows p ≡ Some r → has_room r.holding ≡ true → edited w (AddMessage p m) ≡ put w p m
+put_leads w p m r at room = change_there w p (λ x. record x { holding = delivered x.holding m }) r at ∙ sym (put_there w p m r true at room)
 
-pub put_suits : (w : World) (p : Name) (m : Message) (r : Row) → fmap.get w.rows p ≡ Some r → has_room r.account ≡ true → Suits w (AddMessage p m)
-put_suits w p m r at room = subst (λ (o : Option Row). IsSomeAnd o (λ x. (fmap.len x.account.inbox < 32) × (x.account.next_message < 10 ^ 15))) (sym at) (room_is r.account room)
+pub put_suits : (w : World) (p : Name) (m : Message) (r : Row) → fmap.get w.rows p ≡ Some r → has_room r.holding ≡ true → Suits w (AddMessage p m)
+put_suits w p m r at room = subst (λ (o : Option Row). IsSomeAnd o (λ x. (fmap.len x.holding.inbox < 32) × (x.holding.next_message < 10 ^ 15))) (sym at) (room_is r.holding room)
 
 -- one that finds no place vanishes, and so does one for a purse that isn't there
-pub put_vanishes : (w : World) (p : Name) (m : Message) (r : Row) → fmap.get w.rows p ≡ Some r → has_room r.account ≡ false → put w p m ≡ w
+pub put_vanishes : (w : World) (p : Name) (m : Message) (r : Row) → fmap.get w.rows p ≡ Some r → has_room r.holding ≡ false → put w p m ≡ w
 put_vanishes w p m r at room = put_there w p m r false at room ∙ set_same w p r at
 
 pub put_nowhere : (w : World) (p : Name) (m : Message) → fmap.get w.rows p ≡ None → put w p m ≡ w
-put_nowhere w p m gone = ap (changed_row w p (λ x. record x { account = with_message x.account m })) gone
+put_nowhere w p m gone = ap (changed_row w p (λ x. record x { holding = with_message x.holding m })) gone
 
-stays_in : (w : World) (p : Name) (m : Message) (r : Row) → fmap.get w.rows p ≡ Some r → (b : Bool) → has_room r.account ≡ b → IsWorld w → IsWorld (put w p m)
-stays_in w p m r at true room h = let few = room_is r.account room in subst IsWorld (put_leads w p m r at room) (message_world w p m r at few.0 few.1 h)
+stays_in : (w : World) (p : Name) (m : Message) (r : Row) → fmap.get w.rows p ≡ Some r → (b : Bool) → has_room r.holding ≡ b → IsWorld w → IsWorld (put w p m)
+stays_in w p m r at true room h = let few = room_is r.holding room in subst IsWorld (put_leads w p m r at room) (message_world w p m r at few.0 few.1 h)
 stays_in w p m r at false room h = subst IsWorld (sym (put_vanishes w p m r at room)) h
 
 stays_at : (w : World) (p : Name) (m : Message) (o : Option Row) → fmap.get w.rows p ≡ o → IsWorld w → IsWorld (put w p m)
 stays_at w p m None at h = subst IsWorld (sym (put_nowhere w p m at)) h
-stays_at w p m (Some r) at h = stays_in w p m r at (has_room r.account) refl h
+stays_at w p m (Some r) at h = stays_in w p m r at (has_room r.holding) refl h
 
 pub put_stays : (w : World) (p : Name) (m : Message) → IsWorld w → IsWorld (put w p m)
 put_stays w p m h = stays_at w p m (fmap.get w.rows p) refl h
@@ -178,13 +178,13 @@ put_stays w p m h = stays_at w p m (fmap.get w.rows p) refl h
 
 -- the row without a message
 abbrev pub without_message : Row → ℕ → Row
-without_message r n = record r { account = record r.account { inbox = fmap.remove r.account.inbox n } }
+without_message r n = record r { holding = record r.holding { inbox = fmap.remove r.holding.inbox n } }
 
 pub discard_leads : (w : World) (p : Name) (n : ℕ) (r : Row) → fmap.get w.rows p ≡ Some r → edited w (DropMessage p n) ≡ set_row w p (without_message r n)
 discard_leads w p n r at = change_there w p (λ x. without_message x n) r at
 
-pub discard_suits : (w : World) (p : Name) (n : ℕ) (r : Row) → fmap.get w.rows p ≡ Some r → IsSome (fmap.get r.account.inbox n) → Suits w (DropMessage p n)
-discard_suits w p n r at there = subst (λ (o : Option Row). IsSomeAnd o (λ x. IsSome (fmap.get x.account.inbox n))) (sym at) there
+pub discard_suits : (w : World) (p : Name) (n : ℕ) (r : Row) → fmap.get w.rows p ≡ Some r → IsSome (fmap.get r.holding.inbox n) → Suits w (DropMessage p n)
+discard_suits w p n r at there = subst (λ (o : Option Row). IsSomeAnd o (λ x. IsSome (fmap.get x.holding.inbox n))) (sym at) there
 
 pub discard_stays : (w : World) (p : Name) (n : ℕ) (r : Row) → fmap.get w.rows p ≡ Some r → IsWorld w → IsWorld (set_row w p (without_message r n))
 discard_stays w p n r at h = subst IsWorld (discard_leads w p n r at) (dropped_world w p n r at h)

@@ -16,7 +16,7 @@ use Rattle.mx_book.specs.declared.values.Redemption.{Redemption}
 use Rattle.mx_book.specs.Under.{under, those, with_second, remade}
 use Rattle.mx_book.specs.Rows.{Rows, world_of, row_of, line_at, amount_of, IsProper}
 use Rattle.mx_book.specs.Reads.{of_purse, from_row, purses_of, holder_of, account_of, account_with, inbox_of, message_of, lines_of, members_of, load_of, redemption_of}
-use Rattle.mx_book.specs.RowReads.{of_name, held_by, row_purses_of, row_holder_of, row_account_of, row_account_with, row_inbox_of, row_lines_of, row_members_of, row_load_of, row_redemption_of, line_of_row}
+use Rattle.mx_book.specs.RowReads.{of_name, purse_rows_of, row_purses_of, row_holder_of, row_account_of, row_account_with, row_inbox_of, row_lines_of, row_members_of, row_load_of, row_redemption_of, line_of_row}
 use Rattle.mx_book.proofs.UnderLemmas.{get-under, entries-under, len-under, entries-remake, under-none, entries_empty}
 use Rattle.mx_book.proofs.RowLemmas.{get_rows}
 
@@ -66,7 +66,7 @@ pub purses_are : (r : Rows) (h : Name) → purses_of (world_of r) h ≡ row_purs
 purses_are r h = ap (λ es. map (λ (e : Name × Row). e.0) (filter (λ (e : Name × Row). is_name h e.1.holder) es)) (entries-remake name_cmp (row_of r) r.purses) ∙ held_names r h (fmap.entries r.purses)
 
 pub holder_is : (r : Rows) (h : Name) → holder_of (world_of r) h ≡ row_holder_of r h
-holder_is r h = ap (λ n. option_map (λ m. record { member = m; purses = n }) (fmap.get r.holders h)) (ap length (purses_are r h) ∙ length-map_lem _ (held_by h (fmap.entries r.purses)))
+holder_is r h = ap (λ n. option_map (λ m. record { member = m; purses = n }) (fmap.get r.holders h)) (ap length (purses_are r h) ∙ length-map_lem _ (purse_rows_of h (fmap.entries r.purses)))
 
 -- ---- an account
 
@@ -105,7 +105,7 @@ module _ (r : Rows) (h : IsProper r) where
   line_entries : (p : Name) → fmap.entries (under name_cmp nat_cmp p r.lines) ≡ map (λ (e : (Name × ℕ) × LineRow). (e.0.1, e.1)) (of_name p (fmap.entries r.lines))
   line_entries p = entries-under name_cmp nat_cmp names_total p r.lines ∙ those_are p (fmap.entries r.lines)
 
-  all_lines : (p : Name) → of_purse [] (λ x. x.account.lines) (world_of r) p ≡ map line_at (map (λ (e : (Name × ℕ) × LineRow). (e.0.1, e.1)) (of_name p (fmap.entries r.lines)))
+  all_lines : (p : Name) → of_purse [] (λ x. x.holding.lines) (world_of r) p ≡ map line_at (map (λ (e : (Name × ℕ) × LineRow). (e.0.1, e.1)) (of_name p (fmap.entries r.lines)))
   all_lines p = of_purse_is [] _ p _
       (λ gone. sym (ap (map line_at) (sym (line_entries p) ∙ ap fmap.entries (under-none names_total nat_cmp_total fmap.nat_cmp-IsAntisymmetric p r.lines (λ k. h.lines p k gone)) ∙ entries_empty nat_cmp)))
       (λ z at. ap (map line_at) (line_entries p))

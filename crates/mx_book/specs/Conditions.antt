@@ -45,9 +45,9 @@ pub record MembersHold (w : World) : Type 0 where
 -- a purse is kept under its name, its holder is there, and it meets the conditions of a purse
 pub record IsPurseRow (w : World) (p : Name) (r : Row) : Type 0 where
   pub text : IsTrue (is_name_text p)
-  pub named : r.account.purse.name ≡ p
-  pub held : IsSome (fmap.get w.holders r.holder)
-  pub purse : IsPurse r.account.purse
+  pub named : r.holding.purse.name ≡ p
+  pub holder : IsSome (fmap.get w.holders r.holder)
+  pub purse : IsPurse r.holding.purse
 
 -- each purse is one, and no holder has more than 64
 pub record PursesHold (w : World) : Type 0 where
@@ -56,9 +56,9 @@ pub record PursesHold (w : World) : Type 0 where
 
 -- an inbox has at most 32 messages, with numbers below the next one, which has a limit too
 pub record IsInbox (r : Row) : Type 0 where
-  pub few : fmap.len r.account.inbox ≤ 32
-  pub below : (n : ℕ) → IsSome (fmap.get r.account.inbox n) → n < r.account.next_message
-  pub next : r.account.next_message ≤ 10 ^ 15
+  pub few : fmap.len r.holding.inbox ≤ 32
+  pub below : (n : ℕ) → IsSome (fmap.get r.holding.inbox n) → n < r.holding.next_message
+  pub next : r.holding.next_message ≤ 10 ^ 15
 
 -- each inbox is one
 pub record InboxesHold (w : World) : Type 0 where
@@ -71,8 +71,8 @@ AreNumbered n (l ∷ ls) = (l.number ≡ n) × AreNumbered (n + 1) ls
 
 -- the lines of a purse are numbered from 1 to its line count
 pub record AreLines (r : Row) : Type 0 where
-  pub numbered : AreNumbered 1 r.account.lines
-  pub counted : length r.account.lines ≡ r.account.purse.lines
+  pub numbered : AreNumbered 1 r.holding.lines
+  pub counted : length r.holding.lines ≡ r.holding.purse.lines
 
 -- the lines of each purse are such
 pub record LinesHold (w : World) : Type 0 where
@@ -80,7 +80,7 @@ pub record LinesHold (w : World) : Type 0 where
 
 -- a result in the tray is an entry of its purse's log
 abbrev pub IsEntry : World → Name → Details → Type 0
-IsEntry w p d = (r : Row) × (fmap.get w.rows p ≡ Some r) × (has_logged r.account.purse.log d ≡ Bool.true)
+IsEntry w p d = (r : Row) × (fmap.get w.rows p ≡ Some r) × (has_logged r.holding.purse.log d ≡ Bool.true)
 
 -- what is archived is of a purse that is there; what is in the tray is an entry of its purse's log, and isn't
 -- archived
@@ -92,8 +92,8 @@ pub record ResultsHold (w : World) : Type 0 where
 -- references are names and amounts are within their limit, and what is collected is a redemption
 pub record IsPaid (r : Row) : Type 0 where
   pub loads : (ref : Name) (amount : ℕ) → fmap.get r.loads ref ≡ Some amount → IsTrue (is_name_text ref) × (amount ≤ 10 ^ 12)
-  pub redemptions : (ref : Name) (amount : ℕ) → fmap.get r.account.redemptions ref ≡ Some amount → IsTrue (is_name_text ref) × (amount ≤ 10 ^ 12)
-  pub collected : (ref : Name) → fmap.contains_key r.collected ref ≡ Bool.true → IsSome (fmap.get r.account.redemptions ref)
+  pub redemptions : (ref : Name) (amount : ℕ) → fmap.get r.holding.redemptions ref ≡ Some amount → IsTrue (is_name_text ref) × (amount ≤ 10 ^ 12)
+  pub collected : (ref : Name) → fmap.contains_key r.collected ref ≡ Bool.true → IsSome (fmap.get r.holding.redemptions ref)
 
 -- the loads and redemptions of each purse are such
 pub record PaymentsHold (w : World) : Type 0 where

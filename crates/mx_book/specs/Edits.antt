@@ -4,7 +4,7 @@ use Rattle.std.specs.FinMap as fmap
 use Rattle.mx_book.specs.declared.values.Caller.TheVariants.{Clerk, Holder}
 use Rattle.mx_book.specs.declared.edits.Edit.{Edit}
 use Rattle.mx_book.specs.declared.edits.Edit.TheVariants.{NewMember, SetMember, NewHolder, NewPurse, SetPurse, AddMessage, DropMessage, AddLine, AddLoad, AddRedemption, Collect}
-use Rattle.mx_book.specs.World.{World, delivered, new_row, set_row, change_row, change_account, collected}
+use Rattle.mx_book.specs.World.{World, delivered, new_row, set_row, change_row, change_holding, all_collected}
 use Rattle.mx_book.specs.Reads.{who_of}
 use Rattle.mx_book.specs.Conditions.{IsWorld, AreNumbered}
 
@@ -14,13 +14,13 @@ edited w (NewMember m t) = record w { members = fmap.insert w.members m (record 
 edited w (SetMember m granted float) = record w { members = fmap.insert w.members m (record { granted = granted; float = float }) }
 edited w (NewHolder h m t) = record w { holders = fmap.insert w.holders h m; tokens = fmap.insert w.tokens t (Holder h) }
 edited w (NewPurse p h) = set_row w p (new_row h p)
-edited w (SetPurse q) = change_account w q.name (λ a. record a { purse = q })
-edited w (AddMessage p m) = change_account w p (λ a. delivered a m)
-edited w (DropMessage p n) = change_account w p (λ a. record a { inbox = fmap.remove a.inbox n })
-edited w (AddLine p l) = change_account w p (λ a. record a { lines = a.lines ++ l ∷ [] })
+edited w (SetPurse q) = change_holding w q.name (λ a. record a { purse = q })
+edited w (AddMessage p m) = change_holding w p (λ a. delivered a m)
+edited w (DropMessage p n) = change_holding w p (λ a. record a { inbox = fmap.remove a.inbox n })
+edited w (AddLine p l) = change_holding w p (λ a. record a { lines = a.lines ++ l ∷ [] })
 edited w (AddLoad p reference amount) = change_row w p (λ r. record r { loads = fmap.insert r.loads reference amount })
-edited w (AddRedemption p reference amount) = change_account w p (λ a. record a { redemptions = fmap.insert a.redemptions reference amount })
-edited w (Collect m) = collected w m
+edited w (AddRedemption p reference amount) = change_holding w p (λ a. record a { redemptions = fmap.insert a.redemptions reference amount })
+edited w (Collect m) = all_collected w m
 
 -- the rows that an edit names are there, those that it adds are new, and its own condition holds: a message
 -- finds a place, and a line is numbered as the next one
@@ -30,11 +30,11 @@ Suits w (SetMember m granted float) = IsSome (fmap.get w.members m)
 Suits w (NewHolder h m t) = IsNone (fmap.get w.holders h) × IsSome (fmap.get w.members m) × IsNone (who_of w t)
 Suits w (NewPurse p h) = (fmap.get w.rows p ≡ None) × IsSome (fmap.get w.holders h)
 Suits w (SetPurse q) = IsSome (fmap.get w.rows q.name)
-Suits w (AddMessage p m) = IsSomeAnd (fmap.get w.rows p) (λ r. (fmap.len r.account.inbox < 32) × (r.account.next_message < 10 ^ 15))
-Suits w (DropMessage p n) = IsSomeAnd (fmap.get w.rows p) (λ r. IsSome (fmap.get r.account.inbox n))
-Suits w (AddLine p l) = IsSomeAnd (fmap.get w.rows p) (λ r. AreNumbered 1 (r.account.lines ++ l ∷ []))
+Suits w (AddMessage p m) = IsSomeAnd (fmap.get w.rows p) (λ r. (fmap.len r.holding.inbox < 32) × (r.holding.next_message < 10 ^ 15))
+Suits w (DropMessage p n) = IsSomeAnd (fmap.get w.rows p) (λ r. IsSome (fmap.get r.holding.inbox n))
+Suits w (AddLine p l) = IsSomeAnd (fmap.get w.rows p) (λ r. AreNumbered 1 (r.holding.lines ++ l ∷ []))
 Suits w (AddLoad p reference amount) = IsSomeAnd (fmap.get w.rows p) (λ r. IsNone (fmap.get r.loads reference))
-Suits w (AddRedemption p reference amount) = IsSomeAnd (fmap.get w.rows p) (λ r. IsNone (fmap.get r.account.redemptions reference))
+Suits w (AddRedemption p reference amount) = IsSomeAnd (fmap.get w.rows p) (λ r. IsNone (fmap.get r.holding.redemptions reference))
 Suits w (Collect m) = IsSome (fmap.get w.members m)
 
 -- the World after edits, in order

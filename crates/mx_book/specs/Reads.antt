@@ -31,7 +31,7 @@ holder_of w h = option_map (λ m. record { member = m; purses = length (purses_o
 
 -- a purse's row with the member of its holder
 abbrev pub account_with : Row → Name → given.Account
-account_with r m = record { holder = r.holder; member = m; purse = r.account.purse; held = fmap.len r.account.inbox; next_message = r.account.next_message }
+account_with r m = record { holder = r.holder; member = m; purse = r.holding.purse; held = fmap.len r.holding.inbox; next_message = r.holding.next_message }
 
 -- the holder of a purse, the holder's member, the purse, how many messages it holds, and its next number for one
 abbrev pub account_of : World → Name → Option given.Account
@@ -48,15 +48,15 @@ of_purse x f w p = from_row x f (fmap.get w.rows p)
 
 -- the messages of a purse, by number
 abbrev pub inbox_of : World → Name → List (ℕ × Message)
-inbox_of = of_purse [] (λ r. fmap.entries r.account.inbox)
+inbox_of = of_purse [] (λ r. fmap.entries r.holding.inbox)
 
 -- the message of a purse under a number
 abbrev pub message_of : World → Name → ℕ → Option Message
-message_of w p n = of_purse None (λ r. fmap.get r.account.inbox n) w p
+message_of w p n = of_purse None (λ r. fmap.get r.holding.inbox n) w p
 
 -- the first lines of a purse that are numbered above `after`, at most `most` of them
 abbrev pub lines_of : World → Name → ℕ → ℕ → List Line
-lines_of w p after most = take most (filter (λ (l : Line). nat_lt after l.number) (of_purse [] (λ r. r.account.lines) w p))
+lines_of w p after most = take most (filter (λ (l : Line). nat_lt after l.number) (of_purse [] (λ r. r.holding.lines) w p))
 
 -- the amount of the load of a purse with that reference
 abbrev pub load_of : World → Name → Name → Option ℕ
@@ -64,7 +64,7 @@ load_of w p reference = of_purse None (λ r. fmap.get r.loads reference) w p
 
 -- the amount of the redemption of a purse with that reference
 abbrev pub redemption_of : World → Name → Name → Option ℕ
-redemption_of w p reference = of_purse None (λ r. fmap.get r.account.redemptions reference) w p
+redemption_of w p reference = of_purse None (λ r. fmap.get r.holding.redemptions reference) w p
 
 -- the names of the members, in order
 abbrev pub members_of : World → List Name
@@ -72,7 +72,7 @@ members_of w = fmap.keys w.members
 
 -- what the redemptions of a purse come to that aren't collected
 abbrev pub uncollected_row : Row → ℕ
-uncollected_row r = sum_entries (λ reference amount. if fmap.contains_key r.collected reference then 0 else amount) r.account.redemptions
+uncollected_row r = sum_entries (λ reference amount. if fmap.contains_key r.collected reference then 0 else amount) r.holding.redemptions
 
 -- what the redemptions of the member's purses come to that aren't collected
 abbrev pub uncollected_of : World → Name → ℕ

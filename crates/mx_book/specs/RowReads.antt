@@ -22,16 +22,16 @@ abbrev pub row_who_of : Rows → Token → Option Caller
 row_who_of r t = if is_token t r.operator then Some Operator else fmap.get r.tokens t
 
 -- the purses of a holder, in order
-abbrev pub held_by : Name → List (Name × PurseRow) → List (Name × PurseRow)
-held_by h = filter (λ (e : Name × PurseRow). is_name h e.1.holder)
+abbrev pub purse_rows_of : Name → List (Name × PurseRow) → List (Name × PurseRow)
+purse_rows_of h = filter (λ (e : Name × PurseRow). is_name h e.1.holder)
 
 -- the names of the purses of a holder, in order
 abbrev pub row_purses_of : Rows → Name → List Name
-row_purses_of r h = map (λ (e : Name × PurseRow). e.0) (held_by h (fmap.entries r.purses))
+row_purses_of r h = map (λ (e : Name × PurseRow). e.0) (purse_rows_of h (fmap.entries r.purses))
 
 -- the member of a holder, and how many purses the holder has
 abbrev pub row_holder_of : Rows → Name → Option HolderRow
-row_holder_of r h = option_map (λ m. record { member = m; purses = length (held_by h (fmap.entries r.purses)) }) (fmap.get r.holders h)
+row_holder_of r h = option_map (λ m. record { member = m; purses = length (purse_rows_of h (fmap.entries r.purses)) }) (fmap.get r.holders h)
 
 -- the rows of a purse, in order
 abbrev pub of_name : {K V : Type 0} → Name → List ((Name × K) × V) → List ((Name × K) × V)

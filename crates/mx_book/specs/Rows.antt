@@ -3,6 +3,7 @@ use Rattle.std.specs.Prelude.{◌≡◌, ℕ, List, Option, Some, None, cond, ma
 use Rattle.std.specs.declared.cmp.Ordering.{Ordering}
 use Rattle.std.specs.Ordering.{nat_cmp}
 use Rattle.std.specs.FinMap as fmap
+use Rattle.std.specs.FinSet.{FinSet}
 use Rattle.mx_pay.specs.Names.{name_cmp}
 use Rattle.mx_pay.specs.Tokens.{token_cmp}
 use Rattle.mx_purse.specs.declared.message.Message.{Message}
@@ -14,7 +15,7 @@ use Rattle.mx_book.specs.declared.values.LineRow.{LineRow}
 use Rattle.mx_book.specs.declared.values.Line.{Line}
 use Rattle.mx_book.specs.Maps.{pick}
 use Rattle.mx_book.specs.Under.{pair_cmp, under, remake}
-use Rattle.mx_book.specs.World.{World, Row, Account, Name, Token, SetOf, result_cmp}
+use Rattle.mx_book.specs.World.{World, Row, Holding, Name, Token, result_cmp}
 
 -- one map for each kind of row; a row of a purse has the purse's name as the first part of its key
 pub record Rows : Type 0 where
@@ -30,8 +31,8 @@ pub record Rows : Type 0 where
   pub inbox : fmap.FinMap (pair_cmp name_cmp nat_cmp) Message
   -- lines by purse and number
   pub lines : fmap.FinMap (pair_cmp name_cmp nat_cmp) LineRow
-  pub tray : SetOf result_cmp
-  pub archive : SetOf result_cmp
+  pub tray : FinSet result_cmp
+  pub archive : FinSet result_cmp
   -- amounts by purse and reference
   pub loads : fmap.FinMap (pair_cmp name_cmp name_cmp) ℕ
   -- redemptions by purse and reference
@@ -58,12 +59,12 @@ abbrev pub lines_from : fmap.FinMap nat_cmp LineRow → List Line
 lines_from m = map line_at (fmap.entries m)
 
 -- what is a holder's own of a purse, from the rows of that purse
-abbrev pub account_from : PurseRow → fmap.FinMap nat_cmp Message → fmap.FinMap nat_cmp LineRow → fmap.FinMap name_cmp Redemption → Account
-account_from x inbox lines redemptions = record { purse = x.purse; inbox = inbox; next_message = x.next_message; lines = lines_from lines; redemptions = pick amount_of redemptions }
+abbrev pub holding_from : PurseRow → fmap.FinMap nat_cmp Message → fmap.FinMap nat_cmp LineRow → fmap.FinMap name_cmp Redemption → Holding
+holding_from x inbox lines redemptions = record { purse = x.purse; inbox = inbox; next_message = x.next_message; lines = lines_from lines; redemptions = pick amount_of redemptions }
 
 -- what the office keeps of a purse, from the rows of that purse
 abbrev pub row_from : PurseRow → fmap.FinMap nat_cmp Message → fmap.FinMap nat_cmp LineRow → fmap.FinMap name_cmp ℕ → fmap.FinMap name_cmp Redemption → Row
-row_from x inbox lines loads redemptions = record { holder = x.holder; account = account_from x inbox lines redemptions; loads = loads; collected = pick mark_of redemptions }
+row_from x inbox lines loads redemptions = record { holder = x.holder; holding = holding_from x inbox lines redemptions; loads = loads; collected = pick mark_of redemptions }
 
 -- what the rows say of a purse
 abbrev pub row_of : Rows → Name → PurseRow → Row

@@ -2,6 +2,7 @@
 use Rattle.std.specs.Prelude.{ℕ, ◌+◌, ◌^◌, nat_lt, ◌&&◌, Bool, if◌then◌else◌, List, [], Option, Some, None}
 use Rattle.std.specs.Ordering.{nat_cmp}
 use Rattle.std.specs.FinMap as fmap
+use Rattle.std.specs.FinSet.{FinSet}
 use Rattle.mx_pay.specs.Names.{name_cmp, is_name}
 use Rattle.mx_pay.specs.Tokens.{token_cmp}
 use Rattle.mx_pay.specs.Details.{Details, details_cmp}
@@ -21,17 +22,13 @@ Name = List ℕ
 abbrev pub Token : Type 0
 Token = List ℕ
 
--- a set of keys is a map of them to nothing
-abbrev pub SetOf : {K : Type 0} → (K → K → Rattle.std.specs.declared.cmp.Ordering.Ordering) → Type 0
-SetOf R = fmap.FinMap R (Unit {0})
-
 -- the order of results of read log: by purse, and then by details
 abbrev pub result_cmp : Name × Details → Name × Details → Rattle.std.specs.declared.cmp.Ordering.Ordering
 result_cmp = pair_cmp name_cmp details_cmp
 
 -- what is a holder's own of a purse: the purse, its messages by number, the number of the next message, its
 -- lines in order, and the amounts of its redemptions by reference
-pub record Account : Type 0 where
+pub record Holding : Type 0 where
   pub purse : State
   pub inbox : fmap.FinMap nat_cmp Message
   pub next_message : ℕ
@@ -42,9 +39,9 @@ pub record Account : Type 0 where
 -- the references of the redemptions that are collected
 pub record Row : Type 0 where
   pub holder : Name
-  pub account : Account
+  pub holding : Holding
   pub loads : fmap.FinMap name_cmp ℕ
-  pub collected : SetOf name_cmp
+  pub collected : FinSet name_cmp
 
 -- everything that the office keeps
 pub record World : Type 0 where
@@ -58,32 +55,32 @@ pub record World : Type 0 where
   -- the row of each purse
   pub rows : fmap.FinMap name_cmp Row
   -- the results of read log that were sent and aren't archived
-  pub tray : SetOf result_cmp
+  pub tray : FinSet result_cmp
   -- those that are archived
-  pub archive : SetOf result_cmp
+  pub archive : FinSet result_cmp
 
 -- a World that has nothing but an operator's token
 abbrev pub opening : Token → World
 opening t = record { operator = t; tokens = fmap.empty; members = fmap.empty; holders = fmap.empty; rows = fmap.empty; tray = fmap.empty; archive = fmap.empty }
 
 -- what is a holder's own of a new purse
-abbrev pub new_account : Name → Account
-new_account name = record { purse = new_purse name; inbox = fmap.empty; next_message = 0; lines = []; redemptions = fmap.empty }
+abbrev pub new_holding : Name → Holding
+new_holding name = record { purse = new_purse name; inbox = fmap.empty; next_message = 0; lines = []; redemptions = fmap.empty }
 
 -- the row of a new purse
 abbrev pub new_row : Name → Name → Row
-new_row holder name = record { holder = holder; account = new_account name; loads = fmap.empty; collected = fmap.empty }
+new_row holder name = record { holder = holder; holding = new_holding name; loads = fmap.empty; collected = fmap.empty }
 
 -- whether a message finds a place in the inbox of an account
-unfoldable pub has_room : Account → Bool
+unfoldable pub has_room : Holding → Bool
 has_room a = nat_lt (fmap.len a.inbox) 32 && nat_lt a.next_message (10 ^ 15)
 
 -- an account with a message under its next number, which rises by one
-abbrev pub delivered : Account → Message → Account
+abbrev pub delivered : Holding → Message → Holding
 delivered a m = record a { inbox = fmap.insert a.inbox a.next_message m; next_message = a.next_message + 1 }
 
 -- an account with a message, where it finds a place
-abbrev pub with_message : Account → Message → Account
+abbrev pub with_message : Holding → Message → Holding
 with_message a m = if has_room a then delivered a m else a
 
 -- a World with this row of a purse
@@ -100,13 +97,13 @@ abbrev pub change_row : World → Name → (Row → Row) → World
 change_row w p f = changed_row w p f (fmap.get w.rows p)
 
 -- what is the holder's own of a purse is changed, where the purse is there
-abbrev pub change_account : World → Name → (Account → Account) → World
-change_account w p f = change_row w p (λ r. record r { account = f r.account })
+abbrev pub change_holding : World → Name → (Holding → Holding) → World
+change_holding w p f = change_row w p (λ r. record r { holding = f r.holding })
 
 -- a message for a purse: it comes into the inbox, or it vanishes where no such purse is there and where it
 -- finds no place
 abbrev pub put : World → Name → Message → World
-put w p m = change_account w p (λ a. with_message a m)
+put w p m = change_holding w p (λ a. with_message a m)
 
 -- whether the member of a holder, if there is one, is m
 abbrev pub is_of : Name → Option Name → Bool
@@ -118,9 +115,9 @@ abbrev pub is_of_member : World → Name → Row → Bool
 is_of_member w m r = is_of m (fmap.get w.holders r.holder)
 
 -- a row with all its redemptions collected
-abbrev pub collected_row : Row → Row
-collected_row r = record r { collected = pick (λ amount. Some tt) r.account.redemptions }
+abbrev pub with_collected : Row → Row
+with_collected r = record r { collected = pick (λ amount. Some tt) r.holding.redemptions }
 
 -- a World in which all redemptions of the member's purses are collected
-abbrev pub collected : World → Name → World
-collected w m = record w { rows = remake (λ p r. if is_of_member w m r then collected_row r else r) w.rows }
+abbrev pub all_collected : World → Name → World
+all_collected w m = record w { rows = remake (λ p r. if is_of_member w m r then with_collected r else r) w.rows }

@@ -1,5 +1,5 @@
 //! The tables of a book in memory, with no conditions on what they hold.
-ghost use Rattle.std.specs.Prelude.{◌≡◌, ◌&&◌, ◌+◌, ◌≤◌, ◌<◌, ℕ, List, length, OnOk, IfOk, map, filter, take, nat_lt};
+ghost use Rattle.std.specs.Prelude.{◌≡◌, ◌+◌, ◌≤◌, ◌<◌, ℕ, List, length, OnOk, IfOk, map, filter, take, nat_lt};
 ghost use Rattle.std.specs.FinMap.{get};
 ghost use Rattle.mx_pay.specs.Names.{is_name};
 ghost use Rattle.mx_purse.specs.declared.message.Message.{Message as Kept};
@@ -7,7 +7,9 @@ ghost use Rattle.mx_book.specs.declared.values.LineRow.{LineRow as KeptLine};
 ghost use Rattle.mx_book.specs.declared.values.MemberRow.{MemberRow as KeptMember};
 ghost use Rattle.mx_book.specs.declared.values.PurseRow.{PurseRow as KeptPurse};
 ghost use Rattle.mx_book.specs.RowEdits.{rewritten, all_rewritten, Able, AllAble};
-ghost use Rattle.mx_book.specs.RowReads.{of_name, row_who_of, row_holder_of, row_purses_of, row_account_of, row_inbox_of, row_lines_of, row_members_of, row_load_of, row_redemption_of, row_uncollected_of, line_of_row};
+ghost use Rattle.mx_book.specs.RowReads.{row_who_of, row_holder_of, row_purses_of, row_account_of, row_inbox_of, row_lines_of, row_members_of, row_load_of, row_redemption_of, row_uncollected_of, line_of_row};
+ghost use Rattle.mx_book.specs.Blocks.{first_of};
+ghost use Rattle.mx_book.specs.Left.{rows_left};
 ghost use Rattle.mx_book.specs.Shelves.{rows_of, HasRoom, SpendsOne};
 ghost use Rattle.mx_book.specs.Spells.{opening_rows};
 
@@ -15,6 +17,7 @@ mod writes;
 
 use crate::edits::Edit;
 use crate::redemptions::uncollected_in;
+use crate::rows::Rows;
 use crate::table::Table;
 use crate::values::{Account, Caller, HolderRow, Line, LineRow, MemberRow, PurseRow, Redemption};
 use mx_pay::names::same_name;
@@ -157,7 +160,7 @@ impl Shelves {
         ensures { result ≡ row_holder_of (rows_of self.now) name }
     {
         let member = self.holders.get(name)?;
-        let purses = purses_held(self.purses.rows(), name);
+        let purses = count_purses(self.purses.rows(), name);
         Some(HolderRow { member, purses })
     }
 
@@ -171,7 +174,7 @@ impl Shelves {
             holder: row.holder,
             member,
             purse: row.purse,
-            held: messages_held(self.inbox.rows(), name),
+            held: count_messages(self.inbox.rows_from((name, 0)), name),
             next_message: row.next_message,
         })
     }
@@ -180,14 +183,14 @@ impl Shelves {
     pub fn purses_of(&self, alloc: Global, holder: Name) -> Result<Vec<Name>, AllocError>
         ensures { IfOk result (λ r. r.items ≡ row_purses_of (rows_of self.now) holder) }
     {
-        names_held(alloc, self.purses.rows(), holder)
+        purse_names(alloc, self.purses.rows(), holder)
     }
 
     /// The messages in the inbox of a purse with their numbers, by number.
     pub fn inbox_of(&self, alloc: Global, purse: Name) -> Result<Vec<(u64, Message)>, AllocError>
         ensures { IfOk result (λ r. r.items ≡ row_inbox_of (rows_of self.now) purse) }
     {
-        messages_of(alloc, self.inbox.rows(), purse)
+        read_messages(alloc, self.inbox.rows_from((purse, 0)), purse)
     }
 
     /// The first `most` lines of a purse that are numbered above `after`, by number.
@@ -200,7 +203,13 @@ impl Shelves {
     ) -> Result<Vec<Line>, AllocError>
         ensures { IfOk result (λ r. r.items ≡ row_lines_of (rows_of self.now) purse after most) }
     {
-        lines_above(alloc, self.lines.rows(), purse, after, most)
+        lines_above(
+            alloc,
+            self.lines.rows_from((purse, after)),
+            purse,
+            after,
+            most,
+        )
     }
 
     /// The names of the members, in order.
@@ -234,70 +243,64 @@ impl Shelves {
 }
 
 /// How many of these purses the holder has.
-fn purses_held(rows: &[(Name, PurseRow)], holder: Name) -> usize
-    ensures { result ≡ length (filter (λ (e : List ℕ × KeptPurse). is_name holder e.1.holder) rows.now) }
+fn count_purses(rows: Rows<'_, Name, PurseRow>, holder: Name) -> usize
+    ensures { result ≡ length (filter (λ (e : List ℕ × KeptPurse). is_name holder e.1.holder) (rows_left rows.entry)) }
 {
-    rows.iter()
-        .filter(|row| same_name(&holder, &row.1.holder))
-        .count()
+    rows.filter(|row| same_name(&holder, &row.1.holder)).count()
 }
 
 /// The names of these purses that the holder has, in order.
-fn names_held(
+fn purse_names(
     alloc: Global,
-    rows: &[(Name, PurseRow)],
+    rows: Rows<'_, Name, PurseRow>,
     holder: Name,
 ) -> Result<Vec<Name>, AllocError>
-    ensures { IfOk result (λ r. r.items ≡ map (λ (e : List ℕ × KeptPurse). e.0) (filter (λ (e : List ℕ × KeptPurse). is_name holder e.1.holder) rows.now)) }
+    ensures { IfOk result (λ r. r.items ≡ map (λ (e : List ℕ × KeptPurse). e.0) (filter (λ (e : List ℕ × KeptPurse). is_name holder e.1.holder) (rows_left rows.entry))) }
 {
-    rows.iter()
-        .filter(|row| same_name(&holder, &row.1.holder))
+    rows.filter(|row| same_name(&holder, &row.1.holder))
         .map(|row| row.0)
         .collect(alloc)
 }
 
 /// The names of these members, in order.
-fn member_names(alloc: Global, rows: &[(Name, MemberRow)]) -> Result<Vec<Name>, AllocError>
-    ensures { IfOk result (λ r. r.items ≡ map (λ (e : List ℕ × KeptMember). e.0) rows.now) }
+fn member_names(alloc: Global, rows: Rows<'_, Name, MemberRow>) -> Result<Vec<Name>, AllocError>
+    ensures { IfOk result (λ r. r.items ≡ map (λ (e : List ℕ × KeptMember). e.0) (rows_left rows.entry)) }
 {
-    rows.iter().map(|row| row.0).collect(alloc)
+    rows.map(|row| row.0).collect(alloc)
 }
 
-/// How many of these messages are to the purse.
-fn messages_held(rows: &[((Name, u64), Message)], purse: Name) -> usize
-    ensures { result ≡ length (of_name purse rows.now) }
+/// How many of these messages, from the first, are to the purse.
+fn count_messages(rows: Rows<'_, (Name, u64), Message>, purse: Name) -> usize
+    ensures { result ≡ length (first_of purse (rows_left rows.entry)) }
 {
-    rows.iter()
-        .filter(|row| same_name(&purse, &row.0.0))
-        .count()
+    rows.take_while(|row| same_name(&purse, &row.0.0)).count()
 }
 
-/// Those of these messages that are to the purse, with their numbers, in order.
-fn messages_of(
+/// Those of these messages, from the first, that are to the purse, with their numbers, in order.
+fn read_messages(
     alloc: Global,
-    rows: &[((Name, u64), Message)],
+    rows: Rows<'_, (Name, u64), Message>,
     purse: Name,
 ) -> Result<Vec<(u64, Message)>, AllocError>
-    ensures { IfOk result (λ r. r.items ≡ map (λ (e : (List ℕ × ℕ) × Kept). (e.0.1, e.1)) (filter (λ (e : (List ℕ × ℕ) × Kept). is_name purse e.0.0) rows.now)) }
+    ensures { IfOk result (λ r. r.items ≡ map (λ (e : (List ℕ × ℕ) × Kept). (e.0.1, e.1)) (first_of purse (rows_left rows.entry))) }
 {
-    rows.iter()
-        .filter(|row| same_name(&purse, &row.0.0))
+    rows.take_while(|row| same_name(&purse, &row.0.0))
         .map(|row| (row.0.1, row.1))
         .collect(alloc)
 }
 
-/// The first `most` of these lines that are of the purse and numbered above `after`, in order.
+/// The first `most` lines numbered above `after` of those, from the first, that are of the purse, in order.
 fn lines_above(
     alloc: Global,
-    rows: &[((Name, u64), LineRow)],
+    rows: Rows<'_, (Name, u64), LineRow>,
     purse: Name,
     after: u64,
     most: u64,
 ) -> Result<Vec<Line>, AllocError>
-    ensures { IfOk result (λ r. r.items ≡ map line_of_row (take most (filter (λ (e : (List ℕ × ℕ) × KeptLine). is_name purse e.0.0 && nat_lt after e.0.1) rows.now))) }
+    ensures { IfOk result (λ r. r.items ≡ map line_of_row (take most (filter (λ (e : (List ℕ × ℕ) × KeptLine). nat_lt after e.0.1) (first_of purse (rows_left rows.entry))))) }
 {
-    rows.iter()
-        .filter(|row| same_name(&purse, &row.0.0) && after < row.0.1)
+    rows.take_while(|row| same_name(&purse, &row.0.0))
+        .filter(|row| after < row.0.1)
         .take(most as usize)
         .map(|row| Line {
             number: row.0.1,

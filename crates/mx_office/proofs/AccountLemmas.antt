@@ -9,7 +9,7 @@ use Rattle.mx_purse.specs.declared.message.Message.{Message}
 use Rattle.mx_book.specs.declared.edits.Edit.{Edit}
 use Rattle.mx_book.specs.declared.edits.Edit.TheVariants.{SetPurse}
 use Rattle.mx_book.specs.declared.values.Line.{Line}
-use Rattle.mx_book.specs.World.{World, Row, Account, Name, has_room, set_row}
+use Rattle.mx_book.specs.World.{World, Row, Holding, Name, has_room, set_row}
 use Rattle.mx_book.specs.Conditions.{IsWorld, AreNumbered}
 use Rattle.mx_book.specs.Reads.{from_row}
 use Rattle.mx_book.specs.Edits.{Fits, Suits, AllSuit, edited, all_edited}
@@ -32,9 +32,9 @@ pub record IsOwn (w : World) (h p : Name) (q : State) : Type 0 where
   pub row : Row
   pub at : fmap.get w.rows p ≡ Some row
   pub owned : is_name h row.holder ≡ true
-  pub purse : row.account.purse ≡ q
+  pub purse : row.holding.purse ≡ q
 
-own_row : (w : World) (h p : Name) (q : State) (r : Row) (b : Bool) → fmap.get w.rows p ≡ Some r → is_name h r.holder ≡ b → cond b (Some r.account.purse) None ≡ Some q → IsOwn w h p q
+own_row : (w : World) (h p : Name) (q : State) (r : Row) (b : Bool) → fmap.get w.rows p ≡ Some r → is_name h r.holder ≡ b → cond b (Some r.holding.purse) None ≡ Some q → IsOwn w h p q
 own_row w h p q r true at t e = record { row = r; at = at; owned = t; purse = inside _ _ e }
 own_row w h p q r false at t e = absurd (cc)
 
@@ -45,26 +45,26 @@ own_case w h p q (Some r) at e = own_row w h p q r (is_name h r.holder) at refl 
 pub is_own : (w : World) (h p : Name) (q : State) → own_purse w h p ≡ Some q → IsOwn w h p q
 is_own w h p q e = own_case w h p q (fmap.get w.rows p) refl e
 
-other_row : (w : World) (h p : Name) (f : Account → Deed) (r : Row) (b : Bool) → cond b (Some r.account.purse) None ≡ None → cond b (on_row w p r (f r.account)) (refused w NoSuchPurse) ≡ refused w NoSuchPurse
+other_row : (w : World) (h p : Name) (f : Holding → Deed) (r : Row) (b : Bool) → cond b (Some r.holding.purse) None ≡ None → cond b (on_row w p r (f r.holding)) (refused w NoSuchPurse) ≡ refused w NoSuchPurse
 other_row w h p f r true e = absurd (cc)
 other_row w h p f r false e = refl
 
-other_case : (w : World) (h p : Name) (f : Account → Deed) (o : Option Row) → from_row None (owned_purse h) o ≡ None → on_own_row w h p f o ≡ refused w NoSuchPurse
+other_case : (w : World) (h p : Name) (f : Holding → Deed) (o : Option Row) → from_row None (owned_purse h) o ≡ None → on_own_row w h p f o ≡ refused w NoSuchPurse
 other_case w h p f None e = refl
 other_case w h p f (Some r) e = other_row w h p f r (is_name h r.holder) e
 
 -- what a deed does is on the row that is there
-pub own_there : (w : World) (h p : Name) (f : Account → Deed) (r : Row) → fmap.get w.rows p ≡ Some r → is_name h r.holder ≡ true → on_own w h p f ≡ on_row w p r (f r.account)
-own_there w h p f r at t = ap (on_own_row w h p f) at ∙ ap (λ b. cond b (on_row w p r (f r.account)) (refused w NoSuchPurse)) t
+pub own_there : (w : World) (h p : Name) (f : Holding → Deed) (r : Row) → fmap.get w.rows p ≡ Some r → is_name h r.holder ≡ true → on_own w h p f ≡ on_row w p r (f r.holding)
+own_there w h p f r at t = ap (on_own_row w h p f) at ∙ ap (λ b. cond b (on_row w p r (f r.holding)) (refused w NoSuchPurse)) t
 
 -- ---- nothing changes
 
 -- a purse that isn't the holder's is refused
-pub not_own_decides : (w : World) (h p : Name) (f : Account → Deed) (d : Decided) → IsWorld w → own_purse w h p ≡ None → d.reply ≡ Refused NoSuchPurse → d.edits ≡ [] → Decides w (on_own w h p f) d
+pub not_own_decides : (w : World) (h p : Name) (f : Holding → Deed) (d : Decided) → IsWorld w → own_purse w h p ≡ None → d.reply ≡ Refused NoSuchPurse → d.edits ≡ [] → Decides w (on_own w h p f) d
 not_own_decides w h p f d is e = told_decides w (on_own w h p f) (Refused NoSuchPurse) d is (other_case w h p f (fmap.get w.rows p) e)
 
 -- a deed that leaves the account
-pub own_told_decides : (w : World) (h p : Name) (f : Account → Deed) (reply : Reply) (d : Decided) (own : Row) → IsWorld w → fmap.get w.rows p ≡ Some own → is_name h own.holder ≡ true → f own.account ≡ tell own.account reply → d.reply ≡ reply → d.edits ≡ [] → Decides w (on_own w h p f) d
+pub own_told_decides : (w : World) (h p : Name) (f : Holding → Deed) (reply : Reply) (d : Decided) (own : Row) → IsWorld w → fmap.get w.rows p ≡ Some own → is_name h own.holder ≡ true → f own.holding ≡ tell own.holding reply → d.reply ≡ reply → d.edits ≡ [] → Decides w (on_own w h p f) d
 own_told_decides w h p f reply d r is at t f_is =
     told_decides w (on_own w h p f) reply d is
     (own_there w h p f r at t ∙ ap (on_row w p r) f_is ∙ ap (λ x. done x reply) (set_same w p r at))
@@ -72,28 +72,28 @@ own_told_decides w h p f reply d r is at t f_is =
 -- ---- one edit
 
 -- a deed that one edit does
-pub own_edit_decides : (w : World) (h p : Name) (f : Account → Deed) (a : Account) (reply : Reply) (e : Edit) (d : Decided) (r : Row) → fmap.get w.rows p ≡ Some r → is_name h r.holder ≡ true → f r.account ≡ tell a reply
-    → edited w e ≡ set_row w p (record r { account = a }) → Suits w e → IsWorld (set_row w p (record r { account = a })) → d.reply ≡ reply → d.edits ≡ e ∷ [] → Decides w (on_own w h p f) d
+pub own_edit_decides : (w : World) (h p : Name) (f : Holding → Deed) (a : Holding) (reply : Reply) (e : Edit) (d : Decided) (r : Row) → fmap.get w.rows p ≡ Some r → is_name h r.holder ≡ true → f r.holding ≡ tell a reply
+    → edited w e ≡ set_row w p (record r { holding = a }) → Suits w e → IsWorld (set_row w p (record r { holding = a })) → d.reply ≡ reply → d.edits ≡ e ∷ [] → Decides w (on_own w h p f) d
 own_edit_decides w h p f a reply e d r at t f_is leads suits stays =
     edit_decides w (on_own w h p f) e reply d (own_there w h p f r at t ∙ ap (on_row w p r) f_is ∙ ap (λ x. done x reply) (sym leads)) suits (subst IsWorld (sym leads) stays)
 
 -- ---- a message that is put
 
 -- what finds no place in a row finds none in another that has the same messages
-same_room : (a b : Account) → a.inbox ≡ b.inbox → a.next_message ≡ b.next_message → has_room a ≡ has_room b
+same_room : (a b : Holding) → a.inbox ≡ b.inbox → a.next_message ≡ b.next_message → has_room a ≡ has_room b
 unfolding has_room
 same_room a b inbox next = rw (inbox, next) refl
 
-room_case : (w : World) (p x : Name) (r s : Row) (b : Bool) → fmap.get w.rows p ≡ Some r → has_room s.account ≡ has_room r.account → is_name x p ≡ b
-    → from_row false (λ y. has_room y.account) (cond b (Some s) (fmap.get w.rows x)) ≡ finds_place w x
-room_case w p x r s true at same t = same ∙ sym (ap (from_row false (λ y. has_room y.account)) (ap (fmap.get w.rows) (same_name x p t) ∙ at))
+room_case : (w : World) (p x : Name) (r s : Row) (b : Bool) → fmap.get w.rows p ≡ Some r → has_room s.holding ≡ has_room r.holding → is_name x p ≡ b
+    → from_row false (λ y. has_room y.holding) (cond b (Some s) (fmap.get w.rows x)) ≡ finds_place w x
+room_case w p x r s true at same t = same ∙ sym (ap (from_row false (λ y. has_room y.holding)) (ap (fmap.get w.rows) (same_name x p t) ∙ at))
 room_case w p x r s false at same t = refl
 
 -- the places in inboxes are as they were
-room_kept : (w : World) (p x : Name) (r s : Row) → fmap.get w.rows p ≡ Some r → has_room s.account ≡ has_room r.account → finds_place (set_row w p s) x ≡ finds_place w x
-room_kept w p x r s at same = ap (from_row false (λ y. has_room y.account)) (fmap.get-insert names_total w.rows p s x) ∙ room_case w p x r s (is_name x p) at same refl
+room_kept : (w : World) (p x : Name) (r s : Row) → fmap.get w.rows p ≡ Some r → has_room s.holding ≡ has_room r.holding → finds_place (set_row w p s) x ≡ finds_place w x
+room_kept w p x r s at same = ap (from_row false (λ y. has_room y.holding)) (fmap.get-insert names_total w.rows p s x) ∙ room_case w p x r s (is_name x p) at same refl
 
-placed_kept : (w : World) (p : Name) (r s : Row) (o : Option (Name × Message)) → fmap.get w.rows p ≡ Some r → has_room s.account ≡ has_room r.account → placed (set_row w p s) o ≡ placed w o
+placed_kept : (w : World) (p : Name) (r s : Row) (o : Option (Name × Message)) → fmap.get w.rows p ≡ Some r → has_room s.holding ≡ has_room r.holding → placed (set_row w p s) o ≡ placed w o
 placed_kept w p r s None at same = refl
 placed_kept w p r s (Some m) at same = ap (λ b. cond b (Some m) None) (room_kept w p m.0 r s at same)
 
@@ -103,13 +103,13 @@ record Puts (w : World) (sent : Option (Name × Message)) (es : List Edit) : Typ
   leads : all_edited w es ≡ send w sent
   stays : IsWorld w → IsWorld (send w sent)
 
-put_row : (w : World) (p : Name) (m : Message) (r : Row) (b : Bool) → fmap.get w.rows p ≡ Some r → has_room r.account ≡ b → Puts w (Some (p, m)) (put_edits (cond b (Some (p, m)) None))
+put_row : (w : World) (p : Name) (m : Message) (r : Row) (b : Bool) → fmap.get w.rows p ≡ Some r → has_room r.holding ≡ b → Puts w (Some (p, m)) (put_edits (cond b (Some (p, m)) None))
 put_row w p m r true at room = record { suits = (put_suits w p m r at room, tt); leads = put_leads w p m r at room; stays = put_stays w p m }
 put_row w p m r false at room = record { suits = tt; leads = sym (put_vanishes w p m r at room); stays = put_stays w p m }
 
-put_case : (w : World) (p : Name) (m : Message) (o : Option Row) → fmap.get w.rows p ≡ o → Puts w (Some (p, m)) (put_edits (cond (from_row false (λ y. has_room y.account) o) (Some (p, m)) None))
+put_case : (w : World) (p : Name) (m : Message) (o : Option Row) → fmap.get w.rows p ≡ o → Puts w (Some (p, m)) (put_edits (cond (from_row false (λ y. has_room y.holding) o) (Some (p, m)) None))
 put_case w p m None at = record { suits = tt; leads = sym (put_nowhere w p m at); stays = put_stays w p m }
-put_case w p m (Some r) at = put_row w p m r (has_room r.account) at refl
+put_case w p m (Some r) at = put_row w p m r (has_room r.holding) at refl
 
 puts : (w : World) (sent : Option (Name × Message)) → Puts w sent (put_edits (placed w sent))
 puts w None = record { suits = tt; leads = refl; stays = λ h. h }
@@ -138,18 +138,18 @@ pub record Follows (p q : State) (line : Option Line) : Type 0 where
   pub logged : (d : Details) → has_logged p.log d ≡ true → has_logged q.log d ≡ true
 
 -- the edits of a purse and its line, and then those of a message
-module _ (w : World) (p : Name) (r : Row) (q : State) (line : Option Line) (h : IsWorld w) (at : fmap.get w.rows p ≡ Some r) (follows : Follows r.account.purse q line) where
+module _ (w : World) (p : Name) (r : Row) (q : State) (line : Option Line) (h : IsWorld w) (at : fmap.get w.rows p ≡ Some r) (follows : Follows r.holding.purse q line) where
   abbrev changed : World
   changed = set_row w p (with_lines r q (listed line))
 
   named : q.name ≡ p
   named = follows.name ∙ (h.purses.each p r at).named
 
-  numbered : AreNumbered 1 (r.account.lines ++ listed line)
-  numbered = numbered_next r.account.purse q r.account.lines line follows.next (h.lines.each p r at).numbered (h.lines.each p r at).counted
+  numbered : AreNumbered 1 (r.holding.lines ++ listed line)
+  numbered = numbered_next r.holding.purse q r.holding.lines line follows.next (h.lines.each p r at).numbered (h.lines.each p r at).counted
 
   stays : IsWorld changed
-  stays = purse_stays w p r q (listed line) at named follows.whole numbered (counted_next r.account.purse q r.account.lines line follows.next (h.lines.each p r at).counted) follows.logged h
+  stays = purse_stays w p r q (listed line) at named follows.whole numbered (counted_next r.holding.purse q r.holding.lines line follows.next (h.lines.each p r at).counted) follows.logged h
 
   same_edits : SetPurse q ∷ line_edits q.name (listed line) ≡ SetPurse q ∷ added_lines p (listed line)
   same_edits = line_case line ∙ ap (λ x. SetPurse q ∷ added_lines x (listed line)) named
@@ -165,7 +165,7 @@ module _ (w : World) (p : Name) (r : Row) (q : State) (line : Option Line) (h : 
   suits = subst (AllSuit w) (sym same_edits) (purse_suits w p r q (listed line) at named numbered)
 
   sent_is : (sent : Option (Name × Message)) → placed changed sent ≡ placed w sent
-  sent_is sent = placed_kept w p r (with_lines r q (listed line)) sent at (same_room (with_lines r q (listed line)).account r.account refl refl)
+  sent_is sent = placed_kept w p r (with_lines r q (listed line)) sent at (same_room (with_lines r q (listed line)).holding r.holding refl refl)
 
   edits_are : (sent : Option (Name × Message)) → all_edited w (purse_edits q line (placed w sent)) ≡ send changed sent
   edits_are sent =
@@ -179,8 +179,8 @@ module _ (w : World) (p : Name) (r : Row) (q : State) (line : Option Line) (h : 
       (subst (λ x. AllSuit x (put_edits (placed w sent))) (sym leads) (subst (λ m. AllSuit changed (put_edits m)) (sent_is sent) (puts changed sent).suits))
 
   -- a deed that changes the purse, adds its line and sends a message
-  pub changed_decides : (g : Name) (f : Account → Deed) (reply : Reply) (sent : Option (Name × Message)) (d : Decided)
-      → is_name g r.holder ≡ true → f r.account ≡ record { account = with_purse r.account q line; reply = reply; sent = sent }
+  pub changed_decides : (g : Name) (f : Holding → Deed) (reply : Reply) (sent : Option (Name × Message)) (d : Decided)
+      → is_name g r.holder ≡ true → f r.holding ≡ record { holding = with_purse r.holding q line; reply = reply; sent = sent }
       → d.reply ≡ reply → d.edits ≡ purse_edits q line (placed w sent) → Decides w (on_own w g p f) d
   changed_decides g f reply sent d owned f_is reply_is edits_is =
       let to : Done = record { world = changed; reply = reply; sent = sent } in

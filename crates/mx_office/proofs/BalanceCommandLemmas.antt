@@ -10,7 +10,7 @@ use Rattle.mx_book.specs.declared.values.Caller.TheVariants.{Operator, Clerk, Ho
 use Rattle.mx_book.specs.declared.values.MemberRow.{MemberRow}
 use Rattle.mx_book.specs.Sums.{sum_entries, sum_values}
 use Rattle.mx_book.specs.Reads.{uncollected_row, uncollected_of}
-use Rattle.mx_book.specs.World.{World, Row, Account, Name, Token, is_of, is_of_member, collected_row, collected, set_row, change_row, new_row, opening}
+use Rattle.mx_book.specs.World.{World, Row, Holding, Name, Token, is_of, is_of_member, with_collected, all_collected, set_row, change_row, new_row, opening}
 use Rattle.mx_book.proofs.FoundLemmas.{inside, value_found}
 use Rattle.mx_book.proofs.MapLemmas.{get-pick}
 use Rattle.mx_book.proofs.NameLemmas.{names_total, names_exact, same_name}
@@ -23,7 +23,7 @@ use Rattle.mx_office.specs.declared.values.Refusal.{Refusal}
 use Rattle.mx_office.specs.declared.values.Reply.{Reply}
 use Rattle.mx_office.specs.Balance.{IsBalanced, issued_row, redeemed_row, is_chosen, of_purses}
 use Rattle.mx_office.specs.Reachable.{IsReachable}
-use Rattle.mx_office.specs.Step.{Asked, Done, unless, show, start_from, start_to, handle, discard, abort, redeem, inbox, new_member, new_member_refusal, new_holder, new_holder_refusal, new_purse, new_purse_refusal, changed_member, change_member, grant, grant_refusal, loaded_by, loaded_account, loaded_row, load_new, load_row, not_loaded, load_done, load_purse, collect, collect_refusal, base, after, world_after}
+use Rattle.mx_office.specs.Step.{Asked, Done, unless, show, start_from, start_to, handle, discard, abort, redeem, inbox, new_member, new_member_refusal, new_holder, new_holder_refusal, new_purse, new_purse_refusal, changed_member, change_member, grant, grant_refusal, loaded_by, loaded_holding, loaded_row, load_new, load_row, not_loaded, load_done, load_purse, collect, collect_refusal, base, after, world_after}
 use Rattle.mx_office.proofs.LawLemmas.{none_refused}
 use Rattle.mx_office.proofs.BalanceLemmas.{Choice, IsAccounted, IsRow, left, right, left_row, counted, is_counted, none_counts, same_change, with_member, left_member, right_member, new_member_accounted, left_set, right_set, rows_stay, new_row_accounted, new_holder_accounted, opening_accounted, is_balanced}
 use Rattle.mx_office.proofs.BalanceAccountLemmas.{own_accounted, send_accounted, show_redeems, start_from_redeems, start_to_redeems, handle_redeems, discard_redeems, abort_redeems, redeem_redeems, inbox_redeems}
@@ -64,7 +64,7 @@ purse_accounted : (w : World) (m p h : Name) → IsAccounted w → IsAccounted (
 purse_accounted w m p h is = unless_accounted w (new_purse_refusal w m p h) _ is (λ e.
     new_row_accounted w p (new_row h p) (none_of _ (none_refused _ _ _ (none_refused _ _ _ e).1).0)
     (sum_entries-empty (λ k n. cond (fmap.contains_key fmap.empty k) 0 n)) (sum_values-empty (λ n. n)) (sum_values-empty (λ n. n))
-    (record { held = there_of m _ (none_refused _ _ _ e).0; collected = λ k t. absurd (let f : true ≡ false = sym t ∙ ap is_some (fmap.get-empty name_cmp k) in cc) })
+    (record { holder = there_of m _ (none_refused _ _ _ e).0; collected = λ k t. absurd (let f : true ≡ false = sym t ∙ ap is_some (fmap.get-empty name_cmp k) in cc) })
     is)
 
 -- ---- a grant
@@ -125,12 +125,12 @@ module _ (w : World) (m p : Name) (amount : ℕ) (reference : Name) where
   unfolding not_loaded
   is_load e = load_case (fmap.get w.rows p) (fmap.get w.members m) refl refl e
 
-loaded_case : (a : Account) (amount : ℕ) (reference : Name) (o : Option LoadRefusal) → (loaded_by a amount reference o).redemptions ≡ a.redemptions
+loaded_case : (a : Holding) (amount : ℕ) (reference : Name) (o : Option LoadRefusal) → (loaded_by a amount reference o).redemptions ≡ a.redemptions
 loaded_case a amount reference (Some x) = refl
 loaded_case a amount reference None = refl
 
-loaded_redemptions : (a : Account) (amount : ℕ) (reference : Name) → (loaded_account a amount reference).redemptions ≡ a.redemptions
-unfolding loaded_account
+loaded_redemptions : (a : Holding) (amount : ℕ) (reference : Name) → (loaded_holding a amount reference).redemptions ≡ a.redemptions
+unfolding loaded_holding
 loaded_redemptions a amount reference = loaded_case a amount reference (load_refusal a.purse amount)
 
 -- the left side has the load, and not the float
@@ -154,8 +154,8 @@ module _ (w : World) (m p : Name) (amount : ℕ) (reference : Name) (load : IsLo
   abbrev loaded_world : World
   loaded_world = with_member (set_row w p new) m paid
 
-  redemptions : new.account.redemptions ≡ load.row.account.redemptions
-  redemptions = loaded_redemptions load.row.account amount reference
+  redemptions : new.holding.redemptions ≡ load.row.holding.redemptions
+  redemptions = loaded_redemptions load.row.holding amount reference
 
   new_left : left_row new ≡ left_row load.row + amount
   new_left =
@@ -181,7 +181,7 @@ module _ (w : World) (m p : Name) (amount : ℕ) (reference : Name) (load : IsLo
       new_left load.enough (is.equal chosen)
 
   new_is_row : IsRow w.holders new
-  new_is_row = record { held = (is.rows p load.row load.at).held; collected = λ k t. subst (λ x. IsSome (fmap.get x k)) (sym redemptions) ((is.rows p load.row load.at).collected k t) }
+  new_is_row = record { holder = (is.rows p load.row load.at).holder; collected = λ k t. subst (λ x. IsSome (fmap.get x k)) (sym redemptions) ((is.rows p load.row load.at).collected k t) }
 
   loaded_accounted : IsAccounted (change_member (change_row w p (loaded_row amount reference)) m (λ x. record x { float = x.float - amount }))
   loaded_accounted = subst IsAccounted
@@ -207,12 +207,12 @@ mark_found None t = t
 mark_found (Some n) t = refl
 
 -- nothing is left to collect of a row that is collected
-nothing_left : (r : Row) → uncollected_row (collected_row r) ≡ 0
+nothing_left : (r : Row) → uncollected_row (with_collected r) ≡ 0
 nothing_left r =
-    sum_entries-same (λ k n. cond (fmap.contains_key (collected_row r).collected k) 0 n) (λ k n. 0) r.account.redemptions
-    (λ k n at. ap (λ o. cond (is_some o) 0 n) (get-pick names_total mark r.account.redemptions k ∙ ap (option_and_then mark) at))
-    ∙ sym (values_are (λ n. 0) r.account.redemptions)
-    ∙ sum_values-zero r.account.redemptions
+    sum_entries-same (λ k n. cond (fmap.contains_key (with_collected r).collected k) 0 n) (λ k n. 0) r.holding.redemptions
+    (λ k n at. ap (λ o. cond (is_some o) 0 n) (get-pick names_total mark r.holding.redemptions k ∙ ap (option_and_then mark) at))
+    ∙ sym (values_are (λ n. 0) r.holding.redemptions)
+    ∙ sum_values-zero r.holding.redemptions
 
 collect_change : (c : Bool) (l l1 l2 r r1 r2 f g u : ℕ) → l1 + cond c u 0 ≡ l → l2 + cond c f 0 ≡ l1 + cond c (f + u) 0 → r1 ≡ r → r2 + cond c g 0 ≡ r1 + cond c g 0 → l ≡ r → l2 ≡ r2
 collect_change true l l1 l2 r r1 r2 f g u rows member redeemed granted equal = omega arith
@@ -221,18 +221,18 @@ collect_change false l l1 l2 r r1 r2 f g u rows member redeemed granted equal = 
 module _ (w : World) (m : Name) where
   -- the row that stands in the place of another
   abbrev taken : Name → Row → Row
-  taken p r = cond (is_of_member w m r) (collected_row r) r
+  taken p r = cond (is_of_member w m r) (with_collected r) r
 
   module _ (chosen : Choice) where
-    collected_sum : (f : Row → ℕ) → of_purses (collected w m) chosen f ≡ sum_entries (λ p r. counted w chosen f (taken p r)) w.rows
+    collected_sum : (f : Row → ℕ) → of_purses (all_collected w m) chosen f ≡ sum_entries (λ p r. counted w chosen f (taken p r)) w.rows
     collected_sum f = sum_values-remake taken (counted w chosen f) w.rows
 
-    same_case : (f : Row → ℕ) (r : Row) (b : Bool) → f (collected_row r) ≡ f r → counted w chosen f (cond b (collected_row r) r) ≡ counted w chosen f r
+    same_case : (f : Row → ℕ) (r : Row) (b : Bool) → f (with_collected r) ≡ f r → counted w chosen f (cond b (with_collected r) r) ≡ counted w chosen f r
     same_case f r true same = ap (λ n. cond (is_counted w chosen r) n 0) same
     same_case f r false same = refl
 
     -- what doesn't look at what is collected
-    same_sum : (f : Row → ℕ) → ((r : Row) → f (collected_row r) ≡ f r) → of_purses (collected w m) chosen f ≡ of_purses w chosen f
+    same_sum : (f : Row → ℕ) → ((r : Row) → f (with_collected r) ≡ f r) → of_purses (all_collected w m) chosen f ≡ of_purses w chosen f
     same_sum f same =
         collected_sum f
         ∙ sum_entries-same (λ p r. counted w chosen f (taken p r)) (λ p r. counted w chosen f r) w.rows (λ p r _. same_case f r (is_of_member w m r) (same r))
@@ -242,10 +242,10 @@ module _ (w : World) (m : Name) where
     abbrev gained : Row → ℕ
     gained r = cond (chosen m) (cond (is_of_member w m r) (uncollected_row r) 0) 0
 
-    gained_case : (r : Row) (b : Bool) → is_of_member w m r ≡ b → counted w chosen uncollected_row (cond b (collected_row r) r) + cond (chosen m) (cond b (uncollected_row r) 0) 0 ≡ counted w chosen uncollected_row r
+    gained_case : (r : Row) (b : Bool) → is_of_member w m r ≡ b → counted w chosen uncollected_row (cond b (with_collected r) r) + cond (chosen m) (cond b (uncollected_row r) 0) 0 ≡ counted w chosen uncollected_row r
     gained_case r true t =
         let counts : is_counted w chosen r ≡ chosen m = counts_as chosen m (fmap.get w.holders r.holder) t in
-        let e1 : counted w chosen uncollected_row (collected_row r) ≡ 0 = ap (λ n. cond (is_counted w chosen r) n 0) (nothing_left r) ∙ none_counts (is_counted w chosen r) in
+        let e1 : counted w chosen uncollected_row (with_collected r) ≡ 0 = ap (λ n. cond (is_counted w chosen r) n 0) (nothing_left r) ∙ none_counts (is_counted w chosen r) in
         let e2 : counted w chosen uncollected_row r ≡ cond (chosen m) (uncollected_row r) 0 = ap (λ c. cond c (uncollected_row r) 0) counts in
         omega (arith, e1, e2)
     gained_case r false t = omega (arith, none_counts (chosen m))
@@ -254,42 +254,42 @@ module _ (w : World) (m : Name) where
     gained_sum true = refl
     gained_sum false = sum_values-zero w.rows
 
-    open_sum : of_purses (collected w m) chosen uncollected_row + cond (chosen m) (uncollected_of w m) 0 ≡ of_purses w chosen uncollected_row
+    open_sum : of_purses (all_collected w m) chosen uncollected_row + cond (chosen m) (uncollected_of w m) 0 ≡ of_purses w chosen uncollected_row
     open_sum =
         (λ i. collected_sum uncollected_row i + (sym (gained_sum (chosen m)) ∙ values_are gained w.rows) i)
         ∙ sum_entries-add (λ p r. counted w chosen uncollected_row (taken p r)) (λ p r. gained r) w.rows
         ∙ sum_entries-same _ _ w.rows (λ p r _. gained_case r (is_of_member w m r) refl)
         ∙ sym (values_are (counted w chosen uncollected_row) w.rows)
 
-    collected_left_side : left (collected w m) chosen + cond (chosen m) (uncollected_of w m) 0 ≡ left w chosen
+    collected_left_side : left (all_collected w m) chosen + cond (chosen m) (uncollected_of w m) 0 ≡ left w chosen
     collected_left_side =
-        let e1 : of_purses (collected w m) chosen uncollected_row + cond (chosen m) (uncollected_of w m) 0 ≡ of_purses w chosen uncollected_row = open_sum in
-        let e2 : of_purses (collected w m) chosen issued_row ≡ of_purses w chosen issued_row = same_sum issued_row (λ r. refl) in
+        let e1 : of_purses (all_collected w m) chosen uncollected_row + cond (chosen m) (uncollected_of w m) 0 ≡ of_purses w chosen uncollected_row = open_sum in
+        let e2 : of_purses (all_collected w m) chosen issued_row ≡ of_purses w chosen issued_row = same_sum issued_row (λ r. refl) in
         omega (arith, e1, e2)
 
-    collected_right_side : right (collected w m) chosen ≡ right w chosen
+    collected_right_side : right (all_collected w m) chosen ≡ right w chosen
     collected_right_side =
-        let e1 : of_purses (collected w m) chosen redeemed_row ≡ of_purses w chosen redeemed_row = same_sum redeemed_row (λ r. refl) in
+        let e1 : of_purses (all_collected w m) chosen redeemed_row ≡ of_purses w chosen redeemed_row = same_sum redeemed_row (λ r. refl) in
         omega (arith, e1)
 
-  taken_case : (r : Row) (b : Bool) → IsRow w.holders r → IsRow w.holders (cond b (collected_row r) r)
-  taken_case r true is = record { held = is.held; collected = λ k t. mark_found (fmap.get r.account.redemptions k) (sym (ap is_some (get-pick names_total mark r.account.redemptions k)) ∙ t) }
+  taken_case : (r : Row) (b : Bool) → IsRow w.holders r → IsRow w.holders (cond b (with_collected r) r)
+  taken_case r true is = record { holder = is.holder; collected = λ k t. mark_found (fmap.get r.holding.redemptions k) (sym (ap is_some (get-pick names_total mark r.holding.redemptions k)) ∙ t) }
   taken_case r false is = is
 
   taken_found : (p : Name) (y : Row) (o : Option Row) → fmap.get w.rows p ≡ o → option_map (taken p) o ≡ Some y → IsAccounted w → IsRow w.holders y
   taken_found p y None at e is = cc
   taken_found p y (Some r) at e is = subst (IsRow w.holders) (inside _ y e) (taken_case r (is_of_member w m r) (is.rows p r at))
 
-  collected_rows : IsAccounted w → (p : Name) (y : Row) → fmap.get (collected w m).rows p ≡ Some y → IsRow w.holders y
+  collected_rows : IsAccounted w → (p : Name) (y : Row) → fmap.get (all_collected w m).rows p ≡ Some y → IsRow w.holders y
   collected_rows is p y e = taken_found p y (fmap.get w.rows p) refl (sym (get-remake name_cmp taken names_exact w.rows p) ∙ e) is
 
-  collected_accounted : (row : MemberRow) → fmap.get w.members m ≡ Some row → IsAccounted w → IsAccounted (change_member (collected w m) m (λ x. record x { float = x.float + uncollected_of w m }))
+  collected_accounted : (row : MemberRow) → fmap.get w.members m ≡ Some row → IsAccounted w → IsAccounted (change_member (all_collected w m) m (λ x. record x { float = x.float + uncollected_of w m }))
   collected_accounted row at is =
       let new : MemberRow = record row { float = row.float + uncollected_of w m } in
-      subst IsAccounted (sym (change_to (collected w m) m (λ x. record x { float = x.float + uncollected_of w m }) row at))
+      subst IsAccounted (sym (change_to (all_collected w m) m (λ x. record x { float = x.float + uncollected_of w m }) row at))
       (record {
-        equal = λ chosen. collect_change (chosen m) _ _ _ _ _ _ row.float row.granted (uncollected_of w m) (collected_left_side chosen) (left_member (collected w m) m new row at chosen)
-            (collected_right_side chosen) (right_member (collected w m) m new row at chosen) (is.equal chosen);
+        equal = λ chosen. collect_change (chosen m) _ _ _ _ _ _ row.float row.granted (uncollected_of w m) (collected_left_side chosen) (left_member (all_collected w m) m new row at chosen)
+            (collected_right_side chosen) (right_member (all_collected w m) m new row at chosen) (is.equal chosen);
         rows = collected_rows is;
       })
 

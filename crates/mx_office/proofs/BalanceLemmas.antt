@@ -37,8 +37,8 @@ counted w chosen f r = cond (is_counted w chosen r) (f r) 0
 
 -- the holder of a row is there, and what is collected of it is a redemption
 pub record IsRow (holders : fmap.FinMap name_cmp Name) (r : Row) : Type 0 where
-  pub held : IsSome (fmap.get holders r.holder)
-  pub collected : (reference : Name) → fmap.contains_key r.collected reference ≡ true → IsSome (fmap.get r.account.redemptions reference)
+  pub holder : IsSome (fmap.get holders r.holder)
+  pub collected : (reference : Name) → fmap.contains_key r.collected reference ≡ true → IsSome (fmap.get r.holding.redemptions reference)
 
 -- the equation of each choice of members, and what each row keeps
 pub record IsAccounted (w : World) : Type 0 where
@@ -166,7 +166,7 @@ module _ (w : World) (h m : Name) (gone : fmap.get w.holders h ≡ None) where
 
   purses_stay : IsAccounted w → (chosen : Choice) (f : Row → ℕ) → of_purses with_holder chosen f ≡ of_purses w chosen f
   purses_stay is chosen f = sum_values-same (counted with_holder chosen f) (counted w chosen f) w.rows
-      (λ p r at. ap (λ o. cond (is_chosen chosen o) (f r) 0) (holder_stays r.holder (is.rows p r at).held))
+      (λ p r at. ap (λ o. cond (is_chosen chosen o) (f r) 0) (holder_stays r.holder (is.rows p r at).holder))
 
   pub new_holder_accounted : IsAccounted w → IsAccounted with_holder
   new_holder_accounted is = record {
@@ -174,7 +174,7 @@ module _ (w : World) (h m : Name) (gone : fmap.get w.holders h ≡ None) where
         (λ i. (of_members w chosen (λ x. x.float) + purses_stay is chosen uncollected_row i) + purses_stay is chosen issued_row i)
         ∙ is.equal chosen
         ∙ ap (λ n. of_members w chosen (λ x. x.granted) + n) (sym (purses_stay is chosen redeemed_row));
-    rows = λ p r at. record { held = still_some w.holders h m r.holder (is.rows p r at).held; collected = (is.rows p r at).collected };
+    rows = λ p r at. record { holder = still_some w.holders h m r.holder (is.rows p r at).holder; collected = (is.rows p r at).collected };
   }
 
 -- ---- the start, and one member

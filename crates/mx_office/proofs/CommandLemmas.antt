@@ -15,7 +15,7 @@ use Rattle.mx_purse.specs.declared.refusals.StartRefusal.{StartRefusal}
 use Rattle.mx_purse.specs.Operations.{or_refused, unless_refused, pending, with_pending, lines_with, aborted, start_from_refusal, start_to_refusal, from_details, to_details, started, handled, after_message, sent_for}
 use Rattle.mx_purse.proofs.OperationLemmas.{aborted_is, started_from_is, started_to_is, after_message_is}
 use Rattle.mx_book.specs.declared.edits.Edit.TheVariants.{DropMessage}
-use Rattle.mx_book.specs.World.{World, Row, Account, Name}
+use Rattle.mx_book.specs.World.{World, Row, Holding, Name}
 use Rattle.mx_book.specs.Conditions.{IsWorld}
 use Rattle.mx_book.specs.Reads.{from_row, inbox_of, message_of}
 use Rattle.mx_book.proofs.PurseLemmas.{discard_leads, discard_suits, discard_stays}
@@ -31,29 +31,29 @@ use Rattle.mx_office.proofs.AccountLemmas.{IsNext, Follows, is_own, own_told_dec
 pub show_decides : (w : World) (h p : Name) (q : State) (d : Decided) → IsWorld w → own_purse w h p ≡ Some q → d.reply ≡ reply.Shown q → d.edits ≡ [] → Decides w (on_own w h p show) d
 unfolding show
 show_decides w h p q d is own_is = let own = is_own w h p q own_is in
-    own_told_decides w h p show (reply.Shown q) d own.row is own.at own.owned (ap (λ x. tell own.row.account (reply.Shown x)) own.purse)
+    own_told_decides w h p show (reply.Shown q) d own.row is own.at own.owned (ap (λ x. tell own.row.holding (reply.Shown x)) own.purse)
 
 pub some_value : {X : Type 0} (o : Option X) → is_none o ≡ false → (x : X) × (o ≡ Some x)
 some_value None f = absurd (cc)
 some_value (Some x) f = (x, refl)
 
 -- what is read of a row that is there
-inbox_at : (w : World) (p : Name) (r : Row) → fmap.get w.rows p ≡ Some r → inbox_of w p ≡ fmap.entries r.account.inbox
-inbox_at w p r at = ap (from_row [] (λ (x : Row). fmap.entries x.account.inbox)) at
+inbox_at : (w : World) (p : Name) (r : Row) → fmap.get w.rows p ≡ Some r → inbox_of w p ≡ fmap.entries r.holding.inbox
+inbox_at w p r at = ap (from_row [] (λ (x : Row). fmap.entries x.holding.inbox)) at
 
-message_at : (w : World) (p : Name) (n : ℕ) (r : Row) → fmap.get w.rows p ≡ Some r → message_of w p n ≡ fmap.get r.account.inbox n
-message_at w p n r at = ap (from_row None (λ (x : Row). fmap.get x.account.inbox n)) at
+message_at : (w : World) (p : Name) (n : ℕ) (r : Row) → fmap.get w.rows p ≡ Some r → message_of w p n ≡ fmap.get r.holding.inbox n
+message_at w p n r at = ap (from_row None (λ (x : Row). fmap.get x.holding.inbox n)) at
 
 pub inbox_decides : (w : World) (h p : Name) (d : Decided) → IsWorld w → is_none (own_purse w h p) ≡ false → d.reply ≡ reply.Inbox (inbox_of w p) → d.edits ≡ [] → Decides w (on_own w h p inbox) d
 unfolding inbox
 inbox_decides w h p d is there reply_is =
     let found = some_value (own_purse w h p) there in
     let own = is_own w h p found.0 found.1 in
-    own_told_decides w h p inbox (reply.Inbox (fmap.entries own.row.account.inbox)) d own.row is own.at own.owned refl (reply_is ∙ ap reply.Inbox (inbox_at w p own.row own.at))
+    own_told_decides w h p inbox (reply.Inbox (fmap.entries own.row.holding.inbox)) d own.row is own.at own.owned refl (reply_is ∙ ap reply.Inbox (inbox_at w p own.row own.at))
 
 -- ---- discard
 
-discarded : (n : ℕ) (a : Account) (b : Bool) → is_some (fmap.get a.inbox n) ≡ b → discard n a ≡ cond b (tell (record a { inbox = fmap.remove a.inbox n }) reply.Discarded) (tell a (reply.Refused NoSuchMessage))
+discarded : (n : ℕ) (a : Holding) (b : Bool) → is_some (fmap.get a.inbox n) ≡ b → discard n a ≡ cond b (tell (record a { inbox = fmap.remove a.inbox n }) reply.Discarded) (tell a (reply.Refused NoSuchMessage))
 unfolding discard
 discarded n a b is = ap (λ x. cond x (tell (record a { inbox = fmap.remove a.inbox n }) reply.Discarded) (tell a (reply.Refused NoSuchMessage))) is
 
@@ -66,15 +66,15 @@ no_message_decides w h p n d is there none =
     let found = some_value (own_purse w h p) there in
     let own = is_own w h p found.0 found.1 in
     own_told_decides w h p (discard n) (reply.Refused NoSuchMessage) d own.row is own.at own.owned
-    (discarded n own.row.account false (ap is_some (sym (message_at w p n own.row own.at)) ∙ none_some _ true none))
+    (discarded n own.row.holding false (ap is_some (sym (message_at w p n own.row own.at)) ∙ none_some _ true none))
 
 pub discard_decides : (w : World) (h p : Name) (n : ℕ) (d : Decided) → IsWorld w → is_none (own_purse w h p) ≡ false → is_none (message_of w p n) ≡ false → d.reply ≡ reply.Discarded → d.edits ≡ DropMessage p n ∷ [] → Decides w (on_own w h p (discard n)) d
 discard_decides w h p n d is there message =
     let found = some_value (own_purse w h p) there in
     let own = is_own w h p found.0 found.1 in
-    let some : is_some (fmap.get own.row.account.inbox n) ≡ true = ap is_some (sym (message_at w p n own.row own.at)) ∙ none_some _ false message in
-    own_edit_decides w h p (discard n) (record own.row.account { inbox = fmap.remove own.row.account.inbox n }) reply.Discarded (DropMessage p n) d own.row own.at own.owned
-    (discarded n own.row.account true some)
+    let some : is_some (fmap.get own.row.holding.inbox n) ≡ true = ap is_some (sym (message_at w p n own.row own.at)) ∙ none_some _ false message in
+    own_edit_decides w h p (discard n) (record own.row.holding { inbox = fmap.remove own.row.holding.inbox n }) reply.Discarded (DropMessage p n) d own.row own.at own.owned
+    (discarded n own.row.holding true some)
     (discard_leads w p n own.row own.at) (discard_suits w p n own.row own.at some) (discard_stays w p n own.row own.at is)
 
 -- ---- operations on the purse
@@ -152,16 +152,16 @@ unfolding abort
 abort_decides w h p q after d is own_is after_is reply_is edits_is =
     let own = is_own w h p q own_is in
     let r = own.row in
-    changed_decides w p r (aborted r.account.purse) (abort_line (aborted r.account.purse) (pending r.account.purse.status)) is own.at (abort_follows r.account.purse (is.purses.each p r own.at).purse)
-    h abort (reply.Aborted (is_some (pending r.account.purse.status))) None d own.owned refl
+    changed_decides w p r (aborted r.holding.purse) (abort_line (aborted r.holding.purse) (pending r.holding.purse.status)) is own.at (abort_follows r.holding.purse (is.purses.each p r own.at).purse)
+    h abort (reply.Aborted (is_some (pending r.holding.purse.status))) None d own.owned refl
     (reply_is ∙ ap (λ (x : State). reply.Aborted (is_some (pending x.status))) (sym own.purse))
     (edits_is ∙ ap (λ x. purse_edits x (abort_line x (pending q.status)) None) after_is ∙ ap (λ x. purse_edits (aborted x) (abort_line (aborted x) (pending x.status)) None) (sym own.purse))
 
 -- a start that is refused
-from_refused : (a : Account) (peer : Name) (value seq : ℕ) (o : Option StartRefusal) (r : StartRefusal) → o ≡ Some r → start_from_by a peer value seq o ≡ tell a (reply.Refused (start_as r))
+from_refused : (a : Holding) (peer : Name) (value seq : ℕ) (o : Option StartRefusal) (r : StartRefusal) → o ≡ Some r → start_from_by a peer value seq o ≡ tell a (reply.Refused (start_as r))
 from_refused a peer value seq o r is = ap (start_from_by a peer value seq) is
 
-to_refused : (a : Account) (peer : Name) (value seq : ℕ) (o : Option StartRefusal) (r : StartRefusal) → o ≡ Some r → start_to_by a peer value seq o ≡ tell a (reply.Refused (start_as r))
+to_refused : (a : Holding) (peer : Name) (value seq : ℕ) (o : Option StartRefusal) (r : StartRefusal) → o ≡ Some r → start_to_by a peer value seq o ≡ tell a (reply.Refused (start_as r))
 to_refused a peer value seq o r is = ap (start_to_by a peer value seq) is
 
 pub from_refused_decides : (w : World) (h p peer : Name) (value seq : ℕ) (q : State) (r : StartRefusal) (d : Decided) → IsWorld w → own_purse w h p ≡ Some q
@@ -170,7 +170,7 @@ unfolding start_from
 from_refused_decides w h p peer value seq q r d is own_is refused =
     let own = is_own w h p q own_is in
     own_told_decides w h p (start_from peer value seq) (reply.Refused (start_as r)) d own.row is own.at own.owned
-    (from_refused own.row.account peer value seq _ r (ap (λ x. start_from_refusal x peer value) own.purse ∙ is_refused _ _ r refused))
+    (from_refused own.row.holding peer value seq _ r (ap (λ x. start_from_refusal x peer value) own.purse ∙ is_refused _ _ r refused))
 
 pub to_refused_decides : (w : World) (h p peer : Name) (value seq : ℕ) (q : State) (r : StartRefusal) (d : Decided) → IsWorld w → own_purse w h p ≡ Some q
     → or_refused (start_to_refusal q peer) (to_details q peer value seq) ≡ Err r → d.reply ≡ reply.Refused (start_as r) → d.edits ≡ [] → Decides w (on_own w h p (start_to peer value seq)) d
@@ -178,7 +178,7 @@ unfolding start_to
 to_refused_decides w h p peer value seq q r d is own_is refused =
     let own = is_own w h p q own_is in
     own_told_decides w h p (start_to peer value seq) (reply.Refused (start_as r)) d own.row is own.at own.owned
-    (to_refused own.row.account peer value seq _ r (ap (λ x. start_to_refusal x peer) own.purse ∙ is_refused _ _ r refused))
+    (to_refused own.row.holding peer value seq _ r (ap (λ x. start_to_refusal x peer) own.purse ∙ is_refused _ _ r refused))
 
 -- a start that is done
 pub start_from_decides : (w : World) (h p peer : Name) (value seq : ℕ) (q after : State) (x : Details) (d : Decided) → IsWorld w → own_purse w h p ≡ Some q
@@ -190,12 +190,12 @@ start_from_decides w h p peer value seq q after x d is own_is done after_is repl
     let own = is_own w h p q own_is in
     let r = own.row in
     let free : start_from_refusal q peer value ≡ None = not_refused _ _ x done in
-    let here : start_from_refusal r.account.purse peer value ≡ None = ap (λ y. start_from_refusal y peer value) own.purse ∙ free in
-    let now : State = started r.account.purse (Epr (from_details r.account.purse peer value seq)) in
-    let line = abort_line now (pending r.account.purse.status) in
+    let here : start_from_refusal r.holding.purse peer value ≡ None = ap (λ y. start_from_refusal y peer value) own.purse ∙ free in
+    let now : State = started r.holding.purse (Epr (from_details r.holding.purse peer value seq)) in
+    let line = abort_line now (pending r.holding.purse.status) in
     let now_is : after ≡ now = after_is ∙ ap (λ o. unless_refused o q (started q (Epr (from_details q peer value seq)))) free ∙ ap (λ y. started y (Epr (from_details y peer value seq))) (sym own.purse) in
-    changed_decides w p r now line is own.at (from_follows r.account.purse peer value seq (is.purses.each p r own.at).purse here now refl)
-    h (start_from peer value seq) (reply.Started (from_details r.account.purse peer value seq)) None d own.owned (ap (start_from_by r.account peer value seq) here)
+    changed_decides w p r now line is own.at (from_follows r.holding.purse peer value seq (is.purses.each p r own.at).purse here now refl)
+    h (start_from peer value seq) (reply.Started (from_details r.holding.purse peer value seq)) None d own.owned (ap (start_from_by r.holding peer value seq) here)
     (reply_is ∙ ap reply.Started (sym (same_answer _ _ x done)) ∙ ap (λ y. reply.Started (from_details y peer value seq)) (sym own.purse))
     (edits_is ∙ ap (λ y. purse_edits y (abort_line y (pending q.status)) None) now_is ∙ ap (λ y. purse_edits now (abort_line now (pending y.status)) None) (sym own.purse))
 
@@ -208,21 +208,21 @@ start_to_decides w h p peer value seq q after x d is own_is done after_is reply_
     let own = is_own w h p q own_is in
     let r = own.row in
     let free : start_to_refusal q peer ≡ None = not_refused _ _ x done in
-    let here : start_to_refusal r.account.purse peer ≡ None = ap (λ y. start_to_refusal y peer) own.purse ∙ free in
-    let now : State = started r.account.purse (Epv (to_details r.account.purse peer value seq)) in
-    let line = abort_line now (pending r.account.purse.status) in
+    let here : start_to_refusal r.holding.purse peer ≡ None = ap (λ y. start_to_refusal y peer) own.purse ∙ free in
+    let now : State = started r.holding.purse (Epv (to_details r.holding.purse peer value seq)) in
+    let line = abort_line now (pending r.holding.purse.status) in
     let now_is : after ≡ now = after_is ∙ ap (λ o. unless_refused o q (started q (Epv (to_details q peer value seq)))) free ∙ ap (λ y. started y (Epv (to_details y peer value seq))) (sym own.purse) in
-    let x_is : x ≡ to_details r.account.purse peer value seq = sym (same_answer _ _ x done) ∙ ap (λ y. to_details y peer value seq) (sym own.purse) in
-    changed_decides w p r now line is own.at (to_follows r.account.purse peer value seq (is.purses.each p r own.at).purse here now refl)
-    h (start_to peer value seq) (reply.Started (to_details r.account.purse peer value seq)) (Some (peer, Req (to_details r.account.purse peer value seq))) d own.owned (ap (start_to_by r.account peer value seq) here)
+    let x_is : x ≡ to_details r.holding.purse peer value seq = sym (same_answer _ _ x done) ∙ ap (λ y. to_details y peer value seq) (sym own.purse) in
+    changed_decides w p r now line is own.at (to_follows r.holding.purse peer value seq (is.purses.each p r own.at).purse here now refl)
+    h (start_to peer value seq) (reply.Started (to_details r.holding.purse peer value seq)) (Some (peer, Req (to_details r.holding.purse peer value seq))) d own.owned (ap (start_to_by r.holding peer value seq) here)
     (reply_is ∙ ap reply.Started x_is)
     (edits_is ∙ ap (λ y. purse_edits y (abort_line y (pending q.status)) (placed w (Some (peer, Req x)))) now_is ∙ ap (λ y. purse_edits now (abort_line now (pending y.status)) (placed w (Some (peer, Req x)))) (sym own.purse) ∙ ap (λ y. purse_edits now line (placed w (Some (peer, Req y)))) x_is)
 
 -- ---- handle
 
-message_here : (w : World) (p : Name) (n : ℕ) (r : Row) (o : Option Message) → fmap.get w.rows p ≡ Some r → message_of w p n ≡ o → handle n r.account ≡ handle_message r.account o
+message_here : (w : World) (p : Name) (n : ℕ) (r : Row) (o : Option Message) → fmap.get w.rows p ≡ Some r → message_of w p n ≡ o → handle n r.holding ≡ handle_message r.holding o
 unfolding handle
-message_here w p n r o at is = ap (handle_message r.account) (sym (message_at w p n r at) ∙ is)
+message_here w p n r o at is = ap (handle_message r.holding) (sym (message_at w p n r at) ∙ is)
 
 pub nothing_handled_decides : (w : World) (h p : Name) (n : ℕ) (q : State) (d : Decided) → IsWorld w → own_purse w h p ≡ Some q → message_of w p n ≡ None → d.reply ≡ reply.Refused NoSuchMessage → d.edits ≡ [] → Decides w (on_own w h p (handle n)) d
 nothing_handled_decides w h p n q d is own_is none =
@@ -235,11 +235,11 @@ pub handle_decides : (w : World) (h p : Name) (n : ℕ) (q after : State) (m : M
 handle_decides w h p n q after m x d is own_is message x_is after_is reply_is edits_is =
     let own = is_own w h p q own_is in
     let r = own.row in
-    let y : Handled = handled r.account.purse m in
-    let now : State = after_message r.account.purse y in
+    let y : Handled = handled r.holding.purse m in
+    let now : State = after_message r.holding.purse y in
     let y_is : x ≡ y = x_is ∙ ap (λ s. handled s m) (sym own.purse) in
     let now_is : after ≡ now = after_is ∙ ap (λ s. after_message s (handled s m)) (sym own.purse) in
-    changed_decides w p r now (message_line now y) is own.at (message_follows r.account.purse m (is.purses.each p r own.at).purse)
+    changed_decides w p r now (message_line now y) is own.at (message_follows r.holding.purse m (is.purses.each p r own.at).purse)
     h (handle n) (reply.Handled y) (sent_for y) d own.owned (message_here w p n r (Some m) own.at message)
     (reply_is ∙ ap reply.Handled y_is)
     (edits_is ∙ ap (λ s. purse_edits s (message_line s x) (placed w (sent_for x))) now_is ∙ ap (λ z. purse_edits now (message_line now z) (placed w (sent_for z))) y_is)

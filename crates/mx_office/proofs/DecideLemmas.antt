@@ -19,7 +19,7 @@ use Rattle.mx_office.specs.declared.values.Refusal.{Refusal}
 use Rattle.mx_office.specs.declared.values.Reply.{Reply}
 use Rattle.mx_office.specs.declared.values.Reply.TheVariants.{Added, Refused}
 use Rattle.mx_office.specs.Step.{Done, done, send, first_refusal, unless, new_member, new_holder, new_purse}
-use Rattle.mx_office.specs.Decides.{Decides, finds_place, purses_held}
+use Rattle.mx_office.specs.Decides.{Decides, finds_place, purse_count}
 
 -- ---- decisions of no edit and of one
 
@@ -100,16 +100,16 @@ held_none : (b : Bool) (k : ℕ) → cond b (Some k) None ≡ None → not b ≡
 held_none true k e = absurd (cc)
 held_none false k e = refl
 
-pub no_holder : (w : World) (m h : Name) → purses_held w m h ≡ None → not (is_of m (fmap.get w.holders h)) ≡ true
+pub no_holder : (w : World) (m h : Name) → purse_count w m h ≡ None → not (is_of m (fmap.get w.holders h)) ≡ true
 no_holder w m h e = held_none _ _ e
 
-pub a_holder : (w : World) (m h : Name) (n : ℕ) → purses_held w m h ≡ Some n → not (is_of m (fmap.get w.holders h)) ≡ false
+pub a_holder : (w : World) (m h : Name) (n : ℕ) → purse_count w m h ≡ Some n → not (is_of m (fmap.get w.holders h)) ≡ false
 a_holder w m h n e = ap not (held_some _ n _ e).0
 
-pub held_count : (w : World) (m h : Name) (n : ℕ) → purses_held w m h ≡ Some n → n ≡ length (purses_of w h)
+pub held_count : (w : World) (m h : Name) (n : ℕ) → purse_count w m h ≡ Some n → n ≡ length (purses_of w h)
 held_count w m h n e = (held_some _ n _ e).1
 
-pub many_held : (w : World) (m h : Name) (n : ℕ) (b : Bool) → purses_held w m h ≡ Some n → nat_le 64 n ≡ b → nat_le 64 (length (purses_of w h)) ≡ b
+pub many_held : (w : World) (m h : Name) (n : ℕ) (b : Bool) → purse_count w m h ≡ Some n → nat_le 64 n ≡ b → nat_le 64 (length (purses_of w h)) ≡ b
 many_held w m h n b e is = ap (nat_le 64) (sym (held_count w m h n e)) ∙ is
 
 -- a holder that is of a member is there
@@ -120,7 +120,7 @@ of_there m (Some x) f = refl
 -- a purse is given exactly where it is there, since its holder is
 account_case : (w : World) (p : Name) (o : Option Row) → fmap.get w.rows p ≡ o → IsWorld w → is_some (option_and_then (λ (r : Row). option_map (account_with r) (fmap.get w.holders r.holder)) o) ≡ is_some o
 account_case w p None at h = refl
-account_case w p (Some r) at h = holder_there r (fmap.get w.holders r.holder) (h.purses.each p r at).held
+account_case w p (Some r) at h = holder_there r (fmap.get w.holders r.holder) (h.purses.each p r at).holder
   where
     holder_there : (r : Row) (o : Option Name) → IsSome o → is_some (option_map (account_with r) o) ≡ true
     holder_there r None there = absurd (cc)
@@ -149,11 +149,11 @@ pub given_room : (w : World) (p : Name) (a : given.Account) → account_of w p �
 unfolding has_room
 given_room w p a is = given_case (fmap.get w.rows p) is
   where
-    member_case : (r : Row) (o : Option Name) → option_map (account_with r) o ≡ Some a → nat_lt a.held 32 && nat_lt a.next_message (10 ^ 15) ≡ nat_lt (fmap.len r.account.inbox) 32 && nat_lt r.account.next_message (10 ^ 15)
+    member_case : (r : Row) (o : Option Name) → option_map (account_with r) o ≡ Some a → nat_lt a.held 32 && nat_lt a.next_message (10 ^ 15) ≡ nat_lt (fmap.len r.holding.inbox) 32 && nat_lt r.holding.next_message (10 ^ 15)
     member_case r None e = absurd (cc)
     member_case r (Some m) e = ap (λ x. nat_lt x.held 32 && nat_lt x.next_message (10 ^ 15)) (sym (inside (account_with r m) a e))
 
-    given_case : (o : Option Row) → option_and_then (λ (r : Row). option_map (account_with r) (fmap.get w.holders r.holder)) o ≡ Some a → nat_lt a.held 32 && nat_lt a.next_message (10 ^ 15) ≡ from_row false (λ r. has_room r.account) o
+    given_case : (o : Option Row) → option_and_then (λ (r : Row). option_map (account_with r) (fmap.get w.holders r.holder)) o ≡ Some a → nat_lt a.held 32 && nat_lt a.next_message (10 ^ 15) ≡ from_row false (λ r. has_room r.holding) o
     given_case None e = absurd (cc)
     given_case (Some r) e = member_case r (fmap.get w.holders r.holder) e
 

@@ -14,7 +14,7 @@ use Rattle.mx_book.specs.declared.edits.Edit.TheVariants.{SetMember, SetPurse, A
 use Rattle.mx_book.specs.declared.values.Line.{Line}
 use Rattle.mx_book.specs.declared.values.LineKind.TheVariants as kind
 use Rattle.mx_book.specs.declared.values.MemberRow.{MemberRow}
-use Rattle.mx_book.specs.World.{World, Row, Account, Name, is_of_member, collected, set_row}
+use Rattle.mx_book.specs.World.{World, Row, Holding, Name, is_of_member, all_collected, set_row}
 use Rattle.mx_book.specs.Conditions.{IsWorld, AreNumbered, all_granted}
 use Rattle.mx_book.specs.Reads.{from_row, load_of, redemption_of, uncollected_of}
 use Rattle.mx_book.specs.Edits.{Fits, AllSuit, edited, all_edited}
@@ -25,7 +25,7 @@ use Rattle.mx_office.specs.declared.values.Decided.{Decided}
 use Rattle.mx_office.specs.declared.values.Reply.{Reply}
 use Rattle.mx_office.specs.declared.values.Reply.TheVariants as reply
 use Rattle.mx_office.specs.declared.values.Refusal.TheVariants as refusal
-use Rattle.mx_office.specs.Step.{Done, done, listed, abort_line, money_line, redeem_lines, float_of, change_member, changed_member, grant, grant_refusal, collect, collect_refusal, load_purse, load_done, load_row, load_new, load_again, load_refused, load_as, loaded_row, loaded_account, loaded_by, redeem, redeem_new, redeem_by, redeem_as, tell, not_loaded, unless, on_own, on_row}
+use Rattle.mx_office.specs.Step.{Done, done, listed, abort_line, money_line, redeem_lines, float_of, change_member, changed_member, grant, grant_refusal, collect, collect_refusal, load_purse, load_done, load_row, load_new, load_again, load_refused, load_as, loaded_row, loaded_holding, loaded_by, redeem, redeem_new, redeem_by, redeem_as, tell, not_loaded, unless, on_own, on_row}
 use Rattle.mx_office.specs.Step as step
 use Rattle.mx_office.specs.Decides.{Decides, member_purse, own_purse, load_edits, redeem_edits}
 use Rattle.mx_office.proofs.DecideLemmas.{told_decides, edit_decides, first, next, none_left}
@@ -102,7 +102,7 @@ granted_below w m row at = let sums = granted_after w m 0 row.float row at in om
 pub collect_decides : (w : World) (m : Name) (row : MemberRow) (d : Decided) → IsWorld w → fmap.get w.members m ≡ Some row → nat_lt (10 ^ 15) (row.float + uncollected_of w m) ≡ false
     → d.reply ≡ reply.Collected (uncollected_of w m) → d.edits ≡ Collect m ∷ SetMember m row.granted (row.float + uncollected_of w m) ∷ [] → Decides w (collect w m) d
 collect_decides w m row d is at room reply_is edits_is =
-    let v : World = collected w m in
+    let v : World = all_collected w m in
     let e : Edit = SetMember m row.granted (row.float + uncollected_of w m) in
     let rise : MemberRow → MemberRow = λ x. record x { float = x.float + uncollected_of w m } in
     let free : collect_refusal w m ≡ None = next _ _ _ _ (ap is_none at) (next _ _ _ _ (ap (λ f. nat_lt (10 ^ 15) (f + uncollected_of w m)) (float_there w m row at) ∙ room) none_left) in
@@ -130,25 +130,25 @@ pub record IsMembers (w : World) (m p : Name) (q : State) : Type 0 where
   pub row : Row
   pub at : fmap.get w.rows p ≡ Some row
   pub of : is_of_member w m row ≡ true
-  pub purse : row.account.purse ≡ q
+  pub purse : row.holding.purse ≡ q
 
-members_row : (w : World) (m p : Name) (q : State) (r : Row) (b : Bool) → fmap.get w.rows p ≡ Some r → is_of_member w m r ≡ b → cond b (Some r.account.purse) None ≡ Some q → IsMembers w m p q
+members_row : (w : World) (m p : Name) (q : State) (r : Row) (b : Bool) → fmap.get w.rows p ≡ Some r → is_of_member w m r ≡ b → cond b (Some r.holding.purse) None ≡ Some q → IsMembers w m p q
 members_row w m p q r true at t e = record { row = r; at = at; of = t; purse = inside _ _ e }
 members_row w m p q r false at t e = absurd (cc)
 
-members_case : (w : World) (m p : Name) (q : State) (o : Option Row) → fmap.get w.rows p ≡ o → from_row None (λ r. cond (is_of_member w m r) (Some r.account.purse) None) o ≡ Some q → IsMembers w m p q
+members_case : (w : World) (m p : Name) (q : State) (o : Option Row) → fmap.get w.rows p ≡ o → from_row None (λ r. cond (is_of_member w m r) (Some r.holding.purse) None) o ≡ Some q → IsMembers w m p q
 members_case w m p q None at e = absurd (cc)
 members_case w m p q (Some r) at e = members_row w m p q r (is_of_member w m r) at refl e
 
 is_members : (w : World) (m p : Name) (q : State) → member_purse w m p ≡ Some q → IsMembers w m p q
 is_members w m p q e = members_case w m p q (fmap.get w.rows p) refl e
 
-foreign_row : (w : World) (m : Name) (amount : ℕ) (reference : Name) (r : Row) (b : Bool) → is_of_member w m r ≡ b → cond b (Some r.account.purse) None ≡ None → (o : Option MemberRow) → load_row w m amount reference (Some r) o ≡ Some (reply.Refused refusal.NoSuchPurse)
+foreign_row : (w : World) (m : Name) (amount : ℕ) (reference : Name) (r : Row) (b : Bool) → is_of_member w m r ≡ b → cond b (Some r.holding.purse) None ≡ None → (o : Option MemberRow) → load_row w m amount reference (Some r) o ≡ Some (reply.Refused refusal.NoSuchPurse)
 foreign_row w m amount reference r true t e o = absurd (cc)
 foreign_row w m amount reference r false t e None = refl
 foreign_row w m amount reference r false t e (Some member) = ap (λ b. cond b (load_new amount member r (fmap.get r.loads reference)) (Some (reply.Refused refusal.NoSuchPurse))) t
 
-foreign_case : (w : World) (m : Name) (amount : ℕ) (reference : Name) (o : Option Row) (member : Option MemberRow) → from_row None (λ r. cond (is_of_member w m r) (Some r.account.purse) None) o ≡ None → load_row w m amount reference o member ≡ Some (reply.Refused refusal.NoSuchPurse)
+foreign_case : (w : World) (m : Name) (amount : ℕ) (reference : Name) (o : Option Row) (member : Option MemberRow) → from_row None (λ r. cond (is_of_member w m r) (Some r.holding.purse) None) o ≡ None → load_row w m amount reference o member ≡ Some (reply.Refused refusal.NoSuchPurse)
 foreign_case w m amount reference None member e = refl
 foreign_case w m amount reference (Some r) member e = foreign_row w m amount reference r (is_of_member w m r) refl e member
 
@@ -194,14 +194,14 @@ pub load_small_float : (w : World) (m p : Name) (amount : ℕ) (reference : Name
 load_small_float w m p amount reference q member e here new small =
     let own = is_members w m p q e in
     load_fresh w m p amount reference q member own here new
-    ∙ ap (λ b. cond b (Some (reply.Refused refusal.FloatTooSmall)) (option_map (λ x. reply.Refused (load_as x)) (load_refusal own.row.account.purse amount))) small
+    ∙ ap (λ b. cond b (Some (reply.Refused refusal.FloatTooSmall)) (option_map (λ x. reply.Refused (load_as x)) (load_refusal own.row.holding.purse amount))) small
 
 pub load_refuses : (w : World) (m p : Name) (amount : ℕ) (reference : Name) (q : State) (member : MemberRow) (r : LoadRefusal) → member_purse w m p ≡ Some q → fmap.get w.members m ≡ Some member → load_of w p reference ≡ None → nat_lt member.float amount ≡ false
     → or_refused (load_refusal q amount) (let u : Unit {0} = tt in u) ≡ Err r → not_loaded w m p amount reference ≡ Some (reply.Refused (load_as r))
 load_refuses w m p amount reference q member r e here new enough refused =
     let own = is_members w m p q e in
     load_fresh w m p amount reference q member own here new
-    ∙ ap (λ b. cond b (Some (reply.Refused refusal.FloatTooSmall)) (option_map (λ x. reply.Refused (load_as x)) (load_refusal own.row.account.purse amount))) enough
+    ∙ ap (λ b. cond b (Some (reply.Refused refusal.FloatTooSmall)) (option_map (λ x. reply.Refused (load_as x)) (load_refusal own.row.holding.purse amount))) enough
     ∙ ap (λ x. option_map (λ y. reply.Refused (load_as y)) (load_refusal x amount)) own.purse
     ∙ ap (option_map (λ y. reply.Refused (load_as y))) (is_refused _ (let u : Unit {0} = tt in u) r refused)
 
@@ -246,8 +246,8 @@ grant_made w m amount row all sum granted d is at all_is sum_is le room granted_
 -- ---- a load that is made
 
 -- what a load leaves of an account that it suits
-loaded_here : (a : Account) (amount : ℕ) (reference : Name) → load_refusal a.purse amount ≡ None → loaded_account a amount reference ≡ loaded_by a amount reference None
-unfolding loaded_account
+loaded_here : (a : Holding) (amount : ℕ) (reference : Name) → load_refusal a.purse amount ≡ None → loaded_holding a amount reference ≡ loaded_by a amount reference None
+unfolding loaded_holding
 loaded_here a amount reference free = ap (loaded_by a amount reference) free
 
 pub load_made : (w : World) (m p : Name) (amount : ℕ) (reference : Name) (q after : State) (member : MemberRow) (d : Decided) → IsWorld w → member_purse w m p ≡ Some q → fmap.get w.members m ≡ Some member → load_of w p reference ≡ None → amount ≤ member.float
@@ -257,7 +257,7 @@ pub load_made : (w : World) (m p : Name) (amount : ℕ) (reference : Name) (q af
 load_made w m p amount reference q after member d is e here new enough text small accepted after_is reply_is edits_is =
     let own = is_members w m p q e in
     let r = own.row in
-    let before : State = r.account.purse in
+    let before : State = r.holding.purse in
     let free_q : load_refusal q amount ≡ None = not_refused _ _ (let u : Unit {0} = tt in u) accepted in
     let free : load_refusal before amount ≡ None = ap (λ x. load_refusal x amount) own.purse ∙ free_q in
     let now : State = loaded before amount in
@@ -266,8 +266,8 @@ load_made w m p amount reference q after member d is e here new enough text smal
     let named : now.name ≡ p = (is.purses.each p r own.at).named in
     let purse = (is.purses.each p r own.at).purse in
     let lines = is.lines.each p r own.at in
-    let numbered : AreNumbered 1 (r.account.lines ++ line ∷ []) = numbered_next before now r.account.lines (Some line) (refl, refl) lines.numbered lines.counted in
-    let counted : length (r.account.lines ++ line ∷ []) ≡ now.lines = counted_next before now r.account.lines (Some line) (refl, refl) lines.counted in
+    let numbered : AreNumbered 1 (r.holding.lines ++ line ∷ []) = numbered_next before now r.holding.lines (Some line) (refl, refl) lines.numbered lines.counted in
+    let counted : length (r.holding.lines ++ line ∷ []) ≡ now.lines = counted_next before now r.holding.lines (Some line) (refl, refl) lines.counted in
     let s : Row = with_load (with_lines r now (line ∷ [])) reference amount in
     let v : World = set_row w p s in
     let last : Edit = SetMember m member.granted (member.float - amount) in
@@ -275,7 +275,7 @@ load_made w m p amount reference q after member d is e here new enough text smal
     let lead : all_edited w firsts ≡ v = load_leads w p r now (line ∷ []) reference amount own.at named in
     let there : IsSome (fmap.get w.members m) = some_of _ member here in
     let lower : MemberRow → MemberRow = λ x. record x { float = x.float - amount } in
-    let row_is : loaded_row amount reference r ≡ s = ap (λ a. let x : Row = record r { account = a; loads = fmap.insert r.loads reference amount } in x) (loaded_here r.account amount reference free) in
+    let row_is : loaded_row amount reference r ≡ s = ap (λ a. let x : Row = record r { holding = a; loads = fmap.insert r.loads reference amount } in x) (loaded_here r.holding amount reference free) in
     let none : not_loaded w m p amount reference ≡ None =
     load_fresh w m p amount reference q member own here new
     ∙ ap (λ b. cond b (Some (reply.Refused refusal.FloatTooSmall)) (option_map (λ x. reply.Refused (load_as x)) (load_refusal before amount))) (is_below_that member.float amount enough)
@@ -302,14 +302,14 @@ load_made w m p amount reference q after member d is e here new enough text smal
 
 -- ---- a redemption
 
-redemption_at : (w : World) (p reference : Name) (r : Row) → fmap.get w.rows p ≡ Some r → redemption_of w p reference ≡ fmap.get r.account.redemptions reference
-redemption_at w p reference r at = ap (from_row None (λ (x : Row). fmap.get x.account.redemptions reference)) at
+redemption_at : (w : World) (p reference : Name) (r : Row) → fmap.get w.rows p ≡ Some r → redemption_of w p reference ≡ fmap.get r.holding.redemptions reference
+redemption_at w p reference r at = ap (from_row None (λ (x : Row). fmap.get x.holding.redemptions reference)) at
 
-again_told : (a : Account) (b : Bool) → cond b (tell a reply.Redeemed) (tell a (reply.Refused refusal.RefReused)) ≡ tell a (cond b reply.Redeemed (reply.Refused refusal.RefReused))
+again_told : (a : Holding) (b : Bool) → cond b (tell a reply.Redeemed) (tell a (reply.Refused refusal.RefReused)) ≡ tell a (cond b reply.Redeemed (reply.Refused refusal.RefReused))
 again_told a true = refl
 again_told a false = refl
 
-redeem_here : (a : Account) (amount : ℕ) (reference : Name) (o : Option ℕ) → fmap.get a.redemptions reference ≡ o → redeem amount reference a ≡ redeem_new a amount reference o
+redeem_here : (a : Holding) (amount : ℕ) (reference : Name) (o : Option ℕ) → fmap.get a.redemptions reference ≡ o → redeem amount reference a ≡ redeem_new a amount reference o
 unfolding redeem
 redeem_here a amount reference o is = ap (redeem_new a amount reference) is
 
@@ -319,7 +319,7 @@ pub redeem_repeated : (w : World) (h p : Name) (amount : ℕ) (reference : Name)
 redeem_repeated w h p amount reference q before d is e had =
     let own = is_own w h p q e in
     own_told_decides w h p (redeem amount reference) (cond (before == amount) reply.Redeemed (reply.Refused refusal.RefReused)) d own.row is own.at own.owned
-    (redeem_here own.row.account amount reference (Some before) (sym (redemption_at w p reference own.row own.at) ∙ had) ∙ again_told own.row.account (before == amount))
+    (redeem_here own.row.holding amount reference (Some before) (sym (redemption_at w p reference own.row own.at) ∙ had) ∙ again_told own.row.holding (before == amount))
 
 -- a redemption that is refused
 pub redeem_refuses : (w : World) (h p : Name) (amount : ℕ) (reference : Name) (q : State) (x : RedeemRefusal) (d : Decided) → IsWorld w → own_purse w h p ≡ Some q → redemption_of w p reference ≡ None
@@ -327,8 +327,8 @@ pub redeem_refuses : (w : World) (h p : Name) (amount : ℕ) (reference : Name) 
 redeem_refuses w h p amount reference q x d is e new refused =
     let own = is_own w h p q e in
     own_told_decides w h p (redeem amount reference) (reply.Refused (redeem_as x)) d own.row is own.at own.owned
-    (redeem_here own.row.account amount reference None (sym (redemption_at w p reference own.row own.at) ∙ new)
-    ∙ ap (redeem_by own.row.account amount reference) (ap (λ y. redeem_refusal y amount) own.purse ∙ is_refused _ _ x refused))
+    (redeem_here own.row.holding amount reference None (sym (redemption_at w p reference own.row own.at) ∙ new)
+    ∙ ap (redeem_by own.row.holding amount reference) (ap (λ y. redeem_refusal y amount) own.purse ∙ is_refused _ _ x refused))
 
 -- the edits of a redemption, for the purse of that name
 redeem_edits_are : (q : State) (p : Name) (logged : Option Line) (amount : ℕ) (reference : Name) → q.name ≡ p
@@ -343,7 +343,7 @@ pub redeem_made : (w : World) (h p : Name) (amount : ℕ) (reference : Name) (q 
 redeem_made w h p amount reference q rested after d is e new text small accepted after_is rested_is reply_is edits_is =
     let own = is_own w h p q e in
     let r = own.row in
-    let before : State = r.account.purse in
+    let before : State = r.holding.purse in
     let free_q : redeem_refusal q amount ≡ None = not_refused _ _ (let u : Unit {0} = tt in u) accepted in
     let free : redeem_refusal before amount ≡ None = ap (λ x. redeem_refusal x amount) own.purse ∙ free_q in
     let now : State = redeemed before amount in
@@ -355,18 +355,18 @@ redeem_made w h p amount reference q rested after d is e new text small accepted
     let named : now.name ≡ p = (is.purses.each p r own.at).named in
     let purse = (is.purses.each p r own.at).purse in
     let lines = is.lines.each p r own.at in
-    let first_count : length (r.account.lines ++ listed logged) ≡ rest.lines = counted_next before rest r.account.lines logged (next_case before rest (pending before.status) refl) lines.counted in
-    let first_numbers : AreNumbered 1 (r.account.lines ++ listed logged) = numbered_next before rest r.account.lines logged (next_case before rest (pending before.status) refl) lines.numbered lines.counted in
-    let numbered : AreNumbered 1 (r.account.lines ++ ls) = subst (AreNumbered 1) (append_assoc r.account.lines (listed logged) (line ∷ [])) (numbered_more 1 (r.account.lines ++ listed logged) line first_numbers (omega (arith, first_count))) in
-    let counted : length (r.account.lines ++ ls) ≡ now.lines = ap length (sym (append_assoc r.account.lines (listed logged) (line ∷ []))) ∙ length-append (r.account.lines ++ listed logged) (line ∷ []) ∙ (omega (arith, first_count)) in
+    let first_count : length (r.holding.lines ++ listed logged) ≡ rest.lines = counted_next before rest r.holding.lines logged (next_case before rest (pending before.status) refl) lines.counted in
+    let first_numbers : AreNumbered 1 (r.holding.lines ++ listed logged) = numbered_next before rest r.holding.lines logged (next_case before rest (pending before.status) refl) lines.numbered lines.counted in
+    let numbered : AreNumbered 1 (r.holding.lines ++ ls) = subst (AreNumbered 1) (append_assoc r.holding.lines (listed logged) (line ∷ [])) (numbered_more 1 (r.holding.lines ++ listed logged) line first_numbers (omega (arith, first_count))) in
+    let counted : length (r.holding.lines ++ ls) ≡ now.lines = ap length (sym (append_assoc r.holding.lines (listed logged) (line ∷ []))) ∙ length-append (r.holding.lines ++ listed logged) (line ∷ []) ∙ (omega (arith, first_count)) in
     let s : Row = with_redemption (with_lines r now ls) reference amount in
     let v : World = set_row w p s in
     let all : List Edit = (SetPurse now ∷ added_lines p ls) ++ AddRedemption p reference amount ∷ [] in
-    let fresh : fmap.get r.account.redemptions reference ≡ None = sym (redemption_at w p reference r own.at) ∙ new in
+    let fresh : fmap.get r.holding.redemptions reference ≡ None = sym (redemption_at w p reference r own.at) ∙ new in
     let leads : all_edited w all ≡ v = redemption_leads w p r now ls reference amount own.at named in
     let to_is : on_own w h p (redeem amount reference) ≡ done v reply.Redeemed =
     own_there w h p (redeem amount reference) r own.at own.owned
-    ∙ ap (on_row w p r) (redeem_here r.account amount reference None fresh ∙ ap (redeem_by r.account amount reference) free) in
+    ∙ ap (on_row w p r) (redeem_here r.holding amount reference None fresh ∙ ap (redeem_by r.holding amount reference) free) in
     let edits : d.edits ≡ all =
     edits_is
     ∙ ap (λ x. redeem_edits x (abort_line rested (pending q.status)) amount reference) now_is

@@ -9,7 +9,7 @@ use Rattle.mx_purse.specs.declared.refusals.RedeemRefusal.{RedeemRefusal}
 use Rattle.mx_purse.specs.Operations.{start_from_refusal, start_to_refusal, redeem_refusal}
 use Rattle.mx_book.specs.declared.values.Caller.{Caller}
 use Rattle.mx_book.specs.declared.values.Caller.TheVariants.{Operator, Clerk, Holder}
-use Rattle.mx_book.specs.World.{World, Row, Account, Name, set_row}
+use Rattle.mx_book.specs.World.{World, Row, Holding, Name, set_row}
 use Rattle.mx_office.specs.declared.values.Command.{Command}
 use Rattle.mx_office.specs.declared.values.Command.TheVariants.{NewMember, Grant, NewHolder, NewPurse, Load, Collect, Purses, Show, StartFrom, StartTo, Handle, Discard, Abort, Redeem, Inbox}
 use Rattle.mx_office.specs.declared.values.Refusal.{Refusal}
@@ -22,66 +22,66 @@ use Rattle.mx_office.proofs.LawLemmas.{insert-same}
 -- ---- deeds
 
 -- where it is refused, the account stays and nothing is sent
-abbrev Leaves : Account → Deed → Type 0
-Leaves a d = (r : Refusal) → d.reply ≡ reply.Refused r → (d.account ≡ a) × (d.sent ≡ None)
+abbrev Leaves : Holding → Deed → Type 0
+Leaves a d = (r : Refusal) → d.reply ≡ reply.Refused r → (d.holding ≡ a) × (d.sent ≡ None)
 
-show_leaves : (a : Account) → Leaves a (show a)
+show_leaves : (a : Holding) → Leaves a (show a)
 unfolding show
 show_leaves a r e = (refl, refl)
 
-start_from_case : (peer : Name) (value seq : ℕ) (a : Account) (o : Option StartRefusal) → Leaves a (start_from_by a peer value seq o)
+start_from_case : (peer : Name) (value seq : ℕ) (a : Holding) (o : Option StartRefusal) → Leaves a (start_from_by a peer value seq o)
 start_from_case peer value seq a None r e = cc
 start_from_case peer value seq a (Some x) r e = (refl, refl)
 
-start_from_leaves : (peer : Name) (value seq : ℕ) (a : Account) → Leaves a (start_from peer value seq a)
+start_from_leaves : (peer : Name) (value seq : ℕ) (a : Holding) → Leaves a (start_from peer value seq a)
 unfolding start_from
 start_from_leaves peer value seq a = start_from_case peer value seq a (start_from_refusal a.purse peer value)
 
-start_to_case : (peer : Name) (value seq : ℕ) (a : Account) (o : Option StartRefusal) → Leaves a (start_to_by a peer value seq o)
+start_to_case : (peer : Name) (value seq : ℕ) (a : Holding) (o : Option StartRefusal) → Leaves a (start_to_by a peer value seq o)
 start_to_case peer value seq a None r e = cc
 start_to_case peer value seq a (Some x) r e = (refl, refl)
 
-start_to_leaves : (peer : Name) (value seq : ℕ) (a : Account) → Leaves a (start_to peer value seq a)
+start_to_leaves : (peer : Name) (value seq : ℕ) (a : Holding) → Leaves a (start_to peer value seq a)
 unfolding start_to
 start_to_leaves peer value seq a = start_to_case peer value seq a (start_to_refusal a.purse peer)
 
-handle_case : (a : Account) (o : Option Message) → Leaves a (handle_message a o)
+handle_case : (a : Holding) (o : Option Message) → Leaves a (handle_message a o)
 handle_case a None r e = (refl, refl)
 handle_case a (Some m) r e = cc
 
-handle_leaves : (number : ℕ) (a : Account) → Leaves a (handle number a)
+handle_leaves : (number : ℕ) (a : Holding) → Leaves a (handle number a)
 unfolding handle
 handle_leaves number a = handle_case a (fmap.get a.inbox number)
 
-discard_case : (number : ℕ) (a : Account) (b : Bool) → Leaves a (cond b (tell (record a { inbox = fmap.remove a.inbox number }) reply.Discarded) (refuse a NoSuchMessage))
+discard_case : (number : ℕ) (a : Holding) (b : Bool) → Leaves a (cond b (tell (record a { inbox = fmap.remove a.inbox number }) reply.Discarded) (refuse a NoSuchMessage))
 discard_case number a true r e = cc
 discard_case number a false r e = (refl, refl)
 
-discard_leaves : (number : ℕ) (a : Account) → Leaves a (discard number a)
+discard_leaves : (number : ℕ) (a : Holding) → Leaves a (discard number a)
 unfolding discard
 discard_leaves number a = discard_case number a (is_some (fmap.get a.inbox number))
 
-abort_leaves : (a : Account) → Leaves a (abort a)
+abort_leaves : (a : Holding) → Leaves a (abort a)
 unfolding abort
 abort_leaves a r e = cc
 
-redeem_case : (amount : ℕ) (reference : Name) (a : Account) (o : Option RedeemRefusal) → Leaves a (redeem_by a amount reference o)
+redeem_case : (amount : ℕ) (reference : Name) (a : Holding) (o : Option RedeemRefusal) → Leaves a (redeem_by a amount reference o)
 redeem_case amount reference a None r e = cc
 redeem_case amount reference a (Some x) r e = (refl, refl)
 
-again_case : (a : Account) (b : Bool) → Leaves a (cond b (tell a reply.Redeemed) (refuse a RefReused))
+again_case : (a : Holding) (b : Bool) → Leaves a (cond b (tell a reply.Redeemed) (refuse a RefReused))
 again_case a true r e = (refl, refl)
 again_case a false r e = (refl, refl)
 
-redeem_new_case : (amount : ℕ) (reference : Name) (a : Account) (o : Option ℕ) → Leaves a (redeem_new a amount reference o)
+redeem_new_case : (amount : ℕ) (reference : Name) (a : Holding) (o : Option ℕ) → Leaves a (redeem_new a amount reference o)
 redeem_new_case amount reference a None = redeem_case amount reference a (redeem_refusal a.purse amount)
 redeem_new_case amount reference a (Some before) = again_case a (before == amount)
 
-redeem_leaves : (amount : ℕ) (reference : Name) (a : Account) → Leaves a (redeem amount reference a)
+redeem_leaves : (amount : ℕ) (reference : Name) (a : Holding) → Leaves a (redeem amount reference a)
 unfolding redeem
 redeem_leaves amount reference a = redeem_new_case amount reference a (fmap.get a.redemptions reference)
 
-inbox_leaves : (a : Account) → Leaves a (inbox a)
+inbox_leaves : (a : Holding) → Leaves a (inbox a)
 unfolding inbox
 inbox_leaves a r e = (refl, refl)
 
@@ -108,22 +108,22 @@ load_stays w m p amount reference None r e = cc
 load_stays w m p amount reference (Some x) r e = refl
 
 -- a row whose account stays is written
-row_stays : (w : World) (p : Name) (row : Row) (d : Deed) → fmap.get w.rows p ≡ Some row → Leaves row.account d → Stays w (on_row w p row d)
+row_stays : (w : World) (p : Name) (row : Row) (d : Deed) → fmap.get w.rows p ≡ Some row → Leaves row.holding d → Stays w (on_row w p row d)
 row_stays w p row d at leaves r e =
     let same = leaves r e in
-    ap (send (set_row w p (record row { account = d.account }))) same.1
-    ∙ ap (λ a. set_row w p (record row { account = a })) same.0
+    ap (send (set_row w p (record row { holding = d.holding }))) same.1
+    ∙ ap (λ a. set_row w p (record row { holding = a })) same.0
     ∙ ap (λ rows. record w { rows = rows }) (insert-same w.rows p row at)
 
-own_case : (w : World) (p : Name) (f : Account → Deed) (row : Row) → fmap.get w.rows p ≡ Some row → ((a : Account) → Leaves a (f a)) → (b : Bool) → Stays w (cond b (on_row w p row (f row.account)) (refused w NoSuchPurse))
-own_case w p f row at leaves true r e = row_stays w p row (f row.account) at (leaves row.account) r e
+own_case : (w : World) (p : Name) (f : Holding → Deed) (row : Row) → fmap.get w.rows p ≡ Some row → ((a : Holding) → Leaves a (f a)) → (b : Bool) → Stays w (cond b (on_row w p row (f row.holding)) (refused w NoSuchPurse))
+own_case w p f row at leaves true r e = row_stays w p row (f row.holding) at (leaves row.holding) r e
 own_case w p f row at leaves false r e = refl
 
-own_row_stays : (w : World) (h p : Name) (f : Account → Deed) → ((a : Account) → Leaves a (f a)) → (o : Option Row) → fmap.get w.rows p ≡ o → Stays w (on_own_row w h p f o)
+own_row_stays : (w : World) (h p : Name) (f : Holding → Deed) → ((a : Holding) → Leaves a (f a)) → (o : Option Row) → fmap.get w.rows p ≡ o → Stays w (on_own_row w h p f o)
 own_row_stays w h p f leaves None at r e = refl
 own_row_stays w h p f leaves (Some row) at r e = own_case w p f row at leaves (is_name h row.holder) r e
 
-own_stays : (w : World) (h p : Name) (f : Account → Deed) → ((a : Account) → Leaves a (f a)) → Stays w (on_own w h p f)
+own_stays : (w : World) (h p : Name) (f : Holding → Deed) → ((a : Holding) → Leaves a (f a)) → Stays w (on_own w h p f)
 own_stays w h p f leaves = own_row_stays w h p f leaves (fmap.get w.rows p) refl
 
 base_stays : (w : World) (caller : Caller) (c : Command) → Stays w (base w caller c)

@@ -7,35 +7,35 @@ use Rattle.mx_purse.specs.declared.message.Message.{Message}
 use Rattle.mx_book.specs.declared.values.Caller.{Caller}
 use Rattle.mx_book.specs.declared.values.Caller.TheVariants.{Operator, Clerk, Holder}
 use Rattle.mx_book.specs.Maps.{picked, with_picked}
-use Rattle.mx_book.specs.World.{World, Row, Account, Name}
+use Rattle.mx_book.specs.World.{World, Row, Holding, Name}
 use Rattle.mx_book.specs.Reads.{purses_of}
 use Rattle.mx_book.proofs.NameLemmas.{names_total, same_name}
 use Rattle.mx_office.specs.declared.values.Command.{Command}
 use Rattle.mx_office.specs.declared.values.Command.TheVariants.{NewPurse, Load, Purses, Show, StartFrom, StartTo, Handle, Discard, Abort, Redeem, Inbox}
 use Rattle.mx_office.specs.declared.values.Reply.TheVariants as reply
 use Rattle.mx_office.specs.Step.{Deed, Asked, on_own, base, after, answered, replies, world_after, show, start_from, start_to, handle, discard, abort, redeem, inbox}
-use Rattle.mx_office.specs.Isolation.{Event, Accounts, own_event, issued_event, put_event, view_of, view, on_account, own, happens, local, local_replies, owned_account, cut, reply_for, told_to}
+use Rattle.mx_office.specs.Isolation.{Event, Holdings, own_event, issued_event, put_event, view_of, view, on_holding, own, happens, local, local_replies, owned_holding, cut, reply_for, told_to}
 use Rattle.mx_book.proofs.MapLemmas.{entries-pick}
 use Rattle.mx_office.proofs.LawLemmas.{reply_row, local-append, one_command}
 
 -- ---- the reply to one command
 
 -- the names of a holder's purses are the keys of what is cut out
-name_case : (k : Name) (r : Row) (b : Bool) (es : List (Name × Account)) (fs : List (Name × Row)) → map (λ (e : Name × Row). e.0) fs ≡ map (λ (e : Name × Account). e.0) es
-    → map (λ (e : Name × Row). e.0) (cond b ((k, r) ∷ fs) fs) ≡ map (λ (e : Name × Account). e.0) (with_picked k (cond b (Some r.account) None) es)
+name_case : (k : Name) (r : Row) (b : Bool) (es : List (Name × Holding)) (fs : List (Name × Row)) → map (λ (e : Name × Row). e.0) fs ≡ map (λ (e : Name × Holding). e.0) es
+    → map (λ (e : Name × Row). e.0) (cond b ((k, r) ∷ fs) fs) ≡ map (λ (e : Name × Holding). e.0) (with_picked k (cond b (Some r.holding) None) es)
 name_case k r true es fs is = ap (λ ks. k ∷ ks) is
 name_case k r false es fs is = is
 
 names_picked : (h : Name) (es : List (Name × Row))
-    → map (λ (e : Name × Row). e.0) (filter (λ (e : Name × Row). is_name h e.1.holder) es) ≡ map (λ (e : Name × Account). e.0) (picked (owned_account h) es)
+    → map (λ (e : Name × Row). e.0) (filter (λ (e : Name × Row). is_name h e.1.holder) es) ≡ map (λ (e : Name × Holding). e.0) (picked (owned_holding h) es)
 names_picked h [] = refl
 names_picked h (e ∷ es) =
-    name_case e.0 e.1 (is_name h e.1.holder) (picked (owned_account h) es) (filter (λ (x : Name × Row). is_name h x.1.holder) es) (names_picked h es)
+    name_case e.0 e.1 (is_name h e.1.holder) (picked (owned_holding h) es) (filter (λ (x : Name × Row). is_name h x.1.holder) es) (names_picked h es)
 
 names-cut : (w : World) (h : Name) → purses_of w h ≡ fmap.keys (cut w h)
-names-cut w h = names_picked h (fmap.entries w.rows) ∙ ap (map (λ (e : Name × Account). e.0)) (sym (entries-pick names_total (owned_account h) w.rows))
+names-cut w h = names_picked h (fmap.entries w.rows) ∙ ap (map (λ (e : Name × Holding). e.0)) (sym (entries-pick names_total (owned_holding h) w.rows))
 
-on_own_reply : (w : World) (h p : Name) (f : Account → Deed) → (on_account (cut w h) p f).reply ≡ (on_own w h p f).reply
+on_own_reply : (w : World) (h p : Name) (f : Holding → Deed) → (on_holding (cut w h) p f).reply ≡ (on_own w h p f).reply
 on_own_reply w h p f = sym (reply_row w h p f (fmap.get w.rows p) refl)
 
 -- the reply to a command of the holder
@@ -52,7 +52,7 @@ own_reply w h (Redeem p amount reference) = on_own_reply w h p (redeem amount re
 own_reply w h (Inbox p) = on_own_reply w h p inbox
 own_reply w h c = refl
 
-replies-append : (m : Accounts) (xs ys : List Event) → local_replies m (xs ++ ys) ≡ local_replies m xs ++ local_replies (local m xs) ys
+replies-append : (m : Holdings) (xs ys : List Event) → local_replies m (xs ++ ys) ≡ local_replies m xs ++ local_replies (local m xs) ys
 replies-append m [] ys = refl
 replies-append m (Event.Own c ∷ xs) ys = ap (λ rs. (own m c).reply ∷ rs) (replies-append (own m c).accounts xs ys)
 replies-append m (Event.Issued p ∷ xs) ys = replies-append (happens m (Event.Issued p)) xs ys
@@ -69,24 +69,24 @@ own_replies w h (Clerk m) c = refl
 own_replies w h (Holder g) c = own_case w h g c (is_name h g) refl
 
 -- what others cause has no reply to the holder
-issued_case : (m : Accounts) (b : Bool) (p : Name) → local_replies m (cond b (Event.Issued p ∷ []) []) ≡ []
+issued_case : (m : Holdings) (b : Bool) (p : Name) → local_replies m (cond b (Event.Issued p ∷ []) []) ≡ []
 issued_case m true p = refl
 issued_case m false p = refl
 
-loaded_case : (m : Accounts) (b : Bool) (p reference : Name) (amount : ℕ) → local_replies m (cond b (Event.Loaded p reference amount ∷ []) []) ≡ []
+loaded_case : (m : Holdings) (b : Bool) (p reference : Name) (amount : ℕ) → local_replies m (cond b (Event.Loaded p reference amount ∷ []) []) ≡ []
 loaded_case m true p reference amount = refl
 loaded_case m false p reference amount = refl
 
-put_case : (m : Accounts) (b : Bool) (p : Name) (message : Message) → local_replies m (cond b (Event.Put p message ∷ []) []) ≡ []
+put_case : (m : Holdings) (b : Bool) (p : Name) (message : Message) → local_replies m (cond b (Event.Put p message ∷ []) []) ≡ []
 put_case m true p message = refl
 put_case m false p message = refl
 
-issued_silent : (m : Accounts) (w : World) (h : Name) (caller : Caller) (c : Command) → local_replies m (issued_event w h caller c) ≡ []
+issued_silent : (m : Holdings) (w : World) (h : Name) (caller : Caller) (c : Command) → local_replies m (issued_event w h caller c) ≡ []
 issued_silent m w h (Clerk k) (NewPurse p g) = issued_case m _ p
 issued_silent m w h (Clerk k) (Load p amount reference) = loaded_case m _ p reference amount
 issued_silent m w h caller c = refl
 
-put_silent : (m : Accounts) (w : World) (h : Name) (sent : Option (Name × Message)) → local_replies m (put_event w h sent) ≡ []
+put_silent : (m : Holdings) (w : World) (h : Name) (sent : Option (Name × Message)) → local_replies m (put_event w h sent) ≡ []
 put_silent m w h None = refl
 put_silent m w h (Some x) = put_case m _ x.0 x.1
 

@@ -11,7 +11,7 @@ abbrev pub issued_row : Row → ℕ
 issued_row r = sum_values (λ n. n) r.loads
 
 abbrev pub redeemed_row : Row → ℕ
-redeemed_row r = sum_values (λ n. n) r.account.redemptions
+redeemed_row r = sum_values (λ n. n) r.holding.redemptions
 
 -- ---- one member
 

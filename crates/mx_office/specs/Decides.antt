@@ -22,12 +22,12 @@ pub record Decides (w : World) (to : Done) (d : Decided) : Type 0 where
   pub leads : all_edited w d.edits ≡ send to.world to.sent
 
 -- how many purses a holder of a member has, and nothing where the member has no such holder
-abbrev pub purses_held : World → Name → Name → Option ℕ
-purses_held w m h = if is_of m (fmap.get w.holders h) then Some (length (purses_of w h)) else None
+abbrev pub purse_count : World → Name → Name → Option ℕ
+purse_count w m h = if is_of m (fmap.get w.holders h) then Some (length (purses_of w h)) else None
 
 -- the purse of a row, where it is the holder's
 abbrev pub owned_purse : Name → Row → Option State
-owned_purse h r = if is_name h r.holder then Some r.account.purse else None
+owned_purse h r = if is_name h r.holder then Some r.holding.purse else None
 
 -- the purse of that name, where it is the holder's
 abbrev pub own_purse : World → Name → Name → Option State
@@ -35,7 +35,7 @@ own_purse w h p = of_purse None (owned_purse h) w p
 
 -- whether a message to that purse finds a place
 abbrev pub finds_place : World → Name → Bool
-finds_place w p = of_purse Bool.false (λ r. has_room r.account) w p
+finds_place w p = of_purse Bool.false (λ r. has_room r.holding) w p
 
 -- a message that was sent, where it finds a place
 abbrev pub placed : World → Option (Name × Message) → Option (Name × Message)
@@ -60,7 +60,7 @@ granted_to w m = unwrap_or (option_map (λ (row : MemberRow). row.granted) (fmap
 
 -- the purse of that name, where it is of a holder of the member
 abbrev pub member_purse : World → Name → Name → Option State
-member_purse w m p = of_purse None (λ r. if is_of_member w m r then Some r.account.purse else None) w p
+member_purse w m p = of_purse None (λ r. if is_of_member w m r then Some r.holding.purse else None) w p
 
 -- the edits of a load: the purse as it is now, its line, the load, and the member's row
 abbrev pub load_edits : State → ℕ → Name → Name → MemberRow → List Edit

@@ -5,9 +5,9 @@ use Rattle.mx_pay.specs.Names.{name_cmp, is_name}
 use Rattle.mx_purse.specs.declared.message.Message.{Message}
 use Rattle.mx_book.specs.declared.values.Caller.{Caller}
 use Rattle.mx_book.specs.declared.values.Caller.TheVariants.{Clerk, Holder}
-use Rattle.mx_book.specs.World.{World, Row, Account, Name, new_account, has_room, with_message}
+use Rattle.mx_book.specs.World.{World, Row, Holding, Name, new_holding, has_room, with_message}
 use Rattle.mx_book.specs.Maps.{pick}
-use Rattle.mx_office.specs.Step.{Deed, Asked, show, start_from, start_to, handle, discard, abort, redeem, inbox, loaded_account, not_loaded, new_purse_refusal, base, after}
+use Rattle.mx_office.specs.Step.{Deed, Asked, show, start_from, start_to, handle, discard, abort, redeem, inbox, loaded_holding, not_loaded, new_purse_refusal, base, after}
 use Rattle.mx_office.specs.declared.values.Command.{Command}
 use Rattle.mx_office.specs.declared.values.Command.TheVariants.{NewPurse, Load, Purses, Show, StartFrom, StartTo, Handle, Discard, Abort, Redeem, Inbox}
 use Rattle.mx_office.specs.declared.values.Refusal.TheVariants.{NotForCaller, NoSuchPurse}
@@ -44,7 +44,7 @@ issued_event w h caller command = []
 -- whether a message to the purse of this row enters an inbox of the holder
 abbrev pub enters : Name → Option Row → Bool
 enters h None = Bool.false
-enters h (Some r) = is_name h r.holder && has_room r.account
+enters h (Some r) = is_name h r.holder && has_room r.holding
 
 -- a message that enters the inbox of a purse of the holder, whoever sent it
 abbrev pub put_event : World → Name → Option (Name × Message) → List Event
@@ -64,56 +64,56 @@ view h w (c ∷ cs) = view_of w h c.0 c.1 ++ view h (after w c.0 c.1) cs
 -- ---- what the view alone gives
 
 -- what is the holder's own of each of the holder's purses
-abbrev pub Accounts : Type 0
-Accounts = fmap.FinMap name_cmp Account
+abbrev pub Holdings : Type 0
+Holdings = fmap.FinMap name_cmp Holding
 
 pub record Told : Type 0 where
-  pub accounts : Accounts
+  pub accounts : Holdings
   pub reply : Reply
 
 -- a deed on a purse of the map
-abbrev pub on_account_at : Accounts → Name → (Account → Deed) → Option Account → Told
-on_account_at m p f None = record { accounts = m; reply = reply.Refused NoSuchPurse }
-on_account_at m p f (Some a) = record { accounts = fmap.insert m p (f a).account; reply = (f a).reply }
+abbrev pub on_holding_at : Holdings → Name → (Holding → Deed) → Option Holding → Told
+on_holding_at m p f None = record { accounts = m; reply = reply.Refused NoSuchPurse }
+on_holding_at m p f (Some a) = record { accounts = fmap.insert m p (f a).holding; reply = (f a).reply }
 
-abbrev pub on_account : Accounts → Name → (Account → Deed) → Told
-on_account m p f = on_account_at m p f (fmap.get m p)
+abbrev pub on_holding : Holdings → Name → (Holding → Deed) → Told
+on_holding m p f = on_holding_at m p f (fmap.get m p)
 
 -- a command of the holder's own, which puts nothing here
-abbrev pub own : Accounts → Command → Told
+abbrev pub own : Holdings → Command → Told
 own m Purses = record { accounts = m; reply = reply.Purses (fmap.keys m) }
-own m (Show p) = on_account m p show
-own m (StartFrom p peer value seq) = on_account m p (start_from peer value seq)
-own m (StartTo p peer value seq) = on_account m p (start_to peer value seq)
-own m (Handle p number) = on_account m p (handle number)
-own m (Discard p number) = on_account m p (discard number)
-own m (Abort p) = on_account m p abort
-own m (Redeem p amount reference) = on_account m p (redeem amount reference)
-own m (Inbox p) = on_account m p inbox
+own m (Show p) = on_holding m p show
+own m (StartFrom p peer value seq) = on_holding m p (start_from peer value seq)
+own m (StartTo p peer value seq) = on_holding m p (start_to peer value seq)
+own m (Handle p number) = on_holding m p (handle number)
+own m (Discard p number) = on_holding m p (discard number)
+own m (Abort p) = on_holding m p abort
+own m (Redeem p amount reference) = on_holding m p (redeem amount reference)
+own m (Inbox p) = on_holding m p inbox
 own m command = record { accounts = m; reply = reply.Refused NotForCaller }
 
 -- the account of a purse of the map is changed, where the purse is there
-abbrev pub changed : Accounts → Name → (Account → Account) → Option Account → Accounts
+abbrev pub changed : Holdings → Name → (Holding → Holding) → Option Holding → Holdings
 changed m p f None = m
 changed m p f (Some a) = fmap.insert m p (f a)
 
-abbrev pub change : Accounts → Name → (Account → Account) → Accounts
+abbrev pub change : Holdings → Name → (Holding → Holding) → Holdings
 change m p f = changed m p f (fmap.get m p)
 
 -- the map after an event
-abbrev pub happens : Accounts → Event → Accounts
+abbrev pub happens : Holdings → Event → Holdings
 happens m (Event.Own command) = (own m command).accounts
-happens m (Event.Issued p) = fmap.insert m p (new_account p)
-happens m (Event.Loaded p reference amount) = change m p (λ a. loaded_account a amount reference)
+happens m (Event.Issued p) = fmap.insert m p (new_holding p)
+happens m (Event.Loaded p reference amount) = change m p (λ a. loaded_holding a amount reference)
 happens m (Event.Put p message) = change m p (λ a. with_message a message)
 
 -- the map after events, in order
-abbrev pub local : Accounts → List Event → Accounts
+abbrev pub local : Holdings → List Event → Holdings
 local m [] = m
 local m (e ∷ es) = local (happens m e) es
 
 -- the replies to the holder's own commands among events, in order
-abbrev pub local_replies : Accounts → List Event → List Reply
+abbrev pub local_replies : Holdings → List Event → List Reply
 local_replies m [] = []
 local_replies m (Event.Own command ∷ es) = (own m command).reply ∷ local_replies (own m command).accounts es
 local_replies m (Event.Issued p ∷ es) = local_replies (happens m (Event.Issued p)) es
@@ -123,12 +123,12 @@ local_replies m (Event.Put p message ∷ es) = local_replies (happens m (Event.P
 -- ---- what is cut out of the World for a holder
 
 -- what is the holder's own of a row, where the purse is the holder's
-abbrev pub owned_account : Name → Row → Option Account
-owned_account h r = if is_name h r.holder then Some r.account else None
+abbrev pub owned_holding : Name → Row → Option Holding
+owned_holding h r = if is_name h r.holder then Some r.holding else None
 
 -- the holder's accounts, taken out of the World
-abbrev pub cut : World → Name → Accounts
-cut w h = pick (owned_account h) w.rows
+abbrev pub cut : World → Name → Holdings
+cut w h = pick (owned_holding h) w.rows
 
 -- a reply, where it is given to the holder
 abbrev pub reply_for : Name → Caller → Reply → List Reply

@@ -23,7 +23,7 @@ use Rattle.mx_book.specs.declared.values.LineKind.{LineKind}
 use Rattle.mx_book.specs.declared.values.LineKind.TheVariants as kind
 use Rattle.mx_book.specs.declared.values.MemberRow.{MemberRow}
 use Rattle.mx_book.specs.declared.values.Note.TheVariants as note
-use Rattle.mx_book.specs.World.{World, Row, Account, Name, Token, is_of, is_of_member, set_row, change_row, collected, new_row, put}
+use Rattle.mx_book.specs.World.{World, Row, Holding, Name, Token, is_of, is_of_member, set_row, change_row, all_collected, new_row, put}
 use Rattle.mx_book.specs.Conditions.{all_granted}
 use Rattle.mx_book.specs.Reads.{who_of, purses_of, uncollected_of}
 use Rattle.mx_office.specs.declared.values.Command.{Command}
@@ -42,17 +42,17 @@ first_refusal (x ∷ xs) = if x.0 then Some x.1 else first_refusal xs
 
 -- the account after it, the reply, and a message that is sent, with the purse to which it is sent
 pub record Deed : Type 0 where
-  pub account : Account
+  pub holding : Holding
   pub reply : Reply
   pub sent : Option (Name × Message)
 
 -- nothing changes, and this is refused
-abbrev pub refuse : Account → Refusal → Deed
-refuse a r = record { account = a; reply = reply.Refused r; sent = None }
+abbrev pub refuse : Holding → Refusal → Deed
+refuse a r = record { holding = a; reply = reply.Refused r; sent = None }
 
 -- the account and the reply, and nothing is sent
-abbrev pub tell : Account → Reply → Deed
-tell a r = record { account = a; reply = r; sent = None }
+abbrev pub tell : Holding → Reply → Deed
+tell a r = record { holding = a; reply = r; sent = None }
 
 -- the line of a payment of these details in a purse that is now so
 abbrev pub payment_line : State → LineKind → Details → Line
@@ -75,15 +75,15 @@ listed None = []
 listed (Some x) = x ∷ []
 
 -- an account with the purse as it is now, and its new line, where there is one
-abbrev pub with_purse : Account → State → Option Line → Account
+abbrev pub with_purse : Holding → State → Option Line → Holding
 with_purse a q line = record a { purse = q; lines = a.lines ++ listed line }
 
 -- an account with the purse as it is after an abort or a start, and the line of the abort
-abbrev pub with_aborted : Account → State → Account
+abbrev pub with_aborted : Holding → State → Holding
 with_aborted a q = with_purse a q (abort_line q (pending a.purse.status))
 
 -- show: the purse
-unfoldable pub show : Account → Deed
+unfoldable pub show : Holding → Deed
 show a = tell a (reply.Shown a.purse)
 
 -- the refusal of a start, as the office names it
@@ -94,45 +94,45 @@ start_as start.LogFull = LogFull
 start_as start.Worn = Worn
 
 -- start-from: startFrom, which sends nothing
-abbrev pub start_from_by : Account → Name → ℕ → ℕ → Option StartRefusal → Deed
+abbrev pub start_from_by : Holding → Name → ℕ → ℕ → Option StartRefusal → Deed
 start_from_by a peer value seq (Some r) = refuse a (start_as r)
 start_from_by a peer value seq None =
     let d = from_details a.purse peer value seq in
     tell (with_aborted a (started a.purse (Epr d))) (reply.Started d)
 
-unfoldable pub start_from : Name → ℕ → ℕ → Account → Deed
+unfoldable pub start_from : Name → ℕ → ℕ → Holding → Deed
 start_from peer value seq a = start_from_by a peer value seq (start_from_refusal a.purse peer value)
 
 -- start-to: startTo, which sends a req to the peer
-abbrev pub start_to_by : Account → Name → ℕ → ℕ → Option StartRefusal → Deed
+abbrev pub start_to_by : Holding → Name → ℕ → ℕ → Option StartRefusal → Deed
 start_to_by a peer value seq (Some r) = refuse a (start_as r)
 start_to_by a peer value seq None =
     let d = to_details a.purse peer value seq in
-    record { account = with_aborted a (started a.purse (Epv d)); reply = reply.Started d; sent = Some (peer, Req d) }
+    record { holding = with_aborted a (started a.purse (Epv d)); reply = reply.Started d; sent = Some (peer, Req d) }
 
-unfoldable pub start_to : Name → ℕ → ℕ → Account → Deed
+unfoldable pub start_to : Name → ℕ → ℕ → Holding → Deed
 start_to peer value seq a = start_to_by a peer value seq (start_to_refusal a.purse peer)
 
 -- handle: the message of that number, which stays where it is
-abbrev pub handle_as : Account → Handled → Deed
+abbrev pub handle_as : Holding → Handled → Deed
 handle_as a h =
     let q = after_message a.purse h in
-    record { account = with_purse a q (message_line q h); reply = reply.Handled h; sent = sent_for h }
+    record { holding = with_purse a q (message_line q h); reply = reply.Handled h; sent = sent_for h }
 
-abbrev pub handle_message : Account → Option Message → Deed
+abbrev pub handle_message : Holding → Option Message → Deed
 handle_message a None = refuse a NoSuchMessage
 handle_message a (Some m) = handle_as a (handled a.purse m)
 
-unfoldable pub handle : ℕ → Account → Deed
+unfoldable pub handle : ℕ → Holding → Deed
 handle number a = handle_message a (fmap.get a.inbox number)
 
 -- discard: the message of that number is gone
-unfoldable pub discard : ℕ → Account → Deed
+unfoldable pub discard : ℕ → Holding → Deed
 discard number a =
     if is_some (fmap.get a.inbox number) then tell (record a { inbox = fmap.remove a.inbox number }) reply.Discarded else refuse a NoSuchMessage
 
 -- abort, and whether something was logged
-unfoldable pub abort : Account → Deed
+unfoldable pub abort : Holding → Deed
 abort a = tell (with_aborted a (aborted a.purse)) (reply.Aborted (is_some (pending a.purse.status)))
 
 -- the line of a load or a redemption in a purse that is now so
@@ -149,23 +149,23 @@ abbrev pub redeem_lines : State → State → ℕ → Name → List Line
 redeem_lines p q amount reference = listed (abort_line (aborted p) (pending p.status)) ++ money_line q kind.Redeemed amount reference ∷ []
 
 -- an account after a redemption
-abbrev pub with_redemption : Account → State → ℕ → Name → Account
+abbrev pub with_redemption : Holding → State → ℕ → Name → Holding
 with_redemption a q amount reference = record a { purse = q; lines = a.lines ++ redeem_lines a.purse q amount reference; redemptions = fmap.insert a.redemptions reference amount }
 
 -- redeem: redeem, unless a redemption has that reference; a repeat with the same amount is told the same again
-abbrev pub redeem_by : Account → ℕ → Name → Option RedeemRefusal → Deed
+abbrev pub redeem_by : Holding → ℕ → Name → Option RedeemRefusal → Deed
 redeem_by a amount reference (Some r) = refuse a (redeem_as r)
 redeem_by a amount reference None = tell (with_redemption a (redeemed a.purse amount) amount reference) reply.Redeemed
 
-abbrev pub redeem_new : Account → ℕ → Name → Option ℕ → Deed
+abbrev pub redeem_new : Holding → ℕ → Name → Option ℕ → Deed
 redeem_new a amount reference (Some before) = if before == amount then tell a reply.Redeemed else refuse a RefReused
 redeem_new a amount reference None = redeem_by a amount reference (redeem_refusal a.purse amount)
 
-unfoldable pub redeem : ℕ → Name → Account → Deed
+unfoldable pub redeem : ℕ → Name → Holding → Deed
 redeem amount reference a = redeem_new a amount reference (fmap.get a.redemptions reference)
 
 -- inbox: the messages, by number
-unfoldable pub inbox : Account → Deed
+unfoldable pub inbox : Holding → Deed
 inbox a = tell a (reply.Inbox (fmap.entries a.inbox))
 
 -- ---- what a command does to the World, before a message that it sends is put
@@ -190,14 +190,14 @@ unless w None d = d
 
 -- the World with what a deed leaves of the account of this row
 abbrev pub on_row : World → Name → Row → Deed → Done
-on_row w p r d = record { world = set_row w p (record r { account = d.account }); reply = d.reply; sent = d.sent }
+on_row w p r d = record { world = set_row w p (record r { holding = d.holding }); reply = d.reply; sent = d.sent }
 
 -- a deed on a purse of the holder; another's purse and a purse that isn't there are refused alike
-abbrev pub on_own_row : World → Name → Name → (Account → Deed) → Option Row → Done
+abbrev pub on_own_row : World → Name → Name → (Holding → Deed) → Option Row → Done
 on_own_row w h p f None = refused w NoSuchPurse
-on_own_row w h p f (Some r) = if is_name h r.holder then on_row w p r (f r.account) else refused w NoSuchPurse
+on_own_row w h p f (Some r) = if is_name h r.holder then on_row w p r (f r.holding) else refused w NoSuchPurse
 
-abbrev pub on_own : World → Name → Name → (Account → Deed) → Done
+abbrev pub on_own : World → Name → Name → (Holding → Deed) → Done
 on_own w h p f = on_own_row w h p f (fmap.get w.rows p)
 
 -- new member, by the operator
@@ -262,23 +262,23 @@ load_as no_load.Worn = Worn
 load_as no_load.OverCap = OverCap
 
 -- what is the holder's own of a purse after a load, with its line; where the purse's guard fails it stays
-abbrev pub loaded_by : Account → ℕ → Name → Option LoadRefusal → Account
+abbrev pub loaded_by : Holding → ℕ → Name → Option LoadRefusal → Holding
 loaded_by a amount reference (Some r) = a
 loaded_by a amount reference None = with_purse a (loaded a.purse amount) (Some (money_line (loaded a.purse amount) kind.Loaded amount reference))
 
-unfoldable pub loaded_account : Account → ℕ → Name → Account
-loaded_account a amount reference = loaded_by a amount reference (load_refusal a.purse amount)
+unfoldable pub loaded_holding : Holding → ℕ → Name → Holding
+loaded_holding a amount reference = loaded_by a amount reference (load_refusal a.purse amount)
 
 -- a row after a load
 abbrev pub loaded_row : ℕ → Name → Row → Row
-loaded_row amount reference r = record r { account = loaded_account r.account amount reference; loads = fmap.insert r.loads reference amount }
+loaded_row amount reference r = record r { holding = loaded_holding r.holding amount reference; loads = fmap.insert r.loads reference amount }
 
 -- the reply to a load by the clerk of m that adds nothing: a refusal, or a repeat with the same amount
 abbrev pub load_again : ℕ → ℕ → Reply
 load_again before amount = if before == amount then reply.Loaded else reply.Refused RefReused
 
 abbrev pub load_refused : ℕ → MemberRow → Row → Option Reply
-load_refused amount member r = if nat_lt member.float amount then Some (reply.Refused FloatTooSmall) else option_map (λ x. reply.Refused (load_as x)) (load_refusal r.account.purse amount)
+load_refused amount member r = if nat_lt member.float amount then Some (reply.Refused FloatTooSmall) else option_map (λ x. reply.Refused (load_as x)) (load_refusal r.holding.purse amount)
 
 abbrev pub load_new : ℕ → MemberRow → Row → Option ℕ → Option Reply
 load_new amount member r (Some before) = Some (load_again before amount)
@@ -306,7 +306,7 @@ abbrev pub collect_refusal : World → Name → Option Refusal
 collect_refusal w m = first_refusal ((is_none (fmap.get w.members m), NoSuchMember) ∷ (nat_lt (10 ^ 15) (float_of w m + uncollected_of w m), FloatFull) ∷ [])
 
 abbrev pub collect : World → Name → Done
-collect w m = unless w (collect_refusal w m) (done (change_member (collected w m) m (λ row. record row { float = row.float + uncollected_of w m })) (reply.Collected (uncollected_of w m)))
+collect w m = unless w (collect_refusal w m) (done (change_member (all_collected w m) m (λ row. record row { float = row.float + uncollected_of w m })) (reply.Collected (uncollected_of w m)))
 
 -- each command of each caller; a command of another class is refused
 abbrev pub base : World → Caller → Command → Done

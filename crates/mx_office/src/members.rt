@@ -2,7 +2,7 @@
 ghost use Rattle.std.specs.Prelude.{◌≡◌, IfOk};
 ghost use Rattle.mx_book.specs.Keeps.{Keeps};
 ghost use Rattle.mx_book.specs.World.{World};
-ghost use Rattle.mx_office.specs.Decides.{Decides, purses_held};
+ghost use Rattle.mx_office.specs.Decides.{Decides, purse_count};
 ghost use Rattle.mx_office.specs.Step.{new_member, new_holder, new_purse};
 
 use crate::decisions::{added, refuse};
@@ -68,14 +68,14 @@ pub(crate) fn new_holder<B: Book>(
 }
 
 /// How many purses a holder of a member has. None where the member has no such holder.
-fn purses_held<B: Book>(
+fn purse_count<B: Book>(
     book: &mut B,
     alloc: Global,
     member: Name,
     holder: Name,
 ) -> Result<Option<usize>, StoreFault>
     ensures keeps { Keeps B.doubt B.rows book.old book.new }
-    ensures value { (w : World) → B.doubt book.new ≡ 0 → B.spells (B.rows book.old) w → IfOk result (λ o. o ≡ purses_held w member holder) }
+    ensures value { (w : World) → B.doubt book.new ≡ 0 → B.spells (B.rows book.old) w → IfOk result (λ o. o ≡ purse_count w member holder) }
 {
     match book.holder(alloc, holder)? {
         Some(row) if same_name(&member, &row.member) => Ok(Some(row.purses)),
@@ -94,7 +94,7 @@ pub(crate) fn new_purse<B: Book>(
     ensures keeps { Keeps B.doubt B.rows book.old book.new }
     ensures decides { (w : World) → B.doubt book.new ≡ 0 → B.spells (B.rows book.old) w → IfOk result (Decides w (new_purse w member purse holder)) }
 {
-    let Some(held) = purses_held(book, alloc, member, holder)? else {
+    let Some(held) = purse_count(book, alloc, member, holder)? else {
         return Ok(refuse(Refusal::NoSuchHolder));
     };
     if book.purse(alloc, purse)?.is_some() {
