@@ -3,6 +3,7 @@ use Rattle.std.specs.Prelude.{◌≡◌, nat_le, Bool, not, List, [], ◌∷◌,
 use Rattle.std.specs.FinMap as map
 use Rattle.mx_pay.specs.Names.{is_name}
 use Rattle.mx_purse.specs.State.{State, new_purse}
+use Rattle.mx_book.specs.World.{is_of}
 use Rattle.mx_cli.specs.World.{World, Name, Token, is_taken, purses_held, edited_by}
 use Rattle.mx_book.specs.declared.values.Caller.{Caller}
 use Rattle.mx_book.specs.declared.values.Caller.TheVariants.{Operator, Clerk, Holder}
@@ -62,16 +63,11 @@ new_holder w member holder token =
       holders = map.insert w.holders holder member;
     }))
 
--- whether what was found is this name
-abbrev pub is_found : Name → Option Name → Bool
-is_found name None = Bool.false
-is_found name (Some found) = is_name found name
-
 -- the new purse of a holder of the clerk's member, which has fewer than 64
 unfoldable pub new_purse_of : World → Name → Name → Name → Done
 new_purse_of w member purse holder =
     unless (first_refusal (
-    (not (is_found member (map.get w.holders holder)), NoSuchHolder)
+    (not (is_of member (map.get w.holders holder)), NoSuchHolder)
     ∷ (is_some (map.get w.purses purse), NameTaken)
     ∷ (nat_le 64 (purses_held w holder), TooManyPurses)
     ∷ [])) w
