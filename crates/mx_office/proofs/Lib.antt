@@ -12,3 +12,4 @@ pub mod BalanceAccountLemmas
 pub mod BalanceCommandLemmas
 pub mod ReachLemmas
 pub mod GrantedLemmas
+pub mod FaultLemmas

@@ -1,6 +1,7 @@
 -- Worlds that commands lead to.
 use Rattle.std.proofs.Common.{◌≡◌, List, [], ◌∷◌, ◌++◌, refl, ◌∙◌, ap, subst}
 use Rattle.mx_book.specs.World.{World, opening}
+use Rattle.mx_book.specs.declared.contract.StoreFault.{StoreFault}
 use Rattle.mx_book.specs.declared.values.Caller.{Caller}
 use Rattle.mx_office.specs.declared.values.Command.{Command}
 use Rattle.mx_office.specs.declared.values.Outcome.{Outcome}
@@ -18,9 +19,9 @@ pub reachable_after : (w : World) (caller : Caller) (command : Command) → IsRe
 reachable_after w caller command r = (r.0, r.1 ++ (caller, command) ∷ [], after_more (opening r.0) r.1 (caller, command) ∙ ap (λ x. after x caller command) r.2)
 
 -- a run of commands, some of which the book could not do
-pub reachable_run : (w end : World) (cs : List Asked) (os : List Outcome) → IsRun w cs os end → IsReachable w → IsReachable end
-reachable_run w end [] [] is r = subst IsReachable is r
-reachable_run w end [] (o ∷ os) is r = absurd is
-reachable_run w end (c ∷ cs) [] is r = absurd is
-reachable_run w end (c ∷ cs) (Replied x ∷ os) is r = reachable_run (after w c.0 c.1) end cs os is.1 (reachable_after w c.0 c.1 r)
-reachable_run w end (c ∷ cs) (Unavailable ∷ os) is r = reachable_run w end cs os is r
+pub reachable_run : (fails : StoreFault → Type 0) (w end : World) (cs : List Asked) (os : List Outcome) → IsRun fails w cs os end → IsReachable w → IsReachable end
+reachable_run fails w end [] [] is r = subst IsReachable is r
+reachable_run fails w end [] (o ∷ os) is r = absurd is
+reachable_run fails w end (c ∷ cs) [] is r = absurd is
+reachable_run fails w end (c ∷ cs) (Replied x ∷ os) is r = reachable_run fails (after w c.0 c.1) end cs os is.1 (reachable_after w c.0 c.1 r)
+reachable_run fails w end (c ∷ cs) (Unavailable ∷ os) is r = reachable_run fails w end cs os is.1 r

@@ -6,3 +6,4 @@ pub mod Lends
 pub mod Decides
 pub mod Balance
 pub mod Reachable
+pub mod Faults

@@ -1,20 +1,26 @@
 -- A run of commands, some of which the book could not do.
 use Rattle.std.specs.Prelude.{◌≡◌, List, [], ◌∷◌}
 use Rattle.mx_book.specs.World.{World}
+use Rattle.mx_book.specs.declared.contract.StoreFault.{StoreFault}
 use Rattle.mx_office.specs.declared.values.Outcome.{Outcome}
 use Rattle.mx_office.specs.declared.values.Outcome.TheVariants.{Reply as Replied, Unavailable}
+use Rattle.mx_office.specs.Faults.{MayFail}
 use Rattle.mx_office.specs.Step.{Asked, after, answered}
 
+-- there is a cause for which a command may be left undone, over a book whose reads may fail so
+abbrev pub MayBeUndone : (StoreFault → Type 0) → World → Asked → Type 0
+MayBeUndone fails w c = (e : StoreFault) × MayFail fails w c.0 c.1 e
+
 -- these outcomes of these commands lead from the World w to the World end: one outcome a command, each the
--- reply of its step, or Unavailable, where nothing was done
-abbrev pub IsRun : World → List Asked → List Outcome → World → Type 0
-IsRun w [] [] end = w ≡ end
-IsRun w (c ∷ cs) (Replied r ∷ os) end = (r ≡ answered w c.0 c.1) × IsRun (after w c.0 c.1) cs os end
-IsRun w (c ∷ cs) (Unavailable ∷ os) end = IsRun w cs os end
-IsRun w _ _ end = ⊥
+-- reply of its step, or Unavailable, where it may be left undone and nothing was done
+abbrev pub IsRun : (StoreFault → Type 0) → World → List Asked → List Outcome → World → Type 0
+IsRun fails w [] [] end = w ≡ end
+IsRun fails w (c ∷ cs) (Replied r ∷ os) end = (r ≡ answered w c.0 c.1) × IsRun fails (after w c.0 c.1) cs os end
+IsRun fails w (c ∷ cs) (Unavailable ∷ os) end = MayBeUndone fails w c × IsRun fails w cs os end
+IsRun fails w _ _ end = ⊥
 
 -- a run of these outcomes ends in a World that stands
-pub record Leads (Stands : World → Type 0) (w : World) (cs : List Asked) (os : List Outcome) : Type 0 where
+pub record Leads (fails : StoreFault → Type 0) (Stands : World → Type 0) (w : World) (cs : List Asked) (os : List Outcome) : Type 0 where
   pub end : World
   pub stands : Stands end
-  pub run : IsRun w cs os end
+  pub run : IsRun fails w cs os end

@@ -1,5 +1,5 @@
 //! The commands of the operator and of clerks.
-ghost use Rattle.std.specs.Prelude.{◌≡◌, IfOk};
+ghost use Rattle.std.specs.Prelude.{◌≡◌, IfOk, IfErr};
 ghost use Rattle.mx_book.specs.Keeps.{Keeps};
 ghost use Rattle.mx_book.specs.World.{World};
 ghost use Rattle.mx_office.specs.Decides.{Decides, purse_count};
@@ -25,6 +25,7 @@ pub(crate) fn new_member<B: Book>(
 ) -> Result<Decided, StoreFault>
     ensures keeps { Keeps B.doubt B.rows book.old book.new }
     ensures decides { (w : World) → B.doubt book.new ≡ 0 → B.spells (B.rows book.old) w → IfOk result (Decides w (new_member w member token)) }
+    ensures fault { IfErr result B.fails }
 {
     if book.member(alloc, member)?.is_some() {
         return Ok(refuse(Refusal::NameTaken));
@@ -49,6 +50,7 @@ pub(crate) fn new_holder<B: Book>(
 ) -> Result<Decided, StoreFault>
     ensures keeps { Keeps B.doubt B.rows book.old book.new }
     ensures decides { (w : World) → B.doubt book.new ≡ 0 → B.spells (B.rows book.old) w → IfOk result (Decides w (new_holder w member holder token)) }
+    ensures fault { IfErr result B.fails }
 {
     if book.member(alloc, member)?.is_none() {
         return Ok(refuse(Refusal::NoSuchMember));
@@ -76,6 +78,7 @@ fn purse_count<B: Book>(
 ) -> Result<Option<usize>, StoreFault>
     ensures keeps { Keeps B.doubt B.rows book.old book.new }
     ensures value { (w : World) → B.doubt book.new ≡ 0 → B.spells (B.rows book.old) w → IfOk result (λ o. o ≡ purse_count w member holder) }
+    ensures fault { IfErr result B.fails }
 {
     match book.holder(alloc, holder)? {
         Some(row) if same_name(&member, &row.member) => Ok(Some(row.purses)),
@@ -93,6 +96,7 @@ pub(crate) fn new_purse<B: Book>(
 ) -> Result<Decided, StoreFault>
     ensures keeps { Keeps B.doubt B.rows book.old book.new }
     ensures decides { (w : World) → B.doubt book.new ≡ 0 → B.spells (B.rows book.old) w → IfOk result (Decides w (new_purse w member purse holder)) }
+    ensures fault { IfErr result B.fails }
 {
     let Some(held) = purse_count(book, alloc, member, holder)? else {
         return Ok(refuse(Refusal::NoSuchHolder));

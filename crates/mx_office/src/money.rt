@@ -1,5 +1,6 @@
 //! The commands that bring value into the office and settle what left it: grants, loads and collects.
-ghost use Rattle.std.specs.Prelude.{◌≡◌, ◌≤◌, IfOk};
+ghost use Rattle.std.specs.Prelude.{◌≡◌, ◌≤◌, ◌⊎◌, IfOk, IfErr};
+ghost use Rattle.mx_book.specs.declared.contract.StoreFault.TheVariants.{Memory};
 ghost use Rattle.mx_book.specs.Conditions.{all_granted};
 ghost use Rattle.mx_book.specs.Keeps.{Keeps};
 ghost use Rattle.mx_book.specs.World.{World};
@@ -23,6 +24,7 @@ const MOST: u128 = 1_000_000_000_000_000;
 fn granted_of<B: Book>(book: &mut B, alloc: Global, member: Name) -> Result<u64, StoreFault>
     ensures keeps { Keeps B.doubt B.rows book.old book.new }
     ensures value { (w : World) → B.doubt book.new ≡ 0 → B.spells (B.rows book.old) w → IfOk result (λ n. n ≡ granted_to w member) }
+    ensures fault { IfErr result B.fails }
 {
     match book.member(alloc, member)? {
         Some(row) => Ok(row.granted),
@@ -34,6 +36,7 @@ fn granted_of<B: Book>(book: &mut B, alloc: Global, member: Name) -> Result<u64,
 fn all_granted<B: Book>(book: &mut B, alloc: Global) -> Result<u128, StoreFault>
     ensures keeps { Keeps B.doubt B.rows book.old book.new }
     ensures value { (w : World) → B.doubt book.new ≡ 0 → B.spells (B.rows book.old) w → IfOk result (λ n. n ≡ all_granted w) }
+    ensures fault { IfErr result (λ e. (e ≡ Memory) ⊎ B.fails e) }
 {
     let members = book.members(alloc)?;
     let mut sum: u128 = 0;
@@ -52,6 +55,7 @@ pub(crate) fn grant<B: Book>(
 ) -> Result<Decided, StoreFault>
     ensures keeps { Keeps B.doubt B.rows book.old book.new }
     ensures decides { (w : World) → B.doubt book.new ≡ 0 → B.spells (B.rows book.old) w → IfOk result (Decides w (grant w member amount)) }
+    ensures fault { IfErr result (λ e. (e ≡ Memory) ⊎ B.fails e) }
 {
     let Some(row) = book.member(alloc, member)? else {
         return Ok(refuse(Refusal::NoSuchMember));
@@ -107,6 +111,7 @@ pub(crate) fn load<B: Book>(
 ) -> Result<Decided, StoreFault>
     ensures keeps { Keeps B.doubt B.rows book.old book.new }
     ensures decides { (w : World) → B.doubt book.new ≡ 0 → B.spells (B.rows book.old) w → IfOk result (Decides w (load_purse w member purse amount reference)) }
+    ensures fault { IfErr result B.fails }
 {
     let Some(mut after) = member_purse(book, alloc, member, purse)? else {
         return Ok(refuse(Refusal::NoSuchPurse));
@@ -139,6 +144,7 @@ fn member_purse<B: Book>(
 ) -> Result<Option<Purse>, StoreFault>
     ensures keeps { Keeps B.doubt B.rows book.old book.new }
     ensures value { (w : World) → B.doubt book.new ≡ 0 → B.spells (B.rows book.old) w → IfOk result (λ o. o ≡ member_purse w member purse) }
+    ensures fault { IfErr result B.fails }
 {
     match book.purse(alloc, purse)? {
         Some(account) if same_name(&member, &account.member) => Ok(Some(account.purse)),
@@ -154,6 +160,7 @@ pub(crate) fn collect<B: Book>(
 ) -> Result<Decided, StoreFault>
     ensures keeps { Keeps B.doubt B.rows book.old book.new }
     ensures decides { (w : World) → B.doubt book.new ≡ 0 → B.spells (B.rows book.old) w → IfOk result (Decides w (collect w member)) }
+    ensures fault { IfErr result B.fails }
 {
     let Some(row) = book.member(alloc, member)? else {
         return Ok(refuse(Refusal::NoSuchMember));

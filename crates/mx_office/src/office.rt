@@ -1,12 +1,14 @@
 //! The office over any book.
 ghost use Rattle.std.specs.Borrow.{sem};
-ghost use Rattle.std.specs.Prelude.{◌≡◌, ◌≤◌, IfOk, OnOk, OnErr};
+ghost use Rattle.std.specs.Prelude.{◌≡◌, ◌≤◌, ◌⊎◌, [], length, IfOk, IfErr, IsTrue, OnOk, OnErr};
 ghost use Rattle.mx_book.specs.Edits.{Fits, all_edited};
 ghost use Rattle.mx_book.specs.Keeps.{Keeps};
 ghost use Rattle.mx_book.specs.World.{World};
+ghost use Rattle.mx_book.specs.declared.contract.StoreFault.TheVariants.{Memory};
 ghost use Rattle.mx_office.specs.declared.values.Refusal.{Refusal};
 ghost use Rattle.mx_office.specs.declared.values.Reply.TheVariants.{Refused};
 ghost use Rattle.mx_office.specs.Decides.{Decides};
+ghost use Rattle.mx_office.specs.Faults.{MayFail, MayNotDecide, is_read};
 ghost use Rattle.mx_office.specs.Lends.{LendsBook};
 ghost use Rattle.mx_office.specs.Reachable.{IsReachable, StandsBalanced};
 ghost use Rattle.mx_office.specs.Run.{Leads};
@@ -63,6 +65,8 @@ impl<B: Book> Office<B> {
     ) -> Result<Decided, StoreFault>
         ensures keeps { Keeps B.doubt B.rows self.old.book self.new.book }
         ensures decides { (w : World) → B.doubt self.new.book ≡ 0 → B.spells (B.rows self.old.book) w → IfOk result (Decides w (base w caller command.now)) }
+        ensures reads { IfOk result (λ d. IsTrue (is_read command.now) → d.edits ≡ []) }
+        ensures fault { IfErr result (MayNotDecide B.fails command.now) }
     {
         match caller {
             Caller::Operator => decide_operator(&mut self.book, alloc, command),
@@ -78,8 +82,14 @@ impl<B: Book> Office<B> {
         ensures later { B.doubt self.old.book ≤ B.doubt self.new.book }
         ensures ok { (w : World) → B.doubt self.new.book ≡ 0 → B.spells (B.rows self.old.book) w → OnOk result (B.spells (B.rows self.new.book) (all_edited w decided.now.edits)) }
         ensures err { B.doubt self.new.book ≡ 0 → OnErr result (B.rows self.new.book ≡ B.rows self.old.book) }
+        ensures nothing { decided.now.edits ≡ [] → IfErr result (λ _. ⊥) }
+        ensures fault { IfErr result (λ e. (e ≡ Memory) ⊎ B.fails e) }
     {
-        self.book.apply(decided.edits.as_slice())
+        let edits = decided.edits.as_slice();
+        if edits.is_empty() {
+            return Ok(());
+        }
+        self.book.apply(edits)
     }
 
     /// Answers a command of a caller: decides, and makes the edits. After a fault, which is the book's, and
@@ -95,6 +105,8 @@ impl<B: Book> Office<B> {
         ensures reply { (w : World) → B.doubt self.new.book ≡ 0 → B.spells (B.rows self.old.book) w → IfOk result (λ r. r ≡ answered w caller command.now) }
         ensures refused { B.doubt self.new.book ≡ 0 → IfOk result (λ r. (refusal : Refusal) → r ≡ Refused refusal → B.rows self.new.book ≡ B.rows self.old.book) }
         ensures err { B.doubt self.new.book ≡ 0 → OnErr result (B.rows self.new.book ≡ B.rows self.old.book) }
+        ensures fault { IfErr result (λ e. (e ≡ Memory) ⊎ B.fails e) }
+        ensures memory { (w : World) → B.doubt self.new.book ≡ 0 → B.spells (B.rows self.old.book) w → IfErr result (MayFail B.fails w caller command.now) }
     {
         let decided = self.decide(alloc, caller, command)?;
         if let Reply::Refused(refusal) = decided.reply {
@@ -113,8 +125,9 @@ impl<B: Book> Office<B> {
         commands: &[(Caller, Command)],
     ) -> Result<Vec<Outcome>, AllocError>
         ensures later { B.doubt self.old.book ≤ B.doubt self.new.book }
-        ensures run { (w : World) → B.doubt self.new.book ≡ 0 → B.spells (B.rows self.old.book) w → IfOk result (λ outcomes. Leads (B.spells (B.rows self.new.book)) w commands.now outcomes.items) }
+        ensures run { (w : World) → B.doubt self.new.book ≡ 0 → B.spells (B.rows self.old.book) w → IfOk result (λ outcomes. Leads B.fails (B.spells (B.rows self.new.book)) w commands.now outcomes.items) }
         ensures reachable { (w : World) → B.doubt self.new.book ≡ 0 → B.spells (B.rows self.old.book) w → IsReachable w → IfOk result (λ _. StandsBalanced (B.spells (B.rows self.new.book))) }
+        ensures each { IfOk result (λ outcomes. length outcomes.items ≡ length commands.now) }
         ensures err { OnErr result (self.new ≡ self.old) }
     {
         let mut outcomes = Vec::with_capacity(alloc, commands.len())?;
@@ -137,6 +150,8 @@ fn decide_operator<B: Book>(
 ) -> Result<Decided, StoreFault>
     ensures keeps { Keeps B.doubt B.rows book.old book.new }
     ensures decides { (w : World) → B.doubt book.new ≡ 0 → B.spells (B.rows book.old) w → IfOk result (Decides w (base w Caller.Operator command.now)) }
+    ensures reads { IfOk result (λ d. IsTrue (is_read command.now) → d.edits ≡ []) }
+    ensures fault { IfErr result (MayNotDecide B.fails command.now) }
 {
     match *command {
         Command::NewMember { member, token } => new_member(book, alloc, member, token),
@@ -154,6 +169,8 @@ fn decide_clerk<B: Book>(
 ) -> Result<Decided, StoreFault>
     ensures keeps { Keeps B.doubt B.rows book.old book.new }
     ensures decides { (w : World) → B.doubt book.new ≡ 0 → B.spells (B.rows book.old) w → IfOk result (Decides w (base w (Caller.Clerk member) command.now)) }
+    ensures reads { IfOk result (λ d. IsTrue (is_read command.now) → d.edits ≡ []) }
+    ensures fault { IfErr result (MayNotDecide B.fails command.now) }
 {
     match *command {
         Command::NewHolder { holder, token } => new_holder(book, alloc, member, holder, token),
@@ -177,6 +194,8 @@ fn decide_holder<B: Book>(
 ) -> Result<Decided, StoreFault>
     ensures keeps { Keeps B.doubt B.rows book.old book.new }
     ensures decides { (w : World) → B.doubt book.new ≡ 0 → B.spells (B.rows book.old) w → IfOk result (Decides w (base w (Caller.Holder holder) command.now)) }
+    ensures reads { IfOk result (λ d. IsTrue (is_read command.now) → d.edits ≡ []) }
+    ensures fault { IfErr result (MayNotDecide B.fails command.now) }
 {
     match *command {
         Command::Purses => purses(book, alloc, holder),

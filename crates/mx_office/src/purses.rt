@@ -1,5 +1,6 @@
 //! The commands of holders.
-ghost use Rattle.std.specs.Prelude.{◌≡◌, IfOk};
+ghost use Rattle.std.specs.Prelude.{◌≡◌, ◌⊎◌, [], IfOk, IfErr};
+ghost use Rattle.mx_book.specs.declared.contract.StoreFault.TheVariants.{Memory};
 ghost use Rattle.mx_book.specs.Keeps.{Keeps};
 ghost use Rattle.mx_book.specs.World.{World};
 ghost use Rattle.mx_book.specs.Reads.{purses_of};
@@ -33,6 +34,7 @@ fn own_purse<B: Book>(
 ) -> Result<Option<Purse>, StoreFault>
     ensures keeps { Keeps B.doubt B.rows book.old book.new }
     ensures value { (w : World) → B.doubt book.new ≡ 0 → B.spells (B.rows book.old) w → IfOk result (λ o. o ≡ own_purse w holder purse) }
+    ensures fault { IfErr result B.fails }
 {
     match book.purse(alloc, purse)? {
         Some(account) if same_name(&holder, &account.holder) => Ok(Some(account.purse)),
@@ -44,6 +46,7 @@ fn own_purse<B: Book>(
 fn finds_place<B: Book>(book: &mut B, alloc: Global, purse: Name) -> Result<bool, StoreFault>
     ensures keeps { Keeps B.doubt B.rows book.old book.new }
     ensures value { (w : World) → B.doubt book.new ≡ 0 → B.spells (B.rows book.old) w → IfOk result (λ b. b ≡ finds_place w purse) }
+    ensures fault { IfErr result B.fails }
 {
     match book.purse(alloc, purse)? {
         Some(account) => Ok(account.held < MOST_MESSAGES && account.next_message < LIMIT),
@@ -59,6 +62,7 @@ fn placed<B: Book>(
 ) -> Result<Option<(Name, Message)>, StoreFault>
     ensures keeps { Keeps B.doubt B.rows book.old book.new }
     ensures value { (w : World) → B.doubt book.new ≡ 0 → B.spells (B.rows book.old) w → IfOk result (λ o. o ≡ placed w sent) }
+    ensures fault { IfErr result B.fails }
 {
     let Some((peer, message)) = sent else {
         return Ok(None);
@@ -78,6 +82,8 @@ pub(crate) fn purses<B: Book>(
 ) -> Result<Decided, StoreFault>
     ensures keeps { Keeps B.doubt B.rows book.old book.new }
     ensures decides { (w : World) → B.doubt book.new ≡ 0 → B.spells (B.rows book.old) w → IfOk result (Decides w (done w (Reply.Purses (purses_of w holder)))) }
+    ensures edits { IfOk result (λ d. d.edits ≡ []) }
+    ensures fault { IfErr result (λ e. (e ≡ Memory) ⊎ B.fails e) }
 {
     let names = book.purses_of(alloc, holder)?;
     Ok(tell(Reply::Purses(Names::new(names))))
@@ -92,6 +98,8 @@ pub(crate) fn show<B: Book>(
 ) -> Result<Decided, StoreFault>
     ensures keeps { Keeps B.doubt B.rows book.old book.new }
     ensures decides { (w : World) → B.doubt book.new ≡ 0 → B.spells (B.rows book.old) w → IfOk result (Decides w (on_own w holder purse show)) }
+    ensures edits { IfOk result (λ d. d.edits ≡ []) }
+    ensures fault { IfErr result B.fails }
 {
     match own_purse(book, alloc, holder, purse)? {
         Some(purse) => Ok(tell(Reply::Shown(purse))),
@@ -108,6 +116,8 @@ pub(crate) fn inbox<B: Book>(
 ) -> Result<Decided, StoreFault>
     ensures keeps { Keeps B.doubt B.rows book.old book.new }
     ensures decides { (w : World) → B.doubt book.new ≡ 0 → B.spells (B.rows book.old) w → IfOk result (Decides w (on_own w holder purse inbox)) }
+    ensures edits { IfOk result (λ d. d.edits ≡ []) }
+    ensures fault { IfErr result (λ e. (e ≡ Memory) ⊎ B.fails e) }
 {
     if own_purse(book, alloc, holder, purse)?.is_none() {
         return Ok(refuse(Refusal::NoSuchPurse));
@@ -128,6 +138,7 @@ pub(crate) fn start_from<B: Book>(
 ) -> Result<Decided, StoreFault>
     ensures keeps { Keeps B.doubt B.rows book.old book.new }
     ensures decides { (w : World) → B.doubt book.new ≡ 0 → B.spells (B.rows book.old) w → IfOk result (Decides w (on_own w holder purse (start_from peer value seq))) }
+    ensures fault { IfErr result B.fails }
 {
     let Some(mut after) = own_purse(book, alloc, holder, purse)? else {
         return Ok(refuse(Refusal::NoSuchPurse));
@@ -154,6 +165,7 @@ pub(crate) fn start_to<B: Book>(
 ) -> Result<Decided, StoreFault>
     ensures keeps { Keeps B.doubt B.rows book.old book.new }
     ensures decides { (w : World) → B.doubt book.new ≡ 0 → B.spells (B.rows book.old) w → IfOk result (Decides w (on_own w holder purse (start_to peer value seq))) }
+    ensures fault { IfErr result B.fails }
 {
     let Some(mut after) = own_purse(book, alloc, holder, purse)? else {
         return Ok(refuse(Refusal::NoSuchPurse));
@@ -181,6 +193,7 @@ pub(crate) fn handle<B: Book>(
 ) -> Result<Decided, StoreFault>
     ensures keeps { Keeps B.doubt B.rows book.old book.new }
     ensures decides { (w : World) → B.doubt book.new ≡ 0 → B.spells (B.rows book.old) w → IfOk result (Decides w (on_own w holder purse (handle number))) }
+    ensures fault { IfErr result B.fails }
 {
     let Some(mut after) = own_purse(book, alloc, holder, purse)? else {
         return Ok(refuse(Refusal::NoSuchPurse));
@@ -207,6 +220,7 @@ pub(crate) fn discard<B: Book>(
 ) -> Result<Decided, StoreFault>
     ensures keeps { Keeps B.doubt B.rows book.old book.new }
     ensures decides { (w : World) → B.doubt book.new ≡ 0 → B.spells (B.rows book.old) w → IfOk result (Decides w (on_own w holder purse (discard number))) }
+    ensures fault { IfErr result B.fails }
 {
     if own_purse(book, alloc, holder, purse)?.is_none() {
         return Ok(refuse(Refusal::NoSuchPurse));
@@ -230,6 +244,7 @@ pub(crate) fn abort<B: Book>(
 ) -> Result<Decided, StoreFault>
     ensures keeps { Keeps B.doubt B.rows book.old book.new }
     ensures decides { (w : World) → B.doubt book.new ≡ 0 → B.spells (B.rows book.old) w → IfOk result (Decides w (on_own w holder purse abort)) }
+    ensures fault { IfErr result B.fails }
 {
     let Some(mut after) = own_purse(book, alloc, holder, purse)? else {
         return Ok(refuse(Refusal::NoSuchPurse));
@@ -254,6 +269,7 @@ pub(crate) fn redeem<B: Book>(
 ) -> Result<Decided, StoreFault>
     ensures keeps { Keeps B.doubt B.rows book.old book.new }
     ensures decides { (w : World) → B.doubt book.new ≡ 0 → B.spells (B.rows book.old) w → IfOk result (Decides w (on_own w holder purse (redeem amount reference))) }
+    ensures fault { IfErr result B.fails }
 {
     let Some(mut after) = own_purse(book, alloc, holder, purse)? else {
         return Ok(refuse(Refusal::NoSuchPurse));

@@ -1,4 +1,6 @@
 use Rattle.std.proofs.Common.{◌≡◌, rules, sym, ◌∙◌, subst}
+use Rattle.std.proofs.lemmas.Result.{err_from_is_err_and}
+use Rattle.mx_office.proofs.FaultLemmas.{writes, memory_fails}
 use Rattle.mx_office.proofs.RefuseLemmas.{refused_stays}
 use Rattle.mx_office.specs.Step.{after, answered}
 use Rattle.mx_office.proofs.office.Office.answer.Goals as goal
@@ -29,3 +31,11 @@ returns-clause-reply g c = λ w honest spelled.
 
 pub returns-clause-refused : goal.returns-clause-refused
 returns-clause-refused g c = λ honest refusal is. absurd (c.in_default.not-Refused refusal is)
+
+pub returns-in_err-commit-clause-memory : goal.returns-in_err-commit-clause-memory
+unfolding answered
+returns-in_err-commit-clause-memory g c = λ w honest spelled.
+    let before : g.B.Book.doubt c.decide.new.self.book ≡ 0 = search rules in
+    let p = err_from_is_err_and c.from_residual-in_err-commit.result c.from_residual-in_err-commit.ensures.1 in
+    let takes = writes w c.args.caller c.args.command.now _ _ (c.in_ok-decided.ensures.decides w before spelled).reply c.in_default.not-Refused c.in_ok-decided.ensures.reads c.in_err-commit.ensures.nothing in
+    rw (p.1, p.2) (memory_fails g.B.Book.fails w c.args.caller c.args.command.now _ takes c.in_err-commit.ensures.fault)

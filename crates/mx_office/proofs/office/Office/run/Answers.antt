@@ -2,7 +2,7 @@ use Rattle.std.proofs.Common.{◌≡◌, rules, subst}
 use Rattle.std.proofs.lemmas.List.{take_all}
 use Rattle.mx_office.specs.Run.{Leads}
 use Rattle.mx_office.specs.Step.{after}
-use Rattle.mx_office.proofs.OutcomeLemmas.{run_replied_at, run_unavailable_at}
+use Rattle.mx_office.proofs.OutcomeLemmas.{run_replied_at, run_undone_at}
 use Rattle.mx_office.proofs.BalanceCommandLemmas.{reachable_balanced}
 use Rattle.mx_office.proofs.ReachLemmas.{reachable_run}
 use Rattle.mx_office.proofs.office.Office.run.Goals as goal
@@ -28,21 +28,21 @@ loop-caller-preserved g c = record {
         | in-Ok v ↦ record {
           end = after so_far.end c.loop-caller-item.result.0 c.loop-caller-item.result.1;
           stands = v.in-Ok.ensures.ok so_far.end honest so_far.stands;
-          run = run_replied_at _ _ _ _ c.loop-caller-item.result _ _ _ _ c.loop-caller-test.true c.loop-caller-item.is so_far.run (v.in-Ok.ensures.reply so_far.end honest so_far.stands) v.outcome-is c.push_reserved.ensures.items;
+          run = run_replied_at _ _ _ _ _ c.loop-caller-item.result _ _ _ _ c.loop-caller-test.true c.loop-caller-item.is so_far.run (v.in-Ok.ensures.reply so_far.end honest so_far.stands) v.outcome-is c.push_reserved.ensures.items;
         }
         | in-Err v ↦ record {
           end = so_far.end;
           stands = rw (v.in-Err.ensures.err honest) so_far.stands;
-          run = run_unavailable_at _ _ _ _ c.loop-caller-item.result _ _ _ c.loop-caller-test.true c.loop-caller-item.is so_far.run v.outcome-is c.push_reserved.ensures.items;
+          run = run_undone_at _ _ _ _ _ c.loop-caller-item.result _ _ _ c.loop-caller-test.true c.loop-caller-item.is so_far.run (v.in-Err.field-0, v.in-Err.ensures.memory so_far.end honest so_far.stands) v.outcome-is c.push_reserved.ensures.items;
         }
       ];
 }
 
 pub returns-clause-run : goal.returns-clause-run
-returns-clause-run g c = λ w honest spelled. subst (λ cs. Leads (g.B.Book.spells (g.B.Book.rows c.loop-caller.self.book)) w cs c.loop-caller.outcomes.items) (take_all c.loop-caller.caller-index c.args.commands.now (search rules)) (c.loop-caller.invariant.run w honest spelled)
+returns-clause-run g c = λ w honest spelled. subst (λ cs. Leads g.B.Book.fails (g.B.Book.spells (g.B.Book.rows c.loop-caller.self.book)) w cs c.loop-caller.outcomes.items) (take_all c.loop-caller.caller-index c.args.commands.now (search rules)) (c.loop-caller.invariant.run w honest spelled)
 
 pub returns-clause-reachable : goal.returns-clause-reachable
 returns-clause-reachable g c = λ w honest spelled reachable.
     let led = returns-clause-run g c w honest spelled in
-    let ends = reachable_run w led.end c.args.commands.now c.loop-caller.outcomes.items led.run reachable in
+    let ends = reachable_run _ w led.end c.args.commands.now c.loop-caller.outcomes.items led.run reachable in
     record { end = led.end; stands = led.stands; reachable = ends; balanced = reachable_balanced led.end ends }

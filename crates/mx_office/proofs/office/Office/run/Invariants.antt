@@ -9,5 +9,5 @@ invariant-loop-caller g l = let b = g.B.Book in record {
   count : vec_len l.outcomes ≡ l.caller-index;
   room : length l.commands ≤ vec_capacity l.outcomes;
   later : b.doubt l.fn.self.book ≤ b.doubt l.self.book;
-  run : (w : World) → b.doubt l.self.book ≡ 0 → b.spells (b.rows l.fn.self.book) w → Leads (b.spells (b.rows l.self.book)) w (take l.caller-index l.commands) l.outcomes.items;
+  run : (w : World) → b.doubt l.self.book ≡ 0 → b.spells (b.rows l.fn.self.book) w → Leads b.fails (b.spells (b.rows l.self.book)) w (take l.caller-index l.commands) l.outcomes.items;
 }
