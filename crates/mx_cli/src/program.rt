@@ -15,8 +15,9 @@ use std::alloc::Global;
 use std::io::{Read, Write};
 
 /// Reads requests to the end of the input and writes their responses, over books in memory that are given up
-/// at the end, for the operator with that token. Says how many responses were written. Nothing is written
-/// before the input is at its end.
+/// at the end, for the operator with that token. Says how many responses were written. A fault is `Read`, `Turns` or
+/// `Memory` where the input couldn't be read to its end or the routes couldn't be made, and `Write` where a response
+/// couldn't be written or flushed.
 pub fn run_memory<R: Read, W: Write>(
     alloc: Global,
     operator: Token,

@@ -55,8 +55,8 @@ impl<B: Book> Office<B> {
         self.book
     }
 
-    /// What a command of a caller would do: its reply, and the edits that lead to its World. Nothing changes.
-    /// A fault is the book's.
+    /// What a command of a caller would do: its reply, and the edits that lead to its World. Nothing changes. A fault
+    /// is one of the book's reads, or `Memory` where the command reads a list: a grant, purses and inbox.
     pub fn decide(
         &mut self,
         alloc: Global,
@@ -76,7 +76,8 @@ impl<B: Book> Office<B> {
     }
 
     /// Makes the edits of a decision, all of them, or none where it answers a fault. They have to fit the
-    /// World, as they do when nothing has changed the book since `decide` gave them.
+    /// World, as they do when nothing has changed the book since `decide` gave them. A fault is `Memory` or one of the
+    /// book's. Where there are no edits the book isn't asked, and there is no fault.
     pub fn commit(&mut self, decided: &Decided) -> Result<(), StoreFault>
         requires { (w : World) → B.doubt self.old.book ≡ 0 → B.spells (B.rows self.old.book) w → Fits w decided.now.edits }
         ensures later { B.doubt self.old.book ≤ B.doubt self.new.book }
@@ -92,8 +93,9 @@ impl<B: Book> Office<B> {
         self.book.apply(edits)
     }
 
-    /// Answers a command of a caller: decides, and makes the edits. After a fault, which is the book's, and
-    /// after a refusal nothing is changed, whatever the book holds.
+    /// Answers a command of a caller: decides, and makes the edits. After a fault and after a refusal nothing is
+    /// changed, whatever the book holds. A fault is one of the book's reads, or `Memory` where the command takes some: it
+    /// reads a list, or writes and isn't refused.
     pub fn answer(
         &mut self,
         alloc: Global,
@@ -116,7 +118,7 @@ impl<B: Book> Office<B> {
         Ok(decided.reply)
     }
 
-    /// Answers commands in order: one outcome a command, its reply or that the book could not do it. An
+    /// Answers commands in order: one outcome a command, its reply, or `Unavailable` where `answer` gives a fault. An
     /// AllocError means that nothing was done. From a World that commands can lead to it ends in such a World, in
     /// which each member's account is balanced.
     pub fn run(

@@ -119,7 +119,7 @@ pub enum Command {
 pub enum Refusal {
     /// The command is of another class than the caller's.
     NotForCaller,
-    /// There is no such purse, or it is another holder's.
+    /// There is no such purse, or it is another holder's; to a clerk, also another member's.
     NoSuchPurse,
     /// There is no such holder, or it is another member's.
     NoSuchHolder,
@@ -127,7 +127,7 @@ pub enum Refusal {
     NoSuchMember,
     /// No message of that number lies in the inbox of the purse.
     NoSuchMessage,
-    /// A member, a holder or a purse has that name already.
+    /// Something of the same kind, a member, a holder or a purse, has that name already.
     NameTaken,
     /// The operator, a clerk or a holder has that token already.
     TokenTaken,
