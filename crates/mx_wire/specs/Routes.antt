@@ -1,0 +1,125 @@
+-- What a request asks by its method and path. A path's pattern is the one that matchit finds for it.
+use Rattle.std.specs.Prelude.{ℕ, List, [], ◌∷◌, Bool, if◌then◌else◌, ◌||◌, Option, Some, None, option_map, option_and_then, Result, Ok, Err, map, codes, bytes_eq}
+use Rattle.std.specs.Borrow.{Bor}
+use Rattle.std.specs.Char.{is_ascii}
+use Rattle.std.specs.List.{list_all}
+use Rattle.matchit.specs.Rows.{RowsOf}
+use Rattle.matchit.specs.Order.{placed}
+use Rattle.matchit.specs.Route.{Scan, parse_route}
+use Rattle.matchit.specs.Router.{RouteOf, route_from}
+use Rattle.matchit.specs.Seek.{first}
+use Rattle.matchit.specs.Params.{walk, named}
+use Rattle.matchit.specs.declared.error.InsertError.{InsertError}
+use Rattle.mx_pay.specs.Names.{is_name_text}
+use Rattle.mx_wire.specs.declared.routes.Class.{Class}
+use Rattle.mx_wire.specs.declared.routes.Class.TheVariants as class
+use Rattle.mx_wire.specs.declared.routes.Pattern.{Pattern}
+use Rattle.mx_wire.specs.declared.routes.Pattern.TheVariants as pattern
+use Rattle.mx_wire.specs.declared.routes.Route.{Route}
+use Rattle.mx_wire.specs.declared.routes.Route.TheVariants as route
+
+-- a matchit router, as the rows of its patterns
+abbrev pub Rows : Type 0
+Rows = RowsOf (RouteOf Pattern)
+
+-- the rows with one pattern more, where its text reads as one
+abbrev pub row_added : Result Scan InsertError → Pattern → Rows → Rows
+row_added (Ok s) value rows = placed (s.pattern, route_from s value) rows
+row_added (Err e) value rows = rows
+
+-- the rows with each pattern of the list more
+abbrev pub rows_after : Rows → List (List ℕ × Pattern) → Rows
+rows_after rows [] = rows
+rows_after rows (e ∷ entries) = rows_after (row_added (parse_route e.0) e.1 rows) entries
+
+-- each pattern's text
+abbrev pub patterns : List (List ℕ × Pattern)
+patterns =
+    (codes "/members", pattern.Members)
+    ∷ (codes "/members/{m}/grant", pattern.Grant)
+    ∷ (codes "/holders", pattern.Holders)
+    ∷ (codes "/purses", pattern.Purses)
+    ∷ (codes "/purses/{p}", pattern.Purse)
+    ∷ (codes "/purses/{p}/load", pattern.Load)
+    ∷ (codes "/collect", pattern.Collect)
+    ∷ (codes "/purses/{p}/start-from", pattern.StartFrom)
+    ∷ (codes "/purses/{p}/start-to", pattern.StartTo)
+    ∷ (codes "/purses/{p}/handle", pattern.Handle)
+    ∷ (codes "/purses/{p}/discard", pattern.Discard)
+    ∷ (codes "/purses/{p}/abort", pattern.Abort)
+    ∷ (codes "/purses/{p}/redeem", pattern.Redeem)
+    ∷ (codes "/purses/{p}/inbox", pattern.Inbox)
+    ∷ []
+
+-- the rows of a router of these patterns
+unfoldable pub table_rows : Rows
+table_rows = rows_after [] patterns
+
+-- the texts of a table
+abbrev pub entries : List (Bor (List ℕ) × Pattern) → List (List ℕ × Pattern)
+entries table = map (λ e. (e.0.now, e.1)) table
+
+-- HEAD is routed as GET
+abbrev pub is_get : List ℕ → Bool
+is_get method = bytes_eq method (codes "GET") || bytes_eq method (codes "HEAD")
+
+-- POST alone writes
+abbrev pub is_post : List ℕ → Bool
+is_post method = bytes_eq method (codes "POST")
+
+-- the name that a text is
+abbrev pub name_of : List ℕ → Option (List ℕ)
+name_of text = if is_name_text text then Some text else None
+
+-- what {m} or {p} took of the path, where that is a name
+abbrev pub taken : Pattern → List (List ℕ × List ℕ) → Option (List ℕ)
+taken pattern.Grant parts = option_and_then name_of (named (codes "m") parts)
+taken _ parts = option_and_then name_of (named (codes "p") parts)
+
+-- what GET asks of a pattern, with the name that the path has
+abbrev pub got : Pattern → Option (List ℕ) → Option Route
+got pattern.Purses name = Some route.Purses
+got pattern.Purse name = option_map route.Show name
+got pattern.Inbox name = option_map route.Inbox name
+got _ name = None
+
+-- what POST asks of a pattern, with the name that the path has
+abbrev pub posted : Pattern → Option (List ℕ) → Option Route
+posted pattern.Members name = Some route.NewMember
+posted pattern.Holders name = Some route.NewHolder
+posted pattern.Purses name = Some route.NewPurse
+posted pattern.Collect name = Some route.Collect
+posted pattern.Grant name = option_map route.Grant name
+posted pattern.Load name = option_map route.Load name
+posted pattern.StartFrom name = option_map route.StartFrom name
+posted pattern.StartTo name = option_map route.StartTo name
+posted pattern.Handle name = option_map route.Handle name
+posted pattern.Discard name = option_map route.Discard name
+posted pattern.Abort name = option_map route.Abort name
+posted pattern.Redeem name = option_map route.Redeem name
+posted pattern.Purse name = None
+posted pattern.Inbox name = None
+
+-- what a pattern asks by this method
+abbrev pub asked_of : List ℕ → Pattern → Option (List ℕ) → Option Route
+asked_of method p name = if is_post method then posted p name else (if is_get method then got p name else None)
+
+-- what the pattern that matchit found asks
+abbrev pub asked : List ℕ → List ℕ → RouteOf Pattern → Option Route
+asked method path found = asked_of method found.value (taken found.value (walk found.pattern found.text path found.names 0 0))
+
+-- the route of a method and a path: none where the path isn't ASCII, since names are, and none where no
+-- pattern is found, the method is another or a part isn't a name
+unfoldable pub route_of : List ℕ → List ℕ → Option Route
+route_of method path =
+    if list_all is_ascii path then option_and_then (asked method path) (first table_rows path) else None
+
+-- whose command a route is
+abbrev pub class_of : Route → Class
+class_of route.NewMember = class.Operator
+class_of (route.Grant member) = class.Operator
+class_of route.NewHolder = class.Clerk
+class_of route.NewPurse = class.Clerk
+class_of (route.Load purse) = class.Clerk
+class_of route.Collect = class.Clerk
+class_of _ = class.Holder
