@@ -1,1 +1,2 @@
 pub mod RouteLemmas
+pub mod BodyLemmas

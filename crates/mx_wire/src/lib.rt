@@ -1,10 +1,10 @@
 //! The office's wire: which command a request asks for, and the bytes of each response.
 #![tactic(auto)]
 
-//pub mod bodies;
+pub mod bodies;
 //pub mod replies;
 pub mod routes;
 
-//pub use bodies::WireFault;
+pub use bodies::WireFault;
 //pub use replies::{Fixed, Response, fixed_text, render, unavailable_text};
 pub use routes::{Class, Route, Routes};

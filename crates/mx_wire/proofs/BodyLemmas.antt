@@ -1,0 +1,55 @@
+-- What a body says, from its JSON value.
+use Rattle.std.proofs.Common.{◌≡◌, ℕ, List, Bool, true, false, refl, ap}
+use Rattle.std.specs.Prelude.{Option, Some, None, Result, Err, IfOk, if◌then◌else◌, IsTrue, option_and_then}
+use Rattle.std.specs.Str.{is_utf8, IsUtf8}
+use Rattle.std.proofs.lemmas.Str.{IsUtf8-from_is_utf8, is_utf8-from_IsUtf8}
+use Rattle.std.specs.Option.{ok_or}
+use Rattle.serde_json.specs.Data.{Data}
+use Rattle.serde_json.specs.Read.{read}
+use Rattle.mx_office.specs.declared.values.Command.{Command}
+use Rattle.mx_wire.specs.declared.bodies.WireFault.{WireFault}
+use Rattle.mx_wire.specs.declared.bodies.WireFault.TheVariants.{BadBody}
+use Rattle.mx_wire.specs.declared.routes.Route.{Route}
+use Rattle.mx_wire.specs.Bodies.{value_of, has_body, bare, bare_or, said, command_of}
+
+pub value_of_text : (body : List ℕ) (d : Data) → IsUtf8 body → read body ≡ Some d → value_of body ≡ Some d
+value_of_text body d text reads =
+    let utf8 : is_utf8 body ≡ true = is_utf8-from_IsUtf8 body text in
+    rw utf8 reads
+
+-- a body that is no text, or reads as nothing, has no value
+pub value_of_none : (body : List ℕ) → (IsUtf8 body → read body ≡ None) → value_of body ≡ None
+value_of_none body refused = by (is_utf8 body) refl
+  where
+    by : (b : Bool) → is_utf8 body ≡ b → (if b then read body else None) ≡ None
+    by true utf8 = refused (IsUtf8-from_is_utf8 body utf8)
+    by false utf8 = refl
+
+pub bare_says : (r : Route) (body : List ℕ) (c : Command) → bare r ≡ Some c → command_of r body ≡ Some c
+unfolding command_of
+bare_says r body c is = ap (λ o. bare_or o (option_and_then (said r) (value_of body))) is
+
+pub body_says : (r : Route) (body : List ℕ) (d : Data) → bare r ≡ None → value_of body ≡ Some d → command_of r body ≡ said r d
+unfolding command_of
+body_says r body d none value = rw (none, value) refl
+
+pub says_nothing : (r : Route) (body : List ℕ) → bare r ≡ None → value_of body ≡ None → command_of r body ≡ None
+unfolding command_of
+says_nothing r body none value = rw (none, value) refl
+
+-- ---- what `ok_or` answers
+
+pub ok_or_ok : (o p : Option Command) (r : Result Command WireFault) → p ≡ o → r ≡ ok_or o BadBody → IfOk r (λ c. p ≡ Some c)
+ok_or_ok None p r same is = rw is tt
+ok_or_ok (Some c) p r same is = rw is same
+
+pub ok_or_bad : (o p : Option Command) (r : Result Command WireFault) → p ≡ o → r ≡ ok_or o BadBody → r ≡ Err BadBody → p ≡ None
+ok_or_bad None p r same is bad = same
+ok_or_bad (Some c) p r same is bad = cc
+
+pub ok_or_fault : (o : Option Command) (r : Result Command WireFault) (fault : WireFault) → r ≡ ok_or o BadBody → r ≡ Err fault → fault ≡ BadBody
+ok_or_fault None r fault is bad = cc
+ok_or_fault (Some c) r fault is bad = cc
+
+pub same_fault : (r : Result Command WireFault) (a b : WireFault) → r ≡ Err a → r ≡ Err b → a ≡ b
+same_fault r a b e f = cc

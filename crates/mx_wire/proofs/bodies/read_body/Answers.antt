@@ -1,0 +1,19 @@
+use Rattle.std.proofs.Common.{◌≡◌, Err, None, sym, ap, ◌∙◌, rules}
+use Rattle.std.proofs.lemmas.Result.{err_from_is_err_and}
+use Rattle.mx_wire.proofs.BodyLemmas.{bare_says, body_says, says_nothing, same_fault, ok_or_ok, ok_or_bad}
+use Rattle.mx_wire.specs.Bodies.{bare}
+use Rattle.mx_wire.proofs.bodies.read_body.Goals as goal
+
+pub returns-in-Some-clause-ok : goal.returns-in-Some-clause-ok
+returns-in-Some-clause-ok c = bare_says _ _ _ (search rules)
+
+pub returns-in_err-value-clause-bad : goal.returns-in_err-value-clause-bad
+returns-in_err-value-clause-bad c = λ e.
+    let p = err_from_is_err_and c.from_residual.result c.from_residual.ensures.1 in
+    says_nothing _ _ (search rules) (c.in_err-value.ensures.bad (ap Err (sym p.2 ∙ same_fault _ _ _ p.1 e)))
+
+pub returns-clause-ok : goal.returns-clause-ok
+returns-clause-ok c = ok_or_ok _ _ _ (body_says _ _ _ (search rules) c.in_ok-value.ensures.ok ∙ sym c.said.ensures) c.ok_or.ensures.value
+
+pub returns-clause-bad : goal.returns-clause-bad
+returns-clause-bad c = λ e. ok_or_bad _ _ _ (body_says _ _ _ (search rules) c.in_ok-value.ensures.ok ∙ sym c.said.ensures) c.ok_or.ensures.value e

@@ -1,0 +1,193 @@
+//! The bodies of requests: JSON in, commands out.
+ghost use Rattle.std.specs.Prelude.{◌≡◌, ◌≢◌, ◌↔◌, true, Some, None, Err, IsTrue, IfOk, option_map};
+ghost use Rattle.serde_json.specs.View.{view};
+ghost use Rattle.mx_wire.specs.Routes.{route_of};
+ghost use Rattle.mx_wire.specs.Bodies.{text_at, name_at, token_at, number_at, amount_at, seq_at, bare, said, value_of, has_body, command_of, request_command};
+
+use crate::routes::{Route, Routes};
+use mx_office::Command;
+use mx_pay::{Amount, Name, Seq, Token};
+use serde_json::Value;
+use std::alloc::Global;
+
+/// Why a request gives no command.
+#[derive(Clone, Copy, Debug, PartialEq, Eq)]
+pub enum WireFault {
+    /// The method and the path have no route.
+    NoRoute,
+    /// The body isn't a JSON object with the keys that the route needs, each with a value of its kind.
+    BadBody,
+    /// Memory was lacking to read the body.
+    Memory,
+}
+
+/// The JSON value of a body.
+fn value_of(alloc: Global, body: &[u8]) -> Result<Value, WireFault>
+    ensures ok { IfOk result (λ value. value_of body.now ≡ Some (view value)) }
+    ensures bad { result ≡ Err WireFault.BadBody → value_of body.now ≡ None }
+    ensures routed { result ≢ Err WireFault.NoRoute }
+{
+    match Value::from_slice(alloc, body) {
+        Ok(value) => Ok(value),
+        Err(error) => {
+            if error.is_memory() {
+                Err(WireFault::Memory)
+            } else {
+                Err(WireFault::BadBody)
+            }
+        }
+    }
+}
+
+/// The text of a key.
+fn text_at<'v>(value: &'v Value, key: &str) -> Option<&'v str>
+    ensures { option_map (λ text. text.now) result ≡ text_at key.now (view value.now) }
+{
+    let found = value.get(key)?;
+    found.as_str()
+}
+
+/// The name of a key.
+fn name_at(value: &Value, key: &str) -> Option<Name>
+    ensures { result ≡ name_at key.now (view value.now) }
+{
+    let text = text_at(value, key)?;
+    Name::read(text)
+}
+
+/// The token of a key.
+fn token_at(value: &Value, key: &str) -> Option<Token>
+    ensures { result ≡ token_at key.now (view value.now) }
+{
+    let text = text_at(value, key)?;
+    Token::read(text)
+}
+
+/// The number of a key.
+fn number_at(value: &Value, key: &str) -> Option<u64>
+    ensures { result ≡ number_at key.now (view value.now) }
+{
+    value.get(key).and_then(Value::as_u64)
+}
+
+/// The amount of a key.
+fn amount_at(value: &Value, key: &str) -> Option<Amount>
+    ensures { result ≡ amount_at key.now (view value.now) }
+{
+    let number = number_at(value, key)?;
+    Amount::new(number)
+}
+
+/// The sequence number, or the number of a message, of a key.
+fn seq_at(value: &Value, key: &str) -> Option<Seq>
+    ensures { result ≡ seq_at key.now (view value.now) }
+{
+    let number = number_at(value, key)?;
+    Seq::new(number)
+}
+
+/// The command of a route that needs no body.
+fn bare(route: &Route) -> Option<Command>
+    ensures { result ≡ bare route.now }
+{
+    match *route {
+        Route::Collect => Some(Command::Collect),
+        Route::Purses => Some(Command::Purses),
+        Route::Show(purse) => Some(Command::Show { purse }),
+        Route::Abort(purse) => Some(Command::Abort { purse }),
+        Route::Inbox(purse) => Some(Command::Inbox { purse }),
+        _ => None,
+    }
+}
+
+/// The command that a route and a JSON value say. None also where the route needs no body.
+fn said(route: &Route, value: &Value) -> Option<Command>
+    ensures { result ≡ said route.now (view value.now) }
+{
+    match *route {
+        Route::NewMember => Some(Command::NewMember {
+            member: name_at(value, "member")?,
+            token: token_at(value, "token")?,
+        }),
+        Route::Grant(member) => Some(Command::Grant {
+            member,
+            amount: amount_at(value, "amount")?,
+        }),
+        Route::NewHolder => Some(Command::NewHolder {
+            holder: name_at(value, "holder")?,
+            token: token_at(value, "token")?,
+        }),
+        Route::NewPurse => Some(Command::NewPurse {
+            purse: name_at(value, "purse")?,
+            holder: name_at(value, "holder")?,
+        }),
+        Route::Load(purse) => Some(Command::Load {
+            purse,
+            amount: amount_at(value, "amount")?,
+            reference: name_at(value, "ref")?,
+        }),
+        Route::StartFrom(purse) => Some(Command::StartFrom {
+            purse,
+            peer: name_at(value, "peer")?,
+            value: amount_at(value, "value")?,
+            seq: seq_at(value, "seq")?,
+        }),
+        Route::StartTo(purse) => Some(Command::StartTo {
+            purse,
+            peer: name_at(value, "peer")?,
+            value: amount_at(value, "value")?,
+            seq: seq_at(value, "seq")?,
+        }),
+        Route::Handle(purse) => Some(Command::Handle {
+            purse,
+            number: seq_at(value, "number")?,
+        }),
+        Route::Discard(purse) => Some(Command::Discard {
+            purse,
+            number: seq_at(value, "number")?,
+        }),
+        Route::Redeem(purse) => Some(Command::Redeem {
+            purse,
+            amount: amount_at(value, "amount")?,
+            reference: name_at(value, "ref")?,
+        }),
+        _ => None,
+    }
+}
+
+/// The command of a route and a body. BadBody exactly where the body says none; Memory, which tells nothing of
+/// the body, only where the route needs a body; never NoRoute. A body that isn't needed isn't looked at.
+pub fn read_body(alloc: Global, route: &Route, body: &[u8]) -> Result<Command, WireFault>
+    ensures ok { IfOk result (λ command. command_of route.now body.now ≡ Some command) }
+    ensures bad { result ≡ Err WireFault.BadBody → command_of route.now body.now ≡ None }
+    ensures routed { result ≢ Err WireFault.NoRoute }
+    ensures memory { result ≡ Err WireFault.Memory → IsTrue (has_body route.now) }
+{
+    if let Some(command) = bare(route) {
+        return Ok(command);
+    }
+    let value = value_of(alloc, body)?;
+    said(route, &value).ok_or(WireFault::BadBody)
+}
+
+impl Routes {
+    /// The command of a request. NoRoute exactly where its method and path have no route, and then BadBody
+    /// where its body says no command; Memory, which tells nothing of the body, only where the route needs one.
+    pub fn read_command(
+        &self,
+        alloc: Global,
+        method: &[u8],
+        path: &[u8],
+        body: &[u8],
+    ) -> Result<Command, WireFault>
+        ensures ok { IfOk result (λ command. request_command method.now path.now body.now ≡ Some command) }
+        ensures no_route { (result ≡ Err WireFault.NoRoute) ↔ (route_of method.now path.now ≡ None) }
+        ensures bad { result ≡ Err WireFault.BadBody → request_command method.now path.now body.now ≡ None }
+        ensures memory { result ≡ Err WireFault.Memory → option_map has_body (route_of method.now path.now) ≡ Some true }
+    {
+        match self.route(method, path) {
+            Some(route) => read_body(alloc, &route, body),
+            None => Err(WireFault::NoRoute),
+        }
+    }
+}
