@@ -37,8 +37,9 @@ fn push_at(text: &mut String, place: usize, details: &PayDetails) -> Result<(), 
     push_entry(text, details)
 }
 
-/// Writes an entry at the end.
-fn push_entry(text: &mut String, details: &PayDetails) -> Result<(), AllocError>
+/// Writes the code text of one entry at the end of `text`: the five fields with commas between them, the numbers in
+/// decimal without leading zeros. Err only where an allocation fails; then a part of it may stand there.
+pub fn push_entry(text: &mut String, details: &PayDetails) -> Result<(), AllocError>
     ensures text { IfOk result (λ _. string_bytes text.new ≡ string_bytes text.old ++ entry_text details.now) }
     ensures valid { IfOk result (λ _. IsDetails details.now) }
 {

@@ -13,7 +13,7 @@ pub mod numbers;
 mod tests;
 pub mod token;
 
-pub use codes::{code_text, read_code};
+pub use codes::{code_text, push_entry, read_code};
 pub use details::PayDetails;
 pub use log::Log;
 pub use names::Name;

@@ -2,7 +2,7 @@
 #![tactic(auto)]
 
 pub mod bodies;
-//pub mod replies;
+pub mod replies;
 pub mod routes;
 
 pub use bodies::WireFault;

@@ -1,0 +1,104 @@
+-- What is written for a reply (RFC 9110, section 15; RFC 9112, section 4): a head, and a body that is one JSON object
+-- with its keys in byte order.
+use Rattle.std.specs.Prelude.{ℕ, List, [], ◌∷◌, ◌++◌, length, map, Bool, true, false, codes, if◌then◌else◌}
+use Rattle.std.specs.Fmt.{decimal}
+use Rattle.mx_pay.specs.Codes.{entry_text}
+use Rattle.mx_pay.specs.Details.{Details}
+use Rattle.mx_purse.specs.State.{State}
+use Rattle.mx_purse.specs.declared.status.Status.{Status}
+use Rattle.mx_purse.specs.declared.status.Status.TheVariants as status
+use Rattle.mx_purse.specs.declared.message.Message.{Message}
+use Rattle.mx_purse.specs.declared.message.Message.TheVariants as message
+use Rattle.mx_purse.specs.declared.message.Handled.{Handled}
+use Rattle.mx_purse.specs.declared.message.Handled.TheVariants as took
+use Rattle.mx_office.specs.Texts.{refusal_text}
+use Rattle.mx_office.specs.declared.values.Refusal.{Refusal}
+use Rattle.mx_office.specs.declared.values.Refusal.TheVariants as refusal
+use Rattle.mx_office.specs.declared.values.Reply.{Reply}
+use Rattle.mx_office.specs.declared.values.Reply.TheVariants as reply
+use Rattle.mx_wire.specs.declared.replies.Fixed.{Fixed}
+use Rattle.mx_wire.specs.declared.replies.Fixed.TheVariants as fixed
+
+-- the two parts of a response
+pub record Parts : Type 0 where
+  pub head : List ℕ
+  pub body : List ℕ
+
+-- the head for a status with its reason and a body of so many bytes
+unfoldable pub head_text : List ℕ → ℕ → List ℕ
+head_text status size =
+    codes "HTTP/1.1 " ++ status ++ codes "\r\n"
+    ++ codes "content-type: application/json\r\n"
+    ++ codes "content-length: " ++ decimal size ++ codes "\r\n"
+    ++ codes "connection: close\r\n"
+    ++ codes "\r\n"
+
+-- the response of that status and body
+abbrev pub response : List ℕ → List ℕ → Parts
+response status body = record { head = head_text status (length body); body = body }
+
+-- the bytes that are sent: for HEAD the head alone (RFC 9110, section 9.3.2)
+abbrev pub sent : Bool → Parts → List ℕ
+sent true r = r.head
+sent false r = r.head ++ r.body
+
+-- the response that gives up, for every method: it has no body, and says so
+unfoldable pub unavailable : List ℕ
+unavailable = codes "HTTP/1.1 503 Service Unavailable\r\n" ++ codes "content-length: 0\r\n" ++ codes "connection: close\r\n" ++ codes "\r\n"
+
+-- ---- the bodies
+
+-- the body that says why not
+unfoldable pub error_body : List ℕ → List ℕ
+error_body text = codes "{\"error\":\"" ++ text ++ codes "\"}"
+
+-- the body that says what is done
+unfoldable pub done_body : List ℕ → List ℕ
+done_body word = codes "{\"done\":\"" ++ word ++ codes "\"}"
+
+-- the body of an abort, and whether a payment was logged
+unfoldable pub aborted_body : List ℕ → List ℕ
+aborted_body logged = codes "{\"done\":\"aborted\",\"logged\":" ++ logged ++ codes "}"
+
+-- the response of that status that says why not, and the one that says what is done
+abbrev pub refused : List ℕ → List ℕ → Parts
+refused status text = response status (error_body text)
+
+abbrev pub done : List ℕ → Parts
+done word = response (codes "200 OK") (done_body word)
+
+-- ---- the responses that are always the same
+
+-- the status of a refusal: 403 to the wrong caller, 404 where something isn't there, 409 where it doesn't fit
+abbrev pub refusal_status : Refusal → List ℕ
+refusal_status refusal.NotForCaller = codes "403 Forbidden"
+refusal_status refusal.NoSuchPurse = codes "404 Not Found"
+refusal_status refusal.NoSuchHolder = codes "404 Not Found"
+refusal_status refusal.NoSuchMember = codes "404 Not Found"
+refusal_status refusal.NoSuchMessage = codes "404 Not Found"
+refusal_status _ = codes "409 Conflict"
+
+abbrev pub refusal_parts : Refusal → Parts
+refusal_parts r = refused (refusal_status r) (refusal_text r)
+
+abbrev pub fixed_parts : Fixed → Parts
+fixed_parts fixed.BadHead = refused (codes "400 Bad Request") (codes "bad head")
+fixed_parts fixed.TransferCoding = refused (codes "501 Not Implemented") (codes "transfer coding")
+fixed_parts fixed.BadLength = refused (codes "400 Bad Request") (codes "bad content length")
+fixed_parts fixed.TooLarge = refused (codes "413 Content Too Large") (codes "body too large")
+fixed_parts fixed.BodyCut = refused (codes "400 Bad Request") (codes "body cut")
+fixed_parts fixed.NoRoute = refused (codes "404 Not Found") (codes "no route")
+fixed_parts fixed.TokenUnknown = refused (codes "403 Forbidden") (codes "token not known")
+fixed_parts fixed.BadBody = refused (codes "400 Bad Request") (codes "bad body")
+fixed_parts (fixed.Refused r) = refusal_parts r
+fixed_parts fixed.Added = done (codes "added")
+fixed_parts fixed.Granted = done (codes "granted")
+fixed_parts fixed.Loaded = done (codes "loaded")
+fixed_parts fixed.ValueSent = done (codes "value-sent")
+fixed_parts fixed.Received = done (codes "received")
+fixed_parts fixed.Finished = done (codes "finished")
+fixed_parts fixed.Ignored = done (codes "ignored")
+fixed_parts fixed.Discarded = done (codes "discarded")
+fixed_parts fixed.AbortedLogged = response (codes "200 OK") (aborted_body (codes "true"))
+fixed_parts fixed.Aborted = response (codes "200 OK") (aborted_body (codes "false"))
+fixed_parts fixed.Redeemed = done (codes "redeemed")
