@@ -1,3 +1,4 @@
 pub mod Routes
 pub mod Bodies
 pub mod Replies
+pub mod Made

@@ -102,3 +102,99 @@ fixed_parts fixed.Discarded = done (codes "discarded")
 fixed_parts fixed.AbortedLogged = response (codes "200 OK") (aborted_body (codes "true"))
 fixed_parts fixed.Aborted = response (codes "200 OK") (aborted_body (codes "false"))
 fixed_parts fixed.Redeemed = done (codes "redeemed")
+
+-- ---- the responses that are made
+
+-- texts with commas before them, and with commas between them
+abbrev pub after_commas : List (List ℕ) → List ℕ
+after_commas [] = []
+after_commas (x ∷ xs) = codes "," ++ x ++ after_commas xs
+
+abbrev pub in_commas : List (List ℕ) → List ℕ
+in_commas [] = []
+in_commas (x ∷ xs) = x ++ after_commas xs
+
+-- the word for where a purse stands in a payment
+abbrev pub status_text : Status → List ℕ
+status_text status.EaFrom = codes "eaFrom"
+status_text status.EaTo = codes "eaTo"
+status_text (status.Epr d) = codes "epr"
+status_text (status.Epv d) = codes "epv"
+status_text (status.Epa d) = codes "epa"
+
+-- the body that shows a purse
+unfoldable pub shown_text : ℕ → ℕ → List ℕ → List ℕ → List ℕ
+shown_text balance next name status =
+    codes "{\"balance\":" ++ decimal balance ++ codes ",\"next\":" ++ decimal next ++ codes ",\"purse\":\"" ++ name
+    ++ codes "\",\"status\":\"" ++ status ++ codes "\"}"
+
+abbrev pub shown_body : State → List ℕ
+shown_body p = shown_text p.balance p.next p.name (status_text p.status)
+
+-- the body of a payment that is started
+unfoldable pub started_body : Details → List ℕ
+started_body d = codes "{\"details\":\"" ++ entry_text d ++ codes "\",\"done\":\"started\"}"
+
+-- the body of a sum that is collected
+unfoldable pub collected_body : ℕ → List ℕ
+collected_body sum = codes "{\"collected\":\"" ++ decimal sum ++ codes "\"}"
+
+-- a name in a list, and the body of a list of names
+abbrev pub quoted : List ℕ → List ℕ
+quoted name = codes "\"" ++ name ++ codes "\""
+
+unfoldable pub purses_body : List (List ℕ) → List ℕ
+purses_body names = codes "{\"purses\":[" ++ in_commas (map quoted names) ++ codes "]}"
+
+-- the word for a message, and its details
+abbrev pub kind_text : Message → List ℕ
+kind_text (message.Req d) = codes "req"
+kind_text (message.Val d) = codes "val"
+kind_text (message.Ack d) = codes "ack"
+
+abbrev pub message_details : Message → Details
+message_details (message.Req d) = d
+message_details (message.Val d) = d
+message_details (message.Ack d) = d
+
+-- a message in a list, with its number, and the body of a list of messages
+abbrev pub message_text : ℕ × Message → List ℕ
+message_text m =
+    codes "{\"details\":\"" ++ entry_text (message_details m.1) ++ codes "\",\"kind\":\"" ++ kind_text m.1
+    ++ codes "\",\"number\":" ++ decimal m.0 ++ codes "}"
+
+unfoldable pub inbox_body : List (ℕ × Message) → List ℕ
+inbox_body messages = codes "{\"messages\":[" ++ in_commas (map message_text messages) ++ codes "]}"
+
+-- ---- the response to a reply
+
+-- the response of a message that was handled
+abbrev pub handled_fixed : Handled → Fixed
+handled_fixed (took.Req d) = fixed.ValueSent
+handled_fixed (took.Val d) = fixed.Received
+handled_fixed (took.Ack d) = fixed.Finished
+handled_fixed took.Ignored = fixed.Ignored
+
+abbrev pub reply_parts : Reply → Parts
+reply_parts (reply.Refused r) = fixed_parts (fixed.Refused r)
+reply_parts reply.Added = fixed_parts fixed.Added
+reply_parts reply.Granted = fixed_parts fixed.Granted
+reply_parts reply.Loaded = fixed_parts fixed.Loaded
+reply_parts (reply.Collected sum) = response (codes "200 OK") (collected_body sum)
+reply_parts (reply.Purses names) = response (codes "200 OK") (purses_body names)
+reply_parts (reply.Shown p) = response (codes "200 OK") (shown_body p)
+reply_parts (reply.Started d) = response (codes "200 OK") (started_body d)
+reply_parts (reply.Handled h) = fixed_parts (handled_fixed h)
+reply_parts reply.Discarded = fixed_parts fixed.Discarded
+reply_parts (reply.Aborted logged) = fixed_parts (if logged then fixed.AbortedLogged else fixed.Aborted)
+reply_parts reply.Redeemed = fixed_parts fixed.Redeemed
+reply_parts (reply.Inbox messages) = response (codes "200 OK") (inbox_body messages)
+
+-- whether the response to a reply is made for it, which takes memory
+abbrev pub is_made : Reply → Bool
+is_made (reply.Collected sum) = true
+is_made (reply.Purses names) = true
+is_made (reply.Shown p) = true
+is_made (reply.Started d) = true
+is_made (reply.Inbox messages) = true
+is_made r = false

@@ -6,5 +6,5 @@ pub mod replies;
 pub mod routes;
 
 pub use bodies::WireFault;
-//pub use replies::{Fixed, Response, fixed_text, render, unavailable_text};
+pub use replies::{Fixed, Response, fixed_text, render, unavailable_text};
 pub use routes::{Class, Route, Routes};

@@ -1,14 +1,14 @@
 //! The responses: a head, and a body that is one JSON object.
-ghost use Rattle.std.specs.Prelude.{◌≡◌, ◌++◌, ◌∷◌, ℕ, List, length, map, false, true, IfOk, IfErr, IsTrue, codes, string_bytes, slice_index};
+ghost use Rattle.std.specs.Prelude.{◌≡◌, ◌++◌, length, map, false, IfOk, IfErr, IsTrue, codes, string_bytes};
+ghost use Rattle.mx_pay.specs.Codes.{entry_text};
+ghost use Rattle.mx_wire.specs.Made.{parts_of};
+ghost use Rattle.mx_wire.specs.Replies.{sent, unavailable, fixed_parts, refusal_parts, response, reply_parts, handled_fixed, is_made, status_text, kind_text, message_details, shown_text, shown_body, started_body, collected_body, purses_body, quoted, inbox_body, message_text, after_commas};
 
-ghost use Rattle.mx_wire.specs.Replies.{sent, unavailable, fixed_parts, refusal_parts};
-
-
-use mx_office::Refusal;
-
-
-
-
+use mx_office::{Messages, Names, Refusal, Reply};
+use mx_pay::{Name, PayDetails, push_entry};
+use mx_purse::{Handled, Message, Purse, Status};
+use std::alloc::{AllocError, Global};
+use std::marker::Model;
 
 /// A response that is always the same bytes, and takes no memory.
 #[derive(Clone, Copy, Debug, PartialEq, Eq)]
@@ -79,7 +79,11 @@ fn refusal_answer(refusal: Refusal) -> (&'static str, usize)
     ensures size { result.1 ≡ length (refusal_parts refusal).body }
 {
     match refusal {
-        Refusal::NotForCaller => answer!("403 Forbidden", 31, "{\"error\":\"not for this caller\"}"),
+        Refusal::NotForCaller => answer!(
+            "403 Forbidden",
+            31,
+            "{\"error\":\"not for this caller\"}"
+        ),
         Refusal::NoSuchPurse => answer!("404 Not Found", 25, "{\"error\":\"no such purse\"}"),
         Refusal::NoSuchHolder => answer!("404 Not Found", 26, "{\"error\":\"no such holder\"}"),
         Refusal::NoSuchMember => answer!("404 Not Found", 26, "{\"error\":\"no such member\"}"),
@@ -107,9 +111,17 @@ fn fixed_answer(fixed: Fixed) -> (&'static str, usize)
 {
     match fixed {
         Fixed::BadHead => answer!("400 Bad Request", 20, "{\"error\":\"bad head\"}"),
-        Fixed::TransferCoding => answer!("501 Not Implemented", 27, "{\"error\":\"transfer coding\"}"),
+        Fixed::TransferCoding => answer!(
+            "501 Not Implemented",
+            27,
+            "{\"error\":\"transfer coding\"}"
+        ),
         Fixed::BadLength => answer!("400 Bad Request", 30, "{\"error\":\"bad content length\"}"),
-        Fixed::TooLarge => answer!("413 Content Too Large", 26, "{\"error\":\"body too large\"}"),
+        Fixed::TooLarge => answer!(
+            "413 Content Too Large",
+            26,
+            "{\"error\":\"body too large\"}"
+        ),
         Fixed::BodyCut => answer!("400 Bad Request", 20, "{\"error\":\"body cut\"}"),
         Fixed::NoRoute => answer!("404 Not Found", 20, "{\"error\":\"no route\"}"),
         Fixed::TokenUnknown => answer!("403 Forbidden", 27, "{\"error\":\"token not known\"}"),
@@ -148,4 +160,270 @@ pub fn unavailable_text() -> &'static [u8]
     ensures { result.now ≡ unavailable }
 {
     b"HTTP/1.1 503 Service Unavailable\r\ncontent-length: 0\r\nconnection: close\r\n\r\n"
+}
+
+/// A response that was made for one reply, with the end of its head known. A contract sees it as the two parts.
+#[derive(Debug, Drop)]
+pub struct Written {
+    text: String,
+    head_len: usize,
+}
+
+impl Model for Written {
+    ghost use Rattle.std.specs.Prelude.{◌≤◌, length, take, drop, string_bytes};
+    ghost use Rattle.mx_wire.specs.Replies.{Parts};
+
+    ghost Value = { Parts };
+
+    ghost view = { λ r. record { head = take r.head_len (string_bytes r.text); body = drop r.head_len (string_bytes r.text) } };
+
+    ghost invariant = { λ r. r.head_len ≤ length (string_bytes r.text) };
+}
+
+impl Written {
+    /// The bytes to send: the whole response, or its head alone for HEAD.
+    pub fn text(&self, head_only: bool) -> &[u8]
+        ensures { result.now ≡ sent head_only self.now }
+    {
+        let bytes = self.text.as_bytes();
+        if head_only {
+            &bytes[..self.head_len]
+        } else {
+            bytes
+        }
+    }
+}
+
+/// The response to a reply.
+#[derive(Debug, Drop)]
+pub enum Response {
+    /// One that is always the same.
+    Always(Fixed),
+    /// One that was made for this reply.
+    Made(Written),
+}
+
+impl Response {
+    /// The bytes to send: the whole response, or its head alone for HEAD.
+    pub fn text(&self, head_only: bool) -> &[u8]
+        ensures { result.now ≡ sent head_only (parts_of self.now) }
+    {
+        match self {
+            Response::Always(fixed) => fixed_text(*fixed, head_only),
+            Response::Made(written) => written.text(head_only),
+        }
+    }
+}
+
+/// The word for where a purse stands in a payment.
+fn status_text(status: Status) -> &'static str
+    ensures { result.now ≡ status_text status }
+{
+    match status {
+        Status::EaFrom => "eaFrom",
+        Status::EaTo => "eaTo",
+        Status::Epr(_) => "epr",
+        Status::Epv(_) => "epv",
+        Status::Epa(_) => "epa",
+    }
+}
+
+/// The body that shows a purse of these parts.
+#[tactic(auto, unfolding(crate::specs::Replies::shown_text))]
+fn shown_text(
+    alloc: Global,
+    balance: u64,
+    next: u64,
+    name: &str,
+    status: &str,
+) -> Result<String, AllocError>
+    ensures { IfOk result (λ text. string_bytes text ≡ shown_text balance next name.now status.now) }
+{
+    format!(in alloc;
+        "{{\"balance\":{balance},\"next\":{next},\"purse\":\"{name}\",\"status\":\"{status}\"}}"
+    )
+}
+
+/// The body that shows a purse.
+fn shown_body(alloc: Global, purse: &Purse) -> Result<String, AllocError>
+    ensures { IfOk result (λ text. string_bytes text ≡ shown_body purse.now) }
+{
+    let name = purse.name();
+    let status = status_text(purse.status());
+    shown_text(
+        alloc,
+        purse.balance(),
+        purse.next().get(),
+        name.as_str(),
+        status,
+    )
+}
+
+/// The body of a payment that is started.
+#[tactic(auto, unfolding(crate::specs::Replies::started_body))]
+fn started_body(alloc: Global, details: &PayDetails) -> Result<String, AllocError>
+    ensures { IfOk result (λ text. string_bytes text ≡ started_body details.now) }
+{
+    let mut text = String::with_capacity(alloc, 128)?;
+    text.push_str("{\"details\":\"")?;
+    push_entry(&mut text, details)?;
+    text.push_str("\",\"done\":\"started\"}")?;
+    Ok(text)
+}
+
+/// The body of a sum that is collected.
+#[tactic(auto, unfolding(crate::specs::Replies::collected_body))]
+fn collected_body(alloc: Global, sum: u128) -> Result<String, AllocError>
+    ensures { IfOk result (λ text. string_bytes text ≡ collected_body sum) }
+{
+    format!(in alloc; "{{\"collected\":\"{sum}\"}}")
+}
+
+/// Writes a name in quotes at the end.
+fn push_quoted(text: &mut String, name: &Name) -> Result<(), AllocError>
+    ensures { IfOk result (λ _. string_bytes text.new ≡ string_bytes text.old ++ quoted name.now) }
+{
+    text.push_str("\"")?;
+    text.push_str(name.as_str())?;
+    text.push_str("\"")?;
+    Ok(())
+}
+
+/// Writes names in quotes at the end, each behind a comma.
+fn push_more_names(text: &mut String, names: &[Name]) -> Result<(), AllocError>
+    ensures { IfOk result (λ _. string_bytes text.new ≡ string_bytes text.old ++ after_commas (map quoted names.now)) }
+{
+    for name in names {
+        text.push_str(",")?;
+        push_quoted(text, name)?;
+    }
+    Ok(())
+}
+
+/// The body of a list of names.
+#[tactic(auto, unfolding(crate::specs::Replies::purses_body))]
+fn purses_body(alloc: Global, names: &Names) -> Result<String, AllocError>
+    ensures { IfOk result (λ text. string_bytes text ≡ purses_body names.now) }
+{
+    let mut text = String::new(alloc);
+    text.push_str("{\"purses\":[")?;
+    if let [first, more @ ..] = names.as_slice() {
+        push_quoted(&mut text, first)?;
+        push_more_names(&mut text, more)?;
+    }
+    text.push_str("]}")?;
+    Ok(text)
+}
+
+/// The word for a message.
+fn kind_text(message: &Message) -> &'static str
+    ensures { result.now ≡ kind_text message.now }
+{
+    match message {
+        Message::Req(_) => "req",
+        Message::Val(_) => "val",
+        Message::Ack(_) => "ack",
+    }
+}
+
+/// The details of a message.
+fn details_of(message: &Message) -> PayDetails
+    ensures { result ≡ message_details message.now }
+{
+    match message {
+        Message::Req(details) | Message::Val(details) | Message::Ack(details) => *details,
+    }
+}
+
+/// Writes a message with its number at the end.
+fn push_message(text: &mut String, number: u64, message: &Message) -> Result<(), AllocError>
+    ensures { IfOk result (λ _. string_bytes text.new ≡ string_bytes text.old ++ message_text (number, message.now)) }
+{
+    let details = details_of(message);
+    let mut buffer = itoa::Buffer::new();
+    text.push_str("{\"details\":\"")?;
+    push_entry(text, &details)?;
+    text.push_str("\",\"kind\":\"")?;
+    text.push_str(kind_text(message))?;
+    text.push_str("\",\"number\":")?;
+    text.push_str(buffer.format(number))?;
+    text.push_str("}")?;
+    Ok(())
+}
+
+/// Writes messages with their numbers at the end, each behind a comma.
+fn push_more_messages(text: &mut String, messages: &[(u64, Message)]) -> Result<(), AllocError>
+    ensures { IfOk result (λ _. string_bytes text.new ≡ string_bytes text.old ++ after_commas (map message_text messages.now)) }
+{
+    for (number, message) in messages {
+        text.push_str(",")?;
+        push_message(text, *number, message)?;
+    }
+    Ok(())
+}
+
+/// The body of a list of messages.
+#[tactic(auto, unfolding(crate::specs::Replies::inbox_body))]
+fn inbox_body(alloc: Global, messages: &Messages) -> Result<String, AllocError>
+    ensures { IfOk result (λ text. string_bytes text ≡ inbox_body messages.now) }
+{
+    let mut text = String::new(alloc);
+    text.push_str("{\"messages\":[")?;
+    if let [(number, message), more @ ..] = messages.as_slice() {
+        push_message(&mut text, *number, message)?;
+        push_more_messages(&mut text, more)?;
+    }
+    text.push_str("]}")?;
+    Ok(text)
+}
+
+/// The response 200 with that body.
+fn respond(alloc: Global, body: &str) -> Result<Response, AllocError>
+    ensures { IfOk result (λ r. parts_of r ≡ response (codes "200 OK") body.now) }
+{
+    let mut buffer = itoa::Buffer::new();
+    let mut text = String::with_capacity(alloc, 256)?;
+    text.push_str("HTTP/1.1 200 OK\r\ncontent-type: application/json\r\ncontent-length: ")?;
+    text.push_str(buffer.format(body.len()))?;
+    text.push_str("\r\nconnection: close\r\n\r\n")?;
+    let head_len = text.len();
+    text.push_str(body)?;
+    Ok(Response::Made(Written { text, head_len }))
+}
+
+/// The response of a message that was handled.
+fn handled_fixed(handled: &Handled) -> Fixed
+    ensures { result ≡ handled_fixed handled.now }
+{
+    match handled {
+        Handled::Req(_) => Fixed::ValueSent,
+        Handled::Val(_) => Fixed::Received,
+        Handled::Ack(_) => Fixed::Finished,
+        Handled::Ignored => Fixed::Ignored,
+    }
+}
+
+/// The response to a reply. An error is lack of memory, which only a response that is made for its reply takes: a sum
+/// that is collected, a list of purses or messages, a purse that is shown, a payment that is started.
+pub fn render(alloc: Global, reply: &Reply) -> Result<Response, AllocError>
+    ensures parts { IfOk result (λ r. parts_of r ≡ reply_parts reply.now) }
+    ensures memory { IfErr result (λ _. IsTrue (is_made reply.now)) }
+{
+    let fixed = match reply {
+        Reply::Collected(sum) => return respond(alloc, collected_body(alloc, *sum)?.as_str()),
+        Reply::Purses(names) => return respond(alloc, purses_body(alloc, names)?.as_str()),
+        Reply::Shown(purse) => return respond(alloc, shown_body(alloc, purse)?.as_str()),
+        Reply::Started(details) => return respond(alloc, started_body(alloc, details)?.as_str()),
+        Reply::Inbox(messages) => return respond(alloc, inbox_body(alloc, messages)?.as_str()),
+        Reply::Refused(refusal) => Fixed::Refused(*refusal),
+        Reply::Added => Fixed::Added,
+        Reply::Granted => Fixed::Granted,
+        Reply::Loaded => Fixed::Loaded,
+        Reply::Handled(handled) => handled_fixed(handled),
+        Reply::Discarded => Fixed::Discarded,
+        Reply::Aborted { logged: true } => Fixed::AbortedLogged,
+        Reply::Aborted { logged: false } => Fixed::Aborted,
+        Reply::Redeemed => Fixed::Redeemed,
+    };
+    Ok(Response::Always(fixed))
 }
