@@ -1,0 +1,13 @@
+use Rattle.std.proofs.Common.{◌≡◌, ◌≤◌, ◌-◌, length, take}
+use Rattle.std.specs.Io.KnownBytes.{Appends}
+use Rattle.mx_desk.proofs.output.write_out.Given as goal
+
+abbrev pub invariant-loop-at : goal.invariant-loop-at
+invariant-loop-at g l = record {
+  within : l.at ≤ length l.text;
+  sent : Appends (g.W.Write.contents l.fn.writer.device) (g.W.Write.contents l.writer.device) (take l.at l.text);
+  failures : l.writer.failures ≡ l.fn.writer.failures;
+}
+
+abbrev pub decreases-loop-at : goal.decreases-loop-at
+decreases-loop-at g l = length l.text - l.at

@@ -1,0 +1,4 @@
+pub mod Requests
+pub mod Fields
+pub mod Found
+pub mod Devices

@@ -1,0 +1,13 @@
+//! The desk: HTTP over any reader and writer.
+#![tactic(auto)]
+
+pub mod counted;
+pub mod fault;
+pub mod fields;
+pub mod first;
+pub mod head;
+pub mod input;
+pub mod output;
+
+pub use counted::Counted;
+pub use fault::DeskFault;
