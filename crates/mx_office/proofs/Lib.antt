@@ -3,7 +3,7 @@ pub mod AccountLemmas
 pub mod CommandLemmas
 pub mod MoneyLemmas
 pub mod LawLemmas
-pub mod RunLemmas
+pub mod RuleLemmas
 pub mod RefuseLemmas
 pub mod OutcomeLemmas
 pub mod EntrySumLemmas

@@ -3,13 +3,13 @@ use Rattle.std.specs.Prelude.{◌≡◌, List, [], ◌∷◌}
 use Rattle.mx_book.specs.World.{World}
 use Rattle.mx_office.specs.declared.values.Outcome.{Outcome}
 use Rattle.mx_office.specs.declared.values.Outcome.TheVariants.{Reply as Replied, Unavailable}
-use Rattle.mx_office.specs.Step.{Asked, after, answered}
+use Rattle.mx_office.specs.Step.{Asked, step}
 
 -- these outcomes of these commands lead from the World w to the World end: one outcome a command, each the
 -- reply of its step, or Unavailable, where nothing was done
 abbrev pub IsRun : World → List Asked → List Outcome → World → Type 0
 IsRun w [] [] end = w ≡ end
-IsRun w (c ∷ cs) (Replied r ∷ os) end = (r ≡ answered w c.0 c.1) × IsRun (after w c.0 c.1) cs os end
+IsRun w (c ∷ cs) (Replied r ∷ os) end = (r ≡ (step w c.0 c.1).reply) × IsRun (step w c.0 c.1).world cs os end
 IsRun w (c ∷ cs) (Unavailable ∷ os) end = IsRun w cs os end
 IsRun w _ _ end = ⊥
 
