@@ -1,5 +1,6 @@
 -- What a command makes of a purse and its lines, and the edits that lead there.
 use Rattle.std.proofs.Common.{◌≡◌, ℕ, ◌+◌, Bool, true, false, cond, List, [], ◌∷◌, ◌++◌, Option, Some, None, refl, sym, ◌∙◌, ap, subst, arith, length, length-append, map, option_and_then}
+use Rattle.std.proofs.lemmas.Option.{cond_some}
 use Rattle.std.specs.FinMap as fmap
 use Rattle.mx_pay.specs.Names.{is_name}
 use Rattle.mx_pay.specs.Details.{Details}
@@ -22,7 +23,7 @@ use Rattle.mx_office.specs.declared.values.Refusal.TheVariants.{NoSuchPurse}
 use Rattle.mx_office.specs.Step.{Deed, tell, on_own, on_found, in_place, put_sent, listed, with_purse}
 use Rattle.mx_office.specs.Decides.{Decides, own_purse, finds_place, placed, purse_and_lines, put_edits, purse_edits}
 use Rattle.mx_office.proofs.DecideLemmas.{edits_decide, told_decides}
-use Rattle.mx_office.proofs.LawLemmas.{own_at}
+use Rattle.mx_office.proofs.OwnLemmas.{own_at}
 
 -- ---- a purse that is found
 
@@ -34,13 +35,9 @@ pub record IsFound (w : World) (p : Name) (test : Row → Bool) (q : State) : Ty
   pub purse : row.holding.purse ≡ q
 
 module _ (w : World) (p : Name) (test : Row → Bool) (q : State) where
-  found_row : (r : Row) (b : Bool) → fmap.get w.rows p ≡ Some r → test r ≡ b → cond b (Some r.holding.purse) None ≡ Some q → IsFound w p test q
-  found_row r true at t e = record { row = r; at = at; passes = t; purse = inside _ _ e }
-  found_row r false at t e = absurd (cc)
-
   found_case : (o : Option Row) → fmap.get w.rows p ≡ o → from_row None (λ r. cond (test r) (Some r.holding.purse) None) o ≡ Some q → IsFound w p test q
   found_case None at e = absurd (cc)
-  found_case (Some r) at e = found_row r (test r) at refl e
+  found_case (Some r) at e = let x = cond_some (test r) r.holding.purse q e in record { row = r; at = at; passes = x.0; purse = x.1 }
 
   pub is_found : from_row None (λ r. cond (test r) (Some r.holding.purse) None) (fmap.get w.rows p) ≡ Some q → IsFound w p test q
   is_found e = found_case (fmap.get w.rows p) refl e
@@ -116,58 +113,52 @@ lines_same : (p : Name) (ls : List Line) → map (λ l. AddLine p l) ls ≡ line
 lines_same p [] = refl
 lines_same p (l ∷ ls) = ap (λ es. AddLine p l ∷ es) (lines_same p ls)
 
-module _ (w : World) (p : Name) (test : Row → Bool) (before : State) (found : IsFound w p test before) (q : State) (ls : List Line) (h : IsWorld w) (follows : Follows before q ls) where
+-- the row with that purse and these lines is one that the World can have
+pub record IsNext (p : Name) (r : Row) (q : State) (ls : List Line) : Type 0 where
   pub named : q.name ≡ p
-  named = follows.name ∙ ap (λ x. x.name) (sym found.purse) ∙ (h.purses.each p found.row found.at).named
+  pub numbered : AreNumbered 1 (r.holding.lines ++ ls)
+  pub counted : length (r.holding.lines ++ ls) ≡ q.lines
+  pub logged : (d : Details) → has_logged r.holding.purse.log d ≡ true → has_logged q.log d ≡ true
+  pub edits : purse_and_lines q ls ≡ SetPurse q ∷ line_edits p ls
 
-  pub numbered : AreNumbered 1 (found.row.holding.lines ++ ls)
-  numbered =
-      let old = h.lines.each p found.row found.at in
-      let lines : found.row.holding.purse.lines ≡ before.lines = ap (λ x. x.lines) found.purse in
-      numbered_after 1 (before.lines + 1) found.row.holding.lines ls (omega (arith, old.counted, lines)) old.numbered follows.numbered
-
-  pub counted : length (found.row.holding.lines ++ ls) ≡ q.lines
-  counted =
-      let old = (h.lines.each p found.row found.at).counted in
-      let lines : found.row.holding.purse.lines ≡ before.lines = ap (λ x. x.lines) found.purse in
-      let more = follows.counted in
-      omega (arith, length-append found.row.holding.lines ls, old, lines, more)
-
-  pub logged : (d : Details) → has_logged found.row.holding.purse.log d ≡ true → has_logged q.log d ≡ true
-  logged d there = follows.logged d (ap (λ x. has_logged x.log d) (sym found.purse) ∙ there)
-
-  pub edits_named : purse_and_lines q ls ≡ SetPurse q ∷ line_edits p ls
-  edits_named = ap (λ es. SetPurse q ∷ es) (lines_same q.name ls) ∙ ap (λ n. SetPurse q ∷ line_edits n ls) named
+pub is_next : (w : World) (p : Name) (test : Row → Bool) (before : State) (found : IsFound w p test before) (q : State) (ls : List Line) → IsWorld w → Follows before q ls → IsNext p found.row q ls
+is_next w p test before found q ls is follows =
+    let r = found.row in
+    let old = is.lines.each p r found.at in
+    let old_count = old.counted in
+    let more = follows.counted in
+    let lines : r.holding.purse.lines ≡ before.lines = ap (λ x. x.lines) found.purse in
+    let name : q.name ≡ p = follows.name ∙ ap (λ x. x.name) (sym found.purse) ∙ (is.purses.each p r found.at).named in
+    record {
+      named = name;
+      numbered = numbered_after 1 (before.lines + 1) r.holding.lines ls (omega (arith, old_count, lines)) old.numbered follows.numbered;
+      counted = omega (arith, length-append r.holding.lines ls, old_count, lines, more);
+      logged = λ d there. follows.logged d (ap (λ x. has_logged x.log d) (sym found.purse) ∙ there);
+      edits = ap (λ es. SetPurse q ∷ es) (lines_same q.name ls) ∙ ap (λ n. SetPurse q ∷ line_edits n ls) name;
+    }
 
 -- a rule that changes the purse, adds its line and sends a message
 module _ (w : World) (g p : Name) (before : State) (own : IsOwn w g p before) (q : State) (line : Option Line) (h : IsWorld w) (follows : Follows before q (listed line)) where
-  abbrev test : Row → Bool
-  test r = is_name g r.holder
-
   abbrev ls : List Line
   ls = listed line
 
   abbrev changed : World
   changed = set_row w p (with_lines own.row q ls)
 
-  lead : all_edited w (SetPurse q ∷ line_edits p ls) ≡ changed
-  lead = purse_leads w p own.row q ls own.at (named w p test before own q ls h follows)
-
   same_places : (sent : Option (Name × Message)) → placed changed sent ≡ placed w sent
   unfolding has_room
   same_places sent = placed_kept w p own.row (with_lines own.row q ls) sent own.at refl
 
-  puts_here : (sent : Option (Name × Message)) → Puts changed sent (put_edits (placed w sent))
-  puts_here sent = subst (λ m. Puts changed sent (put_edits m)) (same_places sent) (puts changed sent)
-
   pub changed_decides : (f : Holding → Deed Holding) (r : Reply) (sent : Option (Name × Message)) (d : Decided) → f own.row.holding ≡ record { state = with_purse own.row.holding q line; reply = r; sent = sent }
       → d.reply ≡ r → d.edits ≡ purse_edits q line (placed w sent) → Decides w (on_own w g p f) d
   changed_decides f r sent d f_is reply_is edits_is =
-      let name = named w p test before own q ls h follows in
+      let next = is_next w p (λ x. is_name g x.holder) before own q ls h follows in
       let first : List Edit = SetPurse q ∷ line_edits p ls in
       let last : List Edit = put_edits (placed w sent) in
+      let lead : all_edited w first ≡ changed = purse_leads w p own.row q ls own.at next.named in
+      let here : Puts changed sent last = subst (λ m. Puts changed sent (put_edits m)) (same_places sent) (puts changed sent) in
       edits_decide w changed (on_own w g p f) r sent (first ++ last) d (own_there w g p before own f ∙ ap (in_place (λ b. set_row w p (record own.row { holding = b }))) f_is)
-      (suits_append w first last (purse_suits w p own.row q ls own.at name (numbered w p test before own q ls h follows)) (subst (λ x. AllSuit x last) (sym lead) (puts_here sent).suits))
-      (edits_append w first last ∙ ap (λ x. all_edited x last) lead ∙ (puts_here sent).leads)
-      (sent_stays changed sent (purse_stays w p own.row q ls own.at name follows.whole (numbered w p test before own q ls h follows) (counted w p test before own q ls h follows) (logged w p test before own q ls h follows) h))
-      reply_is (edits_is ∙ ap (λ es. es ++ last) (edits_named w p test before own q ls h follows))
+      (suits_append w first last (purse_suits w p own.row q ls own.at next.named next.numbered) (subst (λ x. AllSuit x last) (sym lead) here.suits))
+      (edits_append w first last ∙ ap (λ x. all_edited x last) lead ∙ here.leads)
+      (sent_stays changed sent (purse_stays w p own.row q ls own.at next.named follows.whole next.numbered next.counted next.logged h))
+      reply_is (edits_is ∙ ap (λ es. es ++ last) next.edits)

@@ -8,12 +8,14 @@ use Rattle.mx_book.specs.Reads.{uncollected_row}
 use Rattle.mx_book.specs.World.{World, Row, Holding, Name, set_row, changed_row, change_holding, has_room, delivered, with_message}
 use Rattle.mx_book.proofs.FoundLemmas.{inside, none_some, still_some}
 use Rattle.mx_book.proofs.NameLemmas.{names_total}
+use Rattle.mx_book.proofs.PurseLemmas.{change_there}
 use Rattle.mx_book.proofs.SumLemmas.{value_of, sum_values-insert}
 use Rattle.mx_office.specs.declared.values.Refusal.TheVariants.{NoSuchPurse}
 use Rattle.mx_office.specs.Balance.{issued_row, redeemed_row}
 use Rattle.mx_office.specs.Step.{Deed, Asks, on_found, in_place, owned_holding, own_holding, on_world, put_sent}
 use Rattle.mx_office.proofs.BalanceLemmas.{IsAccounted, IsRow, left_row, set_accounted}
 use Rattle.mx_office.proofs.EntrySumLemmas.{sum_entries-insert}
+use Rattle.mx_office.proofs.OwnLemmas.{is_owned}
 use Rattle.mx_office.proofs.RuleLemmas.{Redeems, Same, More, Keeps, EachKeeps}
 
 -- ---- a message that is put
@@ -64,30 +66,23 @@ module _ (w : World) (p : Name) (r : Row) (b : Holding) (at : fmap.get w.rows p 
       (record { holder = (h.rows p r at).holder; collected = λ k t. subst (λ m. IsSome (fmap.get m k)) (sym is) (still_some r.holding.redemptions reference amount k ((h.rows p r at).collected k t)) })
       h
 
--- a holding of a row is changed, where the row is there
-change_case : (w : World) (p : Name) (f : Holding → Holding) → IsAccounted w → ((r : Row) → fmap.get w.rows p ≡ Some r → Redeems r.holding (f r.holding)) → (o : Option Row) → fmap.get w.rows p ≡ o → IsAccounted (changed_row w p (λ r. record r { holding = f r.holding }) o)
-change_case w p f is each None at = is
-change_case w p f is each (Some r) at = account_accounted w p r (f r.holding) at is (each r at)
-
-change_accounted : (w : World) (p : Name) (f : Holding → Holding) → IsAccounted w → ((r : Row) → fmap.get w.rows p ≡ Some r → Redeems r.holding (f r.holding)) → IsAccounted (change_holding w p f)
-change_accounted w p f is each = change_case w p f is each (fmap.get w.rows p) refl
-
 -- ---- a holder's command, and a message that is put
-
-owned_case : (h : Name) (r : Row) (a b : Holding) (c : Bool) → cond c (Some r.holding) None ≡ Some a → Redeems a b → Redeems r.holding b
-owned_case h r a b true e redeems = subst (λ x. Redeems x b) (sym (inside r.holding a e)) redeems
-owned_case h r a b false e redeems = cc
 
 rule_accounted : (w : World) (h p : Name) (f : Holding → Deed Holding) (o : Option Holding) → own_holding w h p ≡ o → IsAccounted w → ((a : Holding) → Keeps a (f a)) → IsAccounted (on_found w NoSuchPurse o (λ a. in_place (λ b. change_holding w p (λ _. b)) (f a))).state
 rule_accounted w h p f None own is keeps = is
 rule_accounted w h p f (Some a) own is keeps =
-    change_accounted w p (λ _. (f a).state) is (λ r at. owned_case h r a (f a).state (is_name h r.holder) (sym (ap (option_and_then (owned_holding h)) at) ∙ own) (keeps a).redeems)
+    let r = is_owned w h p a own in
+    rw (change_there w p (λ x. record x { holding = (f a).state }) r.row r.at) (account_accounted w p r.row (f a).state r.at is (rw r.holding (keeps a).redeems))
 
 pub asks_accounted : (w : World) (h : Name) (x : Asks) → IsAccounted w → EachKeeps x → IsAccounted (on_world w h x).state
 asks_accounted w h Asks.Names is keeps = is
 asks_accounted w h (Asks.OnPurse p f) is keeps = rule_accounted w h p f (own_holding w h p) refl is keeps
 asks_accounted w h Asks.NotAHolders is keeps = is
 
+put_row : (w : World) (p : Name) (m : Message) → IsAccounted w → (o : Option Row) → fmap.get w.rows p ≡ o → IsAccounted (changed_row w p (λ r. record r { holding = with_message r.holding m }) o)
+put_row w p m is None at = is
+put_row w p m is (Some r) at = account_accounted w p r (with_message r.holding m) at is (put_redeems m r.holding)
+
 pub sent_accounted : (w : World) → IsAccounted w → (sent : Option (Name × Message)) → IsAccounted (put_sent w sent)
 sent_accounted w is None = is
-sent_accounted w is (Some m) = change_accounted w m.0 (λ a. with_message a m.1) is (λ r at. put_redeems m.1 r.holding)
+sent_accounted w is (Some m) = put_row w m.0 m.1 is (fmap.get w.rows m.0) refl

@@ -13,7 +13,7 @@ use Rattle.mx_book.specs.declared.values.MemberRow.{MemberRow}
 use Rattle.mx_book.specs.Sums.{sum_entries, sum_values}
 use Rattle.mx_book.specs.Reads.{uncollected_row, uncollected_of}
 use Rattle.mx_book.specs.World.{World, Row, Holding, Name, Token, is_of, is_of_member, with_collected, all_collected, set_row, change_row, new_row, opening}
-use Rattle.mx_book.proofs.FoundLemmas.{inside, value_found}
+use Rattle.mx_book.proofs.FoundLemmas.{inside}
 use Rattle.mx_book.proofs.MapLemmas.{get-pick}
 use Rattle.mx_book.proofs.NameLemmas.{names_total, names_exact, same_name}
 use Rattle.mx_book.proofs.PurseLemmas.{change_there}
@@ -27,21 +27,13 @@ use Rattle.mx_office.specs.declared.values.Reply.TheVariants as reply
 use Rattle.mx_office.specs.Balance.{IsBalanced, issued_row, redeemed_row, is_chosen, of_purses}
 use Rattle.mx_office.specs.Reachable.{IsReachable}
 use Rattle.mx_office.specs.Step.{Deed, Asked, tell, unless, unless_told, idle, with_purse, asks, new_member, new_member_refusal, new_holder, new_holder_refusal, new_purse, new_purse_refusal, change_member, grant, grant_refusal, loaded_holding, loaded_row, loaded_world, load_of_float_refusal, idle_load_at, idle_load, collect, collect_refusal, base, step, steps}
-use Rattle.mx_office.proofs.LawLemmas.{none_refused}
+use Rattle.mx_office.proofs.OwnLemmas.{absent, present, none_refused}
 use Rattle.mx_office.proofs.BalanceLemmas.{Choice, IsAccounted, IsRow, left, right, left_row, counted, is_counted, none_counts, same_change, with_member, left_member, right_member, new_member_accounted, left_set, right_set, rows_stay, new_row_accounted, new_holder_accounted, opening_accounted, is_balanced}
 use Rattle.mx_office.proofs.BalanceAccountLemmas.{asks_accounted, sent_accounted}
 use Rattle.mx_office.proofs.RuleLemmas.{new_reference, each_rule}
 use Rattle.mx_office.proofs.EntrySumLemmas.{sum_entries-same, sum_entries-add, sum_entries-empty, sum_values-empty, sum_values-zero, sum_values-remake, values_are}
 
 -- ---- refusals
-
-none_of : {X : Type 0} (o : Option X) → is_some o ≡ false → o ≡ None
-none_of None e = refl
-none_of (Some x) e = cc
-
-some_of : {X : Type 0} (o : Option X) → is_none o ≡ false → IsSome o
-some_of None e = cc
-some_of (Some x) e = refl
 
 -- a refusal leaves the World
 unless_accounted : (w : World) (o : Option Refusal) (d : Deed World) → IsAccounted w → (o ≡ None → IsAccounted d.state) → IsAccounted (unless w o d).state
@@ -52,12 +44,12 @@ unless_accounted w None d is rest = rest refl
 
 member_accounted : (w : World) (m : Name) (t : Token) → IsAccounted w → IsAccounted (new_member w m t).state
 member_accounted w m t is = unless_accounted w (new_member_refusal w m t) _ is (λ e.
-    let new : IsAccounted (with_member w m (record { granted = 0; float = 0 })) = new_member_accounted w m (record { granted = 0; float = 0 }) (none_of _ (none_refused _ _ _ e).0) refl refl is in
+    let new : IsAccounted (with_member w m (record { granted = 0; float = 0 })) = new_member_accounted w m (record { granted = 0; float = 0 }) (absent _ (none_refused _ _ _ e).0) refl refl is in
     record { equal = new.equal; rows = new.rows })
 
 holder_accounted : (w : World) (m h : Name) (t : Token) → IsAccounted w → IsAccounted (new_holder w m h t).state
 holder_accounted w m h t is = unless_accounted w (new_holder_refusal w m h t) _ is (λ e.
-    let new = new_holder_accounted w h m (none_of _ (none_refused _ _ _ (none_refused _ _ _ e).1).0) is in
+    let new = new_holder_accounted w h m (absent _ (none_refused _ _ _ (none_refused _ _ _ e).1).0) is in
     record { equal = new.equal; rows = new.rows })
 
 there_of : (m : Name) (o : Option Name) → not (is_of m o) ≡ false → IsSome o
@@ -66,7 +58,7 @@ there_of m (Some x) e = refl
 
 purse_accounted : (w : World) (m p h : Name) → IsAccounted w → IsAccounted (new_purse w m p h).state
 purse_accounted w m p h is = unless_accounted w (new_purse_refusal w m p h) _ is (λ e.
-    new_row_accounted w p (new_row h p) (none_of _ (none_refused _ _ _ (none_refused _ _ _ e).1).0)
+    new_row_accounted w p (new_row h p) (absent _ (none_refused _ _ _ (none_refused _ _ _ e).1).0)
     (sum_entries-empty (λ k n. cond (fmap.contains_key fmap.empty k) 0 n)) (sum_values-empty (λ n. n)) (sum_values-empty (λ n. n))
     (record { holder = there_of m _ (none_refused _ _ _ e).0; collected = λ k t. absurd (let f : true ≡ false = sym t ∙ ap is_some (fmap.get-empty name_cmp k) in cc) })
     is)
@@ -88,7 +80,7 @@ granted_accounted w m amount row at is =
 
 grant_accounted : (w : World) (m : Name) (amount : ℕ) → IsAccounted w → IsAccounted (grant w m amount).state
 grant_accounted w m amount is = unless_accounted w (grant_refusal w m amount) _ is (λ e.
-    let row = value_found (fmap.get w.members m) (some_of _ (none_refused _ _ _ e).0) in
+    let row = present (fmap.get w.members m) (none_refused _ _ _ e).0 in
     granted_accounted w m amount row.0 row.1 is)
 
 -- ---- a load
@@ -300,7 +292,7 @@ module _ (w : World) (m : Name) where
 
 collect_accounted : (w : World) (m : Name) → IsAccounted w → IsAccounted (collect w m).state
 collect_accounted w m is = unless_accounted w (collect_refusal w m) _ is (λ e.
-    let row = value_found (fmap.get w.members m) (some_of _ (none_refused _ _ _ e).0) in
+    let row = present (fmap.get w.members m) (none_refused _ _ _ e).0 in
     collected_accounted w m row.0 row.1 is)
 
 -- ---- each command

@@ -31,7 +31,8 @@ use Rattle.mx_office.specs.declared.values.Refusal.TheVariants.{NoSuchMessage, R
 use Rattle.mx_office.specs.Step.{Deed, tell, unless, unless_told, on_found, in_place, idle, refusal_of_start, refusal_of_redeem, abort_line, message_line, money_line, listed, with_aborted, show, inbox, discard, abort, handle, handle_message, redeem, on_own}
 use Rattle.mx_office.specs.Decides.{Decides, own_purse, placed, purse_edits, redeem_edits}
 use Rattle.mx_office.proofs.DecideLemmas.{edits_decide, edit_decides}
-use Rattle.mx_office.proofs.AccountLemmas.{IsOwn, Follows, is_own, own_there, own_told, numbered_after, named, numbered, counted, logged, edits_named, changed_decides}
+use Rattle.mx_office.proofs.AccountLemmas.{IsOwn, Follows, is_own, own_there, own_told, numbered_after, is_next, changed_decides}
+use Rattle.mx_office.proofs.OwnLemmas.{gone, present}
 
 -- ---- what is read
 
@@ -39,18 +40,10 @@ pub show_decides : (w : World) (h p : Name) (q : State) (d : Decided) → IsWorl
 unfolding show
 show_decides w h p q d is e = let own = is_own w h p q e in own_told w h p q own show (reply.Shown q) d is (ap (λ x. tell own.row.holding (reply.Shown x)) own.purse)
 
-pub some_value : {X : Type 0} (o : Option X) → is_none o ≡ false → (x : X) × (o ≡ Some x)
-some_value None f = absurd (cc)
-some_value (Some x) f = (x, refl)
-
-no_value : {X : Type 0} (o : Option X) → is_none o ≡ true → o ≡ None
-no_value None t = refl
-no_value (Some x) t = absurd (cc)
-
 pub inbox_decides : (w : World) (h p : Name) (d : Decided) → IsWorld w → is_none (own_purse w h p) ≡ false → d.reply ≡ reply.Inbox (inbox_of w p) → d.edits ≡ [] → Decides w (on_own w h p inbox) d
 unfolding inbox
 inbox_decides w h p d is there reply_is =
-    let found = some_value (own_purse w h p) there in
+    let found = present (own_purse w h p) there in
     let own = is_own w h p found.0 found.1 in
     own_told w h p found.0 own inbox (reply.Inbox (fmap.entries own.row.holding.inbox)) d is refl (reply_is ∙ ap (λ o. reply.Inbox (from_row [] (λ (x : Row). fmap.entries x.holding.inbox) o)) own.at)
 
@@ -69,14 +62,14 @@ no_message w h p n q f d is e none =
 
 pub no_message_decides : (w : World) (h p : Name) (n : ℕ) (d : Decided) → IsWorld w → is_none (own_purse w h p) ≡ false → is_none (message_of w p n) ≡ true → d.reply ≡ reply.Refused NoSuchMessage → d.edits ≡ [] → Decides w (on_own w h p (discard n)) d
 unfolding discard
-no_message_decides w h p n d is there none = let found = some_value (own_purse w h p) there in no_message w h p n found.0 _ d is found.1 (no_value _ none)
+no_message_decides w h p n d is there none = let found = present (own_purse w h p) there in no_message w h p n found.0 _ d is found.1 (gone _ none)
 
 pub discard_decides : (w : World) (h p : Name) (n : ℕ) (d : Decided) → IsWorld w → is_none (own_purse w h p) ≡ false → is_none (message_of w p n) ≡ false → d.reply ≡ reply.Discarded → d.edits ≡ DropMessage p n ∷ [] → Decides w (on_own w h p (discard n)) d
 unfolding discard
 discard_decides w h p n d is there message =
-    let found = some_value (own_purse w h p) there in
+    let found = present (own_purse w h p) there in
     let own = is_own w h p found.0 found.1 in
-    let m = some_value _ message in
+    let m = present _ message in
     let here : fmap.get own.row.holding.inbox n ≡ Some m.0 = message_at w p n own.row (Some m.0) own.at m.1 in
     edit_decides w (on_own w h p (discard n)) (DropMessage p n) reply.Discarded d
     (own_there w h p found.0 own (discard n)
@@ -150,6 +143,10 @@ abort_decides w h p q after d is e after_is reply_is edits_is =
     changed_decides w h p q own now (abort_line now (pending q.status)) is (abort_follows q now refl refl refl (aborted_is q (whole w h p q is own)))
     abort (reply.Aborted (is_some (pending q.status))) None d (rw own.purse refl) reply_is (edits_is ∙ ap (λ x. purse_edits x (abort_line x (pending q.status)) None) after_is)
 
+-- what an operation with no output answers
+abbrev pub nothing : Unit {0}
+nothing = tt
+
 -- the answer of an operation tells whether it is refused
 pub not_refused : {A R : Type 0} (o : Option R) (a x : A) → or_refused o a ≡ Ok x → o ≡ None
 not_refused None a x e = refl
@@ -215,33 +212,31 @@ module _ (w : World) (h p : Name) (amount : ℕ) (reference : Name) (q : State) 
       own_told w h p q own (redeem amount reference) _ d is (rw (redemption_at w p reference own.row (Some before) own.at had) refl)
 
   -- a redemption that is refused
-  pub redeem_refuses : (x : RedeemRefusal) → redemption_of w p reference ≡ None → or_refused (redeem_refusal q amount) (let u : Unit {0} = tt in u) ≡ Err x → d.reply ≡ reply.Refused (refusal_of_redeem x) → d.edits ≡ [] → Decides w (on_own w h p (redeem amount reference)) d
+  pub redeem_refuses : (x : RedeemRefusal) → redemption_of w p reference ≡ None → or_refused (redeem_refusal q amount) nothing ≡ Err x → d.reply ≡ reply.Refused (refusal_of_redeem x) → d.edits ≡ [] → Decides w (on_own w h p (redeem amount reference)) d
   unfolding redeem
   redeem_refuses x new refused =
       let own = is_own w h p q e in
       own_told w h p q own (redeem amount reference) (reply.Refused (refusal_of_redeem x)) d is (rw (redemption_at w p reference own.row None own.at new, own.purse, is_refused (redeem_refusal q amount) _ x refused) refl)
 
   pub redeem_made : (rested after : State) → redemption_of w p reference ≡ None → IsTrue (is_name_text reference) → amount ≤ 10 ^ 12
-      → or_refused (redeem_refusal q amount) (let u : Unit {0} = tt in u) ≡ Ok (let u : Unit {0} = tt in u) → after ≡ unless_refused (redeem_refusal q amount) q (redeemed q amount) → rested ≡ aborted q
+      → or_refused (redeem_refusal q amount) nothing ≡ Ok nothing → after ≡ unless_refused (redeem_refusal q amount) q (redeemed q amount) → rested ≡ aborted q
       → d.reply ≡ reply.Redeemed → d.edits ≡ redeem_edits after (abort_line rested (pending q.status)) amount reference → Decides w (on_own w h p (redeem amount reference)) d
   unfolding redeem
   redeem_made rested after new text small accepted after_is rested_is reply_is edits_is =
       let own = is_own w h p q e in
-      let test : Row → Bool = λ r. is_name h r.holder in
-      let free : redeem_refusal q amount ≡ None = not_refused _ _ (let u : Unit {0} = tt in u) accepted in
+      let free : redeem_refusal q amount ≡ None = not_refused _ _ nothing accepted in
       let now : State = redeemed q amount in
       let now_is : after ≡ now = after_is ∙ ap (λ o. unless_refused o q now) free in
       let ls : List Line = listed (abort_line (aborted q) (pending q.status)) ++ money_line now kind.Redeemed amount reference ∷ [] in
       let follows = redeem_follows q amount reference (whole w h p q is own) free in
-      let name = named w p test q own now ls is follows in
-      let numbers = numbered w p test q own now ls is follows in
+      let next = is_next w p (λ r. is_name h r.holder) q own now ls is follows in
       let fresh = redemption_at w p reference own.row None own.at new in
       let v : World = set_row w p (with_redemption (with_lines own.row now ls) reference amount) in
       edits_decide w v (on_own w h p (redeem amount reference)) reply.Redeemed None ((SetPurse now ∷ line_edits p ls) ++ AddRedemption p reference amount ∷ []) d
       (own_there w h p q own (redeem amount reference) ∙ rw (fresh, own.purse, free) refl)
-      (redemption_suits w p own.row now ls reference amount own.at name numbers fresh)
-      (redemption_leads w p own.row now ls reference amount own.at name)
-      (redemptions_stay w p own.row now ls reference amount own.at name follows.whole numbers (counted w p test q own now ls is follows) (logged w p test q own now ls is follows) text small is)
+      (redemption_suits w p own.row now ls reference amount own.at next.named next.numbered fresh)
+      (redemption_leads w p own.row now ls reference amount own.at next.named)
+      (redemptions_stay w p own.row now ls reference amount own.at next.named follows.whole next.numbered next.counted next.logged text small is)
       reply_is
       (edits_is ∙ (λ i. redeem_edits (now_is i) (abort_line (rested_is i) (pending q.status)) amount reference)
-      ∙ (λ i. edits_named w p test q own now ls is follows i ++ AddRedemption (name i) reference amount ∷ []))
+      ∙ (λ i. next.edits i ++ AddRedemption (next.named i) reference amount ∷ []))

@@ -23,17 +23,14 @@ use Rattle.mx_office.specs.declared.values.Refusal.{Refusal}
 use Rattle.mx_office.specs.declared.values.Refusal.TheVariants.{NoSuchPurse}
 use Rattle.mx_office.specs.declared.values.Reply.{Reply}
 use Rattle.mx_office.specs.declared.values.Reply.TheVariants as reply
-use Rattle.mx_office.specs.Step.{Deed, Asks, Asked, Course, tell, unless, unless_told, on_found, in_place, asks, owned_holding, own_holding, on_world, loaded_holding, loaded_row, loaded_world, idle_load, change_member, first_refusal, new_purse_refusal, base, put_sent, step, steps, course}
+use Rattle.mx_office.specs.Step.{Deed, Asks, Asked, Course, ends, tell, unless, unless_told, on_found, in_place, asks, owned_holding, own_holding, on_world, loaded_holding, loaded_row, loaded_world, idle_load, change_member, first_refusal, new_purse_refusal, base, put_sent, step, steps, course}
+use Rattle.mx_office.proofs.OwnLemmas.{absent, none_refused, own_at, is_owned}
 use Rattle.mx_office.specs.Isolation.{Event, Holdings, only_if, for_holder, issued_event, put_event, view_of, view, on_holdings, with_changed, after_event, local, cut, told_to}
 
 -- ---- what is cut out
 
 get-cut : (w : World) (h p : Name) → fmap.get (cut w h) p ≡ own_holding w h p
 get-cut w h p = get-pick names_total (owned_holding h) w.rows p
-
--- what is the holder's own of a row that is there
-pub own_at : (w : World) (h p : Name) (r : Row) (b : Bool) → fmap.get w.rows p ≡ Some r → is_name h r.holder ≡ b → own_holding w h p ≡ cond b (Some r.holding) None
-own_at w h p r b at t = ap (option_and_then (owned_holding h)) at ∙ ap (λ x. cond x (Some r.holding) None) t
 
 -- a row of the holder is written, or another's where none was the holder's
 cut-own : (w : World) (h p : Name) (r : Row) → is_name h r.holder ≡ true → cut (set_row w p r) h ≡ fmap.insert (cut w h) p r.holding
@@ -80,12 +77,12 @@ cut-holding w h p g = cut-change w h p (λ r. record r { holding = g r.holding }
 -- ---- events that have no reply
 
 abbrev silent : Holdings → Course Holdings Reply
-silent m = record { end = m; replies = [] }
+silent m = ends m []
 
 -- a change that is seen where it changes something
 seen : (w : World) (h p : Name) (g : Holding → Holding) (e : Event) (b : Bool) → after_event (cut w h) e ≡ silent (with_changed (cut w h) p g) → (b ≡ false → (a : Holding) → own_holding w h p ≡ Some a → g a ≡ a)
     → local (cut w h) (only_if b e) ≡ silent (with_changed (cut w h) p g)
-seen w h p g e true is same = ap (λ (c : Course Holdings Reply). let x : Course Holdings Reply = record { end = c.end; replies = c.replies ++ [] } in x) is
+seen w h p g e true is same = ap (λ (c : Course Holdings Reply). ends c.end (c.replies ++ [])) is
 seen w h p g e false is same = ap silent (sym (changed-same w h p g _ refl (same refl)))
 
 put_law : (w : World) (h : Name) (sent : Option (Name × Message)) → local (cut w h) (put_event w h sent) ≡ silent (cut (put_sent w sent) h)
@@ -126,17 +123,13 @@ asks_law w h Asks.Names = ap (λ ks. tell (cut w h) (reply.Purses ks)) (names-cu
 asks_law w h (Asks.OnPurse p f) = ap (λ o. on_found (cut w h) NoSuchPurse o (λ a. in_place (fmap.insert (cut w h) p) (f a))) (get-cut w h p) ∙ rule_case w h p f (own_holding w h p) refl
 asks_law w h Asks.NotAHolders = refl
 
--- what is another's own is none of the holder's
-apart_case : (w : World) (h g p : Name) (a : Holding) (r : Row) (b : Bool) → fmap.get w.rows p ≡ Some r → is_name g r.holder ≡ b → cond b (Some r.holding) None ≡ Some a → is_name h g ≡ false → own_holding w h p ≡ None
-apart_case w h g p a r true at t e f = own_at w h p r false at (ap (is_name h) (sym (same_name g r.holder t)) ∙ f)
-apart_case w h g p a r false at t e f = cc
-
 other_case : (w : World) (h g p : Name) (f : Holding → Deed Holding) (o : Option Holding) → own_holding w g p ≡ o → is_name h g ≡ false
     → cut (on_found w NoSuchPurse o (λ a. in_place (λ b. change_holding w p (λ _. b)) (f a))).state h ≡ cut w h
 other_case w h g p f None at apart = refl
 other_case w h g p f (Some a) at apart =
+    let r = is_owned w g p a at in
     cut-holding w h p (λ _. (f a).state)
-    ∙ changed_at w h p (λ _. (f a).state) None (option_and_then_some (owned_holding g) (fmap.get w.rows p) a at (λ r here own. apart_case w h g p a r (is_name g r.holder) here refl own apart))
+    ∙ changed_at w h p (λ _. (f a).state) None (own_at w h p r.row false r.at (ap (is_name h) (sym (same_name g r.row.holder r.owned)) ∙ apart))
 
 other_law : (w : World) (h g : Name) (x : Asks) → is_name h g ≡ false → cut (on_world w g x).state h ≡ cut w h
 other_law w h g Asks.Names apart = refl
@@ -145,25 +138,16 @@ other_law w h g Asks.NotAHolders apart = refl
 
 -- a deed of a caller, of which the holder sees what is cut out and what is replied to the holder
 abbrev cut_course : Name → Caller → Deed World → Course Holdings Reply
-cut_course h caller d = record { end = cut d.state h; replies = for_holder h caller d.reply }
+cut_course h caller d = ends (cut d.state h) (for_holder h caller d.reply)
 
 holder_law : (w : World) (h g : Name) (c : Command) (b : Bool) → is_name h g ≡ b
-    → local (cut w h) (only_if b (Event.Own c) ++ []) ≡ (let d = on_world w g (asks c) in let x : Course Holdings Reply = record { end = cut d.state h; replies = only_if b d.reply } in x)
+    → local (cut w h) (only_if b (Event.Own c) ++ []) ≡ (let d = on_world w g (asks c) in ends (cut d.state h) (only_if b d.reply))
 holder_law w h g c true t =
-    ap (λ (d : Deed Holdings). let x : Course Holdings Reply = record { end = d.state; replies = d.reply ∷ [] } in x) (asks_law w h (asks c))
-    ∙ ap (λ n. let d = on_world w n (asks c) in let x : Course Holdings Reply = record { end = cut d.state h; replies = d.reply ∷ [] } in x) (same_name h g t)
+    ap (λ (d : Deed Holdings). ends d.state (d.reply ∷ [])) (asks_law w h (asks c))
+    ∙ ap (λ n. let d = on_world w n (asks c) in ends (cut d.state h) (d.reply ∷ [])) (same_name h g t)
 holder_law w h g c false t = ap silent (sym (other_law w h g (asks c) t))
 
 -- ---- a new purse
-
-pub none_refused : (b : Bool) (r : Refusal) (xs : List (Bool × Refusal)) → first_refusal ((b, r) ∷ xs) ≡ None → (b ≡ false) × (first_refusal xs ≡ None)
-unfolding first_refusal
-none_refused true r xs e = cc
-none_refused false r xs e = (refl, e)
-
-none_of : (o : Option Row) → is_some o ≡ false → o ≡ None
-none_of None e = refl
-none_of (Some r) e = cc
 
 issued_case : (w : World) (h p g : Name) → fmap.get w.rows p ≡ None → (b : Bool) → is_name h g ≡ b → local (cut w h) (only_if b (Event.Issued p)) ≡ silent (cut (set_row w p (new_row g p)) h)
 issued_case w h p g at true t = ap silent (sym (cut-own w h p (new_row g p) t))
@@ -172,7 +156,7 @@ issued_case w h p g at false t = ap silent (sym (cut-other w h p (new_row g p) (
 issued_law : (w : World) (h m p g : Name) (o : Option Refusal) → new_purse_refusal w m p g ≡ o
     → local (cut w h) (only_if (is_none o && is_name h g) (Event.Issued p)) ≡ silent (cut (unless w o (tell (set_row w p (new_row g p)) reply.Added)).state h)
 issued_law w h m p g (Some r) e = refl
-issued_law w h m p g None e = issued_case w h p g (none_of _ (none_refused _ _ _ (none_refused _ _ _ e).1).0) (is_name h g) refl
+issued_law w h m p g None e = issued_case w h p g (absent _ (none_refused _ _ _ (none_refused _ _ _ e).1).0) (is_name h g) refl
 
 -- ---- grants, loads and collects
 
@@ -230,33 +214,33 @@ base_law w h (Clerk m) c = refl
 
 -- a course, and then one over more
 abbrev pub and_then : {S X R : Type 0} → (S → X → Course S R) → Course S R → List X → Course S R
-and_then f c xs = record { end = (course f c.end xs).end; replies = c.replies ++ (course f c.end xs).replies }
+and_then f c xs = ends (course f c.end xs).end (c.replies ++ (course f c.end xs).replies)
 
 pub course-append : {S X R : Type 0} (f : S → X → Course S R) (s : S) (xs ys : List X) → course f s (xs ++ ys) ≡ and_then f (course f s xs) ys
 course-append f s [] ys = refl
 course-append {S = S} {R = R} f s (x ∷ xs) ys =
     let rest = course f (f s x).end xs in
-    ap (λ (c : Course S R). let y : Course S R = record { end = c.end; replies = (f s x).replies ++ c.replies } in y) (course-append f (f s x).end xs ys)
-    ∙ ap (λ rs. let y : Course S R = record { end = (course f rest.end ys).end; replies = rs } in y) (sym (append_assoc (f s x).replies rest.replies (course f rest.end ys).replies))
+    ap (λ (c : Course S R). ends c.end ((f s x).replies ++ c.replies)) (course-append f (f s x).end xs ys)
+    ∙ ap (ends (course f rest.end ys).end) (sym (append_assoc (f s x).replies rest.replies (course f rest.end ys).replies))
 
 -- what one command leaves of the holdings, and its reply to the holder, are what the view of it gives
 pub one_law : (w : World) (h : Name) (caller : Caller) (c : Command)
-    → local (cut w h) (view_of w h caller c) ≡ (let a = step w caller c in let x : Course Holdings Reply = record { end = cut a.world h; replies = for_holder h caller a.reply } in x)
+    → local (cut w h) (view_of w h caller c) ≡ (let a = step w caller c in ends (cut a.world h) (for_holder h caller a.reply))
 unfolding step view_of
 one_law w h caller c =
     let d = base w caller c in
     let late = put_event d.state h d.sent in
     course-append after_event (cut w h) (for_holder h caller (Event.Own c) ++ issued_event w h caller c) late
     ∙ ap (λ x. and_then after_event x late) (base_law w h caller c)
-    ∙ ap (λ (x : Course Holdings Reply). let y : Course Holdings Reply = record { end = x.end; replies = for_holder h caller d.reply ++ x.replies } in y) (put_law d.state h d.sent)
-    ∙ ap (λ rs. let y : Course Holdings Reply = record { end = cut (put_sent d.state d.sent) h; replies = rs } in y) (append-nil _)
+    ∙ ap (λ (x : Course Holdings Reply). ends x.end (for_holder h caller d.reply ++ x.replies)) (put_law d.state h d.sent)
+    ∙ ap (ends (cut (put_sent d.state d.sent) h)) (append-nil _)
 
 -- ---- runs
 
 pub run_law : (w : World) (h : Name) (cs : List Asked)
-    → local (cut w h) (view h w cs) ≡ (let all = steps w cs in let x : Course Holdings Reply = record { end = cut all.end h; replies = told_to h all.replies } in x)
+    → local (cut w h) (view h w cs) ≡ (let all = steps w cs in ends (cut all.end h) (told_to h all.replies))
 run_law w h [] = refl
 run_law w h (c ∷ cs) =
     course-append after_event (cut w h) (view_of w h c.0 c.1) (view h (step w c.0 c.1).world cs)
     ∙ ap (λ x. and_then after_event x (view h (step w c.0 c.1).world cs)) (one_law w h c.0 c.1)
-    ∙ ap (λ (x : Course Holdings Reply). let y : Course Holdings Reply = record { end = x.end; replies = for_holder h c.0 (step w c.0 c.1).reply ++ x.replies } in y) (run_law (step w c.0 c.1).world h cs)
+    ∙ ap (λ (x : Course Holdings Reply). ends x.end (for_holder h c.0 (step w c.0 c.1).reply ++ x.replies)) (run_law (step w c.0 c.1).world h cs)

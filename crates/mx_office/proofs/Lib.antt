@@ -1,3 +1,4 @@
+pub mod OwnLemmas
 pub mod DecideLemmas
 pub mod AccountLemmas
 pub mod CommandLemmas

@@ -27,9 +27,10 @@ use Rattle.mx_office.specs.declared.values.Reply.TheVariants as reply
 use Rattle.mx_office.specs.declared.values.Refusal.TheVariants as refusal
 use Rattle.mx_office.specs.Step.{Deed, tell, unless, unless_told, idle, money_line, with_purse, refusal_of_load, float_of, change_member, grant, grant_refusal, collect, collect_refusal, loaded_holding, loaded_row, load_of_float_refusal, idle_load_at, idle_load, loaded_world, load_purse}
 use Rattle.mx_office.specs.Decides.{Decides, member_purse, load_edits}
-use Rattle.mx_office.proofs.DecideLemmas.{edits_decide, told_decides, edit_decides, first, next, none_left}
-use Rattle.mx_office.proofs.AccountLemmas.{IsFound, Follows, is_found, named, numbered, counted, logged, edits_named}
-use Rattle.mx_office.proofs.CommandLemmas.{is_refused, not_refused}
+use Rattle.mx_office.proofs.DecideLemmas.{edits_decide, told_decides, edit_decides}
+use Rattle.mx_office.proofs.OwnLemmas.{first, next, none_left}
+use Rattle.mx_office.proofs.AccountLemmas.{IsFound, Follows, is_found, is_next}
+use Rattle.mx_office.proofs.CommandLemmas.{nothing, is_refused, not_refused}
 
 -- ---- a member's row
 
@@ -139,30 +140,28 @@ module _ (w : World) (m p : Name) (amount : ℕ) (reference : Name) (q : State) 
     pub load_small_float : load_of w p reference ≡ None → member.float < amount → idle_load w m p amount reference ≡ Some (reply.Refused refusal.FloatTooSmall)
     load_small_float new lt = let small : nat_lt member.float amount ≡ true = grind (arith, nat_tests, lt) in idle_is None new ∙ rw small refl
 
-    pub load_refuses : (r : LoadRefusal) → load_of w p reference ≡ None → amount ≤ member.float → or_refused (load_refusal q amount) (let u : Unit {0} = tt in u) ≡ Err r → idle_load w m p amount reference ≡ Some (reply.Refused (refusal_of_load r))
+    pub load_refuses : (r : LoadRefusal) → load_of w p reference ≡ None → amount ≤ member.float → or_refused (load_refusal q amount) nothing ≡ Err r → idle_load w m p amount reference ≡ Some (reply.Refused (refusal_of_load r))
     load_refuses r new enough refused = let large : nat_lt member.float amount ≡ false = grind (arith, nat_tests, enough) in idle_is None new ∙ rw (large, own.purse, is_refused (load_refusal q amount) _ r refused) refl
 
     pub load_made : (after : State) (d : Decided) → IsWorld w → load_of w p reference ≡ None → amount ≤ member.float → IsTrue (is_name_text reference) → amount ≤ 10 ^ 12
-        → or_refused (load_refusal q amount) (let u : Unit {0} = tt in u) ≡ Ok (let u : Unit {0} = tt in u) → after ≡ unless_refused (load_refusal q amount) q (loaded q amount)
+        → or_refused (load_refusal q amount) nothing ≡ Ok nothing → after ≡ unless_refused (load_refusal q amount) q (loaded q amount)
         → d.reply ≡ reply.Loaded → d.edits ≡ load_edits after amount reference m member → Decides w (load_purse w m p amount reference) d
     unfolding loaded_holding
     load_made after d is new enough text small accepted after_is reply_is edits_is =
-        let test : Row → Bool = is_of_member w m in
         let r = own.row in
-        let free : load_refusal q amount ≡ None = not_refused _ _ (let u : Unit {0} = tt in u) accepted in
+        let free : load_refusal q amount ≡ None = not_refused _ _ nothing accepted in
         let large : nat_lt member.float amount ≡ false = grind (arith, nat_tests, enough) in
         let now : State = loaded q amount in
         let now_is : after ≡ now = after_is ∙ ap (λ o. unless_refused o q now) free in
         let ls : List Line = money_line now kind.Loaded amount reference ∷ [] in
         let whole = subst IsPurse own.purse (is.purses.each p r own.at).purse in
         let follows : Follows q now ls = record { name = refl; whole = loaded_is q amount whole free; numbered = (refl, tt); counted = omega arith; logged = λ x there. there } in
-        let name = named w p test q own now ls is follows in
-        let numbers = numbered w p test q own now ls is follows in
+        let next_row = is_next w p (is_of_member w m) q own now ls is follows in
         let s : Row = with_load (with_lines r now ls) reference amount in
         let v : World = set_row w p s in
         let last : Edit = SetMember m member.granted (member.float - amount) in
         let firsts : List Edit = (SetPurse now ∷ line_edits p ls) ++ AddLoad p reference amount ∷ [] in
-        let lead : all_edited w firsts ≡ v = load_leads w p r now ls reference amount own.at name in
+        let lead : all_edited w firsts ≡ v = load_leads w p r now ls reference amount own.at next_row.named in
         let there : IsSome (fmap.get w.members m) = some_of _ member here in
         let lower : MemberRow → MemberRow = λ x. record x { float = x.float - amount } in
         let row_is : loaded_row amount reference r ≡ s = rw (own.purse, free) refl in
@@ -173,10 +172,10 @@ module _ (w : World) (m p : Name) (amount : ℕ) (reference : Name) (q : State) 
         let float_most : member.float ≤ 10 ^ 15 = is.members.floats m member here in
         edits_decide w (edited v last) (load_purse w m p amount reference) reply.Loaded None (firsts ++ last ∷ []) d
         (ap (λ o. unless_told w o (tell (loaded_world w m p amount reference) reply.Loaded)) none ∙ ap (λ x. tell (change_member x m lower) reply.Loaded) (change_there w p (loaded_row amount reference) r own.at ∙ ap (set_row w p) row_is) ∙ ap (λ x. tell x reply.Loaded) (change_to v m lower member here))
-        (suits_append w firsts (last ∷ []) (load_suits w p r now ls reference amount own.at name numbers loads) (subst (λ z. AllSuit z (last ∷ [])) (sym lead) (there, tt)))
+        (suits_append w firsts (last ∷ []) (load_suits w p r now ls reference amount own.at next_row.named next_row.numbered loads) (subst (λ z. AllSuit z (last ∷ [])) (sym lead) (there, tt)))
         (edits_append w firsts (last ∷ []) ∙ ap (λ z. edited z last) lead)
         (set_member_stays v m member.granted (member.float - amount) there (omega (arith, float_most)) (omega (arith, sums, most))
-        (loads_stay w p r now ls reference amount own.at name follows.whole numbers (counted w p test q own now ls is follows) (logged w p test q own now ls is follows) text small is))
+        (loads_stay w p r now ls reference amount own.at next_row.named follows.whole next_row.numbered next_row.counted next_row.logged text small is))
         reply_is
         (edits_is ∙ ap (λ x. load_edits x amount reference m member) now_is
-        ∙ (λ i. edits_named w p test q own now ls is follows i ++ AddLoad (name i) reference amount ∷ last ∷ []))
+        ∙ (λ i. next_row.edits i ++ AddLoad (next_row.named i) reference amount ∷ last ∷ []))

@@ -15,6 +15,7 @@ use Rattle.mx_office.specs.declared.values.Refusal.TheVariants.{NoSuchPurse}
 use Rattle.mx_office.specs.declared.values.Reply.{Reply}
 use Rattle.mx_office.specs.declared.values.Reply.TheVariants as reply
 use Rattle.mx_office.specs.Step.{Deed, Asks, unless, unless_told, new_member_refusal, new_holder_refusal, new_purse_refusal, grant_refusal, collect_refusal, idle_load, on_found, in_place, asks, owned_holding, own_holding, on_world, base, put_sent, step}
+use Rattle.mx_office.proofs.OwnLemmas.{is_owned}
 use Rattle.mx_office.proofs.RuleLemmas.{Leaves, EachKeeps, is_refusal, accepted_leaves, each_rule}
 
 unless_leaves : (w : World) (d : Deed World) (o : Option Reply) → is_refusal d.reply ≡ false → Leaves w (unless_told w o d)
@@ -25,13 +26,10 @@ refusal_leaves : (w : World) (d : Deed World) (o : Option Refusal) → is_refusa
 refusal_leaves w d o accepted = unless_leaves w d (option_map reply.Refused o) accepted
 
 -- a holding that stays is put in its place
-holding_case : (w : World) (h p : Name) (a : Holding) (r : Row) (b : Bool) → fmap.get w.rows p ≡ Some r → cond b (Some r.holding) None ≡ Some a → change_holding w p (λ _. a) ≡ w
-holding_case w h p a r true at e =
-    change_there w p (λ x. record x { holding = a }) r at ∙ ap (λ x. set_row w p (record r { holding = x })) (sym (inside r.holding a e)) ∙ set_same w p r at
-holding_case w h p a r false at e = cc
-
 holding_stays : (w : World) (h p : Name) (a : Holding) → own_holding w h p ≡ Some a → change_holding w p (λ _. a) ≡ w
-holding_stays w h p a own = option_and_then_some (owned_holding h) (fmap.get w.rows p) a own (λ r at is. holding_case w h p a r (is_name h r.holder) at is)
+holding_stays w h p a own =
+    let r = is_owned w h p a own in
+    change_there w p (λ x. record x { holding = a }) r.row r.at ∙ ap (λ x. set_row w p (record r.row { holding = x })) (sym r.holding) ∙ set_same w p r.row r.at
 
 rule_leaves : (w : World) (h p : Name) (f : Holding → Deed Holding) (o : Option Holding) → own_holding w h p ≡ o → ((a : Holding) → Leaves a (f a)) → Leaves w (on_found w NoSuchPurse o (λ a. in_place (λ b. change_holding w p (λ _. b)) (f a)))
 rule_leaves w h p f None own leaves = λ r e. (refl, refl)

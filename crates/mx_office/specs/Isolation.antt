@@ -8,7 +8,7 @@ use Rattle.mx_book.specs.declared.values.Caller.{Caller}
 use Rattle.mx_book.specs.declared.values.Caller.TheVariants.{Clerk, Holder}
 use Rattle.mx_book.specs.World.{World, Holding, Name, new_holding, has_room, with_message}
 use Rattle.mx_book.specs.Maps.{pick}
-use Rattle.mx_office.specs.Step.{Deed, Asks, Asked, Course, tell, refuse, on_found, in_place, asks, owned_holding, own_holding, loaded_holding, idle_load, new_purse_refusal, base, step, course}
+use Rattle.mx_office.specs.Step.{Deed, Asks, Asked, Course, ends, tell, refuse, on_found, in_place, asks, owned_holding, own_holding, loaded_holding, idle_load, new_purse_refusal, base, step, course}
 use Rattle.mx_office.specs.declared.values.Command.{Command}
 use Rattle.mx_office.specs.declared.values.Command.TheVariants.{NewPurse, Load}
 use Rattle.mx_office.specs.declared.values.Refusal.TheVariants.{NotForCaller, NoSuchPurse}
@@ -73,10 +73,10 @@ with_changed m p f = option_map_or (λ a. fmap.insert m p (f a)) (fmap.get m p) 
 
 -- the holdings after an event, and the reply to a command of the holder's own
 abbrev pub after_event : Holdings → Event → Course Holdings Reply
-after_event m (Event.Own command) = let d = on_holdings m (asks command) in record { end = d.state; replies = d.reply ∷ [] }
-after_event m (Event.Issued p) = record { end = fmap.insert m p (new_holding p); replies = [] }
-after_event m (Event.Loaded p reference amount) = record { end = with_changed m p (λ a. loaded_holding a amount reference); replies = [] }
-after_event m (Event.Put p message) = record { end = with_changed m p (λ a. with_message a message); replies = [] }
+after_event m (Event.Own command) = let d = on_holdings m (asks command) in ends d.state (d.reply ∷ [])
+after_event m (Event.Issued p) = ends (fmap.insert m p (new_holding p)) []
+after_event m (Event.Loaded p reference amount) = ends (with_changed m p (λ a. loaded_holding a amount reference)) []
+after_event m (Event.Put p message) = ends (with_changed m p (λ a. with_message a message)) []
 
 -- the holdings after events, in order, and the replies to the holder's own commands among them
 abbrev pub local : Holdings → List Event → Course Holdings Reply

@@ -346,12 +346,13 @@ pub record Course (S R : Type 0) : Type 0 where
   pub end : S
   pub replies : List R
 
+abbrev pub ends : {S R : Type 0} → S → List R → Course S R
+ends s rs = record { end = s; replies = rs }
+
 -- what comes of each of a list in order, from what stands before it
 abbrev pub course : {S X R : Type 0} → (S → X → Course S R) → S → List X → Course S R
-course f s [] = record { end = s; replies = [] }
-course f s (x ∷ xs) =
-    let rest = course f (f s x).end xs in
-    record { end = rest.end; replies = (f s x).replies ++ rest.replies }
+course f s [] = ends s []
+course f s (x ∷ xs) = let rest = course f (f s x).end xs in ends rest.end ((f s x).replies ++ rest.replies)
 
 -- a command and who asks
 abbrev pub Asked : Type 0
@@ -360,7 +361,7 @@ Asked = Caller × Command
 -- the World after one command, and after commands in order, with the replies, each with the caller to whom it is
 -- given
 abbrev pub one_step : World → Asked → Course World (Caller × Reply)
-one_step w c = let now = step w c.0 c.1 in record { end = now.world; replies = (c.0, now.reply) ∷ [] }
+one_step w c = let now = step w c.0 c.1 in ends now.world ((c.0, now.reply) ∷ [])
 
 abbrev pub steps : World → List Asked → Course World (Caller × Reply)
 steps = course one_step

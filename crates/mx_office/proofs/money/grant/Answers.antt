@@ -1,6 +1,7 @@
 use Rattle.std.proofs.Common.{rules}
 use Rattle.mx_office.specs.declared.values.Refusal.TheVariants.{NoSuchMember, GrantTooLarge, FloatFull}
-use Rattle.mx_office.proofs.DecideLemmas.{refused_decides, first}
+use Rattle.mx_office.proofs.OwnLemmas.{first}
+use Rattle.mx_office.proofs.DecideLemmas.{refused_decides}
 use Rattle.mx_office.proofs.MoneyLemmas.{large_grant, full_grant, grant_decides}
 use Rattle.mx_office.proofs.money.grant.Goals as goal
 
