@@ -1,68 +1,64 @@
 -- Each command keeps the balance equation.
 use Rattle.std.proofs.Common.{◌≡◌, ℕ, ◌+◌, ◌-◌, ◌≤◌, Bool, true, false, cond, List, [], ◌∷◌, refl, sym, ◌∙◌, ap, subst, Option, Some, None, IsSome, is_some, option_and_then, option_map, arith}
 use Rattle.std.specs.Prelude.{nat_lt, is_none, not}
+use Rattle.std.specs.Option.{option_map_or}
 use Rattle.std.specs.FinMap as fmap
 use Rattle.mx_pay.specs.Names.{name_cmp}
 use Rattle.mx_purse.specs.Operations.{load_refusal}
-use Rattle.mx_purse.specs.declared.refusals.LoadRefusal.{LoadRefusal}
+use Rattle.mx_purse.specs.State.{State}
 use Rattle.mx_book.specs.declared.values.Caller.{Caller}
 use Rattle.mx_book.specs.declared.values.Caller.TheVariants.{Operator, Clerk, Holder}
+use Rattle.mx_book.specs.declared.values.Line.{Line}
 use Rattle.mx_book.specs.declared.values.MemberRow.{MemberRow}
 use Rattle.mx_book.specs.Sums.{sum_entries, sum_values}
 use Rattle.mx_book.specs.Reads.{uncollected_row, uncollected_of}
 use Rattle.mx_book.specs.World.{World, Row, Holding, Name, Token, is_of, is_of_member, with_collected, all_collected, set_row, change_row, new_row, opening}
-use Rattle.mx_book.proofs.FoundLemmas.{inside, value_found}
+use Rattle.mx_book.proofs.FoundLemmas.{inside}
 use Rattle.mx_book.proofs.MapLemmas.{get-pick}
 use Rattle.mx_book.proofs.NameLemmas.{names_total, names_exact, same_name}
 use Rattle.mx_book.proofs.PurseLemmas.{change_there}
 use Rattle.mx_book.proofs.SumLemmas.{value_of, sum_values-insert}
 use Rattle.mx_book.proofs.UnderLemmas.{get-remake}
 use Rattle.mx_office.specs.declared.values.Command.{Command}
-use Rattle.mx_office.specs.declared.values.Command.TheVariants.{NewMember, Grant, NewHolder, NewPurse, Load, Collect, Purses, Show, StartFrom, StartTo, Handle, Discard, Abort, Redeem, Inbox}
+use Rattle.mx_office.specs.declared.values.Command.TheVariants.{NewMember, Grant, NewHolder, NewPurse, Load, Collect}
 use Rattle.mx_office.specs.declared.values.Refusal.{Refusal}
 use Rattle.mx_office.specs.declared.values.Reply.{Reply}
+use Rattle.mx_office.specs.declared.values.Reply.TheVariants as reply
 use Rattle.mx_office.specs.Balance.{IsBalanced, issued_row, redeemed_row, is_chosen, of_purses}
 use Rattle.mx_office.specs.Reachable.{IsReachable}
-use Rattle.mx_office.specs.Step.{Asked, Done, unless, show, start_from, start_to, handle, discard, abort, redeem, inbox, new_member, new_member_refusal, new_holder, new_holder_refusal, new_purse, new_purse_refusal, changed_member, change_member, grant, grant_refusal, loaded_by, loaded_holding, loaded_row, load_new, load_row, not_loaded, load_done, load_purse, collect, collect_refusal, base, after, world_after}
-use Rattle.mx_office.proofs.LawLemmas.{none_refused}
+use Rattle.mx_office.specs.Step.{Deed, Asked, tell, unless, unless_told, idle, with_purse, asks, new_member, new_member_refusal, new_holder, new_holder_refusal, new_purse, new_purse_refusal, change_member, grant, grant_refusal, loaded_holding, loaded_row, loaded_world, load_of_float_refusal, idle_load_at, idle_load, collect, collect_refusal, base, step, steps}
+use Rattle.mx_office.proofs.OwnLemmas.{absent, present, none_refused}
 use Rattle.mx_office.proofs.BalanceLemmas.{Choice, IsAccounted, IsRow, left, right, left_row, counted, is_counted, none_counts, same_change, with_member, left_member, right_member, new_member_accounted, left_set, right_set, rows_stay, new_row_accounted, new_holder_accounted, opening_accounted, is_balanced}
-use Rattle.mx_office.proofs.BalanceAccountLemmas.{own_accounted, send_accounted, show_redeems, start_from_redeems, start_to_redeems, handle_redeems, discard_redeems, abort_redeems, redeem_redeems, inbox_redeems}
+use Rattle.mx_office.proofs.BalanceAccountLemmas.{asks_accounted, sent_accounted}
+use Rattle.mx_office.proofs.RuleLemmas.{new_reference, each_rule}
 use Rattle.mx_office.proofs.EntrySumLemmas.{sum_entries-same, sum_entries-add, sum_entries-empty, sum_values-empty, sum_values-zero, sum_values-remake, values_are}
 
 -- ---- refusals
 
-none_of : {X : Type 0} (o : Option X) → is_some o ≡ false → o ≡ None
-none_of None e = refl
-none_of (Some x) e = cc
-
-some_of : {X : Type 0} (o : Option X) → is_none o ≡ false → IsSome o
-some_of None e = cc
-some_of (Some x) e = refl
-
 -- a refusal leaves the World
-unless_accounted : (w : World) (o : Option Refusal) (d : Done) → IsAccounted w → (o ≡ None → IsAccounted d.world) → IsAccounted (unless w o d).world
+unless_accounted : (w : World) (o : Option Refusal) (d : Deed World) → IsAccounted w → (o ≡ None → IsAccounted d.state) → IsAccounted (unless w o d).state
 unless_accounted w (Some r) d is rest = is
 unless_accounted w None d is rest = rest refl
 
 -- ---- what is new
 
-member_accounted : (w : World) (m : Name) (t : Token) → IsAccounted w → IsAccounted (new_member w m t).world
+member_accounted : (w : World) (m : Name) (t : Token) → IsAccounted w → IsAccounted (new_member w m t).state
 member_accounted w m t is = unless_accounted w (new_member_refusal w m t) _ is (λ e.
-    let new : IsAccounted (with_member w m (record { granted = 0; float = 0 })) = new_member_accounted w m (record { granted = 0; float = 0 }) (none_of _ (none_refused _ _ _ e).0) refl refl is in
+    let new : IsAccounted (with_member w m (record { granted = 0; float = 0 })) = new_member_accounted w m (record { granted = 0; float = 0 }) (absent _ (none_refused _ _ _ e).0) refl refl is in
     record { equal = new.equal; rows = new.rows })
 
-holder_accounted : (w : World) (m h : Name) (t : Token) → IsAccounted w → IsAccounted (new_holder w m h t).world
+holder_accounted : (w : World) (m h : Name) (t : Token) → IsAccounted w → IsAccounted (new_holder w m h t).state
 holder_accounted w m h t is = unless_accounted w (new_holder_refusal w m h t) _ is (λ e.
-    let new = new_holder_accounted w h m (none_of _ (none_refused _ _ _ (none_refused _ _ _ e).1).0) is in
+    let new = new_holder_accounted w h m (absent _ (none_refused _ _ _ (none_refused _ _ _ e).1).0) is in
     record { equal = new.equal; rows = new.rows })
 
 there_of : (m : Name) (o : Option Name) → not (is_of m o) ≡ false → IsSome o
 there_of m None e = cc
 there_of m (Some x) e = refl
 
-purse_accounted : (w : World) (m p h : Name) → IsAccounted w → IsAccounted (new_purse w m p h).world
+purse_accounted : (w : World) (m p h : Name) → IsAccounted w → IsAccounted (new_purse w m p h).state
 purse_accounted w m p h is = unless_accounted w (new_purse_refusal w m p h) _ is (λ e.
-    new_row_accounted w p (new_row h p) (none_of _ (none_refused _ _ _ (none_refused _ _ _ e).1).0)
+    new_row_accounted w p (new_row h p) (absent _ (none_refused _ _ _ (none_refused _ _ _ e).1).0)
     (sum_entries-empty (λ k n. cond (fmap.contains_key fmap.empty k) 0 n)) (sum_values-empty (λ n. n)) (sum_values-empty (λ n. n))
     (record { holder = there_of m _ (none_refused _ _ _ e).0; collected = λ k t. absurd (let f : true ≡ false = sym t ∙ ap is_some (fmap.get-empty name_cmp k) in cc) })
     is)
@@ -70,7 +66,7 @@ purse_accounted w m p h is = unless_accounted w (new_purse_refusal w m p h) _ is
 -- ---- a grant
 
 change_to : (w : World) (m : Name) (f : MemberRow → MemberRow) (row : MemberRow) → fmap.get w.members m ≡ Some row → change_member w m f ≡ with_member w m (f row)
-change_to w m f row at = ap (changed_member w m f) at
+change_to w m f row at = ap (λ o. option_map_or (λ x. let v : World = record w { members = fmap.insert w.members m (f x) } in v) o w) at
 
 granted_accounted : (w : World) (m : Name) (amount : ℕ) (row : MemberRow) → fmap.get w.members m ≡ Some row → IsAccounted w
     → IsAccounted (change_member w m (λ x. record { granted = x.granted + amount; float = x.float + amount }))
@@ -82,14 +78,14 @@ granted_accounted w m amount row at is =
       rows = is.rows;
     })
 
-grant_accounted : (w : World) (m : Name) (amount : ℕ) → IsAccounted w → IsAccounted (grant w m amount).world
+grant_accounted : (w : World) (m : Name) (amount : ℕ) → IsAccounted w → IsAccounted (grant w m amount).state
 grant_accounted w m amount is = unless_accounted w (grant_refusal w m amount) _ is (λ e.
-    let row = value_found (fmap.get w.members m) (some_of _ (none_refused _ _ _ e).0) in
+    let row = present (fmap.get w.members m) (none_refused _ _ _ e).0 in
     granted_accounted w m amount row.0 row.1 is)
 
 -- ---- a load
 
--- what a load that isn't refused is of
+-- what a load that isn't idle is of
 record IsLoad (w : World) (m p : Name) (amount : ℕ) (reference : Name) : Type 0 where
   row : Row
   at : fmap.get w.rows p ≡ Some row
@@ -99,39 +95,42 @@ record IsLoad (w : World) (m p : Name) (amount : ℕ) (reference : Name) : Type 
   fresh : fmap.get row.loads reference ≡ None
   enough : amount ≤ member.float
 
-enough_case : {X : Type 0} (amount float : ℕ) (x : X) (o : Option X) (b : Bool) → nat_lt float amount ≡ b → cond b (Some x) o ≡ None → amount ≤ float
-enough_case amount float x o true t e = cc
-enough_case amount float x o false t e = grind arith
+enough_case : (amount float : ℕ) (before : Option ℕ) (x : Refusal) (o : Option Refusal) (r : Reply) (b : Bool) → nat_lt float amount ≡ b → idle before amount r (cond b (Some x) o) ≡ None → amount ≤ float
+enough_case amount float None x o r true t e = cc
+enough_case amount float (Some n) x o r true t e = cc
+enough_case amount float before x o r false t e = grind arith
 
 module _ (w : World) (m p : Name) (amount : ℕ) (reference : Name) where
-  fresh_case : (member : MemberRow) (r : Row) (o : Option ℕ) → fmap.get r.loads reference ≡ o → load_new amount member r o ≡ None → (fmap.get r.loads reference ≡ None) × (amount ≤ member.float)
-  fresh_case member r None at e = (at, enough_case amount member.float _ _ (nat_lt member.float amount) refl e)
-  fresh_case member r (Some before) at e = cc
-
   owned_case : (r : Row) (member : MemberRow) (b : Bool) (x : Reply) → fmap.get w.rows p ≡ Some r → fmap.get w.members m ≡ Some member → is_of_member w m r ≡ b
-      → cond b (load_new amount member r (fmap.get r.loads reference)) (Some x) ≡ None → IsLoad w m p amount reference
+      → cond b (idle (fmap.get r.loads reference) amount reply.Loaded (load_of_float_refusal member r amount)) (Some x) ≡ None → IsLoad w m p amount reference
   owned_case r member false x at there t e = cc
-  owned_case r member true x at there t e =
-      let f = fresh_case member r (fmap.get r.loads reference) refl e in
-      record { row = r; at = at; member = member; there = there; owned = t; fresh = f.0; enough = f.1 }
+  owned_case r member true x at there t e = record {
+    row = r;
+    at = at;
+    member = member;
+    there = there;
+    owned = t;
+    fresh = new_reference _ _ _ _ e;
+    enough = enough_case amount member.float _ _ _ _ (nat_lt member.float amount) refl e;
+  }
 
-  load_case : (o : Option Row) (u : Option MemberRow) → fmap.get w.rows p ≡ o → fmap.get w.members m ≡ u → load_row w m amount reference o u ≡ None → IsLoad w m p amount reference
+  load_case : (o : Option Row) (u : Option MemberRow) → fmap.get w.rows p ≡ o → fmap.get w.members m ≡ u → idle_load_at w m amount reference o u ≡ None → IsLoad w m p amount reference
   load_case None None at there e = cc
   load_case None (Some member) at there e = cc
   load_case (Some r) None at there e = cc
   load_case (Some r) (Some member) at there e = owned_case r member (is_of_member w m r) _ at there refl e
 
-  is_load : not_loaded w m p amount reference ≡ None → IsLoad w m p amount reference
-  unfolding not_loaded
+  is_load : idle_load w m p amount reference ≡ None → IsLoad w m p amount reference
+  unfolding idle_load
   is_load e = load_case (fmap.get w.rows p) (fmap.get w.members m) refl refl e
 
-loaded_case : (a : Holding) (amount : ℕ) (reference : Name) (o : Option LoadRefusal) → (loaded_by a amount reference o).redemptions ≡ a.redemptions
-loaded_case a amount reference (Some x) = refl
-loaded_case a amount reference None = refl
+same_redemptions : (a b : Holding) (c : Bool) → b.redemptions ≡ a.redemptions → (cond c b a).redemptions ≡ a.redemptions
+same_redemptions a b true same = same
+same_redemptions a b false same = refl
 
 loaded_redemptions : (a : Holding) (amount : ℕ) (reference : Name) → (loaded_holding a amount reference).redemptions ≡ a.redemptions
 unfolding loaded_holding
-loaded_redemptions a amount reference = loaded_case a amount reference (load_refusal a.purse amount)
+loaded_redemptions a amount reference = same_redemptions a _ (is_none (load_refusal a.purse amount)) refl
 
 -- the left side has the load, and not the float
 load_change : (c : Bool) (l l1 l2 r r1 r2 x y a f g amount : ℕ) → l1 + cond c x 0 ≡ l + cond c y 0 → l2 + cond c f 0 ≡ l1 + cond c (f - amount) 0 → r1 + cond c a 0 ≡ r + cond c a 0 → r2 + cond c g 0 ≡ r1 + cond c g 0
@@ -151,8 +150,8 @@ module _ (w : World) (m p : Name) (amount : ℕ) (reference : Name) (load : IsLo
   abbrev paid : MemberRow
   paid = record load.member { float = load.member.float - amount }
 
-  abbrev loaded_world : World
-  loaded_world = with_member (set_row w p new) m paid
+  abbrev after_load : World
+  after_load = with_member (set_row w p new) m paid
 
   redemptions : new.holding.redemptions ≡ load.row.holding.redemptions
   redemptions = loaded_redemptions load.row.holding amount reference
@@ -167,11 +166,11 @@ module _ (w : World) (m p : Name) (amount : ℕ) (reference : Name) (load : IsLo
   new_right : redeemed_row new ≡ redeemed_row load.row
   new_right = ap (sum_values (λ n. n)) redemptions
 
-  loaded_equal : (chosen : Choice) → left loaded_world chosen ≡ right loaded_world chosen
+  loaded_equal : (chosen : Choice) → left after_load chosen ≡ right after_load chosen
   loaded_equal chosen =
       let w1 : World = set_row w p new in
       let counts : is_counted w chosen load.row ≡ chosen m = counts_as chosen m (fmap.get w.holders load.row.holder) load.owned in
-      load_change (chosen m) (left w chosen) (left w1 chosen) (left loaded_world chosen) (right w chosen) (right w1 chosen) (right loaded_world chosen)
+      load_change (chosen m) (left w chosen) (left w1 chosen) (left after_load chosen) (right w chosen) (right w1 chosen) (right after_load chosen)
       (left_row load.row) (left_row new) (redeemed_row load.row) load.member.float load.member.granted amount
       (subst (λ c. left w1 chosen + cond c (left_row load.row) 0 ≡ left w chosen + cond c (left_row new) 0) counts (left_set w p new load.row load.at refl chosen))
       (left_member w1 m paid load.member load.there chosen)
@@ -183,18 +182,16 @@ module _ (w : World) (m p : Name) (amount : ℕ) (reference : Name) (load : IsLo
   new_is_row : IsRow w.holders new
   new_is_row = record { holder = (is.rows p load.row load.at).holder; collected = λ k t. subst (λ x. IsSome (fmap.get x k)) (sym redemptions) ((is.rows p load.row load.at).collected k t) }
 
-  loaded_accounted : IsAccounted (change_member (change_row w p (loaded_row amount reference)) m (λ x. record x { float = x.float - amount }))
+  loaded_accounted : IsAccounted (loaded_world w m p amount reference)
   loaded_accounted = subst IsAccounted
       (sym (ap (λ x. change_member x m (λ y. record y { float = y.float - amount })) (change_there w p (loaded_row amount reference) load.row load.at)
       ∙ change_to (set_row w p new) m (λ x. record x { float = x.float - amount }) load.member load.there))
       (record { equal = loaded_equal; rows = rows_stay w p new new_is_row is })
 
-load_reply : (w : World) (m p : Name) (amount : ℕ) (reference : Name) → IsAccounted w → (o : Option Reply) → not_loaded w m p amount reference ≡ o → IsAccounted (load_done w m p amount reference o).world
-load_reply w m p amount reference is (Some x) e = is
-load_reply w m p amount reference is None e = loaded_accounted w m p amount reference (is_load w m p amount reference e) is
-
-load_accounted : (w : World) (m p : Name) (amount : ℕ) (reference : Name) → IsAccounted w → IsAccounted (load_purse w m p amount reference).world
-load_accounted w m p amount reference is = load_reply w m p amount reference is (not_loaded w m p amount reference) refl
+load_accounted : (w : World) (m p : Name) (amount : ℕ) (reference : Name) → IsAccounted w → (o : Option Reply) → idle_load w m p amount reference ≡ o
+    → IsAccounted (unless_told w o (tell (loaded_world w m p amount reference) reply.Loaded)).state
+load_accounted w m p amount reference is (Some x) e = is
+load_accounted w m p amount reference is None e = loaded_accounted w m p amount reference (is_load w m p amount reference e) is
 
 -- ---- a collect
 
@@ -293,40 +290,31 @@ module _ (w : World) (m : Name) where
         rows = collected_rows is;
       })
 
-collect_accounted : (w : World) (m : Name) → IsAccounted w → IsAccounted (collect w m).world
+collect_accounted : (w : World) (m : Name) → IsAccounted w → IsAccounted (collect w m).state
 collect_accounted w m is = unless_accounted w (collect_refusal w m) _ is (λ e.
-    let row = value_found (fmap.get w.members m) (some_of _ (none_refused _ _ _ e).0) in
+    let row = present (fmap.get w.members m) (none_refused _ _ _ e).0 in
     collected_accounted w m row.0 row.1 is)
 
 -- ---- each command
 
-base_accounted : (w : World) → IsAccounted w → (caller : Caller) (c : Command) → IsAccounted (base w caller c).world
+base_accounted : (w : World) → IsAccounted w → (caller : Caller) (c : Command) → IsAccounted (base w caller c).state
 base_accounted w is Operator (NewMember m t) = member_accounted w m t is
 base_accounted w is Operator (Grant m amount) = grant_accounted w m amount is
 base_accounted w is (Clerk m) (NewHolder h t) = holder_accounted w m h t is
 base_accounted w is (Clerk m) (NewPurse p h) = purse_accounted w m p h is
-base_accounted w is (Clerk m) (Load p amount reference) = load_accounted w m p amount reference is
+base_accounted w is (Clerk m) (Load p amount reference) = load_accounted w m p amount reference is (idle_load w m p amount reference) refl
 base_accounted w is (Clerk m) Collect = collect_accounted w m is
-base_accounted w is (Holder h) Purses = is
-base_accounted w is (Holder h) (Show p) = own_accounted w h p show is show_redeems
-base_accounted w is (Holder h) (StartFrom p peer value seq) = own_accounted w h p (start_from peer value seq) is (start_from_redeems peer value seq)
-base_accounted w is (Holder h) (StartTo p peer value seq) = own_accounted w h p (start_to peer value seq) is (start_to_redeems peer value seq)
-base_accounted w is (Holder h) (Handle p number) = own_accounted w h p (handle number) is (handle_redeems number)
-base_accounted w is (Holder h) (Discard p number) = own_accounted w h p (discard number) is (discard_redeems number)
-base_accounted w is (Holder h) (Abort p) = own_accounted w h p abort is abort_redeems
-base_accounted w is (Holder h) (Redeem p amount reference) = own_accounted w h p (redeem amount reference) is (redeem_redeems amount reference)
-base_accounted w is (Holder h) (Inbox p) = own_accounted w h p inbox is inbox_redeems
+base_accounted w is (Holder h) c = asks_accounted w h (asks c) is (each_rule c)
 base_accounted w is Operator c = is
 base_accounted w is (Clerk m) c = is
-base_accounted w is (Holder h) c = is
 
-pub after_accounted : (w : World) → IsAccounted w → (caller : Caller) (c : Command) → IsAccounted (after w caller c)
-unfolding after
-after_accounted w is caller c = send_accounted (base w caller c).world (base_accounted w is caller c) (base w caller c).sent
+step_accounted : (w : World) → IsAccounted w → (caller : Caller) (c : Command) → IsAccounted (step w caller c).world
+unfolding step
+step_accounted w is caller c = sent_accounted (base w caller c).state (base_accounted w is caller c) (base w caller c).sent
 
-run_accounted : (w : World) (cs : List Asked) → IsAccounted w → IsAccounted (world_after w cs)
+run_accounted : (w : World) (cs : List Asked) → IsAccounted w → IsAccounted (steps w cs).end
 run_accounted w [] is = is
-run_accounted w (c ∷ cs) is = run_accounted (after w c.0 c.1) cs (after_accounted w is c.0 c.1)
+run_accounted w (c ∷ cs) is = run_accounted (step w c.0 c.1).world cs (step_accounted w is c.0 c.1)
 
 -- ---- Worlds that commands lead to
 

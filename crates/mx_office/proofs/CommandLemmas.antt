@@ -1,119 +1,91 @@
 -- Each command of a holder on a purse: its decision is the step's.
-use Rattle.std.proofs.Common.{◌≡◌, ℕ, Bool, true, false, cond, [], ◌∷◌, Option, Some, None, Result, Ok, Err, refl, sym, ◌∙◌, ap, subst, is_some, is_none}
-use Rattle.std.specs.Prelude.{◌||◌}
+use Rattle.std.proofs.Common.{◌≡◌, ℕ, ◌+◌, Bool, true, false, cond, List, [], ◌∷◌, ◌++◌, Option, Some, None, Result, Ok, Err, refl, sym, ◌∙◌, ap, subst, arith, length, length-append, is_some, is_none, option_map, IsTrue, ◌≤◌, ◌^◌}
+use Rattle.std.specs.Prelude.{◌||◌, ◌==◌}
 use Rattle.std.specs.FinMap as fmap
+use Rattle.mx_pay.specs.Names.{is_name, is_name_text}
 use Rattle.mx_pay.specs.Details.{Details, is_details}
 use Rattle.mx_pay.specs.Log.{Entries, has_logged}
 use Rattle.mx_pay.proofs.SameLemmas.{has-with_entry}
 use Rattle.mx_purse.specs.State.{State, IsPurse}
-use Rattle.mx_purse.specs.declared.status.Status.TheVariants.{Epr, Epv}
+use Rattle.mx_purse.specs.declared.status.Status.{Status}
 use Rattle.mx_purse.specs.declared.message.Message.{Message}
-use Rattle.mx_purse.specs.declared.message.Message.TheVariants.{Req}
 use Rattle.mx_purse.specs.declared.message.Handled.{Handled}
 use Rattle.mx_purse.specs.declared.message.Handled.TheVariants as took
 use Rattle.mx_purse.specs.declared.refusals.StartRefusal.{StartRefusal}
-use Rattle.mx_purse.specs.Operations.{or_refused, unless_refused, pending, with_pending, lines_with, aborted, start_from_refusal, start_to_refusal, from_details, to_details, started, handled, after_message, sent_for}
-use Rattle.mx_purse.proofs.OperationLemmas.{aborted_is, started_from_is, started_to_is, after_message_is}
-use Rattle.mx_book.specs.declared.edits.Edit.TheVariants.{DropMessage}
-use Rattle.mx_book.specs.World.{World, Row, Holding, Name}
-use Rattle.mx_book.specs.Conditions.{IsWorld}
-use Rattle.mx_book.specs.Reads.{from_row, inbox_of, message_of}
-use Rattle.mx_book.proofs.PurseLemmas.{discard_leads, discard_suits, discard_stays}
+use Rattle.mx_purse.specs.declared.refusals.RedeemRefusal.{RedeemRefusal}
+use Rattle.mx_purse.specs.Operations.{or_refused, unless_refused, pending, with_pending, lines_with, aborted, started, handled, after_message, sent_for, redeem_refusal, redeemed}
+use Rattle.mx_purse.proofs.OperationLemmas.{aborted_is, after_message_is, after_message_name, redeemed_is}
+use Rattle.mx_book.specs.declared.edits.Edit.{Edit}
+use Rattle.mx_book.specs.declared.edits.Edit.TheVariants.{SetPurse, DropMessage, AddRedemption}
+use Rattle.mx_book.specs.declared.values.Line.{Line}
+use Rattle.mx_book.specs.declared.values.LineKind.TheVariants as kind
+use Rattle.mx_book.specs.World.{World, Row, Holding, Name, set_row}
+use Rattle.mx_book.specs.Conditions.{IsWorld, AreNumbered}
+use Rattle.mx_book.specs.Reads.{from_row, inbox_of, message_of, redemption_of}
+use Rattle.mx_book.proofs.MoneyLemmas.{with_redemption, redemptions_stay, redemption_leads, redemption_suits}
+use Rattle.mx_book.proofs.PurseLemmas.{with_lines, line_edits, discard_leads, discard_suits, discard_stays}
 use Rattle.mx_office.specs.declared.values.Decided.{Decided}
 use Rattle.mx_office.specs.declared.values.Reply.TheVariants as reply
-use Rattle.mx_office.specs.declared.values.Refusal.TheVariants.{NoSuchMessage}
-use Rattle.mx_office.specs.Step.{start_as, abort_line, message_line, tell, show, inbox, discard, abort, handle, handle_message, start_from, start_from_by, start_to, start_to_by, on_own}
-use Rattle.mx_office.specs.Decides.{Decides, own_purse, placed, purse_edits}
-use Rattle.mx_office.proofs.AccountLemmas.{IsNext, Follows, is_own, own_told_decides, own_edit_decides, changed_decides}
+use Rattle.mx_office.specs.declared.values.Refusal.{Refusal}
+use Rattle.mx_office.specs.declared.values.Refusal.TheVariants.{NoSuchMessage, RefReused}
+use Rattle.mx_office.specs.Step.{Deed, tell, unless, unless_told, on_found, in_place, idle, refusal_of_start, refusal_of_redeem, abort_line, message_line, money_line, listed, with_aborted, show, inbox, discard, abort, handle, handle_message, redeem, on_own}
+use Rattle.mx_office.specs.Decides.{Decides, own_purse, placed, purse_edits, redeem_edits}
+use Rattle.mx_office.proofs.DecideLemmas.{edits_decide, edit_decides}
+use Rattle.mx_office.proofs.AccountLemmas.{IsOwn, Follows, is_own, own_there, own_told, numbered_after, is_next, changed_decides}
+use Rattle.mx_office.proofs.OwnLemmas.{gone, present}
 
 -- ---- what is read
 
 pub show_decides : (w : World) (h p : Name) (q : State) (d : Decided) → IsWorld w → own_purse w h p ≡ Some q → d.reply ≡ reply.Shown q → d.edits ≡ [] → Decides w (on_own w h p show) d
 unfolding show
-show_decides w h p q d is own_is = let own = is_own w h p q own_is in
-    own_told_decides w h p show (reply.Shown q) d own.row is own.at own.owned (ap (λ x. tell own.row.holding (reply.Shown x)) own.purse)
-
-pub some_value : {X : Type 0} (o : Option X) → is_none o ≡ false → (x : X) × (o ≡ Some x)
-some_value None f = absurd (cc)
-some_value (Some x) f = (x, refl)
-
--- what is read of a row that is there
-inbox_at : (w : World) (p : Name) (r : Row) → fmap.get w.rows p ≡ Some r → inbox_of w p ≡ fmap.entries r.holding.inbox
-inbox_at w p r at = ap (from_row [] (λ (x : Row). fmap.entries x.holding.inbox)) at
-
-message_at : (w : World) (p : Name) (n : ℕ) (r : Row) → fmap.get w.rows p ≡ Some r → message_of w p n ≡ fmap.get r.holding.inbox n
-message_at w p n r at = ap (from_row None (λ (x : Row). fmap.get x.holding.inbox n)) at
+show_decides w h p q d is e = let own = is_own w h p q e in own_told w h p q own show (reply.Shown q) d is (ap (λ x. tell own.row.holding (reply.Shown x)) own.purse)
 
 pub inbox_decides : (w : World) (h p : Name) (d : Decided) → IsWorld w → is_none (own_purse w h p) ≡ false → d.reply ≡ reply.Inbox (inbox_of w p) → d.edits ≡ [] → Decides w (on_own w h p inbox) d
 unfolding inbox
 inbox_decides w h p d is there reply_is =
-    let found = some_value (own_purse w h p) there in
+    let found = present (own_purse w h p) there in
     let own = is_own w h p found.0 found.1 in
-    own_told_decides w h p inbox (reply.Inbox (fmap.entries own.row.holding.inbox)) d own.row is own.at own.owned refl (reply_is ∙ ap reply.Inbox (inbox_at w p own.row own.at))
+    own_told w h p found.0 own inbox (reply.Inbox (fmap.entries own.row.holding.inbox)) d is refl (reply_is ∙ ap (λ o. reply.Inbox (from_row [] (λ (x : Row). fmap.entries x.holding.inbox) o)) own.at)
 
--- ---- discard
+-- ---- messages
 
-discarded : (n : ℕ) (a : Holding) (b : Bool) → is_some (fmap.get a.inbox n) ≡ b → discard n a ≡ cond b (tell (record a { inbox = fmap.remove a.inbox n }) reply.Discarded) (tell a (reply.Refused NoSuchMessage))
-unfolding discard
-discarded n a b is = ap (λ x. cond x (tell (record a { inbox = fmap.remove a.inbox n }) reply.Discarded) (tell a (reply.Refused NoSuchMessage))) is
+-- the message of a number, in the row that is there
+message_at : (w : World) (p : Name) (n : ℕ) (r : Row) (o : Option Message) → fmap.get w.rows p ≡ Some r → message_of w p n ≡ o → fmap.get r.holding.inbox n ≡ o
+message_at w p n r o at is = sym (ap (from_row None (λ (x : Row). fmap.get x.holding.inbox n)) at) ∙ is
 
-none_some : {X : Type 0} (o : Option X) (b : Bool) → is_none o ≡ b → is_some o ≡ cond b false true
-none_some None b is = ap (λ x. cond x false true) is
-none_some (Some x) b is = ap (λ y. cond y false true) is
+-- no message has that number
+no_message : (w : World) (h p : Name) (n : ℕ) (q : State) (f : Holding → Message → Deed Holding) (d : Decided) → IsWorld w → own_purse w h p ≡ Some q → message_of w p n ≡ None → d.reply ≡ reply.Refused NoSuchMessage → d.edits ≡ []
+    → Decides w (on_own w h p (λ a. on_found a NoSuchMessage (fmap.get a.inbox n) (f a))) d
+no_message w h p n q f d is e none =
+    let own = is_own w h p q e in
+    own_told w h p q own _ (reply.Refused NoSuchMessage) d is (ap (λ o. on_found own.row.holding NoSuchMessage o (f own.row.holding)) (message_at w p n own.row None own.at none))
 
 pub no_message_decides : (w : World) (h p : Name) (n : ℕ) (d : Decided) → IsWorld w → is_none (own_purse w h p) ≡ false → is_none (message_of w p n) ≡ true → d.reply ≡ reply.Refused NoSuchMessage → d.edits ≡ [] → Decides w (on_own w h p (discard n)) d
-no_message_decides w h p n d is there none =
-    let found = some_value (own_purse w h p) there in
-    let own = is_own w h p found.0 found.1 in
-    own_told_decides w h p (discard n) (reply.Refused NoSuchMessage) d own.row is own.at own.owned
-    (discarded n own.row.holding false (ap is_some (sym (message_at w p n own.row own.at)) ∙ none_some _ true none))
+unfolding discard
+no_message_decides w h p n d is there none = let found = present (own_purse w h p) there in no_message w h p n found.0 _ d is found.1 (gone _ none)
 
 pub discard_decides : (w : World) (h p : Name) (n : ℕ) (d : Decided) → IsWorld w → is_none (own_purse w h p) ≡ false → is_none (message_of w p n) ≡ false → d.reply ≡ reply.Discarded → d.edits ≡ DropMessage p n ∷ [] → Decides w (on_own w h p (discard n)) d
+unfolding discard
 discard_decides w h p n d is there message =
-    let found = some_value (own_purse w h p) there in
+    let found = present (own_purse w h p) there in
     let own = is_own w h p found.0 found.1 in
-    let some : is_some (fmap.get own.row.holding.inbox n) ≡ true = ap is_some (sym (message_at w p n own.row own.at)) ∙ none_some _ false message in
-    own_edit_decides w h p (discard n) (record own.row.holding { inbox = fmap.remove own.row.holding.inbox n }) reply.Discarded (DropMessage p n) d own.row own.at own.owned
-    (discarded n own.row.holding true some)
-    (discard_leads w p n own.row own.at) (discard_suits w p n own.row own.at some) (discard_stays w p n own.row own.at is)
+    let m = present _ message in
+    let here : fmap.get own.row.holding.inbox n ≡ Some m.0 = message_at w p n own.row (Some m.0) own.at m.1 in
+    edit_decides w (on_own w h p (discard n)) (DropMessage p n) reply.Discarded d
+    (own_there w h p found.0 own (discard n)
+    ∙ ap (λ o. in_place (λ b. set_row w p (record own.row { holding = b })) (on_found own.row.holding NoSuchMessage o (λ _. tell (record own.row.holding { inbox = fmap.remove own.row.holding.inbox n }) reply.Discarded))) here
+    ∙ ap (λ x. tell x reply.Discarded) (sym (discard_leads w p n own.row own.at)))
+    (discard_suits w p n own.row own.at (ap is_some here)) (subst IsWorld (sym (discard_leads w p n own.row own.at)) (discard_stays w p n own.row own.at is))
 
--- ---- operations on the purse
+pub nothing_handled_decides : (w : World) (h p : Name) (n : ℕ) (q : State) (d : Decided) → IsWorld w → own_purse w h p ≡ Some q → message_of w p n ≡ None → d.reply ≡ reply.Refused NoSuchMessage → d.edits ≡ [] → Decides w (on_own w h p (handle n)) d
+unfolding handle
+nothing_handled_decides w h p n q d is e none = no_message w h p n q handle_message d is e none
 
-pub next_case : (p q : State) (o : Option Details) → q.lines ≡ lines_with p.lines o → IsNext p q (abort_line q o)
-next_case p q None is = is
-next_case p q (Some d) is = (is, refl)
-
-pub logged_case : (log : Entries) (o : Option Details) (d : Details) → has_logged log d ≡ true → has_logged (with_pending log o) d ≡ true
-logged_case log None d there = there
-logged_case log (Some e) d there = has-with_entry log e d ∙ ap (λ b. is_details d e || b) there ∙ or_true (is_details d e)
-  where
-    or_true : (b : Bool) → b || true ≡ true
-    or_true true = refl
-    or_true false = refl
-
--- what an abort leaves follows the purse, and so does what a start makes of it
-pub abort_follows : (p : State) → IsPurse p → Follows p (aborted p) (abort_line (aborted p) (pending p.status))
-abort_follows p is = record { name = refl; whole = aborted_is p is; next = next_case p (aborted p) (pending p.status) refl; logged = logged_case p.log (pending p.status) }
-
-from_follows : (p : State) (peer : Name) (value seq : ℕ) → IsPurse p → start_from_refusal p peer value ≡ None → (q : State) → q ≡ started p (Epr (from_details p peer value seq)) → Follows p q (abort_line q (pending p.status))
-from_follows p peer value seq is free q q_is = subst (λ x. Follows p x (abort_line x (pending p.status))) (sym q_is)
-    (record { name = refl; whole = started_from_is p peer value seq is free; next = next_case p (started p (Epr (from_details p peer value seq))) (pending p.status) refl; logged = logged_case p.log (pending p.status) })
-
-to_follows : (p : State) (peer : Name) (value seq : ℕ) → IsPurse p → start_to_refusal p peer ≡ None → (q : State) → q ≡ started p (Epv (to_details p peer value seq)) → Follows p q (abort_line q (pending p.status))
-to_follows p peer value seq is free q q_is = subst (λ x. Follows p x (abort_line x (pending p.status))) (sym q_is)
-    (record { name = refl; whole = started_to_is p peer value seq is free; next = next_case p (started p (Epv (to_details p peer value seq))) (pending p.status) refl; logged = logged_case p.log (pending p.status) })
-
-message_next : (p : State) (x : Handled) → IsNext p (after_message p x) (message_line (after_message p x) x)
-message_next p (took.Req d) = (refl, refl)
-message_next p (took.Val d) = (refl, refl)
-message_next p (took.Ack d) = refl
-message_next p took.Ignored = refl
-
-message_name : (p : State) (x : Handled) → (after_message p x).name ≡ p.name
-message_name p (took.Req d) = refl
-message_name p (took.Val d) = refl
-message_name p (took.Ack d) = refl
-message_name p took.Ignored = refl
+message_numbered : (p : State) (x : Handled) → AreNumbered (p.lines + 1) (listed (message_line (after_message p x) x)) × ((after_message p x).lines ≡ p.lines + length (listed (message_line (after_message p x) x)))
+message_numbered p (took.Req d) = ((refl, tt), omega arith)
+message_numbered p (took.Val d) = ((refl, tt), omega arith)
+message_numbered p (took.Ack d) = (tt, omega arith)
+message_numbered p took.Ignored = (tt, omega arith)
 
 message_log : (p : State) (x : Handled) → (after_message p x).log ≡ p.log
 message_log p (took.Req d) = refl
@@ -121,125 +93,150 @@ message_log p (took.Val d) = refl
 message_log p (took.Ack d) = refl
 message_log p took.Ignored = refl
 
-message_follows : (p : State) (m : Message) → IsPurse p → Follows p (after_message p (handled p m)) (message_line (after_message p (handled p m)) (handled p m))
-message_follows p m is = record {
-  name = message_name p (handled p m);
-  whole = after_message_is p m is;
-  next = message_next p (handled p m);
-  logged = λ d there. ap (λ log. has_logged log d) (message_log p (handled p m)) ∙ there;
-}
+message_follows : (p : State) (m : Message) → IsPurse p → Follows p (after_message p (handled p m)) (listed (message_line (after_message p (handled p m)) (handled p m)))
+message_follows p m is =
+    let x = handled p m in
+    record { name = after_message_name p x; whole = after_message_is p m is; numbered = (message_numbered p x).0; counted = (message_numbered p x).1; logged = λ d there. ap (λ log. has_logged log d) (message_log p x) ∙ there }
 
--- the answer of a start tells whether it is refused
+-- a purse that is found is whole
+whole : (w : World) (h p : Name) (q : State) → IsWorld w → IsOwn w h p q → IsPurse q
+whole w h p q is own = subst IsPurse own.purse (is.purses.each p own.row own.at).purse
+
+pub handle_decides : (w : World) (h p : Name) (n : ℕ) (q after : State) (m : Message) (x : Handled) (d : Decided) → IsWorld w → own_purse w h p ≡ Some q → message_of w p n ≡ Some m
+    → x ≡ handled q m → after ≡ after_message q (handled q m)
+    → d.reply ≡ reply.Handled x → d.edits ≡ purse_edits after (message_line after x) (placed w (sent_for x)) → Decides w (on_own w h p (handle n)) d
+unfolding handle
+handle_decides w h p n q after m x d is e message x_is after_is reply_is edits_is =
+    let own = is_own w h p q e in
+    let y = handled q m in
+    let now = after_message q y in
+    changed_decides w h p q own now (message_line now y) is (message_follows q m (whole w h p q is own)) (handle n) (reply.Handled y) (sent_for y) d
+    (ap (λ o. on_found own.row.holding NoSuchMessage o (handle_message own.row.holding)) (message_at w p n own.row (Some m) own.at message) ∙ rw own.purse refl)
+    (reply_is ∙ ap reply.Handled x_is) (edits_is ∙ (λ i. purse_edits (after_is i) (message_line (after_is i) (x_is i)) (placed w (sent_for (x_is i)))))
+
+-- ---- aborts and starts
+
+logged_case : (log : Entries) (o : Option Details) (d : Details) → has_logged log d ≡ true → has_logged (with_pending log o) d ≡ true
+logged_case log None d there = there
+logged_case log (Some e) d there = has-with_entry log e d ∙ ap (λ b. is_details d e || b) there ∙ or_true (is_details d e)
+  where
+    or_true : (b : Bool) → b || true ≡ true
+    or_true true = refl
+    or_true false = refl
+
+abort_numbered : (p q : State) (o : Option Details) → q.lines ≡ lines_with p.lines o → AreNumbered (p.lines + 1) (listed (abort_line q o)) × (q.lines ≡ p.lines + length (listed (abort_line q o)))
+abort_numbered p q None is = (tt, omega (arith, is))
+abort_numbered p q (Some d) is = ((is, tt), omega (arith, is))
+
+-- what an abort leaves follows the purse, and so does what a start makes of it
+abort_follows : (p q : State) → q.name ≡ p.name → q.lines ≡ (aborted p).lines → q.log ≡ (aborted p).log → IsPurse q → Follows p q (listed (abort_line q (pending p.status)))
+abort_follows p q name lines log is =
+    let next = abort_numbered p q (pending p.status) lines in
+    record { name = name; whole = is; numbered = next.0; counted = next.1; logged = λ d there. ap (λ l. has_logged l d) log ∙ logged_case p.log (pending p.status) d there }
+
+pub abort_decides : (w : World) (h p : Name) (q after : State) (d : Decided) → IsWorld w → own_purse w h p ≡ Some q → after ≡ aborted q
+    → d.reply ≡ reply.Aborted (is_some (pending q.status)) → d.edits ≡ purse_edits after (abort_line after (pending q.status)) None → Decides w (on_own w h p abort) d
+unfolding abort
+abort_decides w h p q after d is e after_is reply_is edits_is =
+    let own = is_own w h p q e in
+    let now = aborted q in
+    changed_decides w h p q own now (abort_line now (pending q.status)) is (abort_follows q now refl refl refl (aborted_is q (whole w h p q is own)))
+    abort (reply.Aborted (is_some (pending q.status))) None d (rw own.purse refl) reply_is (edits_is ∙ ap (λ x. purse_edits x (abort_line x (pending q.status)) None) after_is)
+
+-- what an operation with no output answers
+abbrev pub nothing : Unit {0}
+nothing = tt
+
+-- the answer of an operation tells whether it is refused
 pub not_refused : {A R : Type 0} (o : Option R) (a x : A) → or_refused o a ≡ Ok x → o ≡ None
 not_refused None a x e = refl
 not_refused (Some r) a x e = absurd (cc)
 
 pub is_refused : {A R : Type 0} (o : Option R) (a : A) (r : R) → or_refused o a ≡ Err r → o ≡ Some r
 is_refused None a r e = absurd (cc)
-is_refused {A = A} {R = R} (Some s) a r e = ap err_or e
-  where
-    err_or : Result A R → Option R
-    err_or (Ok x) = None
-    err_or (Err y) = Some y
+is_refused (Some s) a r e = cc
 
 same_answer : {A R : Type 0} (o : Option R) (a x : A) → or_refused o a ≡ Ok x → a ≡ x
 same_answer None a x e = cc
 same_answer (Some r) a x e = absurd (cc)
 
-pub abort_decides : (w : World) (h p : Name) (q after : State) (d : Decided) → IsWorld w → own_purse w h p ≡ Some q → after ≡ aborted q
-    → d.reply ≡ reply.Aborted (is_some (pending q.status)) → d.edits ≡ purse_edits after (abort_line after (pending q.status)) None → Decides w (on_own w h p abort) d
-unfolding abort
-abort_decides w h p q after d is own_is after_is reply_is edits_is =
-    let own = is_own w h p q own_is in
-    let r = own.row in
-    changed_decides w p r (aborted r.holding.purse) (abort_line (aborted r.holding.purse) (pending r.holding.purse.status)) is own.at (abort_follows r.holding.purse (is.purses.each p r own.at).purse)
-    h abort (reply.Aborted (is_some (pending r.holding.purse.status))) None d own.owned refl
-    (reply_is ∙ ap (λ (x : State). reply.Aborted (is_some (pending x.status))) (sym own.purse))
-    (edits_is ∙ ap (λ x. purse_edits x (abort_line x (pending q.status)) None) after_is ∙ ap (λ x. purse_edits (aborted x) (abort_line (aborted x) (pending x.status)) None) (sym own.purse))
+-- a start from a purse or to one, by its guards, its status and its details
+module _ (w : World) (h p : Name) (q : State) (f : Holding → Deed Holding) (o : Option StartRefusal) (status : Status) (details : Details) (sent : Details → Option (Name × Message))
+    (f_is : (a : Holding) → a.purse ≡ q → f a ≡ unless a (option_map refusal_of_start o) (record { state = with_aborted a (started q status); reply = reply.Started details; sent = sent details }))
+    (d : Decided) (is : IsWorld w) (e : own_purse w h p ≡ Some q) where
+  abbrev done : Holding → Deed Holding
+  done a = record { state = with_aborted a (started q status); reply = reply.Started details; sent = sent details }
 
--- a start that is refused
-from_refused : (a : Holding) (peer : Name) (value seq : ℕ) (o : Option StartRefusal) (r : StartRefusal) → o ≡ Some r → start_from_by a peer value seq o ≡ tell a (reply.Refused (start_as r))
-from_refused a peer value seq o r is = ap (start_from_by a peer value seq) is
+  pub start_refused : (r : StartRefusal) → or_refused o details ≡ Err r → d.reply ≡ reply.Refused (refusal_of_start r) → d.edits ≡ [] → Decides w (on_own w h p f) d
+  start_refused r refused =
+      let own = is_own w h p q e in
+      own_told w h p q own f (reply.Refused (refusal_of_start r)) d is (f_is own.row.holding own.purse ∙ ap (λ x. unless own.row.holding (option_map refusal_of_start x) (done own.row.holding)) (is_refused o details r refused))
 
-to_refused : (a : Holding) (peer : Name) (value seq : ℕ) (o : Option StartRefusal) (r : StartRefusal) → o ≡ Some r → start_to_by a peer value seq o ≡ tell a (reply.Refused (start_as r))
-to_refused a peer value seq o r is = ap (start_to_by a peer value seq) is
+  pub start_decides : (o ≡ None → IsPurse q → IsPurse (started q status)) → (after : State) (x : Details) → or_refused o details ≡ Ok x → after ≡ unless_refused o q (started q status)
+      → d.reply ≡ reply.Started x → d.edits ≡ purse_edits after (abort_line after (pending q.status)) (placed w (sent x)) → Decides w (on_own w h p f) d
+  start_decides stays after x accepted after_is reply_is edits_is =
+      let own = is_own w h p q e in
+      let free = not_refused o details x accepted in
+      let now = started q status in
+      let now_is : after ≡ now = after_is ∙ ap (λ y. unless_refused y q now) free in
+      let x_is : x ≡ details = sym (same_answer o details x accepted) in
+      changed_decides w h p q own now (abort_line now (pending q.status)) is (abort_follows q now refl refl refl (stays free (whole w h p q is own))) f (reply.Started details) (sent details) d
+      (f_is own.row.holding own.purse ∙ ap (λ y. unless own.row.holding (option_map refusal_of_start y) (done own.row.holding)) free ∙ rw own.purse refl)
+      (reply_is ∙ ap reply.Started x_is) (edits_is ∙ (λ i. purse_edits (now_is i) (abort_line (now_is i) (pending q.status)) (placed w (sent (x_is i)))))
 
-pub from_refused_decides : (w : World) (h p peer : Name) (value seq : ℕ) (q : State) (r : StartRefusal) (d : Decided) → IsWorld w → own_purse w h p ≡ Some q
-    → or_refused (start_from_refusal q peer value) (from_details q peer value seq) ≡ Err r → d.reply ≡ reply.Refused (start_as r) → d.edits ≡ [] → Decides w (on_own w h p (start_from peer value seq)) d
-unfolding start_from
-from_refused_decides w h p peer value seq q r d is own_is refused =
-    let own = is_own w h p q own_is in
-    own_told_decides w h p (start_from peer value seq) (reply.Refused (start_as r)) d own.row is own.at own.owned
-    (from_refused own.row.holding peer value seq _ r (ap (λ x. start_from_refusal x peer value) own.purse ∙ is_refused _ _ r refused))
+-- ---- a redemption
 
-pub to_refused_decides : (w : World) (h p peer : Name) (value seq : ℕ) (q : State) (r : StartRefusal) (d : Decided) → IsWorld w → own_purse w h p ≡ Some q
-    → or_refused (start_to_refusal q peer) (to_details q peer value seq) ≡ Err r → d.reply ≡ reply.Refused (start_as r) → d.edits ≡ [] → Decides w (on_own w h p (start_to peer value seq)) d
-unfolding start_to
-to_refused_decides w h p peer value seq q r d is own_is refused =
-    let own = is_own w h p q own_is in
-    own_told_decides w h p (start_to peer value seq) (reply.Refused (start_as r)) d own.row is own.at own.owned
-    (to_refused own.row.holding peer value seq _ r (ap (λ x. start_to_refusal x peer) own.purse ∙ is_refused _ _ r refused))
+redemption_at : (w : World) (p reference : Name) (r : Row) (o : Option ℕ) → fmap.get w.rows p ≡ Some r → redemption_of w p reference ≡ o → fmap.get r.holding.redemptions reference ≡ o
+redemption_at w p reference r o at is = sym (ap (from_row None (λ (x : Row). fmap.get x.holding.redemptions reference)) at) ∙ is
 
--- a start that is done
-pub start_from_decides : (w : World) (h p peer : Name) (value seq : ℕ) (q after : State) (x : Details) (d : Decided) → IsWorld w → own_purse w h p ≡ Some q
-    → or_refused (start_from_refusal q peer value) (from_details q peer value seq) ≡ Ok x
-    → after ≡ unless_refused (start_from_refusal q peer value) q (started q (Epr (from_details q peer value seq)))
-    → d.reply ≡ reply.Started x → d.edits ≡ purse_edits after (abort_line after (pending q.status)) None → Decides w (on_own w h p (start_from peer value seq)) d
-unfolding start_from
-start_from_decides w h p peer value seq q after x d is own_is done after_is reply_is edits_is =
-    let own = is_own w h p q own_is in
-    let r = own.row in
-    let free : start_from_refusal q peer value ≡ None = not_refused _ _ x done in
-    let here : start_from_refusal r.holding.purse peer value ≡ None = ap (λ y. start_from_refusal y peer value) own.purse ∙ free in
-    let now : State = started r.holding.purse (Epr (from_details r.holding.purse peer value seq)) in
-    let line = abort_line now (pending r.holding.purse.status) in
-    let now_is : after ≡ now = after_is ∙ ap (λ o. unless_refused o q (started q (Epr (from_details q peer value seq)))) free ∙ ap (λ y. started y (Epr (from_details y peer value seq))) (sym own.purse) in
-    changed_decides w p r now line is own.at (from_follows r.holding.purse peer value seq (is.purses.each p r own.at).purse here now refl)
-    h (start_from peer value seq) (reply.Started (from_details r.holding.purse peer value seq)) None d own.owned (ap (start_from_by r.holding peer value seq) here)
-    (reply_is ∙ ap reply.Started (sym (same_answer _ _ x done)) ∙ ap (λ y. reply.Started (from_details y peer value seq)) (sym own.purse))
-    (edits_is ∙ ap (λ y. purse_edits y (abort_line y (pending q.status)) None) now_is ∙ ap (λ y. purse_edits now (abort_line now (pending y.status)) None) (sym own.purse))
+redeem_follows : (p : State) (amount : ℕ) (reference : Name) → IsPurse p → redeem_refusal p amount ≡ None
+    → Follows p (redeemed p amount) (listed (abort_line (aborted p) (pending p.status)) ++ money_line (redeemed p amount) kind.Redeemed amount reference ∷ [])
+redeem_follows p amount reference is free =
+    let logged_lines = listed (abort_line (aborted p) (pending p.status)) in
+    let rest = abort_follows p (aborted p) refl refl refl (aborted_is p is) in
+    let lines = rest.counted in
+    record {
+      name = refl;
+      whole = redeemed_is p amount is free;
+      numbered = numbered_after (p.lines + 1) ((aborted p).lines + 1) logged_lines _ (omega (arith, lines)) rest.numbered (refl, tt);
+      counted = omega (arith, lines, length-append logged_lines (money_line (redeemed p amount) kind.Redeemed amount reference ∷ []));
+      logged = rest.logged;
+    }
 
-pub start_to_decides : (w : World) (h p peer : Name) (value seq : ℕ) (q after : State) (x : Details) (d : Decided) → IsWorld w → own_purse w h p ≡ Some q
-    → or_refused (start_to_refusal q peer) (to_details q peer value seq) ≡ Ok x
-    → after ≡ unless_refused (start_to_refusal q peer) q (started q (Epv (to_details q peer value seq)))
-    → d.reply ≡ reply.Started x → d.edits ≡ purse_edits after (abort_line after (pending q.status)) (placed w (Some (peer, Req x))) → Decides w (on_own w h p (start_to peer value seq)) d
-unfolding start_to
-start_to_decides w h p peer value seq q after x d is own_is done after_is reply_is edits_is =
-    let own = is_own w h p q own_is in
-    let r = own.row in
-    let free : start_to_refusal q peer ≡ None = not_refused _ _ x done in
-    let here : start_to_refusal r.holding.purse peer ≡ None = ap (λ y. start_to_refusal y peer) own.purse ∙ free in
-    let now : State = started r.holding.purse (Epv (to_details r.holding.purse peer value seq)) in
-    let line = abort_line now (pending r.holding.purse.status) in
-    let now_is : after ≡ now = after_is ∙ ap (λ o. unless_refused o q (started q (Epv (to_details q peer value seq)))) free ∙ ap (λ y. started y (Epv (to_details y peer value seq))) (sym own.purse) in
-    let x_is : x ≡ to_details r.holding.purse peer value seq = sym (same_answer _ _ x done) ∙ ap (λ y. to_details y peer value seq) (sym own.purse) in
-    changed_decides w p r now line is own.at (to_follows r.holding.purse peer value seq (is.purses.each p r own.at).purse here now refl)
-    h (start_to peer value seq) (reply.Started (to_details r.holding.purse peer value seq)) (Some (peer, Req (to_details r.holding.purse peer value seq))) d own.owned (ap (start_to_by r.holding peer value seq) here)
-    (reply_is ∙ ap reply.Started x_is)
-    (edits_is ∙ ap (λ y. purse_edits y (abort_line y (pending q.status)) (placed w (Some (peer, Req x)))) now_is ∙ ap (λ y. purse_edits now (abort_line now (pending y.status)) (placed w (Some (peer, Req x)))) (sym own.purse) ∙ ap (λ y. purse_edits now line (placed w (Some (peer, Req y)))) x_is)
+module _ (w : World) (h p : Name) (amount : ℕ) (reference : Name) (q : State) (d : Decided) (is : IsWorld w) (e : own_purse w h p ≡ Some q) where
+  -- a reference that a redemption has
+  pub redeem_repeated : (before : ℕ) → redemption_of w p reference ≡ Some before → d.reply ≡ cond (before == amount) reply.Redeemed (reply.Refused RefReused) → d.edits ≡ [] → Decides w (on_own w h p (redeem amount reference)) d
+  unfolding redeem
+  redeem_repeated before had =
+      let own = is_own w h p q e in
+      own_told w h p q own (redeem amount reference) _ d is (rw (redemption_at w p reference own.row (Some before) own.at had) refl)
 
--- ---- handle
+  -- a redemption that is refused
+  pub redeem_refuses : (x : RedeemRefusal) → redemption_of w p reference ≡ None → or_refused (redeem_refusal q amount) nothing ≡ Err x → d.reply ≡ reply.Refused (refusal_of_redeem x) → d.edits ≡ [] → Decides w (on_own w h p (redeem amount reference)) d
+  unfolding redeem
+  redeem_refuses x new refused =
+      let own = is_own w h p q e in
+      own_told w h p q own (redeem amount reference) (reply.Refused (refusal_of_redeem x)) d is (rw (redemption_at w p reference own.row None own.at new, own.purse, is_refused (redeem_refusal q amount) _ x refused) refl)
 
-message_here : (w : World) (p : Name) (n : ℕ) (r : Row) (o : Option Message) → fmap.get w.rows p ≡ Some r → message_of w p n ≡ o → handle n r.holding ≡ handle_message r.holding o
-unfolding handle
-message_here w p n r o at is = ap (handle_message r.holding) (sym (message_at w p n r at) ∙ is)
-
-pub nothing_handled_decides : (w : World) (h p : Name) (n : ℕ) (q : State) (d : Decided) → IsWorld w → own_purse w h p ≡ Some q → message_of w p n ≡ None → d.reply ≡ reply.Refused NoSuchMessage → d.edits ≡ [] → Decides w (on_own w h p (handle n)) d
-nothing_handled_decides w h p n q d is own_is none =
-    let own = is_own w h p q own_is in
-    own_told_decides w h p (handle n) (reply.Refused NoSuchMessage) d own.row is own.at own.owned (message_here w p n own.row None own.at none)
-
-pub handle_decides : (w : World) (h p : Name) (n : ℕ) (q after : State) (m : Message) (x : Handled) (d : Decided) → IsWorld w → own_purse w h p ≡ Some q → message_of w p n ≡ Some m
-    → x ≡ handled q m → after ≡ after_message q (handled q m)
-    → d.reply ≡ reply.Handled x → d.edits ≡ purse_edits after (message_line after x) (placed w (sent_for x)) → Decides w (on_own w h p (handle n)) d
-handle_decides w h p n q after m x d is own_is message x_is after_is reply_is edits_is =
-    let own = is_own w h p q own_is in
-    let r = own.row in
-    let y : Handled = handled r.holding.purse m in
-    let now : State = after_message r.holding.purse y in
-    let y_is : x ≡ y = x_is ∙ ap (λ s. handled s m) (sym own.purse) in
-    let now_is : after ≡ now = after_is ∙ ap (λ s. after_message s (handled s m)) (sym own.purse) in
-    changed_decides w p r now (message_line now y) is own.at (message_follows r.holding.purse m (is.purses.each p r own.at).purse)
-    h (handle n) (reply.Handled y) (sent_for y) d own.owned (message_here w p n r (Some m) own.at message)
-    (reply_is ∙ ap reply.Handled y_is)
-    (edits_is ∙ ap (λ s. purse_edits s (message_line s x) (placed w (sent_for x))) now_is ∙ ap (λ z. purse_edits now (message_line now z) (placed w (sent_for z))) y_is)
+  pub redeem_made : (rested after : State) → redemption_of w p reference ≡ None → IsTrue (is_name_text reference) → amount ≤ 10 ^ 12
+      → or_refused (redeem_refusal q amount) nothing ≡ Ok nothing → after ≡ unless_refused (redeem_refusal q amount) q (redeemed q amount) → rested ≡ aborted q
+      → d.reply ≡ reply.Redeemed → d.edits ≡ redeem_edits after (abort_line rested (pending q.status)) amount reference → Decides w (on_own w h p (redeem amount reference)) d
+  unfolding redeem
+  redeem_made rested after new text small accepted after_is rested_is reply_is edits_is =
+      let own = is_own w h p q e in
+      let free : redeem_refusal q amount ≡ None = not_refused _ _ nothing accepted in
+      let now : State = redeemed q amount in
+      let now_is : after ≡ now = after_is ∙ ap (λ o. unless_refused o q now) free in
+      let ls : List Line = listed (abort_line (aborted q) (pending q.status)) ++ money_line now kind.Redeemed amount reference ∷ [] in
+      let follows = redeem_follows q amount reference (whole w h p q is own) free in
+      let next = is_next w p (λ r. is_name h r.holder) q own now ls is follows in
+      let fresh = redemption_at w p reference own.row None own.at new in
+      let v : World = set_row w p (with_redemption (with_lines own.row now ls) reference amount) in
+      edits_decide w v (on_own w h p (redeem amount reference)) reply.Redeemed None ((SetPurse now ∷ line_edits p ls) ++ AddRedemption p reference amount ∷ []) d
+      (own_there w h p q own (redeem amount reference) ∙ rw (fresh, own.purse, free) refl)
+      (redemption_suits w p own.row now ls reference amount own.at next.named next.numbered fresh)
+      (redemption_leads w p own.row now ls reference amount own.at next.named)
+      (redemptions_stay w p own.row now ls reference amount own.at next.named follows.whole next.numbered next.counted next.logged text small is)
+      reply_is
+      (edits_is ∙ (λ i. redeem_edits (now_is i) (abort_line (rested_is i) (pending q.status)) amount reference)
+      ∙ (λ i. next.edits i ++ AddRedemption (next.named i) reference amount ∷ []))

@@ -2,8 +2,10 @@
 use Rattle.std.proofs.Common.{◌≡◌, ℕ, ◌<◌, ◌≤◌, ◌^◌, Bool, true, false, cond, List, [], ◌∷◌, Option, Some, None, refl, sym, ◌∙◌, ap, subst, arith, length, IsSome, IsNone, IsTrue, is_some, is_none, not, option_map, option_and_then}
 use Rattle.std.specs.Prelude.{nat_le, nat_lt, ◌&&◌}
 use Rattle.std.proofs.lemmas.Bool.Decides.{nat_tests}
+use Rattle.std.proofs.lemmas.Option.{cond_some}
 use Rattle.std.specs.FinMap as fmap
 use Rattle.mx_pay.specs.Names.{is_name_text}
+use Rattle.mx_purse.specs.declared.message.Message.{Message}
 use Rattle.mx_book.specs.declared.edits.Edit.{Edit}
 use Rattle.mx_book.specs.declared.edits.Edit.TheVariants.{NewMember, NewHolder, NewPurse}
 use Rattle.mx_book.specs.declared.values.HolderRow.{HolderRow}
@@ -11,50 +13,38 @@ use Rattle.mx_book.specs.declared.values.Account as given
 use Rattle.mx_book.specs.World.{World, Row, Name, Token, is_of, has_room}
 use Rattle.mx_book.specs.Conditions.{IsWorld}
 use Rattle.mx_book.specs.Reads.{from_row, who_of, purses_of, holder_of, account_of, account_with}
-use Rattle.mx_book.specs.Edits.{Fits, Suits, edited, all_edited}
+use Rattle.mx_book.specs.Edits.{Fits, Suits, AllSuit, edited, all_edited}
 use Rattle.mx_book.proofs.FoundLemmas.{inside}
 use Rattle.mx_book.proofs.PurseLemmas.{member_stays, holder_stays, new_purse_stays}
 use Rattle.mx_office.specs.declared.values.Decided.{Decided}
 use Rattle.mx_office.specs.declared.values.Refusal.{Refusal}
 use Rattle.mx_office.specs.declared.values.Reply.{Reply}
 use Rattle.mx_office.specs.declared.values.Reply.TheVariants.{Added, Refused}
-use Rattle.mx_office.specs.Step.{Done, done, send, first_refusal, unless, new_member, new_holder, new_purse}
+use Rattle.mx_office.specs.Step.{Deed, tell, put_sent, first_refusal, unless, new_member, new_holder, new_purse}
+use Rattle.mx_office.proofs.OwnLemmas.{absent, present, next, none_left}
 use Rattle.mx_office.specs.Decides.{Decides, finds_place, purse_count}
 
--- ---- decisions of no edit and of one
+-- ---- decisions
+
+-- these edits lead to what is done
+pub edits_decide : (w v : World) (to : Deed World) (r : Reply) (sent : Option (Name × Message)) (es : List Edit) (d : Decided) → to ≡ record { state = v; reply = r; sent = sent }
+    → AllSuit w es → all_edited w es ≡ put_sent v sent → IsWorld (put_sent v sent) → d.reply ≡ r → d.edits ≡ es → Decides w to d
+edits_decide w v to r sent es d to_is suit lead stays reply_is edits_are = record {
+  reply = reply_is ∙ sym (ap (λ x. x.reply) to_is);
+  fits = subst (Fits w) (sym edits_are) (record { each = suit; end = subst IsWorld (sym lead) stays });
+  leads = ap (all_edited w) edits_are ∙ lead ∙ sym (ap (λ x. put_sent x.state x.sent) to_is);
+}
 
 -- nothing changes, and this is told
-pub told_decides : (w : World) (to : Done) (reply : Reply) (d : Decided) → IsWorld w → to ≡ done w reply → d.reply ≡ reply → d.edits ≡ [] → Decides w to d
-told_decides w to reply d h to_is reply_is edits_are = record {
-  reply = reply_is ∙ sym (ap (λ x. x.reply) to_is);
-  fits = subst (Fits w) (sym edits_are) (record { each = tt; end = h });
-  leads = ap (all_edited w) edits_are ∙ sym (ap (λ x. send x.world x.sent) to_is);
-}
+pub told_decides : (w : World) (to : Deed World) (r : Reply) (d : Decided) → IsWorld w → to ≡ tell w r → d.reply ≡ r → d.edits ≡ [] → Decides w to d
+told_decides w to r d h to_is = edits_decide w w to r None [] d to_is tt refl h
 
 -- one edit leads there
-pub edit_decides : (w : World) (to : Done) (e : Edit) (reply : Reply) (d : Decided) → to ≡ done (edited w e) reply → Suits w e → IsWorld (edited w e) → d.reply ≡ reply → d.edits ≡ e ∷ [] → Decides w to d
-edit_decides w to e reply d to_is suits stays reply_is edits_are = record {
-  reply = reply_is ∙ sym (ap (λ x. x.reply) to_is);
-  fits = subst (Fits w) (sym edits_are) (record { each = (suits, tt); end = stays });
-  leads = ap (all_edited w) edits_are ∙ sym (ap (λ x. send x.world x.sent) to_is);
-}
-
--- ---- the first refusal that applies
-
-pub first : (b : Bool) (r : Refusal) (xs : List (Bool × Refusal)) → b ≡ true → first_refusal ((b, r) ∷ xs) ≡ Some r
-unfolding first_refusal
-first b r xs t = ap (λ x. cond x (Some r) (first_refusal xs)) t
-
-pub next : (b : Bool) (r : Refusal) (xs : List (Bool × Refusal)) (o : Option Refusal) → b ≡ false → first_refusal xs ≡ o → first_refusal ((b, r) ∷ xs) ≡ o
-unfolding first_refusal
-next b r xs o f rest = ap (λ x. cond x (Some r) (first_refusal xs)) f ∙ rest
-
-pub none_left : first_refusal [] ≡ None
-unfolding first_refusal
-none_left = refl
+pub edit_decides : (w : World) (to : Deed World) (e : Edit) (r : Reply) (d : Decided) → to ≡ tell (edited w e) r → Suits w e → IsWorld (edited w e) → d.reply ≡ r → d.edits ≡ e ∷ [] → Decides w to d
+edit_decides w to e r d to_is suits stays = edits_decide w (edited w e) to r None (e ∷ []) d to_is (suits, tt) refl stays
 
 -- a refusal
-pub refused_decides : (w : World) (o : Option Refusal) (x : Done) (r : Refusal) (d : Decided) → IsWorld w → o ≡ Some r → d.reply ≡ Refused r → d.edits ≡ [] → Decides w (unless w o x) d
+pub refused_decides : (w : World) (o : Option Refusal) (x : Deed World) (r : Refusal) (d : Decided) → IsWorld w → o ≡ Some r → d.reply ≡ Refused r → d.edits ≡ [] → Decides w (unless w o x) d
 refused_decides w o x r d h o_is = told_decides w (unless w o x) (Refused r) d h (ap (λ y. unless w y x) o_is)
 
 -- ---- what reads tell of rows
@@ -69,33 +59,21 @@ holder_given w h b is = sym (holder_case _ (fmap.get w.holders h)) ∙ is
 
 -- ---- new members, holders and purses
 
-not_some : {X : Type 0} (o : Option X) → is_some o ≡ false → IsNone o
-not_some None f = refl
-not_some (Some x) f = absurd (cc)
-
-not_none : {X : Type 0} (o : Option X) → is_none o ≡ false → IsSome o
-not_none None f = absurd (cc)
-not_none (Some x) f = refl
-
 pub new_member_decides : (w : World) (m : Name) (t : Token) (d : Decided) → IsWorld w → IsTrue (is_name_text m) → is_some (fmap.get w.members m) ≡ false → is_some (who_of w t) ≡ false → d.reply ≡ Added → d.edits ≡ NewMember m t ∷ [] → Decides w (new_member w m t) d
 new_member_decides w m t d h text no_member no_token reply edits =
-    let suits : Suits w (NewMember m t) = (not_some _ no_member, not_some _ no_token) in
+    let suits : Suits w (NewMember m t) = (no_member, no_token) in
     edit_decides w (new_member w m t) (NewMember m t) Added d
-    (ap (λ o. unless w o (done (edited w (NewMember m t)) Added)) (next _ _ _ _ no_member (next _ _ _ _ no_token none_left)))
+    (ap (λ o. unless w o (tell (edited w (NewMember m t)) Added)) (next _ _ _ _ no_member (next _ _ _ _ no_token none_left)))
     suits (member_stays w m t suits text h) reply edits
 
 pub new_holder_decides : (w : World) (m h : Name) (t : Token) (d : Decided) → IsWorld w → IsTrue (is_name_text h) → is_none (fmap.get w.members m) ≡ false → is_some (fmap.get w.holders h) ≡ false → is_some (who_of w t) ≡ false → d.reply ≡ Added → d.edits ≡ NewHolder h m t ∷ [] → Decides w (new_holder w m h t) d
 new_holder_decides w m h t d is text member no_holder no_token reply edits =
-    let suits : Suits w (NewHolder h m t) = (not_some _ no_holder, not_none _ member, not_some _ no_token) in
+    let suits : Suits w (NewHolder h m t) = (no_holder, ap is_some (present _ member).1, no_token) in
     edit_decides w (new_holder w m h t) (NewHolder h m t) Added d
-    (ap (λ o. unless w o (done (edited w (NewHolder h m t)) Added)) (next _ _ _ _ member (next _ _ _ _ no_holder (next _ _ _ _ no_token none_left))))
+    (ap (λ o. unless w o (tell (edited w (NewHolder h m t)) Added)) (next _ _ _ _ member (next _ _ _ _ no_holder (next _ _ _ _ no_token none_left))))
     suits (holder_stays w h m t suits text is) reply edits
 
 -- what the count of a holder's purses tells
-held_some : (b : Bool) (n k : ℕ) → cond b (Some k) None ≡ Some n → (b ≡ true) × (n ≡ k)
-held_some true n k e = (refl, sym (inside k n e))
-held_some false n k e = absurd (cc)
-
 held_none : (b : Bool) (k : ℕ) → cond b (Some k) None ≡ None → not b ≡ true
 held_none true k e = absurd (cc)
 held_none false k e = refl
@@ -104,10 +82,10 @@ pub no_holder : (w : World) (m h : Name) → purse_count w m h ≡ None → not 
 no_holder w m h e = held_none _ _ e
 
 pub a_holder : (w : World) (m h : Name) (n : ℕ) → purse_count w m h ≡ Some n → not (is_of m (fmap.get w.holders h)) ≡ false
-a_holder w m h n e = ap not (held_some _ n _ e).0
+a_holder w m h n e = ap not (cond_some _ _ n e).0
 
 pub held_count : (w : World) (m h : Name) (n : ℕ) → purse_count w m h ≡ Some n → n ≡ length (purses_of w h)
-held_count w m h n e = (held_some _ n _ e).1
+held_count w m h n e = sym (cond_some _ _ n e).1
 
 pub many_held : (w : World) (m h : Name) (n : ℕ) (b : Bool) → purse_count w m h ≡ Some n → nat_le 64 n ≡ b → nat_le 64 (length (purses_of w h)) ≡ b
 many_held w m h n b e is = ap (nat_le 64) (sym (held_count w m h n e)) ∙ is
@@ -159,14 +137,10 @@ given_room w p a is = given_case (fmap.get w.rows p) is
 
 pub new_purse_decides : (w : World) (m p h : Name) (d : Decided) → IsWorld w → IsTrue (is_name_text p) → not (is_of m (fmap.get w.holders h)) ≡ false → is_some (fmap.get w.rows p) ≡ false → nat_le 64 (length (purses_of w h)) ≡ false → d.reply ≡ Added → d.edits ≡ NewPurse p h ∷ [] → Decides w (new_purse w m p h) d
 new_purse_decides w m p h d is text holder no_purse few reply edits =
-    let suits : Suits w (NewPurse p h) = (nothing _ no_purse, of_there m _ holder) in
+    let suits : Suits w (NewPurse p h) = (absent _ no_purse, of_there m _ holder) in
     edit_decides w (new_purse w m p h) (NewPurse p h) Added d
-    (ap (λ o. unless w o (done (edited w (NewPurse p h)) Added)) (next _ _ _ _ holder (next _ _ _ _ no_purse (next _ _ _ _ few none_left))))
+    (ap (λ o. unless w o (tell (edited w (NewPurse p h)) Added)) (next _ _ _ _ holder (next _ _ _ _ no_purse (next _ _ _ _ few none_left))))
     suits (new_purse_stays w p h suits text (below_64 _ few) is) reply edits
   where
-    nothing : {X : Type 0} (o : Option X) → is_some o ≡ false → o ≡ None
-    nothing None f = refl
-    nothing (Some x) f = absurd (cc)
-
     below_64 : (n : ℕ) → nat_le 64 n ≡ false → n < 64
     below_64 n f = grind (arith, nat_tests, f)

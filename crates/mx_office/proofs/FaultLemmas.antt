@@ -11,7 +11,7 @@ use Rattle.mx_office.specs.declared.values.Refusal.{Refusal}
 use Rattle.mx_office.specs.declared.values.Reply.{Reply}
 use Rattle.mx_office.specs.declared.values.Reply.TheVariants as reply
 use Rattle.mx_office.specs.Faults.{reads_list, is_read, is_refused, takes_memory, MayFail}
-use Rattle.mx_office.specs.Step.{answered}
+use Rattle.mx_office.specs.Step.{step}
 
 neither : (a b c : Bool) → (IsTrue b → ⊥) → (IsTrue c → ⊥) → IsTrue (a || not (b || c))
 neither true b c reads refuses = refl
@@ -25,11 +25,11 @@ which (reply.Refused x) is = (x, refl)
 which r is = absurd (cc)
 
 -- a decision that has edits, and isn't refused, is on a command that takes memory
-pub writes : (w : World) (caller : Caller) (command : Command) (r : Reply) (es : List Edit) → r ≡ answered w caller command
+pub writes : (w : World) (caller : Caller) (command : Command) (r : Reply) (es : List Edit) → r ≡ (step w caller command).reply
     → ((x : Refusal) → r ≡ reply.Refused x → ⊥) → (IsTrue (is_read command) → es ≡ []) → (es ≡ [] → ⊥) → IsTrue (takes_memory w caller command)
 writes w caller command r es is accepted reads some =
-    neither (reads_list command) (is_read command) (is_refused (answered w caller command)) (λ t. some (reads t))
-    (λ t. let x = which (answered w caller command) t in accepted x.0 (is ∙ x.1))
+    neither (reads_list command) (is_read command) (is_refused (step w caller command).reply) (λ t. some (reads t))
+    (λ t. let x = which (step w caller command).reply t in accepted x.0 (is ∙ x.1))
 
 -- why a command that takes memory may fail
 pub memory_fails : (fails : StoreFault → Type 0) (w : World) (caller : Caller) (command : Command) (e : StoreFault) → IsTrue (takes_memory w caller command) → (e ≡ Memory) ⊎ fails e → MayFail fails w caller command e

@@ -1,265 +1,246 @@
--- Each command's change of the World, cut to one holder, is what the holder's view alone gives.
-use Rattle.std.proofs.Common.{◌≡◌, Bool, true, false, cond, List, [], ◌∷◌, ◌++◌, refl, sym, ◌∙◌, ap, Option, Some, None, ◌&&◌, option_and_then, option_map, ℕ}
-use Rattle.std.specs.Prelude.{◌-◌, is_none, is_some}
+-- The law of isolation: each command's change of the World, cut to one holder, is what the holder's view alone gives.
+use Rattle.std.proofs.Common.{◌≡◌, Bool, true, false, cond, List, [], ◌∷◌, ◌++◌, append_assoc, refl, sym, ◌∙◌, ap, Option, Some, None, ◌&&◌, option_and_then, option_map, ℕ}
+use Rattle.std.proofs.lemmas.List.{append-nil}
+use Rattle.std.proofs.lemmas.Option.{option_and_then_some}
+use Rattle.std.specs.Option.{option_map_or}
+use Rattle.std.specs.Prelude.{map, filter, is_none, is_some}
 use Rattle.std.specs.FinMap as fmap
 use Rattle.mx_pay.specs.Names.{name_cmp, is_name}
 use Rattle.mx_purse.specs.declared.message.Message.{Message}
 use Rattle.mx_book.specs.declared.values.Caller.{Caller}
 use Rattle.mx_book.specs.declared.values.Caller.TheVariants.{Operator, Clerk, Holder}
-use Rattle.mx_book.specs.World.{World, Row, Holding, Name, is_of_member, with_collected, all_collected, set_row, change_row, changed_row, has_room, delivered, with_message, new_row}
 use Rattle.mx_book.specs.declared.values.MemberRow.{MemberRow}
+use Rattle.mx_book.specs.Maps.{picked, with_picked}
+use Rattle.mx_book.specs.World.{World, Row, Holding, Name, is_of_member, with_collected, all_collected, set_row, change_row, changed_row, change_holding, has_room, delivered, with_message, new_row}
+use Rattle.mx_book.specs.Reads.{purses_of}
+use Rattle.mx_book.proofs.FoundLemmas.{inside, none_found}
+use Rattle.mx_book.proofs.MapLemmas.{get-pick, entries-pick, pick-insert, pick-skip}
 use Rattle.mx_book.proofs.NameLemmas.{names_total, names_exact, same_name}
+use Rattle.mx_book.proofs.UnderLemmas.{get-remake}
 use Rattle.mx_office.specs.declared.values.Command.{Command}
-use Rattle.mx_office.specs.declared.values.Command.TheVariants.{NewMember, Grant, NewHolder, NewPurse, Load, Collect, Purses, Show, StartFrom, StartTo, Handle, Discard, Abort, Redeem, Inbox}
+use Rattle.mx_office.specs.declared.values.Command.TheVariants.{NewMember, Grant, NewHolder, NewPurse, Load, Collect}
 use Rattle.mx_office.specs.declared.values.Refusal.{Refusal}
 use Rattle.mx_office.specs.declared.values.Refusal.TheVariants.{NoSuchPurse}
 use Rattle.mx_office.specs.declared.values.Reply.{Reply}
 use Rattle.mx_office.specs.declared.values.Reply.TheVariants as reply
-use Rattle.mx_office.specs.Step.{Deed, Done, loaded_holding, loaded_row, load_done, not_loaded, changed_member, change_member, first_refusal, on_own, on_own_row, on_row, refused, done, unless, new_purse_refusal, base, after, send, show, start_from, start_to, handle, discard, abort, redeem, inbox}
-use Rattle.mx_office.specs.Isolation.{Event, Holdings, is_owned, own_event, issued_event, put_event, view_of, enters, on_holding, on_holding_at, own, happens, change, changed, local, owned_holding, cut}
-use Rattle.mx_book.proofs.MapLemmas.{get-pick, pick-insert, pick-skip}
-use Rattle.mx_book.proofs.UnderLemmas.{get-remake}
+use Rattle.mx_office.specs.Step.{Deed, Asks, Asked, Course, ends, tell, unless, unless_told, on_found, in_place, asks, owned_holding, own_holding, on_world, loaded_holding, loaded_row, loaded_world, idle_load, change_member, first_refusal, new_purse_refusal, base, put_sent, step, steps, course}
+use Rattle.mx_office.proofs.OwnLemmas.{absent, none_refused, own_at, is_owned}
+use Rattle.mx_office.specs.Isolation.{Event, Holdings, only_if, for_holder, issued_event, put_event, view_of, view, on_holdings, with_changed, after_event, local, cut, told_to}
 
 -- ---- what is cut out
 
-get-cut : (w : World) (h p : Name) (o : Option Row) → fmap.get w.rows p ≡ o → fmap.get (cut w h) p ≡ option_and_then (owned_holding h) o
-get-cut w h p o is = get-pick names_total (owned_holding h) w.rows p ∙ ap (option_and_then (owned_holding h)) is
+get-cut : (w : World) (h p : Name) → fmap.get (cut w h) p ≡ own_holding w h p
+get-cut w h p = get-pick names_total (owned_holding h) w.rows p
 
-owned : (h : Name) (r : Row) → is_name h r.holder ≡ true → owned_holding h r ≡ Some r.holding
-owned h r t = ap (λ b. cond b (Some r.holding) None) t
-
-not_owned : (h : Name) (r : Row) → is_name h r.holder ≡ false → owned_holding h r ≡ None
-not_owned h r f = ap (λ b. cond b (Some r.holding) None) f
-
-get-owned : (w : World) (h p : Name) (r : Row) → fmap.get w.rows p ≡ Some r → is_name h r.holder ≡ true → fmap.get (cut w h) p ≡ Some r.holding
-get-owned w h p r at t = get-cut w h p (Some r) at ∙ owned h r t
-
-get-not_owned : (w : World) (h p : Name) (r : Row) → fmap.get w.rows p ≡ Some r → is_name h r.holder ≡ false → fmap.get (cut w h) p ≡ None
-get-not_owned w h p r at f = get-cut w h p (Some r) at ∙ not_owned h r f
-
--- a row of the holder is written
+-- a row of the holder is written, or another's where none was the holder's
 cut-own : (w : World) (h p : Name) (r : Row) → is_name h r.holder ≡ true → cut (set_row w p r) h ≡ fmap.insert (cut w h) p r.holding
-cut-own w h p r t = pick-insert names_total (owned_holding h) names_exact w.rows p r r.holding (owned h r t)
+cut-own w h p r t = pick-insert names_total (owned_holding h) names_exact w.rows p r r.holding (ap (λ b. cond b (Some r.holding) None) t)
 
--- another's row is written in the place of another's
-cut-other : (w : World) (h p : Name) (r s : Row) → fmap.get w.rows p ≡ Some s → is_name h s.holder ≡ false → is_name h r.holder ≡ false → cut (set_row w p r) h ≡ cut w h
-cut-other w h p r s at f g = pick-skip names_total (owned_holding h) names_exact w.rows p r (not_owned h r g) (ap (option_and_then (owned_holding h)) at ∙ not_owned h s f)
+cut-other : (w : World) (h p : Name) (r : Row) → own_holding w h p ≡ None → is_name h r.holder ≡ false → cut (set_row w p r) h ≡ cut w h
+cut-other w h p r none f = pick-skip names_total (owned_holding h) names_exact w.rows p r (ap (λ b. cond b (Some r.holding) None) f) none
 
--- another's row is written where there was none
-cut-new : (w : World) (h p : Name) (r : Row) → fmap.get w.rows p ≡ None → is_name h r.holder ≡ false → cut (set_row w p r) h ≡ cut w h
-cut-new w h p r at g = pick-skip names_total (owned_holding h) names_exact w.rows p r (not_owned h r g) (ap (option_and_then (owned_holding h)) at)
-
--- ---- an holding that is changed, whoever's it is
-
-change_case : (w : World) (h p : Name) (f : Row → Row) (g : Holding → Holding) → ((r : Row) → (f r).holder ≡ r.holder) → ((r : Row) → (f r).holding ≡ g r.holding)
-    → (r : Row) → fmap.get w.rows p ≡ Some r → (b : Bool) → is_name h r.holder ≡ b → cut (set_row w p (f r)) h ≡ change (cut w h) p g
-change_case w h p f g holder holding r at true t =
-    cut-own w h p (f r) (ap (is_name h) (holder r) ∙ t) ∙ ap (fmap.insert (cut w h) p) (holding r) ∙ sym (ap (changed (cut w h) p g) (get-owned w h p r at t))
-change_case w h p f g holder holding r at false t =
-    cut-other w h p (f r) r at t (ap (is_name h) (holder r) ∙ t) ∙ sym (ap (changed (cut w h) p g) (get-not_owned w h p r at t))
-
-change_at : (w : World) (h p : Name) (f : Row → Row) (g : Holding → Holding) → ((r : Row) → (f r).holder ≡ r.holder) → ((r : Row) → (f r).holding ≡ g r.holding)
-    → (o : Option Row) → fmap.get w.rows p ≡ o → cut (changed_row w p f o) h ≡ change (cut w h) p g
-change_at w h p f g holder holding None at = sym (ap (changed (cut w h) p g) (get-cut w h p None at))
-change_at w h p f g holder holding (Some r) at = change_case w h p f g holder holding r at (is_name h r.holder) refl
-
-cut-change : (w : World) (h p : Name) (f : Row → Row) (g : Holding → Holding) → ((r : Row) → (f r).holder ≡ r.holder) → ((r : Row) → (f r).holding ≡ g r.holding)
-    → cut (change_row w p f) h ≡ change (cut w h) p g
-cut-change w h p f g holder holding = change_at w h p f g holder holding (fmap.get w.rows p) refl
-
--- a change of what isn't there
-change-none : (m : Holdings) (p : Name) (g : Holding → Holding) → fmap.get m p ≡ None → change m p g ≡ m
-change-none m p g none = ap (changed m p g) none
-
+-- a write of what is there
 insert_case : {X : Type 0} (b : Bool) (x : X) (o : Option X) → (b ≡ true → o ≡ Some x) → cond b (Some x) o ≡ o
 insert_case true x o h = sym (h refl)
 insert_case false x o h = refl
 
--- a write of what is there
-pub insert-same : {X : Type 0} (m : fmap.FinMap name_cmp X) (p : Name) (x : X) → fmap.get m p ≡ Some x → fmap.insert m p x ≡ m
+insert-same : {X : Type 0} (m : fmap.FinMap name_cmp X) (p : Name) (x : X) → fmap.get m p ≡ Some x → fmap.insert m p x ≡ m
 insert-same m p x at = fmap.same_map names_total names_exact _ _ (λ q.
     fmap.get-insert names_total m p x q ∙ insert_case _ x (fmap.get m q) (λ t. ap (fmap.get m) (same_name q p t) ∙ at))
 
+-- ---- a holding that is changed
+
+changed_at : (w : World) (h p : Name) (g : Holding → Holding) (o : Option Holding) → own_holding w h p ≡ o → with_changed (cut w h) p g ≡ option_map_or (λ a. fmap.insert (cut w h) p (g a)) o (cut w h)
+changed_at w h p g o at = ap (λ x. option_map_or (λ a. fmap.insert (cut w h) p (g a)) x (cut w h)) (get-cut w h p ∙ at)
+
 -- a change to the same
-change-same : (m : Holdings) (p : Name) (g : Holding → Holding) (a : Holding) → fmap.get m p ≡ Some a → g a ≡ a → change m p g ≡ m
-change-same m p g a at same = ap (changed m p g) at ∙ ap (fmap.insert m p) same ∙ insert-same m p a at
+changed-same : (w : World) (h p : Name) (g : Holding → Holding) (o : Option Holding) → own_holding w h p ≡ o → ((a : Holding) → o ≡ Some a → g a ≡ a) → with_changed (cut w h) p g ≡ cut w h
+changed-same w h p g None at same = changed_at w h p g None at
+changed-same w h p g (Some a) at same = changed_at w h p g (Some a) at ∙ ap (fmap.insert (cut w h) p) (same a refl) ∙ insert-same (cut w h) p a (get-cut w h p ∙ at)
 
--- ---- a message that is put
+module _ (w : World) (h p : Name) (f : Row → Row) (g : Holding → Holding) (holder : (r : Row) → (f r).holder ≡ r.holder) (holding : (r : Row) → (f r).holding ≡ g r.holding) where
+  row_case : (r : Row) → fmap.get w.rows p ≡ Some r → (b : Bool) → is_name h r.holder ≡ b → cut (set_row w p (f r)) h ≡ with_changed (cut w h) p g
+  row_case r at true t = cut-own w h p (f r) (ap (is_name h) (holder r) ∙ t) ∙ ap (fmap.insert (cut w h) p) (holding r) ∙ sym (changed_at w h p g _ (own_at w h p r true at t))
+  row_case r at false t = let none = own_at w h p r false at t in cut-other w h p (f r) none (ap (is_name h) (holder r) ∙ t) ∙ sym (changed_at w h p g None none)
 
-put_case : (w : World) (h p : Name) (m : Message) (r : Row) → fmap.get w.rows p ≡ Some r → (b c : Bool) → is_name h r.holder ≡ b → has_room r.holding ≡ c
-    → change (cut w h) p (λ a. with_message a m) ≡ local (cut w h) (cond (b && c) (Event.Put p m ∷ []) [])
-put_case w h p m r at true true t room = refl
-put_case w h p m r at true false t room = change-same (cut w h) p (λ a. with_message a m) r.holding (get-owned w h p r at t) (ap (λ b. cond b (delivered r.holding m) r.holding) room)
-put_case w h p m r at false c t room = change-none (cut w h) p (λ a. with_message a m) (get-not_owned w h p r at t)
+  change_case : (o : Option Row) → fmap.get w.rows p ≡ o → cut (changed_row w p f o) h ≡ with_changed (cut w h) p g
+  change_case None at = sym (changed_at w h p g None (ap (option_and_then (owned_holding h)) at))
+  change_case (Some r) at = row_case r at (is_name h r.holder) refl
 
-put_row : (w : World) (h p : Name) (m : Message) (o : Option Row) → fmap.get w.rows p ≡ o → change (cut w h) p (λ a. with_message a m) ≡ local (cut w h) (cond (enters h o) (Event.Put p m ∷ []) [])
-put_row w h p m None at = change-none (cut w h) p (λ a. with_message a m) (get-cut w h p None at)
-put_row w h p m (Some r) at = put_case w h p m r at (is_name h r.holder) (has_room r.holding) refl refl
+  -- whoever's it is
+  cut-change : cut (change_row w p f) h ≡ with_changed (cut w h) p g
+  cut-change = change_case (fmap.get w.rows p) refl
 
-cut-send : (w : World) (h : Name) (sent : Option (Name × Message)) → cut (send w sent) h ≡ local (cut w h) (put_event w h sent)
-cut-send w h None = refl
-cut-send w h (Some m) =
-    cut-change w h m.0 (λ r. record r { holding = with_message r.holding m.1 }) (λ a. with_message a m.1) (λ r. refl) (λ r. refl)
-    ∙ put_row w h m.0 m.1 (fmap.get w.rows m.0) refl
+cut-holding : (w : World) (h p : Name) (g : Holding → Holding) → cut (change_holding w p g) h ≡ with_changed (cut w h) p g
+cut-holding w h p g = cut-change w h p (λ r. record r { holding = g r.holding }) g (λ r. refl) (λ r. refl)
 
--- ---- a command of a holder on a purse
+-- ---- events that have no reply
 
--- of the holder: what it leaves
-own_case : (w : World) (h p : Name) (f : Holding → Deed) (r : Row) → fmap.get w.rows p ≡ Some r → (b : Bool) → is_name h r.holder ≡ b
-    → cut (cond b (on_row w p r (f r.holding)) (refused w NoSuchPurse)).world h ≡ (on_holding (cut w h) p f).accounts
-own_case w h p f r at true t =
-    cut-own w h p (record r { holding = (f r.holding).holding }) t ∙ sym (ap (λ o. (on_holding_at (cut w h) p f o).accounts) (get-owned w h p r at t))
-own_case w h p f r at false t = sym (ap (λ o. (on_holding_at (cut w h) p f o).accounts) (get-not_owned w h p r at t))
+abbrev silent : Holdings → Course Holdings Reply
+silent m = ends m []
 
-own_row : (w : World) (h p : Name) (f : Holding → Deed) (o : Option Row) → fmap.get w.rows p ≡ o → cut (on_own_row w h p f o).world h ≡ (on_holding (cut w h) p f).accounts
-own_row w h p f None at = sym (ap (λ o. (on_holding_at (cut w h) p f o).accounts) (get-cut w h p None at))
-own_row w h p f (Some r) at = own_case w h p f r at (is_name h r.holder) refl
+-- a change that is seen where it changes something
+seen : (w : World) (h p : Name) (g : Holding → Holding) (e : Event) (b : Bool) → after_event (cut w h) e ≡ silent (with_changed (cut w h) p g) → (b ≡ false → (a : Holding) → own_holding w h p ≡ Some a → g a ≡ a)
+    → local (cut w h) (only_if b e) ≡ silent (with_changed (cut w h) p g)
+seen w h p g e true is same = ap (λ (c : Course Holdings Reply). ends c.end (c.replies ++ [])) is
+seen w h p g e false is same = ap silent (sym (changed-same w h p g _ refl (same refl)))
 
--- of the holder: what is answered
-reply_case : (w : World) (h p : Name) (f : Holding → Deed) (r : Row) → fmap.get w.rows p ≡ Some r → (b : Bool) → is_name h r.holder ≡ b
-    → (cond b (on_row w p r (f r.holding)) (refused w NoSuchPurse)).reply ≡ (on_holding (cut w h) p f).reply
-reply_case w h p f r at true t = sym (ap (λ o. (on_holding_at (cut w h) p f o).reply) (get-owned w h p r at t))
-reply_case w h p f r at false t = sym (ap (λ o. (on_holding_at (cut w h) p f o).reply) (get-not_owned w h p r at t))
+put_law : (w : World) (h : Name) (sent : Option (Name × Message)) → local (cut w h) (put_event w h sent) ≡ silent (cut (put_sent w sent) h)
+put_law w h None = refl
+put_law w h (Some m) =
+    seen w h m.0 (λ a. with_message a m.1) (Event.Put m.0 m.1) _ refl (λ f a at. ap (λ b. cond b (delivered a m.1) a) (sym (ap (λ o. option_map_or has_room o false) at) ∙ f))
+    ∙ ap silent (sym (cut-holding w h m.0 (λ a. with_message a m.1)))
 
-pub reply_row : (w : World) (h p : Name) (f : Holding → Deed) (o : Option Row) → fmap.get w.rows p ≡ o → (on_own_row w h p f o).reply ≡ (on_holding (cut w h) p f).reply
-reply_row w h p f None at = sym (ap (λ o. (on_holding_at (cut w h) p f o).reply) (get-cut w h p None at))
-reply_row w h p f (Some r) at = reply_case w h p f r at (is_name h r.holder) refl
+-- ---- a command of a holder
 
--- of another holder: nothing is left
-other_case : (w : World) (h g p : Name) (f : Holding → Deed) (r : Row) → fmap.get w.rows p ≡ Some r → is_name h g ≡ false → (b : Bool) → is_name g r.holder ≡ b
-    → cut (cond b (on_row w p r (f r.holding)) (refused w NoSuchPurse)).world h ≡ cut w h
-other_case w h g p f r at apart true t =
-    let other : is_name h r.holder ≡ false = ap (is_name h) (sym (same_name g r.holder t)) ∙ apart in
-    cut-other w h p (record r { holding = (f r.holding).holding }) r at other other
-other_case w h g p f r at apart false t = refl
+-- the names of a holder's purses are the keys of what is cut out
+name_case : (k : Name) (r : Row) (b : Bool) (es : List (Name × Holding)) (fs : List (Name × Row)) → map (λ (e : Name × Row). e.0) fs ≡ map (λ (e : Name × Holding). e.0) es
+    → map (λ (e : Name × Row). e.0) (cond b ((k, r) ∷ fs) fs) ≡ map (λ (e : Name × Holding). e.0) (with_picked k (cond b (Some r.holding) None) es)
+name_case k r true es fs is = ap (λ ks. k ∷ ks) is
+name_case k r false es fs is = is
 
-other_row : (w : World) (h g p : Name) (f : Holding → Deed) (o : Option Row) → fmap.get w.rows p ≡ o → is_name h g ≡ false → cut (on_own_row w g p f o).world h ≡ cut w h
-other_row w h g p f None at apart = refl
-other_row w h g p f (Some r) at apart = other_case w h g p f r at apart (is_name g r.holder) refl
+names_picked : (h : Name) (es : List (Name × Row))
+    → map (λ (e : Name × Row). e.0) (filter (λ (e : Name × Row). is_name h e.1.holder) es) ≡ map (λ (e : Name × Holding). e.0) (picked (owned_holding h) es)
+names_picked h [] = refl
+names_picked h (e ∷ es) =
+    name_case e.0 e.1 (is_name h e.1.holder) (picked (owned_holding h) es) (filter (λ (x : Name × Row). is_name h x.1.holder) es) (names_picked h es)
 
-on_own_case : (w : World) (h g p : Name) (f : Holding → Deed) (c : Command) → ((m : Holdings) → own m c ≡ on_holding m p f) → (b : Bool) → is_name h g ≡ b
-    → cut (on_own w g p f).world h ≡ local (cut w h) (cond b (Event.Own c ∷ []) [] ++ [])
-on_own_case w h g p f c is true t =
-    ap (λ x. cut (on_own w x p f).world h) (sym (same_name h g t)) ∙ own_row w h p f (fmap.get w.rows p) refl ∙ sym (ap (λ x. x.accounts) (is (cut w h)))
-on_own_case w h g p f c is false t = other_row w h g p f (fmap.get w.rows p) refl t
+names-cut : (w : World) (h : Name) → fmap.keys (cut w h) ≡ purses_of w h
+names-cut w h = sym (names_picked h (fmap.entries w.rows) ∙ ap (map (λ (e : Name × Holding). e.0)) (sym (entries-pick names_total (owned_holding h) w.rows)))
 
--- the change of a holder's command on a purse
-on_own_law : (w : World) (h g p : Name) (f : Holding → Deed) (c : Command) → ((m : Holdings) → own m c ≡ on_holding m p f)
-    → cut (on_own w g p f).world h ≡ local (cut w h) (own_event h (Holder g) c ++ [])
-on_own_law w h g p f c is = on_own_case w h g p f c is (is_name h g) refl
+-- a deed, of which a holder sees what is cut out
+abbrev cut_deed : Name → Deed World → Deed Holdings
+cut_deed h d = record { state = cut d.state h; reply = d.reply; sent = d.sent }
 
--- a holder's command that changes nothing
-still_case : (m : Holdings) (c : Command) → (own m c).accounts ≡ m → (b : Bool) → m ≡ local m (cond b (Event.Own c ∷ []) [] ++ [])
-still_case m c is true = sym is
-still_case m c is false = refl
+rule_case : (w : World) (h p : Name) (f : Holding → Deed Holding) (o : Option Holding) → own_holding w h p ≡ o
+    → on_found (cut w h) NoSuchPurse o (λ a. in_place (fmap.insert (cut w h) p) (f a)) ≡ cut_deed h (on_found w NoSuchPurse o (λ a. in_place (λ b. change_holding w p (λ _. b)) (f a)))
+rule_case w h p f None at = refl
+rule_case w h p f (Some a) at = ap (λ m. in_place (λ b. m) (f a)) (sym (cut-holding w h p (λ _. (f a).state) ∙ changed_at w h p (λ _. (f a).state) (Some a) at))
 
-still_law : (w : World) (h g : Name) (c : Command) → ((m : Holdings) → (own m c).accounts ≡ m) → cut w h ≡ local (cut w h) (own_event h (Holder g) c ++ [])
-still_law w h g c is = still_case (cut w h) c (is (cut w h)) (is_name h g)
+-- what the holder asks comes to the same in the World and in the holdings
+asks_law : (w : World) (h : Name) (x : Asks) → on_holdings (cut w h) x ≡ cut_deed h (on_world w h x)
+asks_law w h Asks.Names = ap (λ ks. tell (cut w h) (reply.Purses ks)) (names-cut w h)
+asks_law w h (Asks.OnPurse p f) = ap (λ o. on_found (cut w h) NoSuchPurse o (λ a. in_place (fmap.insert (cut w h) p) (f a))) (get-cut w h p) ∙ rule_case w h p f (own_holding w h p) refl
+asks_law w h Asks.NotAHolders = refl
+
+other_case : (w : World) (h g p : Name) (f : Holding → Deed Holding) (o : Option Holding) → own_holding w g p ≡ o → is_name h g ≡ false
+    → cut (on_found w NoSuchPurse o (λ a. in_place (λ b. change_holding w p (λ _. b)) (f a))).state h ≡ cut w h
+other_case w h g p f None at apart = refl
+other_case w h g p f (Some a) at apart =
+    let r = is_owned w g p a at in
+    cut-holding w h p (λ _. (f a).state)
+    ∙ changed_at w h p (λ _. (f a).state) None (own_at w h p r.row false r.at (ap (is_name h) (sym (same_name g r.row.holder r.owned)) ∙ apart))
+
+other_law : (w : World) (h g : Name) (x : Asks) → is_name h g ≡ false → cut (on_world w g x).state h ≡ cut w h
+other_law w h g Asks.Names apart = refl
+other_law w h g (Asks.OnPurse p f) apart = other_case w h g p f (own_holding w g p) refl apart
+other_law w h g Asks.NotAHolders apart = refl
+
+-- a deed of a caller, of which the holder sees what is cut out and what is replied to the holder
+abbrev cut_course : Name → Caller → Deed World → Course Holdings Reply
+cut_course h caller d = ends (cut d.state h) (for_holder h caller d.reply)
+
+holder_law : (w : World) (h g : Name) (c : Command) (b : Bool) → is_name h g ≡ b
+    → local (cut w h) (only_if b (Event.Own c) ++ []) ≡ (let d = on_world w g (asks c) in ends (cut d.state h) (only_if b d.reply))
+holder_law w h g c true t =
+    ap (λ (d : Deed Holdings). ends d.state (d.reply ∷ [])) (asks_law w h (asks c))
+    ∙ ap (λ n. let d = on_world w n (asks c) in ends (cut d.state h) (d.reply ∷ [])) (same_name h g t)
+holder_law w h g c false t = ap silent (sym (other_law w h g (asks c) t))
 
 -- ---- a new purse
 
-pub none_refused : (b : Bool) (r : Refusal) (xs : List (Bool × Refusal)) → first_refusal ((b, r) ∷ xs) ≡ None → (b ≡ false) × (first_refusal xs ≡ None)
-unfolding first_refusal
-none_refused true r xs e = cc
-none_refused false r xs e = (refl, e)
-
-none_of : (o : Option Row) → is_some o ≡ false → o ≡ None
-none_of None e = refl
-none_of (Some r) e = cc
-
--- where a new purse isn't refused there is none of its name
-is_new : (w : World) (m p g : Name) → new_purse_refusal w m p g ≡ None → fmap.get w.rows p ≡ None
-is_new w m p g e = none_of (fmap.get w.rows p) (none_refused _ _ _ (none_refused _ _ _ e).1).0
-
-issued_case : (w : World) (h p g : Name) → fmap.get w.rows p ≡ None → (b : Bool) → is_name h g ≡ b → cut (set_row w p (new_row g p)) h ≡ local (cut w h) (cond b (Event.Issued p ∷ []) [])
-issued_case w h p g at true t = cut-own w h p (new_row g p) t
-issued_case w h p g at false t = cut-new w h p (new_row g p) at t
+issued_case : (w : World) (h p g : Name) → fmap.get w.rows p ≡ None → (b : Bool) → is_name h g ≡ b → local (cut w h) (only_if b (Event.Issued p)) ≡ silent (cut (set_row w p (new_row g p)) h)
+issued_case w h p g at true t = ap silent (sym (cut-own w h p (new_row g p) t))
+issued_case w h p g at false t = ap silent (sym (cut-other w h p (new_row g p) (ap (option_and_then (owned_holding h)) at) t))
 
 issued_law : (w : World) (h m p g : Name) (o : Option Refusal) → new_purse_refusal w m p g ≡ o
-    → cut (unless w o (done (set_row w p (new_row g p)) reply.Added)).world h ≡ local (cut w h) (cond (is_none o && is_name h g) (Event.Issued p ∷ []) [])
+    → local (cut w h) (only_if (is_none o && is_name h g) (Event.Issued p)) ≡ silent (cut (unless w o (tell (set_row w p (new_row g p)) reply.Added)).state h)
 issued_law w h m p g (Some r) e = refl
-issued_law w h m p g None e = issued_case w h p g (is_new w m p g e) (is_name h g) refl
+issued_law w h m p g None e = issued_case w h p g (absent _ (none_refused _ _ _ (none_refused _ _ _ e).1).0) (is_name h g) refl
 
 -- ---- grants, loads and collects
 
-member_case : (w : World) (h m : Name) (f : MemberRow → MemberRow) (o : Option MemberRow) → cut (changed_member w m f o) h ≡ cut w h
+member_case : (w : World) (h m : Name) (f : MemberRow → MemberRow) (o : Option MemberRow) → cut (option_map_or (λ row. let v : World = record w { members = fmap.insert w.members m (f row) } in v) o w) h ≡ cut w h
 member_case w h m f None = refl
 member_case w h m f (Some row) = refl
 
-cut-change_member : (w : World) (h m : Name) (f : MemberRow → MemberRow) → cut (change_member w m f) h ≡ cut w h
-cut-change_member w h m f = member_case w h m f (fmap.get w.members m)
-
-load_owner : (w : World) (h p : Name) (amount : ℕ) (reference : Name) (r : Row) (b : Bool) → fmap.get w.rows p ≡ Some r → is_name h r.holder ≡ b
-    → change (cut w h) p (λ a. loaded_holding a amount reference) ≡ local (cut w h) (cond b (Event.Loaded p reference amount ∷ []) [])
-load_owner w h p amount reference r true at t = refl
-load_owner w h p amount reference r false at t = change-none (cut w h) p (λ a. loaded_holding a amount reference) (get-not_owned w h p r at t)
-
-load_case : (w : World) (h p : Name) (amount : ℕ) (reference : Name) (o : Option Row) → fmap.get w.rows p ≡ o
-    → change (cut w h) p (λ a. loaded_holding a amount reference) ≡ local (cut w h) (cond (is_owned h o) (Event.Loaded p reference amount ∷ []) [])
-load_case w h p amount reference None at = change-none (cut w h) p (λ a. loaded_holding a amount reference) (get-cut w h p None at)
-load_case w h p amount reference (Some r) at = load_owner w h p amount reference r (is_name h r.holder) at refl
+cut-member : (w : World) (h m : Name) (f : MemberRow → MemberRow) → cut (change_member w m f) h ≡ cut w h
+cut-member w h m f = member_case w h m f (fmap.get w.members m)
 
 -- a load is an event where it adds a row
 load_law : (w : World) (h m p : Name) (amount : ℕ) (reference : Name) (x : Option Reply)
-    → cut (load_done w m p amount reference x).world h ≡ local (cut w h) (cond (is_none x && is_owned h (fmap.get w.rows p)) (Event.Loaded p reference amount ∷ []) [])
+    → local (cut w h) (only_if (is_none x && is_some (own_holding w h p)) (Event.Loaded p reference amount))
+    ≡ silent (cut (unless_told w x (tell (loaded_world w m p amount reference) reply.Loaded)).state h)
 load_law w h m p amount reference (Some r) = refl
 load_law w h m p amount reference None =
-    cut-change_member (change_row w p (loaded_row amount reference)) h m (λ row. record row { float = row.float - amount })
-    ∙ cut-change w h p (loaded_row amount reference) (λ a. loaded_holding a amount reference) (λ r. refl) (λ r. refl)
-    ∙ load_case w h p amount reference (fmap.get w.rows p) refl
+    seen w h p (λ a. loaded_holding a amount reference) (Event.Loaded p reference amount) _ refl (λ none a at. let there = ap is_some at in cc)
+    ∙ ap silent (sym (cut-member (change_row w p (loaded_row amount reference)) h m _
+    ∙ cut-change w h p (loaded_row amount reference) (λ a. loaded_holding a amount reference) (λ r. refl) (λ r. refl)))
 
 -- collected redemptions are none of what is cut out
-collected_case : (w : World) (h m : Name) (r : Row) (b : Bool) → owned_holding h (cond b (with_collected r) r) ≡ owned_holding h r
-collected_case w h m r true = refl
-collected_case w h m r false = refl
+collected_case : (h : Name) (r : Row) (b : Bool) → owned_holding h (cond b (with_collected r) r) ≡ owned_holding h r
+collected_case h r true = refl
+collected_case h r false = refl
 
 each_case : (w : World) (h m : Name) (o : Option Row) → option_and_then (owned_holding h) (option_map (λ r. cond (is_of_member w m r) (with_collected r) r) o) ≡ option_and_then (owned_holding h) o
 each_case w h m None = refl
-each_case w h m (Some r) = collected_case w h m r (is_of_member w m r)
+each_case w h m (Some r) = collected_case h r (is_of_member w m r)
 
 cut-collected : (w : World) (h m : Name) → cut (all_collected w m) h ≡ cut w h
 cut-collected w h m = fmap.same_map names_total names_exact _ _ (λ q.
-    get-pick names_total (owned_holding h) (all_collected w m).rows q
+    get-cut (all_collected w m) h q
     ∙ ap (option_and_then (owned_holding h)) (get-remake name_cmp (λ p r. cond (is_of_member w m r) (with_collected r) r) names_exact w.rows q)
     ∙ each_case w h m (fmap.get w.rows q)
-    ∙ sym (get-pick names_total (owned_holding h) w.rows q))
+    ∙ sym (get-cut w h q))
 
 -- ---- each command
 
 -- a command leaves what is cut out for h
-quiet : (w : World) (h : Name) (refusal : Option Refusal) (d : Done) → cut d.world h ≡ cut w h → cut (unless w refusal d).world h ≡ cut w h
+quiet : (w : World) (h : Name) (o : Option Reply) (d : Deed World) → cut d.state h ≡ cut w h → silent (cut w h) ≡ silent (cut (unless_told w o d).state h)
 quiet w h (Some r) d same = refl
-quiet w h None d same = same
+quiet w h None d same = ap silent (sym same)
 
 -- before a message that it sends is put
-base_law : (w : World) (h : Name) (caller : Caller) (c : Command) → cut (base w caller c).world h ≡ local (cut w h) (own_event h caller c ++ issued_event w h caller c)
+base_law : (w : World) (h : Name) (caller : Caller) (c : Command) → local (cut w h) (for_holder h caller (Event.Own c) ++ issued_event w h caller c) ≡ cut_course h caller (base w caller c)
 base_law w h Operator (NewMember m t) = quiet w h _ _ refl
-base_law w h Operator (Grant m amount) = quiet w h _ _ (cut-change_member w h m _)
+base_law w h Operator (Grant m amount) = quiet w h _ _ (cut-member w h m _)
 base_law w h (Clerk m) (NewHolder g t) = quiet w h _ _ refl
 base_law w h (Clerk m) (NewPurse p g) = issued_law w h m p g (new_purse_refusal w m p g) refl
-base_law w h (Clerk m) (Load p amount reference) = load_law w h m p amount reference (not_loaded w m p amount reference)
-base_law w h (Clerk m) Collect = quiet w h _ _ (cut-change_member (all_collected w m) h m _ ∙ cut-collected w h m)
-base_law w h (Holder g) Purses = still_law w h g Purses (λ m. refl)
-base_law w h (Holder g) (Show p) = on_own_law w h g p show (Show p) (λ m. refl)
-base_law w h (Holder g) (StartFrom p peer value seq) = on_own_law w h g p (start_from peer value seq) (StartFrom p peer value seq) (λ m. refl)
-base_law w h (Holder g) (StartTo p peer value seq) = on_own_law w h g p (start_to peer value seq) (StartTo p peer value seq) (λ m. refl)
-base_law w h (Holder g) (Handle p number) = on_own_law w h g p (handle number) (Handle p number) (λ m. refl)
-base_law w h (Holder g) (Discard p number) = on_own_law w h g p (discard number) (Discard p number) (λ m. refl)
-base_law w h (Holder g) (Abort p) = on_own_law w h g p abort (Abort p) (λ m. refl)
-base_law w h (Holder g) (Redeem p amount reference) = on_own_law w h g p (redeem amount reference) (Redeem p amount reference) (λ m. refl)
-base_law w h (Holder g) (Inbox p) = on_own_law w h g p inbox (Inbox p) (λ m. refl)
+base_law w h (Clerk m) (Load p amount reference) = load_law w h m p amount reference (idle_load w m p amount reference)
+base_law w h (Clerk m) Collect = quiet w h _ _ (cut-member (all_collected w m) h m _ ∙ cut-collected w h m)
+base_law w h (Holder g) c = holder_law w h g c (is_name h g) refl
 base_law w h Operator c = refl
 base_law w h (Clerk m) c = refl
-base_law w h (Holder g) c = still_law w h g c (λ m. refl)
 
-pub local-append : (m : Holdings) (xs ys : List Event) → local m (xs ++ ys) ≡ local (local m xs) ys
-local-append m [] ys = refl
-local-append m (x ∷ xs) ys = local-append (happens m x) xs ys
+-- a course, and then one over more
+abbrev pub and_then : {S X R : Type 0} → (S → X → Course S R) → Course S R → List X → Course S R
+and_then f c xs = ends (course f c.end xs).end (c.replies ++ (course f c.end xs).replies)
 
--- what one command leaves of the holder's accounts is what the view of it gives
-pub one_command : (w : World) (h : Name) (caller : Caller) (c : Command) → cut (after w caller c) h ≡ local (cut w h) (view_of w h caller c)
-unfolding after view_of
-one_command w h caller c =
-    cut-send (base w caller c).world h (base w caller c).sent
-    ∙ ap (λ m. local m (put_event (base w caller c).world h (base w caller c).sent)) (base_law w h caller c)
-    ∙ sym (local-append (cut w h) (own_event h caller c ++ issued_event w h caller c) (put_event (base w caller c).world h (base w caller c).sent))
+pub course-append : {S X R : Type 0} (f : S → X → Course S R) (s : S) (xs ys : List X) → course f s (xs ++ ys) ≡ and_then f (course f s xs) ys
+course-append f s [] ys = refl
+course-append {S = S} {R = R} f s (x ∷ xs) ys =
+    let rest = course f (f s x).end xs in
+    ap (λ (c : Course S R). ends c.end ((f s x).replies ++ c.replies)) (course-append f (f s x).end xs ys)
+    ∙ ap (ends (course f rest.end ys).end) (sym (append_assoc (f s x).replies rest.replies (course f rest.end ys).replies))
+
+-- what one command leaves of the holdings, and its reply to the holder, are what the view of it gives
+pub one_law : (w : World) (h : Name) (caller : Caller) (c : Command)
+    → local (cut w h) (view_of w h caller c) ≡ (let a = step w caller c in ends (cut a.world h) (for_holder h caller a.reply))
+unfolding step view_of
+one_law w h caller c =
+    let d = base w caller c in
+    let late = put_event d.state h d.sent in
+    course-append after_event (cut w h) (for_holder h caller (Event.Own c) ++ issued_event w h caller c) late
+    ∙ ap (λ x. and_then after_event x late) (base_law w h caller c)
+    ∙ ap (λ (x : Course Holdings Reply). ends x.end (for_holder h caller d.reply ++ x.replies)) (put_law d.state h d.sent)
+    ∙ ap (ends (cut (put_sent d.state d.sent) h)) (append-nil _)
+
+-- ---- runs
+
+pub run_law : (w : World) (h : Name) (cs : List Asked)
+    → local (cut w h) (view h w cs) ≡ (let all = steps w cs in ends (cut all.end h) (told_to h all.replies))
+run_law w h [] = refl
+run_law w h (c ∷ cs) =
+    course-append after_event (cut w h) (view_of w h c.0 c.1) (view h (step w c.0 c.1).world cs)
+    ∙ ap (λ x. and_then after_event x (view h (step w c.0 c.1).world cs)) (one_law w h c.0 c.1)
+    ∙ ap (λ (x : Course Holdings Reply). ends x.end (for_holder h c.0 (step w c.0 c.1).reply ++ x.replies)) (run_law (step w c.0 c.1).world h cs)

@@ -1,9 +1,10 @@
+pub mod OwnLemmas
 pub mod DecideLemmas
 pub mod AccountLemmas
 pub mod CommandLemmas
 pub mod MoneyLemmas
 pub mod LawLemmas
-pub mod RunLemmas
+pub mod RuleLemmas
 pub mod RefuseLemmas
 pub mod OutcomeLemmas
 pub mod EntrySumLemmas

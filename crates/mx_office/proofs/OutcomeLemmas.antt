@@ -6,16 +6,16 @@ use Rattle.mx_book.specs.declared.contract.StoreFault.{StoreFault}
 use Rattle.mx_office.specs.declared.values.Outcome.{Outcome}
 use Rattle.mx_office.specs.declared.values.Outcome.TheVariants.{Reply as Replied, Unavailable}
 use Rattle.mx_office.specs.declared.values.Reply.{Reply}
-use Rattle.mx_office.specs.Step.{Asked, after, answered}
+use Rattle.mx_office.specs.Step.{Asked, step}
 use Rattle.mx_office.specs.Run.{IsRun, MayBeUndone}
 
 module _ (fails : StoreFault → Type 0) where
   -- one command more, which is answered
-  run_replied : (w v : World) (cs : List Asked) (os : List Outcome) (c : Asked) (r : Reply) → IsRun fails w cs os v → r ≡ answered v c.0 c.1 → IsRun fails w (cs ++ c ∷ []) (os ++ Replied r ∷ []) (after v c.0 c.1)
-  run_replied w v [] [] c r is reply = (reply ∙ ap (λ x. answered x c.0 c.1) (sym is), ap (λ x. after x c.0 c.1) is)
+  run_replied : (w v : World) (cs : List Asked) (os : List Outcome) (c : Asked) (r : Reply) → IsRun fails w cs os v → r ≡ (step v c.0 c.1).reply → IsRun fails w (cs ++ c ∷ []) (os ++ Replied r ∷ []) (step v c.0 c.1).world
+  run_replied w v [] [] c r is reply = (reply ∙ ap (λ x. (step x c.0 c.1).reply) (sym is), ap (λ x. (step x c.0 c.1).world) is)
   run_replied w v [] (o ∷ os) c r is reply = absurd is
   run_replied w v (x ∷ cs) [] c r is reply = absurd is
-  run_replied w v (x ∷ cs) (Replied q ∷ os) c r is reply = (is.0, run_replied (after w x.0 x.1) v cs os c r is.1 reply)
+  run_replied w v (x ∷ cs) (Replied q ∷ os) c r is reply = (is.0, run_replied (step w x.0 x.1).world v cs os c r is.1 reply)
   run_replied w v (x ∷ cs) (Unavailable ∷ os) c r is reply = (is.0, run_replied w v cs os c r is.1 reply)
 
   -- one command more, which the book could not do
@@ -23,7 +23,7 @@ module _ (fails : StoreFault → Type 0) where
   run_undone w v [] [] c is why = (subst (λ x. MayBeUndone fails x c) (sym is) why, is)
   run_undone w v [] (o ∷ os) c is why = absurd is
   run_undone w v (x ∷ cs) [] c is why = absurd is
-  run_undone w v (x ∷ cs) (Replied q ∷ os) c is why = (is.0, run_undone (after w x.0 x.1) v cs os c is.1 why)
+  run_undone w v (x ∷ cs) (Replied q ∷ os) c is why = (is.0, run_undone (step w x.0 x.1).world v cs os c is.1 why)
   run_undone w v (x ∷ cs) (Unavailable ∷ os) c is why = (is.0, run_undone w v cs os c is.1 why)
 
   -- ---- the command at a place, as a loop meets it
@@ -32,7 +32,7 @@ module _ (fails : StoreFault → Type 0) where
   one_more cs i c lt at = take_more cs i c lt ∙ ap (λ x. take i cs ++ x ∷ []) (sym at)
 
   pub run_replied_at : (w v : World) (cs : List Asked) (i : ℕ) (c : Asked) (os more : List Outcome) (o : Outcome) (r : Reply) → i < length cs → c ≡ get_or cs i c → IsRun fails w (take i cs) os v
-      → r ≡ answered v c.0 c.1 → o ≡ Replied r → more ≡ os ++ o ∷ [] → IsRun fails w (take (i + 1) cs) more (after v c.0 c.1)
+      → r ≡ (step v c.0 c.1).reply → o ≡ Replied r → more ≡ os ++ o ∷ [] → IsRun fails w (take (i + 1) cs) more (step v c.0 c.1).world
   run_replied_at w v cs i c os more o r lt at is reply o_is more_is = rw (one_more cs i c lt at, more_is, o_is) (run_replied w v (take i cs) os c r is reply)
 
   pub run_undone_at : (w v : World) (cs : List Asked) (i : ℕ) (c : Asked) (os more : List Outcome) (o : Outcome) → i < length cs → c ≡ get_or cs i c → IsRun fails w (take i cs) os v

@@ -1,5 +1,5 @@
 -- Worlds that commands lead to.
-use Rattle.std.proofs.Common.{◌≡◌, List, [], ◌∷◌, ◌++◌, refl, ◌∙◌, ap, subst}
+use Rattle.std.proofs.Common.{◌≡◌, List, [], ◌∷◌, ◌++◌, ◌∙◌, ap, subst}
 use Rattle.mx_book.specs.World.{World, opening}
 use Rattle.mx_book.specs.declared.contract.StoreFault.{StoreFault}
 use Rattle.mx_book.specs.declared.values.Caller.{Caller}
@@ -8,20 +8,18 @@ use Rattle.mx_office.specs.declared.values.Outcome.{Outcome}
 use Rattle.mx_office.specs.declared.values.Outcome.TheVariants.{Reply as Replied, Unavailable}
 use Rattle.mx_office.specs.Reachable.{IsReachable}
 use Rattle.mx_office.specs.Run.{IsRun}
-use Rattle.mx_office.specs.Step.{Asked, after, world_after}
-
-after_more : (w : World) (cs : List Asked) (c : Asked) → world_after w (cs ++ c ∷ []) ≡ after (world_after w cs) c.0 c.1
-after_more w [] c = refl
-after_more w (x ∷ cs) c = after_more (after w x.0 x.1) cs c
+use Rattle.mx_office.specs.Step.{Asked, step, one_step}
+use Rattle.mx_office.proofs.LawLemmas.{course-append}
 
 -- one command more
-pub reachable_after : (w : World) (caller : Caller) (command : Command) → IsReachable w → IsReachable (after w caller command)
-reachable_after w caller command r = (r.0, r.1 ++ (caller, command) ∷ [], after_more (opening r.0) r.1 (caller, command) ∙ ap (λ x. after x caller command) r.2)
+pub reachable_after : (w : World) (caller : Caller) (command : Command) → IsReachable w → IsReachable (step w caller command).world
+reachable_after w caller command r =
+    (r.0, r.1 ++ (caller, command) ∷ [], ap (λ c. c.end) (course-append one_step (opening r.0) r.1 ((caller, command) ∷ [])) ∙ ap (λ x. (step x caller command).world) r.2)
 
 -- a run of commands, some of which the book could not do
 pub reachable_run : (fails : StoreFault → Type 0) (w end : World) (cs : List Asked) (os : List Outcome) → IsRun fails w cs os end → IsReachable w → IsReachable end
 reachable_run fails w end [] [] is r = subst IsReachable is r
 reachable_run fails w end [] (o ∷ os) is r = absurd is
 reachable_run fails w end (c ∷ cs) [] is r = absurd is
-reachable_run fails w end (c ∷ cs) (Replied x ∷ os) is r = reachable_run fails (after w c.0 c.1) end cs os is.1 (reachable_after w c.0 c.1 r)
+reachable_run fails w end (c ∷ cs) (Replied x ∷ os) is r = reachable_run fails (step w c.0 c.1).world end cs os is.1 (reachable_after w c.0 c.1 r)
 reachable_run fails w end (c ∷ cs) (Unavailable ∷ os) is r = reachable_run fails w end cs os is.1 r

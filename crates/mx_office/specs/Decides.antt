@@ -13,13 +13,13 @@ use Rattle.mx_book.specs.World.{World, Row, Name, is_of, is_of_member, has_room}
 use Rattle.mx_book.specs.Reads.{of_purse, purses_of}
 use Rattle.mx_book.specs.Edits.{Fits, all_edited}
 use Rattle.mx_office.specs.declared.values.Decided.{Decided}
-use Rattle.mx_office.specs.Step.{Done, send, listed, money_line}
+use Rattle.mx_office.specs.Step.{Deed, put_sent, listed, money_line}
 
 -- the reply of what is done, and edits that fit the World and lead to what is done, with the message put
-pub record Decides (w : World) (to : Done) (d : Decided) : Type 0 where
+pub record Decides (w : World) (to : Deed World) (d : Decided) : Type 0 where
   pub reply : d.reply ≡ to.reply
   pub fits : Fits w d.edits
-  pub leads : all_edited w d.edits ≡ send to.world to.sent
+  pub leads : all_edited w d.edits ≡ put_sent to.state to.sent
 
 -- how many purses a holder of a member has, and nothing where the member has no such holder
 abbrev pub purse_count : World → Name → Name → Option ℕ
@@ -42,17 +42,18 @@ abbrev pub placed : World → Option (Name × Message) → Option (Name × Messa
 placed w None = None
 placed w (Some m) = if finds_place w m.0 then Some m else None
 
--- an edit for each line of a purse, and for each message
-abbrev pub line_edits : Name → List Line → List Edit
-line_edits p ls = map (λ l. AddLine p l) ls
+-- the edits for a purse as it is now and its new lines
+abbrev pub purse_and_lines : State → List Line → List Edit
+purse_and_lines q ls = SetPurse q ∷ map (λ l. AddLine q.name l) ls
 
+-- an edit for a message
 abbrev pub put_edits : Option (Name × Message) → List Edit
 put_edits None = []
 put_edits (Some m) = AddMessage m.0 m.1 ∷ []
 
 -- the edits for a purse as it is now, its new line, and a message that finds a place
 abbrev pub purse_edits : State → Option Line → Option (Name × Message) → List Edit
-purse_edits q line m = (SetPurse q ∷ line_edits q.name (listed line)) ++ put_edits m
+purse_edits q line m = purse_and_lines q (listed line) ++ put_edits m
 
 -- how much a member was granted, and nothing where there is no such member
 abbrev pub granted_to : World → Name → ℕ
@@ -65,10 +66,9 @@ member_purse w m p = of_purse None (λ r. if is_of_member w m r then Some r.hold
 -- the edits of a load: the purse as it is now, its line, the load, and the member's row
 abbrev pub load_edits : State → ℕ → Name → Name → MemberRow → List Edit
 load_edits q amount reference m row =
-    SetPurse q ∷ AddLine q.name (money_line q kind.Loaded amount reference) ∷ AddLoad q.name reference amount
-    ∷ SetMember m row.granted (row.float - amount) ∷ []
+    purse_and_lines q (money_line q kind.Loaded amount reference ∷ []) ++ AddLoad q.name reference amount ∷ SetMember m row.granted (row.float - amount) ∷ []
 
 -- the edits of a redemption: the purse as it is now, its lines, and the redemption
 abbrev pub redeem_edits : State → Option Line → ℕ → Name → List Edit
 redeem_edits q logged amount reference =
-    SetPurse q ∷ (line_edits q.name (listed logged) ++ AddLine q.name (money_line q kind.Redeemed amount reference) ∷ AddRedemption q.name reference amount ∷ [])
+    purse_and_lines q (listed logged ++ money_line q kind.Redeemed amount reference ∷ []) ++ AddRedemption q.name reference amount ∷ []

@@ -8,7 +8,7 @@ use Rattle.mx_office.specs.declared.values.Command.{Command}
 use Rattle.mx_office.specs.declared.values.Command.TheVariants.{Grant, Purses, Show, Inbox}
 use Rattle.mx_office.specs.declared.values.Reply.{Reply}
 use Rattle.mx_office.specs.declared.values.Reply.TheVariants as reply
-use Rattle.mx_office.specs.Step.{answered}
+use Rattle.mx_office.specs.Step.{step}
 
 -- whether a command reads a list from the book, which takes memory
 abbrev pub reads_list : Command → Bool
@@ -31,7 +31,7 @@ is_refused r = Bool.false
 
 -- whether a command takes memory: it reads a list, or it writes and isn't refused
 abbrev pub takes_memory : World → Caller → Command → Bool
-takes_memory w caller command = reads_list command || not (is_read command || is_refused (answered w caller command))
+takes_memory w caller command = reads_list command || not (is_read command || is_refused (step w caller command).reply)
 
 -- why a decision on a command may fail, over a book whose reads may fail so
 abbrev pub MayNotDecide : (StoreFault → Type 0) → Command → StoreFault → Type 0

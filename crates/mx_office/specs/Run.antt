@@ -5,7 +5,7 @@ use Rattle.mx_book.specs.declared.contract.StoreFault.{StoreFault}
 use Rattle.mx_office.specs.declared.values.Outcome.{Outcome}
 use Rattle.mx_office.specs.declared.values.Outcome.TheVariants.{Reply as Replied, Unavailable}
 use Rattle.mx_office.specs.Faults.{MayFail}
-use Rattle.mx_office.specs.Step.{Asked, after, answered}
+use Rattle.mx_office.specs.Step.{Asked, step}
 
 -- there is a cause for which a command may be left undone, over a book whose reads may fail so
 abbrev pub MayBeUndone : (StoreFault → Type 0) → World → Asked → Type 0
@@ -15,7 +15,7 @@ MayBeUndone fails w c = (e : StoreFault) × MayFail fails w c.0 c.1 e
 -- reply of its step, or Unavailable, where it may be left undone and nothing was done
 abbrev pub IsRun : (StoreFault → Type 0) → World → List Asked → List Outcome → World → Type 0
 IsRun fails w [] [] end = w ≡ end
-IsRun fails w (c ∷ cs) (Replied r ∷ os) end = (r ≡ answered w c.0 c.1) × IsRun fails (after w c.0 c.1) cs os end
+IsRun fails w (c ∷ cs) (Replied r ∷ os) end = (r ≡ (step w c.0 c.1).reply) × IsRun fails (step w c.0 c.1).world cs os end
 IsRun fails w (c ∷ cs) (Unavailable ∷ os) end = MayBeUndone fails w c × IsRun fails w cs os end
 IsRun fails w _ _ end = ⊥
 

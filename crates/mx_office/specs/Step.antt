@@ -1,5 +1,6 @@
 -- What a command does to the World, and what is answered.
-use Rattle.std.specs.Prelude.{ℕ, ◌+◌, ◌-◌, ◌^◌, ◌==◌, nat_lt, nat_le, unwrap_or, option_map, not, Bool, if◌then◌else◌, List, [], ◌∷◌, ◌++◌, length, Option, Some, None, is_some, is_none}
+use Rattle.std.specs.Prelude.{ℕ, ◌+◌, ◌-◌, ◌^◌, ◌==◌, nat_lt, nat_le, unwrap_or, option_map, option_and_then, not, Bool, if◌then◌else◌, List, [], ◌∷◌, ◌++◌, length, Option, Some, None, is_some, is_none}
+use Rattle.std.specs.Option.{option_map_or}
 use Rattle.std.specs.FinMap as fmap
 use Rattle.mx_pay.specs.Names.{is_name}
 use Rattle.mx_pay.specs.Details.{Details}
@@ -23,7 +24,7 @@ use Rattle.mx_book.specs.declared.values.LineKind.{LineKind}
 use Rattle.mx_book.specs.declared.values.LineKind.TheVariants as kind
 use Rattle.mx_book.specs.declared.values.MemberRow.{MemberRow}
 use Rattle.mx_book.specs.declared.values.Note.TheVariants as note
-use Rattle.mx_book.specs.World.{World, Row, Holding, Name, Token, is_of, is_of_member, set_row, change_row, all_collected, new_row, put}
+use Rattle.mx_book.specs.World.{World, Row, Holding, Name, Token, is_of, is_of_member, set_row, change_row, change_holding, all_collected, new_row, put}
 use Rattle.mx_book.specs.Conditions.{all_granted}
 use Rattle.mx_book.specs.Reads.{who_of, purses_of, uncollected_of}
 use Rattle.mx_office.specs.declared.values.Command.{Command}
@@ -33,30 +34,57 @@ use Rattle.mx_office.specs.declared.values.Refusal.TheVariants.{NotForCaller, No
 use Rattle.mx_office.specs.declared.values.Reply.{Reply}
 use Rattle.mx_office.specs.declared.values.Reply.TheVariants as reply
 
+-- ---- what a command comes to
+
+-- what stands after it, the reply, and a message that is sent, with the purse to which it is sent. What stands is
+-- a holder's own of one purse, or of each of the holder's purses, or the World
+pub record Deed (S : Type 0) : Type 0 where
+  pub state : S
+  pub reply : Reply
+  pub sent : Option (Name × Message)
+
+-- nothing is sent
+abbrev pub tell : {S : Type 0} → S → Reply → Deed S
+tell s r = record { state = s; reply = r; sent = None }
+
+-- nothing changes, and this is refused
+abbrev pub refuse : {S : Type 0} → S → Refusal → Deed S
+refuse s r = tell s (reply.Refused r)
+
+-- this is done, unless there is a reply that changes nothing
+abbrev pub unless_told : {S : Type 0} → S → Option Reply → Deed S → Deed S
+unless_told s (Some r) d = tell s r
+unless_told s None d = d
+
+-- this is done, unless there is a refusal
+abbrev pub unless : {S : Type 0} → S → Option Refusal → Deed S → Deed S
+unless s refusal d = unless_told s (option_map reply.Refused refusal) d
+
 -- the first refusal whose test holds
 unfoldable pub first_refusal : List (Bool × Refusal) → Option Refusal
 first_refusal [] = None
 first_refusal (x ∷ xs) = if x.0 then Some x.1 else first_refusal xs
 
--- ---- what a holder's command does to what is the holder's own of a purse
+-- what is done with what is found, and a refusal where nothing is
+abbrev pub on_found : {S X : Type 0} → S → Refusal → Option X → (X → Deed S) → Deed S
+on_found s r None f = refuse s r
+on_found s r (Some x) f = f x
 
--- the account after it, the reply, and a message that is sent, with the purse to which it is sent
-pub record Deed : Type 0 where
-  pub holding : Holding
-  pub reply : Reply
-  pub sent : Option (Name × Message)
+-- the reply to a load or a redemption that changes nothing: where its reference was used before, the same reply
+-- for the same amount, and else the refusal
+abbrev pub idle : Option ℕ → ℕ → Reply → Option Refusal → Option Reply
+idle (Some before) amount again refusal = Some (if before == amount then again else reply.Refused RefReused)
+idle None amount again refusal = option_map reply.Refused refusal
 
--- nothing changes, and this is refused
-abbrev pub refuse : Holding → Refusal → Deed
-refuse a r = record { holding = a; reply = reply.Refused r; sent = None }
-
--- the account and the reply, and nothing is sent
-abbrev pub tell : Holding → Reply → Deed
-tell a r = record { holding = a; reply = r; sent = None }
+-- ---- the lines of a purse
 
 -- the line of a payment of these details in a purse that is now so
 abbrev pub payment_line : State → LineKind → Details → Line
 payment_line q k d = record { number = q.lines; kind = k; amount = d.value; balance = q.balance; note = note.Details d }
+
+-- the line of a load or a redemption in a purse that is now so
+abbrev pub money_line : State → LineKind → ℕ → Name → Line
+money_line q k amount reference = record { number = q.lines; kind = k; amount = amount; balance = q.balance; note = note.Reference reference }
 
 -- the line of an abort, which tells what is logged, where something is
 abbrev pub abort_line : State → Option Details → Option Line
@@ -74,140 +102,136 @@ abbrev pub listed : {X : Type 0} → Option X → List X
 listed None = []
 listed (Some x) = x ∷ []
 
--- an account with the purse as it is now, and its new line, where there is one
+-- a holding with the purse as it is now, and its new line, where there is one
 abbrev pub with_purse : Holding → State → Option Line → Holding
 with_purse a q line = record a { purse = q; lines = a.lines ++ listed line }
 
--- an account with the purse as it is after an abort or a start, and the line of the abort
+-- a holding with the purse as it is after an abort or a start, and the line of the abort
 abbrev pub with_aborted : Holding → State → Holding
 with_aborted a q = with_purse a q (abort_line q (pending a.purse.status))
 
+-- ---- the rules on a purse: what a holder's command does to what is the holder's own of it
+
+-- the refusal of a start, as the office names it, and so those of a load and of a redemption
+abbrev pub refusal_of_start : StartRefusal → Refusal
+refusal_of_start start.SamePurse = SamePurse
+refusal_of_start start.NotEnough = NotEnough
+refusal_of_start start.LogFull = LogFull
+refusal_of_start start.Worn = Worn
+
+abbrev pub refusal_of_load : LoadRefusal → Refusal
+refusal_of_load no_load.Worn = Worn
+refusal_of_load no_load.OverCap = OverCap
+
+abbrev pub refusal_of_redeem : RedeemRefusal → Refusal
+refusal_of_redeem no_redeem.NotEnough = NotEnough
+refusal_of_redeem no_redeem.Worn = Worn
+
 -- show: the purse
-unfoldable pub show : Holding → Deed
+unfoldable pub show : Holding → Deed Holding
 show a = tell a (reply.Shown a.purse)
 
--- the refusal of a start, as the office names it
-abbrev pub start_as : StartRefusal → Refusal
-start_as start.SamePurse = SamePurse
-start_as start.NotEnough = NotEnough
-start_as start.LogFull = LogFull
-start_as start.Worn = Worn
-
 -- start-from: startFrom, which sends nothing
-abbrev pub start_from_by : Holding → Name → ℕ → ℕ → Option StartRefusal → Deed
-start_from_by a peer value seq (Some r) = refuse a (start_as r)
-start_from_by a peer value seq None =
+unfoldable pub start_from : Name → ℕ → ℕ → Holding → Deed Holding
+start_from peer value seq a =
     let d = from_details a.purse peer value seq in
-    tell (with_aborted a (started a.purse (Epr d))) (reply.Started d)
-
-unfoldable pub start_from : Name → ℕ → ℕ → Holding → Deed
-start_from peer value seq a = start_from_by a peer value seq (start_from_refusal a.purse peer value)
+    unless a (option_map refusal_of_start (start_from_refusal a.purse peer value)) (tell (with_aborted a (started a.purse (Epr d))) (reply.Started d))
 
 -- start-to: startTo, which sends a req to the peer
-abbrev pub start_to_by : Holding → Name → ℕ → ℕ → Option StartRefusal → Deed
-start_to_by a peer value seq (Some r) = refuse a (start_as r)
-start_to_by a peer value seq None =
+unfoldable pub start_to : Name → ℕ → ℕ → Holding → Deed Holding
+start_to peer value seq a =
     let d = to_details a.purse peer value seq in
-    record { holding = with_aborted a (started a.purse (Epv d)); reply = reply.Started d; sent = Some (peer, Req d) }
-
-unfoldable pub start_to : Name → ℕ → ℕ → Holding → Deed
-start_to peer value seq a = start_to_by a peer value seq (start_to_refusal a.purse peer)
+    unless a (option_map refusal_of_start (start_to_refusal a.purse peer))
+    (record { state = with_aborted a (started a.purse (Epv d)); reply = reply.Started d; sent = Some (peer, Req d) })
 
 -- handle: the message of that number, which stays where it is
-abbrev pub handle_as : Holding → Handled → Deed
-handle_as a h =
+abbrev pub handle_message : Holding → Message → Deed Holding
+handle_message a m =
+    let h = handled a.purse m in
     let q = after_message a.purse h in
-    record { holding = with_purse a q (message_line q h); reply = reply.Handled h; sent = sent_for h }
+    record { state = with_purse a q (message_line q h); reply = reply.Handled h; sent = sent_for h }
 
-abbrev pub handle_message : Holding → Option Message → Deed
-handle_message a None = refuse a NoSuchMessage
-handle_message a (Some m) = handle_as a (handled a.purse m)
-
-unfoldable pub handle : ℕ → Holding → Deed
-handle number a = handle_message a (fmap.get a.inbox number)
+unfoldable pub handle : ℕ → Holding → Deed Holding
+handle number a = on_found a NoSuchMessage (fmap.get a.inbox number) (handle_message a)
 
 -- discard: the message of that number is gone
-unfoldable pub discard : ℕ → Holding → Deed
-discard number a =
-    if is_some (fmap.get a.inbox number) then tell (record a { inbox = fmap.remove a.inbox number }) reply.Discarded else refuse a NoSuchMessage
+unfoldable pub discard : ℕ → Holding → Deed Holding
+discard number a = on_found a NoSuchMessage (fmap.get a.inbox number) (λ m. tell (record a { inbox = fmap.remove a.inbox number }) reply.Discarded)
 
 -- abort, and whether something was logged
-unfoldable pub abort : Holding → Deed
+unfoldable pub abort : Holding → Deed Holding
 abort a = tell (with_aborted a (aborted a.purse)) (reply.Aborted (is_some (pending a.purse.status)))
 
--- the line of a load or a redemption in a purse that is now so
-abbrev pub money_line : State → LineKind → ℕ → Name → Line
-money_line q k amount reference = record { number = q.lines; kind = k; amount = amount; balance = q.balance; note = note.Reference reference }
-
--- the refusal of a redemption, as the office names it
-abbrev pub redeem_as : RedeemRefusal → Refusal
-redeem_as no_redeem.NotEnough = NotEnough
-redeem_as no_redeem.Worn = Worn
-
--- the lines of a redemption that leaves the purse so: that of its abort, where something is logged, and its own
-abbrev pub redeem_lines : State → State → ℕ → Name → List Line
-redeem_lines p q amount reference = listed (abort_line (aborted p) (pending p.status)) ++ money_line q kind.Redeemed amount reference ∷ []
-
--- an account after a redemption
+-- a holding with a redemption: the purse as it is now, the line of its abort and its own, and the reference
 abbrev pub with_redemption : Holding → State → ℕ → Name → Holding
-with_redemption a q amount reference = record a { purse = q; lines = a.lines ++ redeem_lines a.purse q amount reference; redemptions = fmap.insert a.redemptions reference amount }
+with_redemption a q amount reference = record a {
+  purse = q;
+  lines = a.lines ++ (listed (abort_line (aborted a.purse) (pending a.purse.status)) ++ money_line q kind.Redeemed amount reference ∷ []);
+  redemptions = fmap.insert a.redemptions reference amount;
+}
 
--- redeem: redeem, unless a redemption has that reference; a repeat with the same amount is told the same again
-abbrev pub redeem_by : Holding → ℕ → Name → Option RedeemRefusal → Deed
-redeem_by a amount reference (Some r) = refuse a (redeem_as r)
-redeem_by a amount reference None = tell (with_redemption a (redeemed a.purse amount) amount reference) reply.Redeemed
-
-abbrev pub redeem_new : Holding → ℕ → Name → Option ℕ → Deed
-redeem_new a amount reference (Some before) = if before == amount then tell a reply.Redeemed else refuse a RefReused
-redeem_new a amount reference None = redeem_by a amount reference (redeem_refusal a.purse amount)
-
-unfoldable pub redeem : ℕ → Name → Holding → Deed
-redeem amount reference a = redeem_new a amount reference (fmap.get a.redemptions reference)
+-- redeem: redeem, unless a redemption has that reference
+unfoldable pub redeem : ℕ → Name → Holding → Deed Holding
+redeem amount reference a =
+    unless_told a (idle (fmap.get a.redemptions reference) amount reply.Redeemed (option_map refusal_of_redeem (redeem_refusal a.purse amount)))
+    (tell (with_redemption a (redeemed a.purse amount) amount reference) reply.Redeemed)
 
 -- inbox: the messages, by number
-unfoldable pub inbox : Holding → Deed
+unfoldable pub inbox : Holding → Deed Holding
 inbox a = tell a (reply.Inbox (fmap.entries a.inbox))
 
--- ---- what a command does to the World, before a message that it sends is put
+-- ---- the holder's commands
 
-pub record Done : Type 0 where
-  pub world : World
-  pub reply : Reply
-  pub sent : Option (Name × Message)
+-- what a command asks: the names of the holder's purses, a rule on one of them, or what no holder may
+pub data Asks : Type 0 where
+  Names : Asks
+  OnPurse : Name → (Holding → Deed Holding) → Asks
+  NotAHolders : Asks
 
--- nothing changes, and this is refused
-abbrev pub refused : World → Refusal → Done
-refused w r = record { world = w; reply = reply.Refused r; sent = None }
+-- the table of the holder's commands
+abbrev pub asks : Command → Asks
+asks Purses = Asks.Names
+asks (Show p) = Asks.OnPurse p show
+asks (StartFrom p peer value seq) = Asks.OnPurse p (start_from peer value seq)
+asks (StartTo p peer value seq) = Asks.OnPurse p (start_to peer value seq)
+asks (Handle p number) = Asks.OnPurse p (handle number)
+asks (Discard p number) = Asks.OnPurse p (discard number)
+asks (Abort p) = Asks.OnPurse p abort
+asks (Redeem p amount reference) = Asks.OnPurse p (redeem amount reference)
+asks (Inbox p) = Asks.OnPurse p inbox
+asks command = Asks.NotAHolders
 
--- the World and the reply, and nothing is sent
-abbrev pub done : World → Reply → Done
-done w r = record { world = w; reply = r; sent = None }
+-- what is the holder's own of a row, and of the purse of that name, where it is the holder's
+abbrev pub owned_holding : Name → Row → Option Holding
+owned_holding h r = if is_name h r.holder then Some r.holding else None
 
--- this is done unless there is a refusal
-abbrev pub unless : World → Option Refusal → Done → Done
-unless w (Some r) d = refused w r
-unless w None d = d
+abbrev pub own_holding : World → Name → Name → Option Holding
+own_holding w h p = option_and_then (owned_holding h) (fmap.get w.rows p)
 
--- the World with what a deed leaves of the account of this row
-abbrev pub on_row : World → Name → Row → Deed → Done
-on_row w p r d = record { world = set_row w p (record r { holding = d.holding }); reply = d.reply; sent = d.sent }
+-- a deed on one holding, where what it leaves is put in its place
+abbrev pub in_place : {S : Type 0} → (Holding → S) → Deed Holding → Deed S
+in_place set d = record { state = set d.state; reply = d.reply; sent = d.sent }
 
--- a deed on a purse of the holder; another's purse and a purse that isn't there are refused alike
-abbrev pub on_own_row : World → Name → Name → (Holding → Deed) → Option Row → Done
-on_own_row w h p f None = refused w NoSuchPurse
-on_own_row w h p f (Some r) = if is_name h r.holder then on_row w p r (f r.holding) else refused w NoSuchPurse
+-- a rule on a purse of the holder; another's purse and a purse that isn't there are refused alike
+abbrev pub on_own : World → Name → Name → (Holding → Deed Holding) → Deed World
+on_own w h p f = on_found w NoSuchPurse (own_holding w h p) (λ a. in_place (λ b. change_holding w p (λ _. b)) (f a))
 
-abbrev pub on_own : World → Name → Name → (Holding → Deed) → Done
-on_own w h p f = on_own_row w h p f (fmap.get w.rows p)
+-- what is asked by the holder, done to the World
+abbrev pub on_world : World → Name → Asks → Deed World
+on_world w h Asks.Names = tell w (reply.Purses (purses_of w h))
+on_world w h (Asks.OnPurse p f) = on_own w h p f
+on_world w h Asks.NotAHolders = refuse w NotForCaller
+
+-- ---- the commands of the operator and of clerks
 
 -- new member, by the operator
 abbrev pub new_member_refusal : World → Name → Token → Option Refusal
 new_member_refusal w m t = first_refusal ((is_some (fmap.get w.members m), NameTaken) ∷ (is_some (who_of w t), TokenTaken) ∷ [])
 
-abbrev pub new_member : World → Name → Token → Done
+abbrev pub new_member : World → Name → Token → Deed World
 new_member w m t =
     unless w (new_member_refusal w m t)
-    (done (record w { members = fmap.insert w.members m (record { granted = 0; float = 0 }); tokens = fmap.insert w.tokens t (Clerk m) }) reply.Added)
+    (tell (record w { members = fmap.insert w.members m (record { granted = 0; float = 0 }); tokens = fmap.insert w.tokens t (Clerk m) }) reply.Added)
 
 -- new holder, by the clerk of m
 abbrev pub new_holder_refusal : World → Name → Name → Token → Option Refusal
@@ -217,10 +241,10 @@ new_holder_refusal w m h t =
     ∷ (is_some (fmap.get w.holders h), NameTaken)
     ∷ (is_some (who_of w t), TokenTaken) ∷ [])
 
-abbrev pub new_holder : World → Name → Name → Token → Done
+abbrev pub new_holder : World → Name → Name → Token → Deed World
 new_holder w m h t =
     unless w (new_holder_refusal w m h t)
-    (done (record w { holders = fmap.insert w.holders h m; tokens = fmap.insert w.tokens t (Holder h) }) reply.Added)
+    (tell (record w { holders = fmap.insert w.holders h m; tokens = fmap.insert w.tokens t (Holder h) }) reply.Added)
 
 -- new purse, by the clerk of m; a holder of another member is refused as one that isn't there
 abbrev pub new_purse_refusal : World → Name → Name → Name → Option Refusal
@@ -230,20 +254,16 @@ new_purse_refusal w m p h =
     ∷ (is_some (fmap.get w.rows p), NameTaken)
     ∷ (nat_le 64 (length (purses_of w h)), TooManyPurses) ∷ [])
 
-abbrev pub new_purse : World → Name → Name → Name → Done
-new_purse w m p h = unless w (new_purse_refusal w m p h) (done (set_row w p (new_row h p)) reply.Added)
+abbrev pub new_purse : World → Name → Name → Name → Deed World
+new_purse w m p h = unless w (new_purse_refusal w m p h) (tell (set_row w p (new_row h p)) reply.Added)
 
 -- what is left to the member for loads
 abbrev pub float_of : World → Name → ℕ
 float_of w m = unwrap_or (option_map (λ (row : MemberRow). row.float) (fmap.get w.members m)) 0
 
 -- the row of a member who is there is changed
-abbrev pub changed_member : World → Name → (MemberRow → MemberRow) → Option MemberRow → World
-changed_member w m f None = w
-changed_member w m f (Some row) = record w { members = fmap.insert w.members m (f row) }
-
 abbrev pub change_member : World → Name → (MemberRow → MemberRow) → World
-change_member w m f = changed_member w m f (fmap.get w.members m)
+change_member w m f = option_map_or (λ row. record w { members = fmap.insert w.members m (f row) }) (fmap.get w.members m) w
 
 -- grant, by the operator: grants and float rise
 abbrev pub grant_refusal : World → Name → ℕ → Option Refusal
@@ -253,107 +273,95 @@ grant_refusal w m amount =
     ∷ (nat_lt (10 ^ 15) (all_granted w + amount), GrantTooLarge)
     ∷ (nat_lt (10 ^ 15) (float_of w m + amount), FloatFull) ∷ [])
 
-abbrev pub grant : World → Name → ℕ → Done
-grant w m amount = unless w (grant_refusal w m amount) (done (change_member w m (λ row. record { granted = row.granted + amount; float = row.float + amount })) reply.Granted)
-
--- the refusal of a load, as the office names it
-abbrev pub load_as : LoadRefusal → Refusal
-load_as no_load.Worn = Worn
-load_as no_load.OverCap = OverCap
+abbrev pub grant : World → Name → ℕ → Deed World
+grant w m amount = unless w (grant_refusal w m amount) (tell (change_member w m (λ row. record { granted = row.granted + amount; float = row.float + amount })) reply.Granted)
 
 -- what is the holder's own of a purse after a load, with its line; where the purse's guard fails it stays
-abbrev pub loaded_by : Holding → ℕ → Name → Option LoadRefusal → Holding
-loaded_by a amount reference (Some r) = a
-loaded_by a amount reference None = with_purse a (loaded a.purse amount) (Some (money_line (loaded a.purse amount) kind.Loaded amount reference))
-
 unfoldable pub loaded_holding : Holding → ℕ → Name → Holding
-loaded_holding a amount reference = loaded_by a amount reference (load_refusal a.purse amount)
+loaded_holding a amount reference =
+    let q = loaded a.purse amount in
+    if is_none (load_refusal a.purse amount) then with_purse a q (Some (money_line q kind.Loaded amount reference)) else a
 
 -- a row after a load
 abbrev pub loaded_row : ℕ → Name → Row → Row
 loaded_row amount reference r = record r { holding = loaded_holding r.holding amount reference; loads = fmap.insert r.loads reference amount }
 
--- the reply to a load by the clerk of m that adds nothing: a refusal, or a repeat with the same amount
-abbrev pub load_again : ℕ → ℕ → Reply
-load_again before amount = if before == amount then reply.Loaded else reply.Refused RefReused
+-- the first guard of a load that fails: the float covers the amount, and the purse's own
+abbrev pub load_of_float_refusal : MemberRow → Row → ℕ → Option Refusal
+load_of_float_refusal member r amount = if nat_lt member.float amount then Some FloatTooSmall else option_map refusal_of_load (load_refusal r.holding.purse amount)
 
-abbrev pub load_refused : ℕ → MemberRow → Row → Option Reply
-load_refused amount member r = if nat_lt member.float amount then Some (reply.Refused FloatTooSmall) else option_map (λ x. reply.Refused (load_as x)) (load_refusal r.holding.purse amount)
+-- the reply to a load by the clerk of m that changes nothing
+abbrev pub idle_load_at : World → Name → ℕ → Name → Option Row → Option MemberRow → Option Reply
+idle_load_at w m amount reference (Some r) (Some member) =
+    if is_of_member w m r then idle (fmap.get r.loads reference) amount reply.Loaded (load_of_float_refusal member r amount) else Some (reply.Refused NoSuchPurse)
+idle_load_at w m amount reference _ _ = Some (reply.Refused NoSuchPurse)
 
-abbrev pub load_new : ℕ → MemberRow → Row → Option ℕ → Option Reply
-load_new amount member r (Some before) = Some (load_again before amount)
-load_new amount member r None = load_refused amount member r
-
-abbrev pub load_row : World → Name → ℕ → Name → Option Row → Option MemberRow → Option Reply
-load_row w m amount reference (Some r) (Some member) =
-    if is_of_member w m r then load_new amount member r (fmap.get r.loads reference) else Some (reply.Refused NoSuchPurse)
-load_row w m amount reference _ _ = Some (reply.Refused NoSuchPurse)
-
-unfoldable pub not_loaded : World → Name → Name → ℕ → Name → Option Reply
-not_loaded w m p amount reference = load_row w m amount reference (fmap.get w.rows p) (fmap.get w.members m)
+unfoldable pub idle_load : World → Name → Name → ℕ → Name → Option Reply
+idle_load w m p amount reference = idle_load_at w m amount reference (fmap.get w.rows p) (fmap.get w.members m)
 
 -- load, by the clerk of m: the purse is loaded, and the float falls
-abbrev pub load_done : World → Name → Name → ℕ → Name → Option Reply → Done
-load_done w m p amount reference (Some r) = done w r
-load_done w m p amount reference None =
-    done (change_member (change_row w p (loaded_row amount reference)) m (λ row. record row { float = row.float - amount })) reply.Loaded
+abbrev pub loaded_world : World → Name → Name → ℕ → Name → World
+loaded_world w m p amount reference = change_member (change_row w p (loaded_row amount reference)) m (λ row. record row { float = row.float - amount })
 
-abbrev pub load_purse : World → Name → Name → ℕ → Name → Done
-load_purse w m p amount reference = load_done w m p amount reference (not_loaded w m p amount reference)
+abbrev pub load_purse : World → Name → Name → ℕ → Name → Deed World
+load_purse w m p amount reference = unless_told w (idle_load w m p amount reference) (tell (loaded_world w m p amount reference) reply.Loaded)
 
 -- collect, by the clerk of m: the float rises by what isn't collected, which is then
 abbrev pub collect_refusal : World → Name → Option Refusal
 collect_refusal w m = first_refusal ((is_none (fmap.get w.members m), NoSuchMember) ∷ (nat_lt (10 ^ 15) (float_of w m + uncollected_of w m), FloatFull) ∷ [])
 
-abbrev pub collect : World → Name → Done
-collect w m = unless w (collect_refusal w m) (done (change_member (all_collected w m) m (λ row. record row { float = row.float + uncollected_of w m })) (reply.Collected (uncollected_of w m)))
+abbrev pub collect : World → Name → Deed World
+collect w m = unless w (collect_refusal w m) (tell (change_member (all_collected w m) m (λ row. record row { float = row.float + uncollected_of w m })) (reply.Collected (uncollected_of w m)))
 
--- each command of each caller; a command of another class is refused
-abbrev pub base : World → Caller → Command → Done
+-- ---- the step
+
+-- each command of each caller, before a message that it sends is put; a command of another class is refused
+abbrev pub base : World → Caller → Command → Deed World
 base w Operator (NewMember m t) = new_member w m t
 base w Operator (Grant m amount) = grant w m amount
 base w (Clerk m) (NewHolder h t) = new_holder w m h t
 base w (Clerk m) (NewPurse p h) = new_purse w m p h
 base w (Clerk m) (Load p amount reference) = load_purse w m p amount reference
 base w (Clerk m) Collect = collect w m
-base w (Holder h) Purses = done w (reply.Purses (purses_of w h))
-base w (Holder h) (Show p) = on_own w h p show
-base w (Holder h) (StartFrom p peer value seq) = on_own w h p (start_from peer value seq)
-base w (Holder h) (StartTo p peer value seq) = on_own w h p (start_to peer value seq)
-base w (Holder h) (Handle p number) = on_own w h p (handle number)
-base w (Holder h) (Discard p number) = on_own w h p (discard number)
-base w (Holder h) (Abort p) = on_own w h p abort
-base w (Holder h) (Redeem p amount reference) = on_own w h p (redeem amount reference)
-base w (Holder h) (Inbox p) = on_own w h p inbox
-base w caller command = refused w NotForCaller
+base w (Holder h) command = on_world w h (asks command)
+base w caller command = refuse w NotForCaller
 
--- ---- the step
+-- a World with a message that was sent, where one was
+abbrev pub put_sent : World → Option (Name × Message) → World
+put_sent w None = w
+put_sent w (Some m) = put w m.0 m.1
 
--- a message that was sent is put
-abbrev pub send : World → Option (Name × Message) → World
-send w None = w
-send w (Some m) = put w m.0 m.1
+-- the World after a command of a caller, and the reply
+pub record Answered : Type 0 where
+  pub world : World
+  pub reply : Reply
 
--- the World after a command of a caller
-unfoldable pub after : World → Caller → Command → World
-after w caller command = send (base w caller command).world (base w caller command).sent
+unfoldable pub step : World → Caller → Command → Answered
+step w caller command = let d = base w caller command in record { world = put_sent d.state d.sent; reply = d.reply }
 
--- the reply to a command of a caller
-unfoldable pub answered : World → Caller → Command → Reply
-answered w caller command = (base w caller command).reply
+-- ---- one after another
 
--- ---- a run
+-- what stands at the end, and the replies, in order
+pub record Course (S R : Type 0) : Type 0 where
+  pub end : S
+  pub replies : List R
+
+abbrev pub ends : {S R : Type 0} → S → List R → Course S R
+ends s rs = record { end = s; replies = rs }
+
+-- what comes of each of a list in order, from what stands before it
+abbrev pub course : {S X R : Type 0} → (S → X → Course S R) → S → List X → Course S R
+course f s [] = ends s []
+course f s (x ∷ xs) = let rest = course f (f s x).end xs in ends rest.end ((f s x).replies ++ rest.replies)
 
 -- a command and who asks
 abbrev pub Asked : Type 0
 Asked = Caller × Command
 
--- the World after commands, in order
-abbrev pub world_after : World → List Asked → World
-world_after w [] = w
-world_after w (c ∷ cs) = world_after (after w c.0 c.1) cs
+-- the World after one command, and after commands in order, with the replies, each with the caller to whom it is
+-- given
+abbrev pub one_step : World → Asked → Course World (Caller × Reply)
+one_step w c = let now = step w c.0 c.1 in ends now.world ((c.0, now.reply) ∷ [])
 
--- the replies to commands, in order, each with the caller to whom it is given
-abbrev pub replies : World → List Asked → List (Caller × Reply)
-replies w [] = []
-replies w (c ∷ cs) = (c.0, answered w c.0 c.1) ∷ replies (after w c.0 c.1) cs
+abbrev pub steps : World → List Asked → Course World (Caller × Reply)
+steps = course one_step

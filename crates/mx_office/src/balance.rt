@@ -3,7 +3,7 @@ ghost use Rattle.mx_book.specs.World.{World};
 ghost use Rattle.mx_book.specs.declared.values.Caller.{Caller};
 ghost use Rattle.mx_office.specs.Balance.{IsBalanced};
 ghost use Rattle.mx_office.specs.Reachable.{IsReachable};
-ghost use Rattle.mx_office.specs.Step.{after};
+ghost use Rattle.mx_office.specs.Step.{step};
 ghost use Rattle.mx_office.specs.declared.values.Command.{Command};
 
 /// The members' balance equation: in every World that commands lead to, what a member has is what the member was
@@ -19,5 +19,5 @@ ghost use Rattle.mx_office.specs.declared.values.Command.{Command};
 /// The call does nothing.
 pub fn balance()
     ensures reachable { (w : World) → IsReachable w → IsBalanced w }
-    ensures goes_on { (w : World) (caller : Caller) (command : Command) → IsReachable w → IsReachable (after w caller command) }
+    ensures goes_on { (w : World) (caller : Caller) (command : Command) → IsReachable w → IsReachable (step w caller command).world }
 {}

@@ -2,7 +2,7 @@
 ghost use Rattle.mx_pay.specs.Names.{is_name_text};
 ghost use Rattle.std.specs.Prelude.{◌≡◌, ◌≤◌, ◌^◌, IsTrue, ◌==◌, ◌∷◌, [], if◌then◌else◌};
 ghost use Rattle.mx_purse.specs.Operations.{sent_for};
-ghost use Rattle.mx_office.specs.Step.{abort_line, load_as, message_line, money_line, payment_line, redeem_as, start_as};
+ghost use Rattle.mx_office.specs.Step.{abort_line, message_line, money_line, payment_line, refusal_of_load, refusal_of_redeem, refusal_of_start};
 ghost use Rattle.mx_office.specs.Decides.{purse_edits, redeem_edits};
 
 use crate::values::{Decided, Refusal, Reply};
@@ -43,7 +43,7 @@ pub(crate) fn added(edit: Edit) -> Decided
 
 /// The refusal of a start, as the office names it.
 pub(crate) fn start_refusal(refusal: StartRefusal) -> Refusal
-    ensures { result ≡ start_as refusal }
+    ensures { result ≡ refusal_of_start refusal }
 {
     match refusal {
         StartRefusal::SamePurse => Refusal::SamePurse,
@@ -135,7 +135,7 @@ pub(crate) fn purse_edits(
 
 /// The refusal of a load, as the office names it.
 pub(crate) fn load_refusal(refusal: LoadRefusal) -> Refusal
-    ensures { result ≡ load_as refusal }
+    ensures { result ≡ refusal_of_load refusal }
 {
     match refusal {
         LoadRefusal::Worn => Refusal::Worn,
@@ -145,7 +145,7 @@ pub(crate) fn load_refusal(refusal: LoadRefusal) -> Refusal
 
 /// The refusal of a redemption, as the office names it.
 pub(crate) fn redeem_refusal(refusal: RedeemRefusal) -> Refusal
-    ensures { result ≡ redeem_as refusal }
+    ensures { result ≡ refusal_of_redeem refusal }
 {
     match refusal {
         RedeemRefusal::NotEnough => Refusal::NotEnough,

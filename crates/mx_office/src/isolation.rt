@@ -3,16 +3,16 @@ ghost use Rattle.std.specs.Prelude.{◌≡◌, List};
 ghost use Rattle.mx_book.specs.World.{World, Name};
 ghost use Rattle.mx_book.specs.declared.values.Caller.{Caller};
 ghost use Rattle.mx_office.specs.declared.values.Command.{Command};
-ghost use Rattle.mx_office.specs.Step.{Asked, after, answered, replies, world_after};
-ghost use Rattle.mx_office.specs.Isolation.{cut, local, local_replies, reply_for, told_to, view, view_of};
+ghost use Rattle.mx_office.specs.Step.{Asked, step, steps};
+ghost use Rattle.mx_office.specs.Isolation.{cut, for_holder, local, told_to, view, view_of};
 
 /// The law of isolation: to each holder the replies are those that the holder's purses give on the holder's view
 /// alone.
 ///
 /// The view of a holder is what happens to the holder: the holder's own commands, the purses that are issued to the
-/// holder, and the messages that enter the inboxes of the holder's purses. It runs on what is cut out of the World for
-/// the holder: what is the holder's own of each of the holder's purses. This holds of every World and of every list
-/// of commands, whoever asks:
+/// holder, the loads of the holder's purses, each with its reference and amount, and the messages that enter the
+/// inboxes of the holder's purses. It runs on what is cut out of the World for the holder: what is the holder's own of
+/// each of the holder's purses. This holds of every World and of every list of commands, whoever asks:
 ///
 /// - `accounts`: after a command, what is cut out for a holder is what the view of that command makes of what was cut
 ///   out before it.
@@ -24,9 +24,9 @@ ghost use Rattle.mx_office.specs.Isolation.{cut, local, local_replies, reply_for
 ///
 /// The call does nothing.
 pub fn isolation()
-    ensures accounts { (w : World) (h : Name) (caller : Caller) (command : Command) → cut (after w caller command) h ≡ local (cut w h) (view_of w h caller command) }
-    ensures answer { (w : World) (h : Name) (caller : Caller) (command : Command) → reply_for h caller (answered w caller command) ≡ local_replies (cut w h) (view_of w h caller command) }
-    ensures run_accounts { (w : World) (h : Name) (list : List Asked) → cut (world_after w list) h ≡ local (cut w h) (view h w list) }
-    ensures run_answers { (w : World) (h : Name) (list : List Asked) → told_to h (replies w list) ≡ local_replies (cut w h) (view h w list) }
-    ensures alike { (h : Name) (v w : World) (list others : List Asked) → cut v h ≡ cut w h → view h v list ≡ view h w others → told_to h (replies v list) ≡ told_to h (replies w others) }
+    ensures accounts { (w : World) (h : Name) (caller : Caller) (command : Command) → cut (step w caller command).world h ≡ (local (cut w h) (view_of w h caller command)).end }
+    ensures answer { (w : World) (h : Name) (caller : Caller) (command : Command) → for_holder h caller (step w caller command).reply ≡ (local (cut w h) (view_of w h caller command)).replies }
+    ensures run_accounts { (w : World) (h : Name) (list : List Asked) → cut (steps w list).end h ≡ (local (cut w h) (view h w list)).end }
+    ensures run_answers { (w : World) (h : Name) (list : List Asked) → told_to h (steps w list).replies ≡ (local (cut w h) (view h w list)).replies }
+    ensures alike { (h : Name) (v w : World) (list others : List Asked) → cut v h ≡ cut w h → view h v list ≡ view h w others → told_to h (steps v list).replies ≡ told_to h (steps w others).replies }
 {}

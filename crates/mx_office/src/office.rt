@@ -12,7 +12,7 @@ ghost use Rattle.mx_office.specs.Faults.{MayFail, MayNotDecide, is_read};
 ghost use Rattle.mx_office.specs.Lends.{LendsBook};
 ghost use Rattle.mx_office.specs.Reachable.{IsReachable, StandsBalanced};
 ghost use Rattle.mx_office.specs.Run.{Leads};
-ghost use Rattle.mx_office.specs.Step.{after, answered, base};
+ghost use Rattle.mx_office.specs.Step.{base, step};
 
 use crate::decisions::refuse;
 use crate::members::{new_holder, new_member, new_purse};
@@ -103,8 +103,8 @@ impl<B: Book> Office<B> {
         command: &Command,
     ) -> Result<Reply, StoreFault>
         ensures later { B.doubt self.old.book ≤ B.doubt self.new.book }
-        ensures ok { (w : World) → B.doubt self.new.book ≡ 0 → B.spells (B.rows self.old.book) w → OnOk result (B.spells (B.rows self.new.book) (after w caller command.now)) }
-        ensures reply { (w : World) → B.doubt self.new.book ≡ 0 → B.spells (B.rows self.old.book) w → IfOk result (λ r. r ≡ answered w caller command.now) }
+        ensures ok { (w : World) → B.doubt self.new.book ≡ 0 → B.spells (B.rows self.old.book) w → OnOk result (B.spells (B.rows self.new.book) (step w caller command.now).world) }
+        ensures reply { (w : World) → B.doubt self.new.book ≡ 0 → B.spells (B.rows self.old.book) w → IfOk result (λ r. r ≡ (step w caller command.now).reply) }
         ensures refused { B.doubt self.new.book ≡ 0 → IfOk result (λ r. (refusal : Refusal) → r ≡ Refused refusal → B.rows self.new.book ≡ B.rows self.old.book) }
         ensures err { B.doubt self.new.book ≡ 0 → OnErr result (B.rows self.new.book ≡ B.rows self.old.book) }
         ensures fault { IfErr result (λ e. (e ≡ Memory) ⊎ B.fails e) }

@@ -5,7 +5,7 @@ ghost use Rattle.mx_book.specs.Keeps.{Keeps};
 ghost use Rattle.mx_book.specs.World.{World};
 ghost use Rattle.mx_book.specs.Reads.{purses_of};
 ghost use Rattle.mx_office.specs.Decides.{Decides, finds_place, own_purse, placed};
-ghost use Rattle.mx_office.specs.Step.{abort, discard, done, handle, inbox, on_own, redeem, show, start_from, start_to};
+ghost use Rattle.mx_office.specs.Step.{abort, discard, handle, inbox, on_own, redeem, show, start_from, start_to, tell};
 
 use crate::decisions::{
     abort_line, again, are_within, message_line, purse_edits, redeem_edits, redeem_refusal, refuse,
@@ -81,7 +81,7 @@ pub(crate) fn purses<B: Book>(
     holder: Name,
 ) -> Result<Decided, StoreFault>
     ensures keeps { Keeps B.doubt B.rows book.old book.new }
-    ensures decides { (w : World) → B.doubt book.new ≡ 0 → B.spells (B.rows book.old) w → IfOk result (Decides w (done w (Reply.Purses (purses_of w holder)))) }
+    ensures decides { (w : World) → B.doubt book.new ≡ 0 → B.spells (B.rows book.old) w → IfOk result (Decides w (tell w (Reply.Purses (purses_of w holder)))) }
     ensures edits { IfOk result (λ d. d.edits ≡ []) }
     ensures fault { IfErr result (λ e. (e ≡ Memory) ⊎ B.fails e) }
 {

@@ -1,232 +1,118 @@
-//! The office over a book in memory: commands in lists, and the words of their outcomes, worked out by hand.
+//! The office over a book in memory: commands with the replies to them, worked out by hand.
 mod faults;
+mod holders;
+mod limits;
 mod money;
-mod rows;
+mod payments;
 mod scripts;
+mod words;
 
-use self::scripts::{OPENINGS, script};
-use crate::{Command, Messages, Names, Office, Outcome, Reply};
-use mx_book::{Caller, PlainBook};
-use mx_pay::{Amount, Log, Name, PayDetails, Seq, Token, code_text};
-use mx_purse::{Handled, Message, Purse, Status};
-use std::alloc::Global;
+use self::scripts::{read_script, token};
+use self::words::outcome_words;
+use crate::{Office, Refusal};
+use mx_book::{Book, PlainBook};
+use std::process::Abort;
 use std::test::Fail;
 
-fn name(text: &str) -> Result<Name, Fail> {
-    Ok(Name::read(text).ok_or("no name")?)
+/// The member m, and its holders: ann with the purse p1, and bob with q1.
+const STANDING: &[(&str, &str)] = &[
+    ("operator new-member m 2", "added"),
+    ("clerk new-holder ann a", "added"),
+    ("clerk new-holder bob b", "added"),
+    ("clerk new-purse p1 ann", "added"),
+    ("clerk new-purse q1 bob", "added"),
+];
+
+/// m is granted 1000, of which p1 is loaded with 100 by the reference a1.
+const FUNDED: &[(&str, &str)] = &[
+    ("operator grant m 1000", "granted"),
+    ("clerk load p1 100 a1", "loaded"),
+];
+
+/// A new book, with nothing but the operator's token.
+fn empty_book(rt: &impl AllocGlobal) -> Result<PlainBook, Fail> {
+    Ok(PlainBook::new(rt.alloc(), token("1")?))
 }
 
-fn token(text: &str) -> Result<Token, Fail> {
-    Ok(Token::read(text).ok_or("no token")?)
-}
-
-fn number(value: u64) -> Result<Seq, Fail> {
-    Ok(Seq::new(value).ok_or("no number")?)
-}
-
-fn amount(value: u64) -> Result<Amount, Fail> {
-    Ok(Amount::new(value).ok_or("no amount")?)
-}
-
-fn clerk(member: &str) -> Result<Caller, Fail> {
-    Ok(Caller::Clerk(name(member)?))
-}
-
-fn holder(text: &str) -> Result<Caller, Fail> {
-    Ok(Caller::Holder(name(text)?))
-}
-
-fn new_member(member: &str, clerk: &str) -> Result<Command, Fail> {
-    Ok(Command::NewMember {
-        member: name(member)?,
-        token: token(clerk)?,
-    })
-}
-
-fn grant(member: &str, value: u64) -> Result<Command, Fail> {
-    Ok(Command::Grant {
-        member: name(member)?,
-        amount: amount(value)?,
-    })
-}
-
-fn new_holder(holder: &str, text: &str) -> Result<Command, Fail> {
-    Ok(Command::NewHolder {
-        holder: name(holder)?,
-        token: token(text)?,
-    })
-}
-
-fn new_purse(purse: &str, holder: &str) -> Result<Command, Fail> {
-    Ok(Command::NewPurse {
-        purse: name(purse)?,
-        holder: name(holder)?,
-    })
-}
-
-fn load(purse: &str, value: u64, reference: &str) -> Result<Command, Fail> {
-    Ok(Command::Load {
-        purse: name(purse)?,
-        amount: amount(value)?,
-        reference: name(reference)?,
-    })
-}
-
-fn redeem(purse: &str, value: u64, reference: &str) -> Result<Command, Fail> {
-    Ok(Command::Redeem {
-        purse: name(purse)?,
-        amount: amount(value)?,
-        reference: name(reference)?,
-    })
-}
-
-fn show(purse: &str) -> Result<Command, Fail> {
-    Ok(Command::Show {
-        purse: name(purse)?,
-    })
-}
-
-fn handle(purse: &str, message: u64) -> Result<Command, Fail> {
-    Ok(Command::Handle {
-        purse: name(purse)?,
-        number: number(message)?,
-    })
-}
-
-fn discard(purse: &str, message: u64) -> Result<Command, Fail> {
-    Ok(Command::Discard {
-        purse: name(purse)?,
-        number: number(message)?,
-    })
-}
-
-fn abort(purse: &str) -> Result<Command, Fail> {
-    Ok(Command::Abort {
-        purse: name(purse)?,
-    })
-}
-
-fn inbox(purse: &str) -> Result<Command, Fail> {
-    Ok(Command::Inbox {
-        purse: name(purse)?,
-    })
-}
-
-/// The code text of these details alone.
-fn entry(alloc: Global, details: &PayDetails) -> Result<String, Fail> {
-    let mut log = Log::new();
-    log.add(*details);
-    Ok(code_text(alloc, &log)?)
-}
-
-fn status(status: Status) -> &'static str {
-    match status {
-        Status::EaFrom => "eaFrom",
-        Status::EaTo => "eaTo",
-        Status::Epr(_) => "epr",
-        Status::Epv(_) => "epv",
-        Status::Epa(_) => "epa",
-    }
-}
-
-/// Its name, its balance, its next number and its status.
-fn purse(alloc: Global, purse: &Purse) -> Result<String, Fail> {
-    let name = purse.name();
-    let status = status(purse.status());
-    let (balance, next) = (purse.balance(), purse.next().get());
-    Ok(format!(in alloc; "{} {balance} {next} {status}", name.as_str())?)
-}
-
-fn handled(handled: &Handled) -> &'static str {
-    match handled {
-        Handled::Req(_) => "value-sent",
-        Handled::Val(_) => "received",
-        Handled::Ack(_) => "finished",
-        Handled::Ignored => "ignored",
-    }
-}
-
-/// The names, with a space behind each.
-fn names(alloc: Global, names: &Names) -> Result<String, Fail> {
-    let mut text = String::new(alloc);
-    for name in names.as_slice() {
-        text.push_str(name.as_str())?;
-        text.push_str(" ")?;
-    }
-    Ok(text)
-}
-
-/// A message with its number.
-fn message(alloc: Global, number: u64, message: &Message) -> Result<String, Fail> {
-    let (kind, details) = match message {
-        Message::Req(details) => ("req", details),
-        Message::Val(details) => ("val", details),
-        Message::Ack(details) => ("ack", details),
-    };
-    let entry = entry(alloc, details)?;
-    Ok(format!(in alloc; "{number} {kind} {} ", entry.as_str())?)
-}
-
-/// The messages, with a space behind each.
-fn messages(alloc: Global, messages: &Messages) -> Result<String, Fail> {
-    let mut text = String::new(alloc);
-    for (number, held) in messages.as_slice() {
-        text.push_str(message(alloc, *number, held)?.as_str())?;
-    }
-    Ok(text)
-}
-
-/// The words of a reply.
-fn reply(alloc: Global, reply: &Reply) -> Result<String, Fail> {
-    match reply {
-        Reply::Refused(refusal) => Ok(String::from_str(alloc, refusal.text())?),
-        Reply::Added => Ok(String::from_str(alloc, "added")?),
-        Reply::Granted => Ok(String::from_str(alloc, "granted")?),
-        Reply::Loaded => Ok(String::from_str(alloc, "loaded")?),
-        Reply::Collected(sum) => Ok(format!(in alloc; "collected {sum}")?),
-        Reply::Purses(list) => names(alloc, list),
-        Reply::Shown(shown) => purse(alloc, shown),
-        Reply::Started(details) => {
-            let entry = entry(alloc, details)?;
-            Ok(format!(in alloc; "started {}", entry.as_str())?)
-        }
-        Reply::Handled(so) => Ok(String::from_str(alloc, handled(so))?),
-        Reply::Discarded => Ok(String::from_str(alloc, "discarded")?),
-        Reply::Aborted { logged } => Ok(format!(in alloc; "aborted {logged}")?),
-        Reply::Redeemed => Ok(String::from_str(alloc, "redeemed")?),
-        Reply::Inbox(held) => messages(alloc, held),
-    }
-}
-
-/// The words of outcomes, a line each.
-fn words(alloc: Global, outcomes: &[Outcome]) -> Result<String, Fail> {
-    let mut text = String::new(alloc);
-    for outcome in outcomes {
-        match outcome {
-            Outcome::Reply(given) => text.push_str(reply(alloc, given)?.as_str())?,
-            Outcome::Unavailable => text.push_str("unavailable")?,
-        }
-        text.push_str("\n")?;
-    }
-    Ok(text)
-}
-
-/// What is answered to commands, a line each.
-fn told(
-    office: &mut Office<PlainBook>,
-    alloc: Global,
-    commands: &[(Caller, Command)],
-) -> Result<String, Fail> {
-    let outcomes = office.run(alloc, commands)?;
-    words(alloc, outcomes.as_slice())
-}
-
-const OPERATOR: &str = "00000000000000000000000000000001";
-
-/// The member m with its holders: ann with the purse p1, and bob with q1, q2 and q3.
-fn standing(alloc: Global) -> Result<Office<PlainBook>, Fail> {
-    let openings = script(alloc, OPENINGS)?;
-    let mut office = Office::new(PlainBook::new(alloc, token(OPERATOR)?));
-    office.run(alloc, openings.as_slice())?;
+/// The office after `STANDING`.
+fn standing(rt: &(impl Abort + AllocGlobal)) -> Result<Office<PlainBook>, Fail> {
+    let mut office = Office::new(empty_book(rt)?);
+    tell(rt, &mut office, STANDING)?;
     Ok(office)
+}
+
+/// The office after `STANDING` and `FUNDED`.
+fn funded(rt: &(impl Abort + AllocGlobal)) -> Result<Office<PlainBook>, Fail> {
+    let mut office = standing(rt)?;
+    tell(rt, &mut office, FUNDED)?;
+    Ok(office)
+}
+
+/// Runs commands, which stand before their replies, and asserts that each gets its reply.
+fn tell(
+    rt: &(impl Abort + AllocGlobal),
+    office: &mut Office<impl Book>,
+    script: &[(&str, &str)],
+) -> Result<(), Fail> {
+    let commands = read_script(rt.alloc(), script)?;
+    let outcomes = office.run(rt.alloc(), commands.as_slice())?;
+    assert_eq!(rt; outcomes.len(), script.len());
+    for (outcome, (command, reply)) in outcomes.iter().zip(script) {
+        let words = outcome_words(rt.alloc(), outcome)?;
+        assert_eq!(rt; words.as_str(), *reply, "{command}");
+    }
+    Ok(())
+}
+
+/// Runs a command so many times, whatever the replies are.
+fn repeat(
+    rt: &impl AllocGlobal,
+    office: &mut Office<impl Book>,
+    times: usize,
+    command: &str,
+) -> Result<(), Fail> {
+    let commands = read_script(rt.alloc(), &[(command, "")])?;
+    for _ in 0..times {
+        office.run(rt.alloc(), commands.as_slice())?;
+    }
+    Ok(())
+}
+
+/// An empty list of commands has an empty list of replies.
+#[test]
+fn an_empty_list_has_no_replies(rt: HostRuntime) -> Result<(), Fail> {
+    tell(&rt, &mut standing(&rt)?, &[])
+}
+
+/// An office gives up the book that it holds.
+#[test]
+fn an_office_gives_its_book_up_whole(rt: HostRuntime) -> Result<(), Fail> {
+    let mut office = Office::new(standing(&rt)?.into_book());
+    tell(&rt, &mut office, &[("ann purses", "purses p1")])
+}
+
+/// Each refusal has its words.
+#[test]
+fn refusals_in_words(rt: HostRuntime) {
+    for (refusal, words) in [
+        (Refusal::NotForCaller, "not for this caller"),
+        (Refusal::NoSuchPurse, "no such purse"),
+        (Refusal::NoSuchHolder, "no such holder"),
+        (Refusal::NoSuchMember, "no such member"),
+        (Refusal::NoSuchMessage, "no such message"),
+        (Refusal::NameTaken, "name taken"),
+        (Refusal::TokenTaken, "token taken"),
+        (Refusal::TooManyPurses, "too many purses"),
+        (Refusal::SamePurse, "same purse"),
+        (Refusal::NotEnough, "not enough"),
+        (Refusal::LogFull, "log full"),
+        (Refusal::Worn, "purse worn"),
+        (Refusal::RefReused, "reference reused"),
+        (Refusal::FloatTooSmall, "float too small"),
+        (Refusal::FloatFull, "float full"),
+        (Refusal::GrantTooLarge, "grant too large"),
+        (Refusal::OverCap, "over cap"),
+    ] {
+        assert_eq!(rt; refusal.text(), words);
+    }
 }

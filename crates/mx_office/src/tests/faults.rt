@@ -1,43 +1,16 @@
 //! What stands where a growth is refused, and where the book answers a fault.
 ghost use Rattle.std.specs.Prelude.{◌≡◌};
 
-use super::scripts::{asked, script};
-use super::{OPERATOR, name, token, words};
-use crate::{Command, Office, Outcome, Reply};
+use super::scripts::{name, read_command};
+use super::words::outcome_words;
+use super::{empty_book, tell};
+use crate::{Command, Office, Outcome};
 use mx_book::{Account, Book, Caller, Edit, HolderRow, Line, MemberRow, PlainBook, StoreFault};
 use mx_pay::{Amount, Name, Token};
-use mx_purse::{Handled, Message};
-use std::alloc::Global;
+use mx_purse::Message;
+use std::alloc::{AllocError, Global};
+use std::process::Abort;
 use std::test::Fail;
-
-/// A payment of nothing between two purses, from an empty office on.
-const PAYMENT: &str =
-    "operator new-member m 00000000000000000000000000000002\nclerk new-holder ann 0000000000000000000000000000000a\nclerk new-holder bob 0000000000000000000000000000000b\nclerk new-purse p1 ann\nclerk new-purse q1 bob\nann start-from p1 q1 0\nbob start-to q1 p1 0\nann handle p1 0\nbob handle q1 0\nann handle p1 1";
-
-/// The same payment, but of 60 out of 100 that p1 is loaded with.
-const PAYMENT_OF_60: &str =
-    "operator new-member m 00000000000000000000000000000002\nclerk new-holder ann 0000000000000000000000000000000a\nclerk new-holder bob 0000000000000000000000000000000b\nclerk new-purse p1 ann\nclerk new-purse q1 bob\noperator grant m 1000\nclerk load p1 100 a1\nann start-from p1 q1 60\nbob start-to q1 p1 60\nann handle p1 0\nbob handle q1 0\nann handle p1 1";
-
-/// A float of 100 that is loaded, redeemed, collected and loaded again, from an empty office on.
-const ROUND: &str =
-    "operator new-member m 00000000000000000000000000000002\nclerk new-holder ann 0000000000000000000000000000000a\nclerk new-purse p1 ann\noperator grant m 100\nclerk load p1 100 a1\nann redeem p1 100 r1\nann redeem p1 100 r1\nclerk collect\nclerk collect\nclerk load p1 100 a2";
-
-/// Three rows are added and a purse is shown.
-const ADDED: &str =
-    "operator new-member m 00000000000000000000000000000002\nclerk new-holder ann 0000000000000000000000000000000a\nclerk new-purse p1 ann\nann show p1";
-
-/// Three rows are added, and money comes and goes.
-const MONEY: &str =
-    "operator new-member m 00000000000000000000000000000002\nclerk new-holder ann 0000000000000000000000000000000a\nclerk new-purse p1 ann\noperator grant m 100\nclerk load p1 100 a1\nann redeem p1 60 r1\nclerk collect\nann show p1";
-
-/// Whether a command did what it asks for. A message that is ignored did not.
-fn is_accepted(reply: &Reply) -> bool {
-    match reply {
-        Reply::Refused(_) => false,
-        Reply::Handled(so) => !matches!(so, Handled::Ignored),
-        _ => true,
-    }
-}
 
 /// What a book says of m and of p1. To be told takes no memory.
 #[derive(Clone, Copy, Debug, PartialEq, Eq)]
@@ -82,104 +55,121 @@ fn read_held(office: &mut Office<PlainBook>, alloc: Global) -> Result<Held, Fail
     })
 }
 
-/// The reply to a command, or to the same command again where it gets none at first and has changed nothing.
-fn answered(
-    office: &mut Office<PlainBook>,
-    alloc: Global,
-    caller: Caller,
-    command: &Command,
-) -> Result<Reply, Fail> {
-    let before = read_held(office, alloc)?;
-    if let Ok(reply) = office.answer(alloc, caller, command) {
-        return Ok(reply);
-    }
-    if read_held(office, alloc)? != before {
-        return Err("a fault changed something")?;
-    }
-    Ok(office.answer(alloc, caller, command)?)
-}
-
-/// Whether each command of a text is accepted, at the second time where it gets no reply at first.
-fn are_answered(office: &mut Office<PlainBook>, alloc: Global, text: &str) -> Result<bool, Fail> {
-    for line in text.lines() {
-        let (caller, command) = asked(line)?;
-        if !is_accepted(&answered(office, alloc, caller, &command)?) {
-            return Ok(false);
-        }
-    }
-    Ok(true)
-}
-
-#[test]
-fn a_refused_growth_leaves_the_world(rt: HostRuntime) -> Result<(), Fail> {
-    let alloc = rt.alloc();
-    let mut office = Office::new(PlainBook::new(alloc, token(OPERATOR)?));
-    assert!(rt; are_answered(&mut office, alloc, PAYMENT)?);
-    Ok(())
-}
-
-#[test]
-fn a_refused_growth_leaves_the_money_of_a_payment(rt: HostRuntime) -> Result<(), Fail> {
-    let alloc = rt.alloc();
-    let mut office = Office::new(PlainBook::new(alloc, token(OPERATOR)?));
-    assert!(rt; are_answered(&mut office, alloc, PAYMENT_OF_60)?);
-    let held = read_held(&mut office, alloc)?;
-    assert_eq!(rt; held.granted, 1000);
-    assert_eq!(rt; held.float, 900);
-    assert_eq!(rt; held.balance, 40);
-    assert_eq!(rt; held.lines, 2);
-    assert_eq!(rt; held.next_message, 2);
-    Ok(())
-}
-
-#[test]
-fn a_refused_growth_leaves_the_float(rt: HostRuntime) -> Result<(), Fail> {
-    let alloc = rt.alloc();
-    let mut office = Office::new(PlainBook::new(alloc, token(OPERATOR)?));
-    assert!(rt; are_answered(&mut office, alloc, ROUND)?);
-    assert!(rt; !are_answered(&mut office, alloc, "clerk load p1 1 a3")?);
-    let held = read_held(&mut office, alloc)?;
-    assert_eq!(rt; held.granted, 100);
-    assert_eq!(rt; held.float, 0);
-    assert_eq!(rt; held.uncollected, 0);
-    assert_eq!(rt; held.balance, 100);
-    assert_eq!(rt; held.lines, 3);
-    Ok(())
-}
-
-/// Whether a command is accepted that is run in a list of its own. None where it gets no reply.
+/// The outcome of a command that is run in a list of its own. None where it isn't run or the book couldn't do it.
 fn run_alone(
     office: &mut Office<PlainBook>,
     alloc: Global,
     asked: &(Caller, Command),
-) -> Option<bool> {
-    let outcomes = office.run(alloc, &[*asked]).ok()?;
-    match outcomes.first() {
-        Some(Outcome::Reply(reply)) => Some(is_accepted(reply)),
-        _ => None,
+) -> Option<Outcome> {
+    match office.run(alloc, &[*asked]).ok()?.pop()? {
+        Outcome::Reply(reply) => Some(Outcome::Reply(reply)),
+        Outcome::Unavailable => None,
     }
 }
 
-/// Whether each command of a text is accepted, at the second time where it gets no reply at first.
-fn are_run(office: &mut Office<PlainBook>, alloc: Global, text: &str) -> Result<bool, Fail> {
-    for line in text.lines() {
-        let command = asked(line)?;
-        let accepted = match run_alone(office, alloc, &command) {
-            Some(accepted) => accepted,
-            None => run_alone(office, alloc, &command).ok_or("no reply")?,
-        };
-        if !accepted {
-            return Ok(false);
-        }
+/// The outcome of a command, or of the same command again where it gets no reply at first and has changed nothing.
+fn run_again(
+    office: &mut Office<PlainBook>,
+    alloc: Global,
+    asked: &(Caller, Command),
+) -> Result<Outcome, Fail> {
+    let before = read_held(office, alloc)?;
+    if let Some(outcome) = run_alone(office, alloc, asked) {
+        return Ok(outcome);
     }
-    Ok(true)
+    if read_held(office, alloc)? != before {
+        return Err("a fault changed something")?;
+    }
+    Ok(run_alone(office, alloc, asked).ok_or("no reply twice")?)
 }
 
+/// The words of an outcome, at the second time where there is no memory for them at first.
+fn words_again(alloc: Global, outcome: &Outcome) -> Result<String, AllocError> {
+    match outcome_words(alloc, outcome) {
+        Ok(words) => Ok(words),
+        Err(_) => outcome_words(alloc, outcome),
+    }
+}
+
+/// Runs commands, which stand before their replies, one by one, and asserts that each gets its reply, at the second
+/// time where it gets none at first.
+fn tell_again(
+    rt: &(impl Abort + AllocGlobal),
+    office: &mut Office<PlainBook>,
+    script: &[(&str, &str)],
+) -> Result<(), Fail> {
+    for (command, reply) in script {
+        let outcome = run_again(office, rt.alloc(), &read_command(command)?)?;
+        let words = words_again(rt.alloc(), &outcome)?;
+        assert_eq!(rt; words.as_str(), *reply, "{command}");
+    }
+    Ok(())
+}
+
+/// A payment of 60 out of 100, in an office that begins empty.
 #[test]
-fn a_run_that_gets_no_memory_does_nothing(rt: HostRuntime) -> Result<(), Fail> {
-    let alloc = rt.alloc();
-    let mut office = Office::new(PlainBook::new(alloc, token(OPERATOR)?));
-    assert!(rt; are_run(&mut office, alloc, PAYMENT)?);
+fn payment_with_a_growth_refused(rt: HostRuntime) -> Result<(), Fail> {
+    let mut office = Office::new(empty_book(&rt)?);
+    tell_again(
+        &rt,
+        &mut office,
+        &[
+            ("operator new-member m 2", "added"),
+            ("clerk new-holder ann a", "added"),
+            ("clerk new-holder bob b", "added"),
+            ("clerk new-purse p1 ann", "added"),
+            ("clerk new-purse q1 bob", "added"),
+            ("operator grant m 1000", "granted"),
+            ("clerk load p1 100 a1", "loaded"),
+            ("ann start-from p1 q1 60 0", "started p1,q1,60,0,0"),
+            ("bob start-to q1 p1 60 0", "started p1,q1,60,0,0"),
+            ("ann handle p1 0", "value-sent"),
+            ("bob handle q1 0", "received"),
+            ("ann handle p1 1", "finished"),
+        ],
+    )?;
+    let held = Held {
+        granted: 1000,
+        float: 900,
+        uncollected: 0,
+        balance: 40,
+        lines: 2,
+        next_message: 2,
+    };
+    assert_eq!(rt; read_held(&mut office, rt.alloc())?, held);
+    Ok(())
+}
+
+/// A float of 100 that is loaded, redeemed, collected and loaded again, in an office that begins empty.
+#[test]
+fn float_with_a_growth_refused(rt: HostRuntime) -> Result<(), Fail> {
+    let mut office = Office::new(empty_book(&rt)?);
+    tell_again(
+        &rt,
+        &mut office,
+        &[
+            ("operator new-member m 2", "added"),
+            ("clerk new-holder ann a", "added"),
+            ("clerk new-purse p1 ann", "added"),
+            ("operator grant m 100", "granted"),
+            ("clerk load p1 100 a1", "loaded"),
+            ("ann redeem p1 100 r1", "redeemed"),
+            ("ann redeem p1 100 r1", "redeemed"),
+            ("clerk collect", "collected 100"),
+            ("clerk collect", "collected 0"),
+            ("clerk load p1 100 a2", "loaded"),
+            ("clerk load p1 1 a3", "float too small"),
+        ],
+    )?;
+    let held = Held {
+        granted: 100,
+        float: 0,
+        uncollected: 0,
+        balance: 100,
+        lines: 3,
+        next_message: 0,
+    };
+    assert_eq!(rt; read_held(&mut office, rt.alloc())?, held);
     Ok(())
 }
 
@@ -337,96 +327,99 @@ impl<B: Book> Book for Faulty<B> {
 }
 
 /// An office over a book that leaves one call out, after so many that it passes on.
-fn faulty_office(alloc: Global, before: u64) -> Result<Office<Faulty<PlainBook>>, Fail> {
+fn faulty_office(rt: &impl AllocGlobal, passed: u64) -> Result<Office<Faulty<PlainBook>>, Fail> {
     Ok(Office::new(Faulty {
-        book: PlainBook::new(alloc, token(OPERATOR)?),
-        left: Some(before),
+        book: empty_book(rt)?,
+        left: Some(passed),
     }))
 }
 
-/// What is answered to the commands of a text over a book that leaves one call out, a line each.
-fn told_over(alloc: Global, before: u64, text: &str) -> Result<String, Fail> {
-    let commands = script(alloc, text)?;
-    let mut office = faulty_office(alloc, before)?;
-    let outcomes = office.run(alloc, commands.as_slice())?;
-    words(alloc, outcomes.as_slice())
-}
-
-/// Whether so much is answered to the commands of a text over a book that leaves one call out.
-fn is_told(alloc: Global, before: u64, text: &str, said: &str) -> Result<bool, Fail> {
-    Ok(told_over(alloc, before, text)?.as_str() == said)
-}
-
+/// A call of the book that fails leaves its command undone, and no other.
 #[test]
-fn a_fault_leaves_one_command_undone(rt: HostRuntime) -> Result<(), Fail> {
-    let alloc = rt.alloc();
+fn fault_in_one_command(rt: HostRuntime) -> Result<(), Fail> {
     // A new member takes 3 calls of the book, a new holder 4, a new purse 3 and a show 2. Of each command's calls
     // the last is apply.
-    assert!(rt;
-        is_told(
-            alloc,
-            7,
-            ADDED,
-            "added\nadded\nunavailable\nno such purse\n"
-        )?
-    );
-    assert!(rt;
-        is_told(
-            alloc,
-            9,
-            ADDED,
-            "added\nadded\nunavailable\nno such purse\n"
-        )?
-    );
-    assert!(rt; is_told(alloc, 10, ADDED, "added\nadded\nadded\nunavailable\n")?);
-    assert!(rt; is_told(alloc, 12, ADDED, "added\nadded\nadded\np1 0 0 eaFrom\n")?);
+    for (passed, added, shown) in [
+        (7, "unavailable", "no such purse"),
+        (9, "unavailable", "no such purse"),
+        (10, "added", "unavailable"),
+        (12, "added", "p1 0 0 eaFrom"),
+    ] {
+        tell(
+            &rt,
+            &mut faulty_office(&rt, passed)?,
+            &[
+                ("operator new-member m 2", "added"),
+                ("clerk new-holder ann a", "added"),
+                ("clerk new-purse p1 ann", added),
+                ("ann show p1", shown),
+            ],
+        )?;
+    }
     Ok(())
 }
 
+/// The same of commands that move money.
 #[test]
-fn a_fault_leaves_one_command_of_money_undone(rt: HostRuntime) -> Result<(), Fail> {
-    let alloc = rt.alloc();
-    // What is added takes 10 calls of the book, a grant to the only member 4, a load 4, a redemption 3 and a
-    // collect 3. Of each command's calls the last is apply.
-    assert!(rt;
-        is_told(
-            alloc,
+fn fault_in_one_command_of_money(rt: HostRuntime) -> Result<(), Fail> {
+    // What is added takes 10 calls of the book, a grant to the only member 4, a load 4, a redemption 3, a collect 3
+    // and a show 2. Of each command's calls the last is apply.
+    for (passed, granted, loaded, redeemed, collected, shown) in [
+        (
             13,
-            MONEY,
-            "added\nadded\nadded\nunavailable\nfloat too small\nnot enough\ncollected 0\np1 0 0 eaFrom\n"
-        )?
-    );
-    assert!(rt;
-        is_told(
-            alloc,
+            "unavailable",
+            "float too small",
+            "not enough",
+            "collected 0",
+            "p1 0 0 eaFrom",
+        ),
+        (
             17,
-            MONEY,
-            "added\nadded\nadded\ngranted\nunavailable\nnot enough\ncollected 0\np1 0 0 eaFrom\n"
-        )?
-    );
-    assert!(rt;
-        is_told(
-            alloc,
+            "granted",
+            "unavailable",
+            "not enough",
+            "collected 0",
+            "p1 0 0 eaFrom",
+        ),
+        (
             20,
-            MONEY,
-            "added\nadded\nadded\ngranted\nloaded\nunavailable\ncollected 0\np1 100 0 eaFrom\n"
-        )?
-    );
-    assert!(rt;
-        is_told(
-            alloc,
+            "granted",
+            "loaded",
+            "unavailable",
+            "collected 0",
+            "p1 100 0 eaFrom",
+        ),
+        (
             23,
-            MONEY,
-            "added\nadded\nadded\ngranted\nloaded\nredeemed\nunavailable\np1 40 0 eaFrom\n"
-        )?
-    );
-    assert!(rt;
-        is_told(
-            alloc,
+            "granted",
+            "loaded",
+            "redeemed",
+            "unavailable",
+            "p1 40 0 eaFrom",
+        ),
+        (
             24,
-            MONEY,
-            "added\nadded\nadded\ngranted\nloaded\nredeemed\ncollected 60\nunavailable\n"
-        )?
-    );
+            "granted",
+            "loaded",
+            "redeemed",
+            "collected 60",
+            "unavailable",
+        ),
+    ] {
+        tell(
+            &rt,
+            &mut faulty_office(&rt, passed)?,
+            &[
+                ("operator new-member m 2", "added"),
+                ("clerk new-holder ann a", "added"),
+                ("clerk new-purse p1 ann", "added"),
+                ("operator grant m 100", granted),
+                ("clerk load p1 100 a1", loaded),
+                ("ann redeem p1 60 r1", redeemed),
+                ("clerk collect", collected),
+                ("ann show p1", shown),
+            ],
+        )?;
+    }
     Ok(())
 }

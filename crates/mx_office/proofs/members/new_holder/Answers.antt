@@ -1,6 +1,7 @@
 use Rattle.std.proofs.Common.{rules}
 use Rattle.mx_office.specs.declared.values.Refusal.TheVariants.{NoSuchMember, NameTaken, TokenTaken}
-use Rattle.mx_office.proofs.DecideLemmas.{refused_decides, first, next, holder_given, new_holder_decides}
+use Rattle.mx_office.proofs.OwnLemmas.{first, next}
+use Rattle.mx_office.proofs.DecideLemmas.{refused_decides, holder_given, new_holder_decides}
 use Rattle.mx_office.proofs.members.new_holder.Goals as goal
 
 pub returns-then-is_none-clause-decides : goal.returns-then-is_none-clause-decides

@@ -1,6 +1,7 @@
 use Rattle.std.proofs.Common.{rules}
 use Rattle.mx_office.specs.declared.values.Refusal.TheVariants.{NameTaken, TokenTaken}
-use Rattle.mx_office.proofs.DecideLemmas.{refused_decides, first, next, new_member_decides}
+use Rattle.mx_office.proofs.OwnLemmas.{first, next}
+use Rattle.mx_office.proofs.DecideLemmas.{refused_decides, new_member_decides}
 use Rattle.mx_office.proofs.members.new_member.Goals as goal
 
 pub returns-then-is_some-clause-decides : goal.returns-then-is_some-clause-decides

@@ -1,6 +1,7 @@
 use Rattle.std.proofs.Common.{rules}
 use Rattle.mx_office.specs.declared.values.Refusal.TheVariants.{NoSuchHolder, NameTaken, TooManyPurses}
-use Rattle.mx_office.proofs.DecideLemmas.{refused_decides, first, next, no_holder, a_holder, many_held, purse_given, new_purse_decides}
+use Rattle.mx_office.proofs.OwnLemmas.{first, next}
+use Rattle.mx_office.proofs.DecideLemmas.{refused_decides, no_holder, a_holder, many_held, purse_given, new_purse_decides}
 use Rattle.mx_office.proofs.members.new_purse.Goals as goal
 
 pub returns-in_default-clause-decides : goal.returns-in_default-clause-decides

@@ -2,7 +2,7 @@ use Rattle.std.proofs.Common.{◌≡◌, rules, sym, ◌∙◌, subst}
 use Rattle.std.proofs.lemmas.Result.{err_from_is_err_and}
 use Rattle.mx_office.proofs.FaultLemmas.{writes, memory_fails}
 use Rattle.mx_office.proofs.RefuseLemmas.{refused_stays}
-use Rattle.mx_office.specs.Step.{after, answered}
+use Rattle.mx_office.specs.Step.{step}
 use Rattle.mx_office.proofs.office.Office.answer.Goals as goal
 
 pub returns-in-Refused-clause-ok : goal.returns-in-Refused-clause-ok
@@ -12,11 +12,11 @@ returns-in-Refused-clause-ok g c = λ w honest spelled.
     rw (same, c.decide.ensures.keeps.same honest) spelled
 
 pub returns-in-Refused-clause-reply : goal.returns-in-Refused-clause-reply
-unfolding answered
+unfolding step
 returns-in-Refused-clause-reply g c = λ w honest spelled. sym c.in-Refused.is ∙ (c.in_ok-decided.ensures.decides w honest spelled).reply
 
 pub returns-clause-ok : goal.returns-clause-ok
-unfolding after
+unfolding step
 returns-clause-ok g c = λ w honest spelled.
     let before : g.B.Book.doubt c.decide.new.self.book ≡ 0 = search rules in
     let decides = c.in_ok-decided.ensures.decides w before spelled in
@@ -24,7 +24,7 @@ returns-clause-ok g c = λ w honest spelled.
     subst (g.B.Book.spells (g.B.Book.rows c.commit.new.self.book)) decides.leads (c.in_ok-commit.ensures.ok w honest still)
 
 pub returns-clause-reply : goal.returns-clause-reply
-unfolding answered
+unfolding step
 returns-clause-reply g c = λ w honest spelled.
     let before : g.B.Book.doubt c.decide.new.self.book ≡ 0 = search rules in
     (c.in_ok-decided.ensures.decides w before spelled).reply
@@ -33,7 +33,7 @@ pub returns-clause-refused : goal.returns-clause-refused
 returns-clause-refused g c = λ honest refusal is. absurd (c.in_default.not-Refused refusal is)
 
 pub returns-in_err-commit-clause-memory : goal.returns-in_err-commit-clause-memory
-unfolding answered
+unfolding step
 returns-in_err-commit-clause-memory g c = λ w honest spelled.
     let before : g.B.Book.doubt c.decide.new.self.book ≡ 0 = search rules in
     let p = err_from_is_err_and c.from_residual-in_err-commit.result c.from_residual-in_err-commit.ensures.1 in

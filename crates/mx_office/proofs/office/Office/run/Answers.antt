@@ -1,7 +1,7 @@
 use Rattle.std.proofs.Common.{◌≡◌, rules, subst}
 use Rattle.std.proofs.lemmas.List.{take_all}
 use Rattle.mx_office.specs.Run.{Leads}
-use Rattle.mx_office.specs.Step.{after}
+use Rattle.mx_office.specs.Step.{step}
 use Rattle.mx_office.proofs.OutcomeLemmas.{run_replied_at, run_undone_at}
 use Rattle.mx_office.proofs.BalanceCommandLemmas.{reachable_balanced}
 use Rattle.mx_office.proofs.ReachLemmas.{reachable_run}
@@ -26,7 +26,7 @@ loop-caller-preserved g c = record {
       let so_far = c.loop-caller.invariant.run w before spelled in
       elim c.match-answer.branch [
         | in-Ok v ↦ record {
-          end = after so_far.end c.loop-caller-item.result.0 c.loop-caller-item.result.1;
+          end = (step so_far.end c.loop-caller-item.result.0 c.loop-caller-item.result.1).world;
           stands = v.in-Ok.ensures.ok so_far.end honest so_far.stands;
           run = run_replied_at _ _ _ _ _ c.loop-caller-item.result _ _ _ _ c.loop-caller-test.true c.loop-caller-item.is so_far.run (v.in-Ok.ensures.reply so_far.end honest so_far.stands) v.outcome-is c.push_reserved.ensures.items;
         }

@@ -1,0 +1,97 @@
+//! Outcomes in words.
+use crate::{Messages, Names, Outcome, Reply};
+use mx_pay::{Log, PayDetails, code_text};
+use mx_purse::{Handled, Message, Purse, Status};
+use std::alloc::{AllocError, Global};
+
+/// The code text of these details alone.
+fn details_words(alloc: Global, details: &PayDetails) -> Result<String, AllocError> {
+    let mut log = Log::new();
+    log.add(*details);
+    Ok(code_text(alloc, &log)?)
+}
+
+fn status_word(status: Status) -> &'static str {
+    match status {
+        Status::EaFrom => "eaFrom",
+        Status::EaTo => "eaTo",
+        Status::Epr(_) => "epr",
+        Status::Epv(_) => "epv",
+        Status::Epa(_) => "epa",
+    }
+}
+
+/// Its name, its balance, its next number and its status.
+fn purse_words(alloc: Global, purse: &Purse) -> Result<String, AllocError> {
+    let name = purse.name();
+    let status = status_word(purse.status());
+    let (balance, next) = (purse.balance(), purse.next().get());
+    Ok(format!(in alloc; "{} {balance} {next} {status}", name.as_str())?)
+}
+
+fn handled_words(handled: &Handled) -> &'static str {
+    match handled {
+        Handled::Req(_) => "value-sent",
+        Handled::Val(_) => "received",
+        Handled::Ack(_) => "finished",
+        Handled::Ignored => "ignored",
+    }
+}
+
+/// The names, with a space before each.
+fn names_words(alloc: Global, names: &Names) -> Result<String, AllocError> {
+    let mut text = String::from_str(alloc, "purses")?;
+    for name in names.as_slice() {
+        text.push_str(" ")?;
+        text.push_str(name.as_str())?;
+    }
+    Ok(text)
+}
+
+/// A message with its number, and a space before it.
+fn message_words(alloc: Global, number: u64, message: &Message) -> Result<String, AllocError> {
+    let (kind, details) = match message {
+        Message::Req(details) => ("req", details),
+        Message::Val(details) => ("val", details),
+        Message::Ack(details) => ("ack", details),
+    };
+    let details = details_words(alloc, details)?;
+    Ok(format!(in alloc; " {number} {kind} {}", details.as_str())?)
+}
+
+fn inbox_words(alloc: Global, messages: &Messages) -> Result<String, AllocError> {
+    let mut text = String::from_str(alloc, "inbox")?;
+    for (number, message) in messages.as_slice() {
+        text.push_str(message_words(alloc, *number, message)?.as_str())?;
+    }
+    Ok(text)
+}
+
+fn reply_words(alloc: Global, reply: &Reply) -> Result<String, AllocError> {
+    match reply {
+        Reply::Refused(refusal) => Ok(String::from_str(alloc, refusal.text())?),
+        Reply::Added => Ok(String::from_str(alloc, "added")?),
+        Reply::Granted => Ok(String::from_str(alloc, "granted")?),
+        Reply::Loaded => Ok(String::from_str(alloc, "loaded")?),
+        Reply::Collected(sum) => Ok(format!(in alloc; "collected {sum}")?),
+        Reply::Purses(names) => names_words(alloc, names),
+        Reply::Shown(purse) => purse_words(alloc, purse),
+        Reply::Started(details) => {
+            let details = details_words(alloc, details)?;
+            Ok(format!(in alloc; "started {}", details.as_str())?)
+        }
+        Reply::Handled(handled) => Ok(String::from_str(alloc, handled_words(handled))?),
+        Reply::Discarded => Ok(String::from_str(alloc, "discarded")?),
+        Reply::Aborted { logged } => Ok(format!(in alloc; "aborted {logged}")?),
+        Reply::Redeemed => Ok(String::from_str(alloc, "redeemed")?),
+        Reply::Inbox(messages) => inbox_words(alloc, messages),
+    }
+}
+
+/// The words of a reply, or that there is none.
+pub(super) fn outcome_words(alloc: Global, outcome: &Outcome) -> Result<String, AllocError> {
+    match outcome {
+        Outcome::Reply(reply) => reply_words(alloc, reply),
+        Outcome::Unavailable => Ok(String::from_str(alloc, "unavailable")?),
+    }
+}
