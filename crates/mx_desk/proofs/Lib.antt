@@ -5,3 +5,4 @@ pub mod Results
 pub mod RequestLemmas
 pub mod Lists
 pub mod Known
+pub mod StepLemmas

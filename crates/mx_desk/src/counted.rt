@@ -37,7 +37,7 @@ impl<D> Counted<D> {
         self.calls
     }
 
-    /// How often it failed: by an error, or by taking nothing of a text that isn't empty.
+    /// How often it failed: by an error of a read, a write or a flush, or by taking nothing of a text that isn't empty.
     pub fn failures(&self) -> u64
         ensures { result ≡ self.now.failures }
     {
@@ -107,7 +107,12 @@ impl<D: Write> Write for Counted<D> {
 
     fn flush(&mut self) -> io::Result<()>
         ensures bytes { Keeps (D.contents self.old.device) (D.contents self.new.device) }
+        ensures failures { MatchResult result (λ _. self.new.failures ≡ self.old.failures) (λ _. self.new.failures ≡ capped (self.old.failures + 1)) }
     {
-        self.device.flush()
+        let answer = self.device.flush();
+        if answer.is_err() {
+            self.note_failure();
+        }
+        answer
     }
 }

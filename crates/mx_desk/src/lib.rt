@@ -1,7 +1,9 @@
 //! The desk: HTTP over any reader and writer.
 #![tactic(auto)]
 
+pub mod answer;
 pub mod counted;
+pub mod desk;
 pub mod fault;
 pub mod fields;
 pub mod first;

@@ -1,6 +1,6 @@
 //! Whole texts to a writer that may take less.
 ghost use Rattle.std.specs.Prelude.{◌≡◌, ◌+◌, ◌<◌, ◌≤◌, ◌++◌, ℕ, List, [], OnOk, OnErr, IfErr, length, take, drop};
-ghost use Rattle.std.specs.Io.KnownBytes.{Appends};
+ghost use Rattle.std.specs.Io.KnownBytes.{Appends, Keeps};
 ghost use Rattle.mx_desk.specs.Devices.{capped};
 
 use crate::counted::Counted;
@@ -26,4 +26,17 @@ pub fn write_out<W: Write>(writer: &mut Counted<W>, text: &[u8]) -> Result<(), D
         }
     }
     Ok(())
+}
+
+/// Passes on what the writer still holds. An error is `Write`, where the flush failed.
+pub fn flush_out<W: Write>(writer: &mut Counted<W>) -> Result<(), DeskFault>
+    ensures bytes { Keeps (W.contents writer.old.device) (W.contents writer.new.device) }
+    ensures ok { OnOk result (writer.new.failures ≡ writer.old.failures) }
+    ensures err { OnErr result (writer.new.failures ≡ capped (writer.old.failures + 1)) }
+    ensures fault { IfErr result (λ e. e ≡ DeskFault.Write) }
+{
+    match writer.flush() {
+        Ok(()) => Ok(()),
+        Err(_) => Err(DeskFault::Write),
+    }
 }

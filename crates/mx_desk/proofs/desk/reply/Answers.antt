@@ -1,0 +1,65 @@
+use Rattle.std.proofs.Common.{◌≡◌, ◌∙◌, true, false, refl}
+use Rattle.mx_wire.specs.Replies.{sent}
+use Rattle.mx_wire.specs.Made.{parts_of}
+use Rattle.mx_book.specs.World.{World}
+use Rattle.mx_desk.specs.Found.{request_view}
+use Rattle.mx_desk.specs.Respond.{respond, is_head}
+use Rattle.mx_desk.proofs.Results.{on_ok, on_err}
+use Rattle.mx_desk.proofs.desk.reply.Goals as goal
+
+
+pub returns-in-Ok-clause-ok : goal.returns-in-Ok-clause-ok
+returns-in-Ok-clause-ok g c = λ w honest spelled.
+    let head : c.eq-head_only.result ≡ is_head c.args.request.now.method.now = rw (c.eq-head_only.ensures, c.as_slice.ensures) refl in
+    let answer = c.in-Ok.ensures.answers w honest spelled in
+    let same = answer.0 in
+    let text : c.text.result.now ≡ sent (is_head c.args.request.now.method.now) (respond w (request_view c.args.request.now)).response = c.text.ensures ∙ rw (head, same) refl in
+    on_ok c.write_out.result _ _ (λ x. record {
+      marked = record { request = request_view c.args.request.now; given_up = false };
+      request = refl;
+      marks = λ e. cc;
+      wrote = (rw text at x.0);
+      stands = answer.1;
+    }) c.write_out.ensures.ok
+
+pub returns-in-Ok-clause-err : goal.returns-in-Ok-clause-err
+returns-in-Ok-clause-err g c = λ w honest spelled.
+    let head : c.eq-head_only.result ≡ is_head c.args.request.now.method.now = rw (c.eq-head_only.ensures, c.as_slice.ensures) refl in
+    let answer = c.in-Ok.ensures.answers w honest spelled in
+    let same = answer.0 in
+    let text : c.text.result.now ≡ sent (is_head c.args.request.now.method.now) (respond w (request_view c.args.request.now)).response = c.text.ensures ∙ rw (head, same) refl in
+    on_err c.write_out.result _ _ (λ x. record {
+      marked = record { request = request_view c.args.request.now; given_up = false };
+      count = x.0;
+      request = refl;
+      marks = λ e. cc;
+      cut = (rw text at x.1);
+      wrote = (rw text at x.2);
+      stands = answer.1;
+    }) c.write_out.ensures.err
+
+pub returns-in-Err-clause-ok : goal.returns-in-Err-clause-ok
+returns-in-Err-clause-ok g c = λ w honest spelled.
+    let text = c.unavailable_text.ensures in
+    let answer = c.in-Err.ensures.answers w honest spelled in
+    on_ok c.write_out-in-Err.result _ _ (λ x. record {
+      marked = record { request = request_view c.args.request.now; given_up = true };
+      request = refl;
+      marks = λ e. answer.0;
+      wrote = (rw text at x.0);
+      stands = answer.1;
+    }) c.write_out-in-Err.ensures.ok
+
+pub returns-in-Err-clause-err : goal.returns-in-Err-clause-err
+returns-in-Err-clause-err g c = λ w honest spelled.
+    let text = c.unavailable_text.ensures in
+    let answer = c.in-Err.ensures.answers w honest spelled in
+    on_err c.write_out-in-Err.result _ _ (λ x. record {
+      marked = record { request = request_view c.args.request.now; given_up = true };
+      count = x.0;
+      request = refl;
+      marks = λ e. answer.0;
+      cut = (rw text at x.1);
+      wrote = (rw text at x.2);
+      stands = answer.1;
+    }) c.write_out-in-Err.ensures.err

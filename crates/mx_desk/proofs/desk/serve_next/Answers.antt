@@ -1,0 +1,235 @@
+use Rattle.std.proofs.Common.{rules, ◌≡◌, ◌+◌, ◌-◌, ◌*◌, ◌<◌, ◌≤◌, ◌⊎◌, ℕ, List, [], ◌++◌, ◌≢◌, Ok, Err, length, take, drop, true, false, refl, sym, ap, ◌∙◌, append_assoc, arith, length-append, length-drop}
+use Rattle.std.proofs.lemmas.Bool.{eqb-true, eqb-false}
+use Rattle.std.proofs.lemmas.List.{append-nil}
+use Rattle.std.proofs.lemmas.Result.{err_from_is_err_and}
+use Rattle.std.specs.Io.KnownBytes.{Appends, Consumes}
+use Rattle.mx_desk.specs.Devices.{capped}
+use Rattle.mx_desk.specs.Found.{request_view}
+use Rattle.mx_desk.specs.Serve.{Marked, response_to, world_after_one, stop_text}
+use Rattle.mx_desk.specs.Steps.{state, Steps, Leads}
+use Rattle.mx_desk.proofs.Known.{Appends-none, Appends-then, Appends-kept, Consumes-none, Consumes-then, Consumes-kept}
+use Rattle.mx_desk.proofs.RequestLemmas.{Whole-shorter}
+use Rattle.mx_desk.proofs.StepLemmas.{Came, answered_step, cut_step, turns_step, read_step, flush_step, stop_step, cut_stop_step, stop_at_end, cut_stop_at_end, nothing_step, smaller, first_now, open_room, capped_none, capped_more}
+use Rattle.mx_desk.proofs.desk.serve_next.Goals as goal
+
+pub pieces-init : goal.pieces-init
+pieces-init g c = record {
+  came = ([], Consumes-none _, sym (append-nil _));
+  reads = (0, omega arith, λ h. absurd (omega (arith, h)), capped_none _ (rw c.calls-calls.ensures at c.calls-calls.type_inv), λ _. omega arith, λ _. refl);
+  ended = λ h. absurd (cc);
+  read_failures = refl;
+  write_failures = refl;
+  wrote = Appends-none _;
+  office = refl;
+}
+
+pub returns-in_err-reply-in-Whole-clause-steps : goal.returns-in_err-reply-in-Whole-clause-steps
+returns-in_err-reply-in-Whole-clause-steps g c = λ w honest spelled.
+    let p = err_from_is_err_and c.from_residual.result c.from_residual.ensures.1 in
+    let still : g.B.Book.spells (g.B.Book.rows c.pieces.office.book) w = rw c.pieces.invariant.office spelled in
+    let err = c.in_err-reply-in-Whole.ensures.err w honest still in
+    let came = c.pieces.invariant.came in
+    let less = err.cut in
+    rw (p.1, p.2, c.in_err-reply-in-Whole.ensures.fault.0) (record {
+      end = world_after_one w err.marked;
+      stands = err.stands;
+      holds =
+          cut_step g.B.Book.fails _ _ c.pieces.input (request_view c.in-Whole.request) c.in-Whole.end err.marked err.count
+          (record { came = came.0; consumed = came.1; pending_is = came.2 })
+          (rw c.pending.ensures.value at c.in-Whole.ensures.1)
+          err.request err.marks (omega (arith, less))
+          (Appends-then _ _ _ [] _ c.pieces.invariant.wrote err.wrote)
+          refl;
+    })
+
+pub returns-in-Whole-clause-steps : goal.returns-in-Whole-clause-steps
+returns-in-Whole-clause-steps g c = λ w honest spelled.
+    let still : g.B.Book.spells (g.B.Book.rows c.pieces.office.book) w = rw c.pieces.invariant.office spelled in
+    let ok = c.in_ok-reply-in-Whole.ensures.ok w honest still in
+    let came = c.pieces.invariant.came in
+    record {
+      end = world_after_one w ok.marked;
+      stands = ok.stands;
+      holds =
+          answered_step g.B.Book.fails _ _ c.pieces.input (request_view c.in-Whole.request) c.in-Whole.end ok.marked
+          (record { came = came.0; consumed = came.1; pending_is = came.2 })
+          (rw c.pending.ensures.value at c.in-Whole.ensures.1)
+          c.forget.ensures
+          ok.request ok.marks
+          (Appends-then _ _ _ [] _ c.pieces.invariant.wrote ok.wrote)
+          refl;
+    }
+
+pub returns-in-Whole-clause-smaller : goal.returns-in-Whole-clause-smaller
+returns-in-Whole-clause-smaller g c =
+    let reads = c.pieces.invariant.reads in
+    let whole = rw c.pending.ensures.value at c.in-Whole.ensures.1 in
+    λ _. smaller _ _ reads.0 _ (length c.pieces.input) _ reads.1 (λ z. ap length (reads.5 z)) c.pending.ensures.fits
+    (rw c.forget.ensures (Whole-shorter c.pieces.input _ _ (first_now c.pieces.input (request_view c.in-Whole.request) c.in-Whole.end whole)))
+
+pub returns-in_err-write_stop-in-Stopped-clause-steps : goal.returns-in_err-write_stop-in-Stopped-clause-steps
+returns-in_err-write_stop-in-Stopped-clause-steps g c = λ w honest spelled.
+    let p = err_from_is_err_and c.from_residual-in_err-write_stop-in-Stopped.result c.from_residual-in_err-write_stop-in-Stopped.ensures.1 in
+    let err = c.in_err-write_stop-in-Stopped.ensures.err in
+    let came = c.pieces.invariant.came in
+    let how = c.in-Stopped.ensures in
+    rw (p.1, p.2, c.in_err-write_stop-in-Stopped.ensures.fault) (record {
+      end = w;
+      stands = rw c.pieces.invariant.office spelled;
+      holds =
+          cut_stop_step g.B.Book.fails _ _ c.pieces.input c.in-Stopped.stop err.0
+          (record { came = came.0; consumed = came.1; pending_is = came.2 })
+          (rw c.pending.ensures.value at how)
+          err.1
+          (Appends-then _ _ _ [] _ c.pieces.invariant.wrote err.2)
+          refl;
+    })
+
+pub returns-in-Stopped-clause-steps : goal.returns-in-Stopped-clause-steps
+returns-in-Stopped-clause-steps g c = λ w honest spelled.
+    let came = c.pieces.invariant.came in
+    let how = c.in-Stopped.ensures in
+    record {
+      end = w;
+      stands = rw c.pieces.invariant.office spelled;
+      holds =
+          stop_step g.B.Book.fails _ _ c.pieces.input c.in-Stopped.stop
+          (record { came = came.0; consumed = came.1; pending_is = came.2 })
+          (rw c.pending.ensures.value at how)
+          (Appends-then _ _ _ [] _ c.pieces.invariant.wrote c.in_ok-write_stop-in-Stopped.ensures.ok.0)
+          refl;
+    }
+
+pub returns-in_default-clause-steps : goal.returns-in_default-clause-steps
+returns-in_default-clause-steps g c = λ w honest spelled.
+    let came = c.pieces.invariant.came in
+    let how = c.in-Open.ensures in
+    record {
+      end = w;
+      stands = rw c.pieces.invariant.office spelled;
+      holds =
+          nothing_step g.B.Book.fails _ _ c.pieces.input
+          (record { came = came.0; consumed = came.1; pending_is = came.2 })
+          (rw (c.pending.ensures.value, c.in_default.is) at how)
+          (c.pieces.invariant.ended c.if-ended.true)
+          c.pieces.invariant.wrote
+          refl;
+    }
+
+pub returns-in_err-write_stop-in-Open-clause-steps : goal.returns-in_err-write_stop-in-Open-clause-steps
+returns-in_err-write_stop-in-Open-clause-steps g c = λ w honest spelled.
+    let p = err_from_is_err_and c.from_residual-in_err-write_stop-in-Open.result c.from_residual-in_err-write_stop-in-Open.ensures.1 in
+    let err = c.in_err-write_stop-in-Open.ensures.err in
+    let came = c.pieces.invariant.came in
+    let how = c.in-Open.ensures in
+    let last = rw (c.pending.ensures.value, c.in-Some.is) at how in
+    rw (p.1, p.2, c.in_err-write_stop-in-Open.ensures.fault) (record {
+      end = w;
+      stands = rw c.pieces.invariant.office spelled;
+      holds =
+          cut_stop_at_end g.B.Book.fails _ _ c.pieces.input c.in-Some.stop err.0
+          (record { came = came.0; consumed = came.1; pending_is = came.2 })
+          last.0
+          (c.pieces.invariant.ended c.if-ended.true)
+          err.1
+          (Appends-then _ _ _ [] _ c.pieces.invariant.wrote err.2)
+          refl;
+    })
+
+pub returns-in-Open-clause-steps : goal.returns-in-Open-clause-steps
+returns-in-Open-clause-steps g c = λ w honest spelled.
+    let came = c.pieces.invariant.came in
+    let how = c.in-Open.ensures in
+    let last = rw (c.pending.ensures.value, c.in-Some.is) at how in
+    record {
+      end = w;
+      stands = rw c.pieces.invariant.office spelled;
+      holds =
+          stop_at_end g.B.Book.fails _ _ c.pieces.input c.in-Some.stop
+          (record { came = came.0; consumed = came.1; pending_is = came.2 })
+          last.0
+          (c.pieces.invariant.ended c.if-ended.true)
+          (Appends-then _ _ _ [] _ c.pieces.invariant.wrote c.in_ok-write_stop-in-Open.ensures.ok.0)
+          refl;
+    }
+
+pub returns-in_err-flush_out-clause-steps : goal.returns-in_err-flush_out-clause-steps
+returns-in_err-flush_out-clause-steps g c = λ w honest spelled.
+    let p = err_from_is_err_and c.from_residual-in_err-flush_out.result c.from_residual-in_err-flush_out.ensures.1 in
+    let came = c.pieces.invariant.came in
+    let how = c.in-Open.ensures in
+    rw (p.1, p.2, c.in_err-flush_out.ensures.fault) (record {
+      end = w;
+      stands = rw c.pieces.invariant.office spelled;
+      holds =
+          flush_step g.B.Book.fails _ _ c.pieces.input c.in-Open.fault
+          (record { came = came.0; consumed = came.1; pending_is = came.2 })
+          (rw c.pending.ensures.value at how)
+          refl
+          (Appends-kept _ _ _ [] c.pieces.invariant.wrote c.in_err-flush_out.ensures.bytes)
+          refl;
+    })
+
+pub returns-then-turns-eq0-clause-steps : goal.returns-then-turns-eq0-clause-steps
+returns-then-turns-eq0-clause-steps g c = λ w honest spelled.
+    let came = c.pieces.invariant.came in
+    let how = c.in-Open.ensures in
+    record {
+      end = w;
+      stands = rw c.pieces.invariant.office spelled;
+      holds =
+          turns_step g.B.Book.fails _ _ c.pieces.input c.in-Open.fault
+          (record { came = came.0; consumed = came.1; pending_is = came.2 })
+          (rw c.pending.ensures.value at how)
+          refl
+          (Appends-kept _ _ _ [] c.pieces.invariant.wrote c.flush_out.ensures.bytes)
+          refl;
+    }
+
+pub returns-in_err-ended-clause-steps : goal.returns-in_err-ended-clause-steps
+returns-in_err-ended-clause-steps g c = λ w honest spelled.
+    let p = err_from_is_err_and c.from_residual-in_err-ended.result c.from_residual-in_err-ended.ensures.1 in
+    let came = c.pieces.invariant.came in
+    let how = c.in-Open.ensures in
+    let err = c.in_err-ended.ensures.err in
+    rw (p.1, p.2, c.in_err-ended.ensures.fault) (record {
+      end = w;
+      stands = rw c.pieces.invariant.office spelled;
+      holds =
+          read_step g.B.Book.fails _ _ c.pieces.input c.in-Open.fault
+          (record { came = came.0; consumed = Consumes-kept _ _ _ came.0 came.1 err.1; pending_is = came.2 })
+          (rw c.pending.ensures.value at how)
+          err.0
+          (Appends-kept _ _ _ [] c.pieces.invariant.wrote c.flush_out.ensures.bytes)
+          refl;
+    })
+
+pub returns-in_err-ended-clause-reads : goal.returns-in_err-ended-clause-reads
+returns-in_err-ended-clause-reads g c =
+    let reads = c.pieces.invariant.reads in
+    let how = c.in-Open.ensures in
+    let room = open_room c.pieces.input c.in-Open.fault (rw c.pending.ensures.value at how) in
+    let held = reads.4 c.if-ended.false in
+    let left = c.if-turns-eq0.false in
+    (reads.0 + 1, omega (arith, reads.1), λ _. omega arith, capped_more _ reads.0 _ _ reads.3 c.read_from.ensures.calls)
+
+pub pieces-preserved : goal.pieces-preserved
+pieces-preserved g c =
+    let came = c.pieces.invariant.came in
+    let reads = c.pieces.invariant.reads in
+    let ok = c.in_ok-ended.ensures.ok in
+    let how = c.in-Open.ensures in
+    let room = open_room c.pieces.input c.in-Open.fault (rw c.pending.ensures.value at how) in
+    let held = reads.4 c.if-ended.false in
+    let left = c.if-turns-eq0.false in
+    let grown = ap length ok.2 ∙ length-append c.pieces.input ok.0 in
+    let got = ok.1 in
+    record {
+      came = (came.0 ++ ok.0, Consumes-then _ _ _ came.0 ok.0 came.1 ok.3, ok.2 ∙ ap (λ t. t ++ ok.0) came.2 ∙ append_assoc _ came.0 ok.0);
+      reads = (reads.0 + 1, omega (arith, reads.1), λ _. omega arith, capped_more _ reads.0 _ _ reads.3 c.read_from.ensures.calls, λ some. (let some_read = eqb-false c.in_ok-ended.field-0 0 some in omega arith), λ z. absurd (omega (arith, z)));
+      ended = λ z. c.in_ok-ended.ensures.end (ap Ok (eqb-true c.in_ok-ended.field-0 0 z));
+      read_failures = c.in_ok-ended.ensures.whole ∙ c.pieces.invariant.read_failures;
+      write_failures = c.in_ok-flush_out.ensures.ok ∙ c.pieces.invariant.write_failures;
+      wrote = Appends-kept _ _ _ [] c.pieces.invariant.wrote c.flush_out.ensures.bytes;
+      office = c.pieces.invariant.office;
+    }

@@ -1,0 +1,131 @@
+-- One turn of the desk, and what a fault leaves.
+use Rattle.std.specs.Prelude.{◌≡◌, ℕ, ◌<◌, ◌≤◌, ◌⊎◌, List, [], ◌++◌, length, take, Option, IfSome, Result, Ok, Err}
+use Rattle.std.specs.Io.KnownBytes.{Appends, Consumes, IsAtEnd}
+use Rattle.mx_book.specs.World.{World}
+use Rattle.mx_book.specs.declared.contract.StoreFault.{StoreFault}
+use Rattle.mx_desk.specs.declared.head.Stop.{Stop}
+use Rattle.mx_desk.specs.declared.desk.Served.{Served}
+use Rattle.mx_desk.specs.declared.desk.Served.TheVariants as served
+use Rattle.mx_desk.specs.declared.fault.DeskFault.{DeskFault}
+use Rattle.mx_desk.specs.declared.fault.DeskFault.TheVariants as fault
+use Rattle.mx_desk.specs.Requests.{Request, Next, Stops, Whole, First, IsEnd}
+use Rattle.mx_desk.specs.Serve.{Marked, MayBeMarked, world_after_one, response_to, stop_text, Answered}
+
+-- where a run stands: the bytes read and not used, what the reader has left, what was written, and the World
+pub record State : Type 0 where
+  pub pending : List ℕ
+  pub input : Option (List ℕ)
+  pub output : Option (List ℕ)
+  pub world : World
+
+abbrev pub state : List ℕ → Option (List ℕ) → Option (List ℕ) → World → State
+state pending input output world = record { pending = pending; input = input; output = output; world = world }
+
+-- nothing was answered: the bytes wait, and no whole request is among them
+pub record Waits (s : State) (b : List ℕ) (t : State) : Type 0 where
+  pub next : Next
+  pub first : First b next
+  pub is_end : IsEnd next
+  pub pending : t.pending ≡ b
+  pub wrote : Appends s.output t.output []
+  pub world : t.world ≡ s.world
+
+-- the first request of b was answered
+pub record Answers (fails : StoreFault → Type 0) (s : State) (b : List ℕ) (t : State) : Type 0 where
+  pub marked : Marked
+  pub marks : MayBeMarked fails s.world marked
+  pub first : First b (Whole marked.request t.pending)
+  pub wrote : Appends s.output t.output (response_to s.world marked)
+  pub world : t.world ≡ world_after_one s.world marked
+
+-- a fault of the input ends the run, whatever the reader would still give
+pub record Stopping (s : State) (b : List ℕ) (t : State) : Type 0 where
+  pub stop : Stop
+  pub first : IfSome t.input (λ rest. First (b ++ rest) (Stops stop))
+  pub wrote : Appends s.output t.output (stop_text stop)
+  pub world : t.world ≡ s.world
+
+-- the response to the first request of b was cut, or is whole and wasn't flushed
+pub record CutAnswer (fails : StoreFault → Type 0) (s : State) (b : List ℕ) (t : State) : Type 0 where
+  pub marked : Marked
+  pub marks : MayBeMarked fails s.world marked
+  pub rest : List ℕ
+  pub count : ℕ
+  pub first : First b (Whole marked.request rest)
+  pub cut : count ≤ length (response_to s.world marked)
+  pub wrote : Appends s.output t.output (take count (response_to s.world marked))
+  pub world : t.world ≡ world_after_one s.world marked
+
+-- the response to a fault of the input was cut, or is whole and wasn't flushed
+pub record CutStop (s : State) (b : List ℕ) (t : State) : Type 0 where
+  pub stop : Stop
+  pub count : ℕ
+  pub first : IfSome t.input (λ rest. First (b ++ rest) (Stops stop))
+  pub cut : count ≤ length (stop_text stop)
+  pub wrote : Appends s.output t.output (take count (stop_text stop))
+  pub world : t.world ≡ s.world
+
+-- nothing came first and the input is at its end
+pub record Ends (s : State) (b : List ℕ) (t : State) : Type 0 where
+  pub empty : b ≡ []
+  pub at_end : IsAtEnd t.input
+  pub wrote : Appends s.output t.output []
+  pub world : t.world ≡ s.world
+
+-- a write or a flush that failed: at the response to a request, at that to a fault of the input, or before a read
+abbrev pub WriteFailed : (StoreFault → Type 0) → State → List ℕ → State → Type 0
+WriteFailed fails s b t = CutAnswer fails s b t ⊎ (CutStop s b t ⊎ Waits s b t)
+
+abbrev pub StepCase : (StoreFault → Type 0) → State → List ℕ → Result Served DeskFault → State → Type 0
+StepCase fails s b (Ok served.Nothing) t = Ends s b t
+StepCase fails s b (Ok served.Answered) t = Answers fails s b t
+StepCase fails s b (Ok served.Stopped) t = Stopping s b t
+StepCase fails s b (Err fault.Read) t = Waits s b t
+StepCase fails s b (Err fault.Turns) t = Waits s b t
+StepCase fails s b (Err fault.Write) t = WriteFailed fails s b t
+
+-- one turn: some bytes came, and then that case
+pub record Steps (fails : StoreFault → Type 0) (s : State) (r : Result Served DeskFault) (t : State) : Type 0 where
+  pub came : List ℕ
+  pub consumed : Consumes s.input t.input came
+  pub then : StepCase fails s (s.pending ++ came) r t
+
+-- the requests that were answered on the way from s to t, with their marks
+pub record Ran (fails : StoreFault → Type 0) (s : State) (marked : List Marked) (t : State) : Type 0 where
+  pub came : List ℕ
+  pub out : List ℕ
+  pub consumed : Consumes s.input t.input came
+  pub wrote : Appends s.output t.output out
+  pub answered : Answered fails s.world (s.pending ++ came) marked t.pending out t.world
+
+-- some requests were answered, and then that fault came
+pub record Faults (fails : StoreFault → Type 0) (s : State) (e : DeskFault) (t : State) : Type 0 where
+  pub marked : List Marked
+  pub before : State
+  pub ran : Ran fails s marked before
+  pub left : List ℕ
+  pub then : Steps fails before (Err e) (record t { pending = left })
+
+-- a World stands of which this holds
+pub record Leads (Stands : World → Type 0) (Holds : World → Type 0) : Type 0 where
+  pub end : World
+  pub stands : Stands end
+  pub holds : Holds end
+
+-- a request was answered with a mark that it may have, and the World that goes with it stands
+pub record IsReplied (fails : StoreFault → Type 0) (Stands : World → Type 0) (w : World) (r : Request) (old new : Option (List ℕ)) : Type 0 where
+  pub marked : Marked
+  pub request : marked.request ≡ r
+  pub marks : MayBeMarked fails w marked
+  pub wrote : Appends old new (response_to w marked)
+  pub stands : Stands (world_after_one w marked)
+
+-- the same, but that the response was cut
+pub record IsCut (fails : StoreFault → Type 0) (Stands : World → Type 0) (w : World) (r : Request) (old new : Option (List ℕ)) : Type 0 where
+  pub marked : Marked
+  pub count : ℕ
+  pub request : marked.request ≡ r
+  pub marks : MayBeMarked fails w marked
+  pub cut : count < length (response_to w marked)
+  pub wrote : Appends old new (take count (response_to w marked))
+  pub stands : Stands (world_after_one w marked)

@@ -1,0 +1,115 @@
+//! One request: who sent it, what it asks, and the response.
+ghost use Rattle.std.specs.Prelude.{◌≡◌, ◌≤◌, ◌⊎◌, Some, IfOk, IfErr, IsTrue, OnErr, option_map};
+ghost use Rattle.mx_book.specs.Keeps.{Keeps};
+ghost use Rattle.mx_book.specs.World.{World};
+ghost use Rattle.mx_book.specs.declared.contract.StoreFault.{StoreFault as Fault};
+ghost use Rattle.mx_desk.specs.Answers.{IsAnswer};
+ghost use Rattle.mx_desk.specs.Found.{request_view};
+ghost use Rattle.mx_desk.specs.Respond.{is_of_class, caller_of, is_callers, after_body, after_caller, respond, MayBeGivenUp};
+
+use crate::head::Received;
+use mx_book::Book;
+use mx_book::contract::StoreFault;
+use mx_book::values::Caller;
+use mx_office::{Command, Office, Refusal};
+use mx_pay::Token;
+use mx_wire::bodies::read_body;
+use mx_wire::{Class, Fixed, Response, Route, Routes, WireFault, render};
+use std::alloc::Global;
+
+fn is_of_class(caller: &Caller, class: Class) -> bool
+    ensures { result ≡ is_of_class caller.now class }
+{
+    match caller {
+        Caller::Operator => class == Class::Operator,
+        Caller::Clerk(_) => class == Class::Clerk,
+        Caller::Holder(_) => class == Class::Holder,
+    }
+}
+
+/// Who has the token of a token field. None where there is no one such field, or it is nobody's token.
+fn caller_of<B: Book>(
+    alloc: Global,
+    office: &mut Office<B>,
+    field: Option<&[u8]>,
+) -> Result<Option<Caller>, StoreFault>
+    ensures keeps { Keeps B.doubt B.rows office.old.book office.new.book }
+    ensures value { (w : World) → B.doubt office.new.book ≡ 0 → B.spells (B.rows office.old.book) w → IfOk result (λ r. r ≡ caller_of w (option_map (λ x. x.now) field.entry)) }
+    ensures fault { IfErr result B.fails }
+{
+    let Some(text) = field else {
+        return Ok(None);
+    };
+    let Some(token) = Token::read_bytes(text) else {
+        return Ok(None);
+    };
+    office.book.who(alloc, &token)
+}
+
+/// Decides a command, makes the response, and only then changes the books.
+fn answer_command<B: Book>(
+    alloc: Global,
+    office: &mut Office<B>,
+    caller: Caller,
+    command: &Command,
+) -> Result<Response, StoreFault>
+    ensures later { B.doubt office.old.book ≤ B.doubt office.new.book }
+    ensures answers { (w : World) → B.doubt office.new.book ≡ 0 → B.spells (B.rows office.old.book) w → IsAnswer (B.spells (B.rows office.new.book)) w (after_body w caller (Some command.now)) (Unit {0}) result }
+    ensures err { B.doubt office.new.book ≡ 0 → OnErr result (B.rows office.new.book ≡ B.rows office.old.book) }
+{
+    let decided = office.decide(alloc, caller, command)?;
+    let Ok(response) = render(alloc, &decided.reply) else {
+        return Err(StoreFault::Memory);
+    };
+    office.commit(&decided)?;
+    Ok(response)
+}
+
+/// Answers a request that has this route.
+#[tactic(auto, unfolding(crate::specs::Respond::after_caller, crate::specs::Respond::after_body))]
+fn answer_routed<B: Book>(
+    alloc: Global,
+    office: &mut Office<B>,
+    route: &Route,
+    request: &Received<'_>,
+) -> Result<Response, StoreFault>
+    ensures later { B.doubt office.old.book ≤ B.doubt office.new.book }
+    ensures answers { (w : World) → B.doubt office.new.book ≡ 0 → B.spells (B.rows office.old.book) w
+        → IsAnswer (B.spells (B.rows office.new.book)) w (after_caller w (request_view request.now) route.now (caller_of w (request_view request.now).token))
+        (IsTrue (is_callers (caller_of w (request_view request.now).token) (Some route.now)) ⊎ ((e : Fault) × B.fails e)) result }
+    ensures err { B.doubt office.new.book ≡ 0 → OnErr result (B.rows office.new.book ≡ B.rows office.old.book) }
+{
+    let Some(caller) = caller_of(alloc, office, request.token)? else {
+        return Ok(Response::Always(Fixed::TokenUnknown));
+    };
+    if !is_of_class(&caller, route.class()) {
+        return Ok(Response::Always(Fixed::Refused(Refusal::NotForCaller)));
+    }
+    match read_body(alloc, route, request.body) {
+        Ok(command) => answer_command(alloc, office, caller, &command),
+        Err(WireFault::Memory) => Err(StoreFault::Memory),
+        Err(WireFault::BadBody) => Ok(Response::Always(Fixed::BadBody)),
+        Err(WireFault::NoRoute) => unreachable!(),
+    }
+}
+
+/// Answers a request: the response, and the change that goes with it. After a fault nothing is changed, and the request
+/// is one that may be given up: it has a route, and its token is that of a caller of its class, unless a read of the
+/// book failed.
+#[tactic(auto, unfolding(crate::specs::Respond::respond, crate::specs::Respond::after_route))]
+pub fn answer_request<B: Book>(
+    alloc: Global,
+    routes: &Routes,
+    office: &mut Office<B>,
+    request: &Received<'_>,
+) -> Result<Response, StoreFault>
+    ensures later { B.doubt office.old.book ≤ B.doubt office.new.book }
+    ensures answers { (w : World) → B.doubt office.new.book ≡ 0 → B.spells (B.rows office.old.book) w
+        → IsAnswer (B.spells (B.rows office.new.book)) w (respond w (request_view request.now)) (MayBeGivenUp B.fails w (request_view request.now)) result }
+    ensures err { B.doubt office.new.book ≡ 0 → OnErr result (B.rows office.new.book ≡ B.rows office.old.book) }
+{
+    match routes.route(request.method, request.path) {
+        Some(route) => answer_routed(alloc, office, &route, request),
+        None => Ok(Response::Always(Fixed::NoRoute)),
+    }
+}

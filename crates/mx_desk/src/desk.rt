@@ -1,0 +1,145 @@
+//! Requests one after another.
+ghost use Rattle.std.specs.Prelude.{◌≡◌, ◌+◌, ◌*◌, ◌<◌, ◌≤◌, ℕ, List, [], Ok, Err, IfOk, OnOk, OnErr, IfErr, IfSome, ◌≢◌, length, take};
+ghost use Rattle.std.specs.Io.KnownBytes.{Appends, Keeps};
+ghost use Rattle.mx_book.specs.World.{World};
+ghost use Rattle.mx_desk.specs.Devices.{capped};
+ghost use Rattle.mx_desk.specs.Found.{request_view};
+ghost use Rattle.mx_desk.specs.Serve.{Marked, MayBeMarked, response_to, world_after_one, stop_text, stop_fixed, ServedAll};
+ghost use Rattle.mx_desk.specs.Steps.{state, Steps, Faults, Leads, IsReplied, IsCut};
+
+use crate::answer::answer_request;
+use crate::counted::Counted;
+use crate::fault::DeskFault;
+use crate::first::first;
+use crate::head::{Found, Reason, Received, Stop};
+use crate::input::Input;
+use crate::output::{flush_out, write_out};
+use mx_book::Book;
+use mx_office::Office;
+use mx_wire::{Fixed, Routes, fixed_text, unavailable_text};
+use std::alloc::Global;
+use std::io::{Read, Write};
+
+/// What became of the first request.
+#[derive(Clone, Copy, Debug, PartialEq, Eq)]
+pub enum Served {
+    /// The input ended before its first byte.
+    Nothing,
+    /// The request was answered.
+    Answered,
+    /// A fault of the input was answered: a bad head, a transfer coding, a bad content length, a body that is too large
+    /// or cut.
+    Stopped,
+}
+
+/// The response to a fault that ends a run.
+fn stop_fixed(reason: Reason) -> Fixed
+    ensures { result ≡ stop_fixed reason }
+{
+    match reason {
+        Reason::BadHead => Fixed::BadHead,
+        Reason::TransferCoding => Fixed::TransferCoding,
+        Reason::BadLength => Fixed::BadLength,
+        Reason::TooLarge => Fixed::TooLarge,
+        Reason::BodyCut => Fixed::BodyCut,
+    }
+}
+
+#[tactic(auto, unfolding(crate::specs::Serve::stop_text))]
+fn text_of_stop(stop: Stop) -> &'static [u8]
+    ensures { result.now ≡ stop_text stop }
+{
+    fixed_text(stop_fixed(stop.reason), stop.is_head)
+}
+
+/// Answers a request, and writes the response: 503 where the office could not do it.
+fn reply<W: Write, B: Book>(
+    alloc: Global,
+    request: &Received<'_>,
+    writer: &mut Counted<W>,
+    routes: &Routes,
+    office: &mut Office<B>,
+) -> Result<(), DeskFault>
+    ensures later { B.doubt office.old.book ≤ B.doubt office.new.book }
+    ensures ok { (w : World) → B.doubt office.new.book ≡ 0 → B.spells (B.rows office.old.book) w
+        → OnOk result (IsReplied B.fails (B.spells (B.rows office.new.book)) w (request_view request.now) (W.contents writer.old.device) (W.contents writer.new.device)) }
+    ensures err { (w : World) → B.doubt office.new.book ≡ 0 → B.spells (B.rows office.old.book) w
+        → OnErr result (IsCut B.fails (B.spells (B.rows office.new.book)) w (request_view request.now) (W.contents writer.old.device) (W.contents writer.new.device)) }
+    ensures fault { IfErr result (λ e. (e ≡ DeskFault.Write) × (writer.new.failures ≡ capped (writer.old.failures + 1))) }
+    ensures whole { OnOk result (writer.new.failures ≡ writer.old.failures) }
+{
+    let head_only = request.method == b"HEAD".as_slice();
+    match answer_request(alloc, routes, office, request) {
+        Ok(response) => write_out(writer, response.text(head_only)),
+        Err(_) => write_out(writer, unavailable_text()),
+    }
+}
+
+/// Writes the response to a fault of the input, and passes it on.
+fn write_stop<W: Write>(writer: &mut Counted<W>, stop: Stop) -> Result<(), DeskFault>
+    ensures ok { OnOk result (Appends (W.contents writer.old.device) (W.contents writer.new.device) (stop_text stop)
+        × (writer.new.failures ≡ writer.old.failures)) }
+    ensures err { OnErr result ((count : ℕ) × (count ≤ length (stop_text stop))
+        × Appends (W.contents writer.old.device) (W.contents writer.new.device) (take count (stop_text stop))
+        × (writer.new.failures ≡ capped (writer.old.failures + 1))) }
+    ensures fault { IfErr result (λ e. e ≡ DeskFault.Write) }
+{
+    write_out(writer, text_of_stop(stop))?;
+    flush_out(writer)
+}
+
+/// Answers the first request of what is pending and what is still read, with so many reads at most. What the writer holds
+/// is passed on before each read.
+fn serve_next<R: Read, W: Write, B: Book>(
+    alloc: Global,
+    input: &mut Input,
+    turns: &mut u64,
+    reader: &mut Counted<R>,
+    writer: &mut Counted<W>,
+    routes: &Routes,
+    office: &mut Office<B>,
+) -> Result<Served, DeskFault>
+    ensures later { B.doubt office.old.book ≤ B.doubt office.new.book }
+    ensures steps { (w : World) → B.doubt office.new.book ≡ 0 → B.spells (B.rows office.old.book) w
+        → Leads (B.spells (B.rows office.new.book)) (λ v. Steps B.fails
+        (state input.old (R.remaining reader.old.device) (W.contents writer.old.device) w) result
+        (state input.new (R.remaining reader.new.device) (W.contents writer.new.device) v)) }
+    ensures reads { (reads : ℕ) × (turns.old ≡ turns.new + reads) × (0 < reads → reads + length input.old ≤ 12288)
+        × (reader.new.calls ≡ capped (reader.old.calls + reads)) }
+    ensures turns { result ≡ Err DeskFault.Turns → (turns.new ≡ 0) × (turns.old + length input.old < 12288) }
+    ensures smaller { result ≡ Ok Served.Answered
+        → 12289 * turns.new + length input.new < 12289 * turns.old + length input.old }
+    ensures read_failed { result ≡ Err DeskFault.Read → reader.new.failures ≡ capped (reader.old.failures + 1) }
+    ensures write_failed { result ≡ Err DeskFault.Write → writer.new.failures ≡ capped (writer.old.failures + 1) }
+    ensures whole { OnOk result ((reader.new.failures ≡ reader.old.failures) × (writer.new.failures ≡ writer.old.failures)) }
+{
+    let _calls = reader.calls();
+    let mut ended = false;
+    'pieces: loop {
+        match first(input.pending()) {
+            Found::Whole(request, end) => {
+                reply(alloc, &request, writer, routes, office)?;
+                input.forget(end);
+                return Ok(Served::Answered);
+            }
+            Found::Stopped(stop) => {
+                write_stop(writer, stop)?;
+                return Ok(Served::Stopped);
+            }
+            Found::Open(fault) if ended => {
+                let Some(stop) = fault else {
+                    return Ok(Served::Nothing);
+                };
+                write_stop(writer, stop)?;
+                return Ok(Served::Stopped);
+            }
+            Found::Open(_) => {}
+        }
+        flush_out(writer)?;
+        if *turns == 0 {
+            return Err(DeskFault::Turns);
+        }
+        *turns -= 1;
+        ended = input.read_from(reader)? == 0;
+    }
+}
