@@ -6,3 +6,4 @@ pub mod RequestLemmas
 pub mod Lists
 pub mod Known
 pub mod StepLemmas
+pub mod RunLemmas

@@ -143,3 +143,78 @@ fn serve_next<R: Read, W: Write, B: Book>(
         ended = input.read_from(reader)? == 0;
     }
 }
+
+/// Answers the first request of the input alone, by at most 12,288 reads, and passes the response on. `Nothing` where
+/// the input ends before its first byte; `Stopped` where the response is that to a fault of the input. A fault is `Read`
+/// where a read failed, and then nothing was answered; or `Write` where a write or a flush failed or a write took nothing,
+/// and then the request stands as its response says, which may be cut.
+pub fn serve_one<R: Read, W: Write, B: Book>(
+    alloc: Global,
+    reader: &mut Counted<R>,
+    writer: &mut Counted<W>,
+    routes: &Routes,
+    office: &mut Office<B>,
+) -> Result<Served, DeskFault>
+    ensures later { B.doubt office.old.book ≤ B.doubt office.new.book }
+    ensures steps { (w : World) → B.doubt office.new.book ≡ 0 → B.spells (B.rows office.old.book) w
+        → Leads (B.spells (B.rows office.new.book)) (λ v. (left : List ℕ) × Steps B.fails
+        (state [] (R.remaining reader.old.device) (W.contents writer.old.device) w) result
+        (state left (R.remaining reader.new.device) (W.contents writer.new.device) v)) }
+    ensures reads { (reads : ℕ) × (reads ≤ 12288) × (reader.new.calls ≡ capped (reader.old.calls + reads)) }
+    ensures never { result ≢ Err DeskFault.Turns }
+    ensures read_failed { result ≡ Err DeskFault.Read → reader.new.failures ≡ capped (reader.old.failures + 1) }
+    ensures write_failed { result ≡ Err DeskFault.Write → writer.new.failures ≡ capped (writer.old.failures + 1) }
+{
+    let mut input = Input::new();
+    let mut turns = 12288;
+    let served = serve_next(
+        alloc, &mut input, &mut turns, reader, writer, routes, office,
+    )?;
+    if let Served::Answered = served {
+        flush_out(writer)?;
+    }
+    Ok(served)
+}
+
+/// The most reads of one run.
+pub const MOST_READS: u64 = 1_000_000_000;
+
+/// Answers the requests of the input one after another, until it ends or a fault of the input ends the run, and says how
+/// many responses were written. What the writer holds is passed on before each read and at the end. A fault is `Read`
+/// where a read failed, `Turns` where 1,000,000,000 reads didn't reach the end, and then the requests that were whole are
+/// answered; or `Write` where a write or a flush failed or a write took nothing, and then the last request stands as its
+/// response says, which may be cut.
+pub fn run<R: Read, W: Write, B: Book>(
+    alloc: Global,
+    reader: &mut Counted<R>,
+    writer: &mut Counted<W>,
+    routes: &Routes,
+    office: &mut Office<B>,
+) -> Result<u64, DeskFault>
+    ensures later { B.doubt office.old.book ≤ B.doubt office.new.book }
+    ensures ok { (w : World) → B.doubt office.new.book ≡ 0 → B.spells (B.rows office.old.book) w
+        → IfOk result (λ n. IfSome (R.remaining reader.old.device) (λ b. Leads (B.spells (B.rows office.new.book)) (λ now.
+        (out : List ℕ) × Appends (W.contents writer.old.device) (W.contents writer.new.device) out × ServedAll B.fails w b out now n))) }
+    ensures fault { (w : World) → B.doubt office.new.book ≡ 0 → B.spells (B.rows office.old.book) w
+        → IfErr result (λ e. Leads (B.spells (B.rows office.new.book)) (λ now. Faults B.fails
+        (state [] (R.remaining reader.old.device) (W.contents writer.old.device) w) e
+        (state [] (R.remaining reader.new.device) (W.contents writer.new.device) now))) }
+    ensures reads { (reads : ℕ) × (reads ≤ 1000000000) × (reader.new.calls ≡ capped (reader.old.calls + reads)) }
+    ensures turns { result ≡ Err DeskFault.Turns → reader.new.calls ≡ capped (reader.old.calls + 1000000000) }
+    ensures read_failed { result ≡ Err DeskFault.Read → reader.new.failures ≡ capped (reader.old.failures + 1) }
+    ensures write_failed { result ≡ Err DeskFault.Write → writer.new.failures ≡ capped (writer.old.failures + 1) }
+{
+    let _calls = reader.calls();
+    let mut input = Input::new();
+    let mut turns = MOST_READS;
+    let mut count = 0;
+    'requests: loop {
+        match serve_next(
+            alloc, &mut input, &mut turns, reader, writer, routes, office,
+        )? {
+            Served::Nothing => return Ok(count),
+            Served::Stopped => return Ok(count + 1),
+            Served::Answered => count += 1,
+        }
+    }
+}

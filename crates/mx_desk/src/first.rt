@@ -5,7 +5,7 @@ ghost use Rattle.httparse.specs.Spans.{IsRequestAt, IsRequestWithin};
 ghost use Rattle.mx_desk.specs.Found.{IsFound};
 
 use crate::fields::{body_len, token};
-use crate::head::{Received, Found, Reason, Stop};
+use crate::head::{Found, Reason, Received, Stop};
 use httparse::Status;
 use httparse::spans::{EMPTY_HEADER_SPAN, HeaderSpan, RequestSpans, parse_request};
 

@@ -7,7 +7,6 @@ use Rattle.mx_desk.specs.Respond.{respond, is_head}
 use Rattle.mx_desk.proofs.Results.{on_ok, on_err}
 use Rattle.mx_desk.proofs.desk.reply.Goals as goal
 
-
 pub returns-in-Ok-clause-ok : goal.returns-in-Ok-clause-ok
 returns-in-Ok-clause-ok g c = λ w honest spelled.
     let head : c.eq-head_only.result ≡ is_head c.args.request.now.method.now = rw (c.eq-head_only.ensures, c.as_slice.ensures) refl in

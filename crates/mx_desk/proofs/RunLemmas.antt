@@ -1,0 +1,161 @@
+-- Turns of the desk one after another.
+use Rattle.std.proofs.Common.{◌≡◌, ℕ, zero, suc, ◌+◌, ◌<◌, ◌≤◌, Bool, true, false, List, [], ◌∷◌, ◌++◌, length, take, drop, map, Option, Some, None, refl, sym, ap, ◌∙◌, subst, inl, append_assoc, arith, length-append}
+use Rattle.std.specs.Prelude.{Result, Ok, Err, IfSome}
+use Rattle.std.proofs.lemmas.List.{append-nil, map-append, take_all}
+use Rattle.std.specs.Io.KnownBytes.{Appends, Consumes, Keeps, IsAtEnd}
+use Rattle.mx_book.specs.World.{World}
+use Rattle.mx_book.specs.declared.contract.StoreFault.{StoreFault}
+use Rattle.mx_desk.specs.declared.head.Stop.{Stop}
+use Rattle.mx_desk.specs.declared.desk.Served.TheVariants as served
+use Rattle.mx_desk.specs.declared.fault.DeskFault.TheVariants as fault
+use Rattle.mx_desk.specs.Requests.{Request, Next, Nothing, Stops, Whole, First, IsEnd, Begins, none, nothing}
+use Rattle.mx_desk.specs.Serve.{Marked, MayBeMarked, AllMayBeMarked, world_after_one, response_to, stop_text, world_after, outputs, requests_of, Answered, ServedAll, end_text, end_count}
+use Rattle.mx_desk.specs.Steps.{State, state, Steps, Answers, Stopping, Ran, Faults, Leads}
+use Rattle.mx_desk.proofs.Known.{Appends-none, Appends-then, Appends-kept, Consumes-none, Consumes-then}
+use Rattle.mx_desk.proofs.RequestLemmas.{Begins-append, Begins-snoc}
+
+pub world_after-snoc : (w : World) (ms : List Marked) (m : Marked) → world_after w (ms ++ m ∷ []) ≡ world_after_one (world_after w ms) m
+world_after-snoc w [] m = refl
+world_after-snoc w (n ∷ ms) m = world_after-snoc (world_after_one w n) ms m
+
+pub outputs-snoc : (w : World) (ms : List Marked) (m : Marked) → outputs w (ms ++ m ∷ []) ≡ outputs w ms ++ response_to (world_after w ms) m
+outputs-snoc w [] m = append-nil _
+outputs-snoc w (n ∷ ms) m =
+    ap (λ t. response_to w n ++ t) (outputs-snoc (world_after_one w n) ms m)
+    ∙ sym (append_assoc (response_to w n) (outputs (world_after_one w n) ms) _)
+
+marks-snoc : (fails : StoreFault → Type 0) (w : World) (ms : List Marked) (m : Marked) → AllMayBeMarked fails w ms → MayBeMarked fails (world_after w ms) m → AllMayBeMarked fails w (ms ++ m ∷ [])
+marks-snoc fails w [] m all one = (one, tt)
+marks-snoc fails w (n ∷ ms) m all one = (all.0, marks-snoc fails (world_after_one w n) ms m all.1 one)
+
+module _ (fails : StoreFault → Type 0) where
+  pub Ran-none : (s : State) → Ran fails s [] s
+  Ran-none s = record {
+    came = [];
+    out = [];
+    consumed = Consumes-none _;
+    wrote = Appends-none _;
+    answered = record { begins = rw (append-nil s.pending) none; marks = tt; out_is = refl; world_is = refl };
+  }
+
+  pub Ran-step : (s u t : State) (ms : List Marked) → Ran fails s ms u → Steps fails u (Ok served.Answered) t → (m : Marked) × Ran fails s (ms ++ m ∷ []) t
+  Ran-step s u t ms ran step =
+      let a = step.then in
+      let m = a.marked in
+      let out_is = ran.answered.out_is in
+      let world_is = ran.answered.world_is in
+      let marked = a.marks in (
+        m,
+        record {
+          came = ran.came ++ step.came;
+          out = ran.out ++ response_to u.world m;
+          consumed = Consumes-then _ _ _ ran.came step.came ran.consumed step.consumed;
+          wrote = Appends-then _ _ _ ran.out (response_to u.world m) ran.wrote a.wrote;
+          answered = record {
+            begins =
+                rw (sym (append_assoc s.pending ran.came step.came), map-append) (
+                Begins-snoc _ (requests_of ms) (u.pending ++ step.came) m.request t.pending
+                (Begins-append (s.pending ++ ran.came) step.came (requests_of ms) u.pending ran.answered.begins)
+                a.first);
+            marks = marks-snoc fails s.world ms m ran.answered.marks (rw world_is at marked);
+            out_is = rw (outputs-snoc, out_is, world_is) refl;
+            world_is = a.world ∙ rw (world_after-snoc, world_is) refl;
+          };
+        },
+      )
+
+  append_nil_parts : (a b : List ℕ) → a ++ b ≡ [] → (a ≡ []) × (b ≡ [])
+  append_nil_parts [] b e = (refl, e)
+  append_nil_parts (x ∷ a) b e = absurd (cc)
+
+  -- what a whole run says, where the reader tells its bytes and its buffer was empty
+  abbrev pub Serves : Option (List ℕ) → Option (List ℕ) → Option (List ℕ) → World → World → ℕ → Type 0
+  Serves input output after w now n = IfSome input (λ b. (out : List ℕ) × Appends output after out × ServedAll fails w b out now n)
+
+  pub serves_nothing : (s u t : State) (ms : List Marked) → s.pending ≡ [] → Ran fails s ms u → Steps fails u (Ok served.Nothing) t
+      → Serves s.input s.output t.output s.world t.world (length ms)
+  serves_nothing s u t ms fresh ran step = by s.input t.input (Consumes-then _ _ _ ran.came step.came ran.consumed step.consumed) step.then.at_end
+    where
+      by : (i j : Option (List ℕ)) → Consumes i j (ran.came ++ step.came) → IsAtEnd j → Serves i s.output t.output s.world t.world (length ms)
+      by None j e f = tt
+      by (Some b) None e f = absurd e
+      by (Some b) (Some rest) e f =
+          let parts = append_nil_parts u.pending step.came step.then.empty in
+          let all : b ≡ s.pending ++ ran.came = e ∙ rw (f, parts.1, fresh, append-nil (ran.came ++ []), append-nil ran.came) refl in (
+            ran.out ++ [],
+            Appends-then _ _ _ ran.out [] ran.wrote step.then.wrote,
+            record {
+              marked = ms;
+              rest = u.pending;
+              end = Nothing;
+              whole = ran.out;
+              answered = rw (all, step.then.world) ran.answered;
+              first = rw parts.0 nothing;
+              is_end = tt;
+              out_is = refl;
+              count = omega arith;
+            },
+          )
+
+  pub serves_stopped : (s u t : State) (ms : List Marked) → s.pending ≡ [] → Ran fails s ms u → Steps fails u (Ok served.Stopped) t
+      → Serves s.input s.output t.output s.world t.world (length ms + 1)
+  serves_stopped s u t ms fresh ran step = by s.input t.input (Consumes-then _ _ _ ran.came step.came ran.consumed step.consumed) step.then.first
+    where
+      by : (i j : Option (List ℕ)) → Consumes i j (ran.came ++ step.came) → IfSome j (λ rest. First ((u.pending ++ step.came) ++ rest) (Stops step.then.stop)) → Serves i s.output t.output s.world t.world (length ms + 1)
+      by None j e f = tt
+      by (Some b) None e f = absurd e
+      by (Some b) (Some rest) e f =
+          let all : b ≡ (s.pending ++ ran.came) ++ (step.came ++ rest) = e ∙ rw (fresh, append_assoc) refl in (
+            ran.out ++ stop_text step.then.stop,
+            Appends-then _ _ _ ran.out (stop_text step.then.stop) ran.wrote step.then.wrote,
+            record {
+              marked = ms;
+              rest = u.pending ++ (step.came ++ rest);
+              end = Stops step.then.stop;
+              whole = ran.out;
+              answered = record {
+                begins = rw all (Begins-append (s.pending ++ ran.came) (step.came ++ rest) (requests_of ms) u.pending ran.answered.begins);
+                marks = ran.answered.marks;
+                out_is = ran.answered.out_is;
+                world_is = step.then.world ∙ ran.answered.world_is;
+              };
+              first = rw append_assoc at f;
+              is_end = tt;
+              out_is = refl;
+              count = refl;
+            },
+          )
+
+  -- ---- an answered request, and then a flush
+
+  pub flushed : (s t : State) (output : Option (List ℕ)) → Steps fails s (Ok served.Answered) t → Keeps t.output output → Steps fails s (Ok served.Answered) (record t { output = output })
+  flushed s t output step kept =
+      let a = step.then in record {
+        came = step.came;
+        consumed = step.consumed;
+        then = record { marked = a.marked; marks = a.marks; first = a.first; wrote = Appends-kept _ _ _ (response_to s.world a.marked) a.wrote kept; world = a.world };
+      }
+
+  pub unflushed : (s t : State) (output : Option (List ℕ)) → Steps fails s (Ok served.Answered) t → Keeps t.output output → Steps fails s (Err fault.Write) (record t { output = output })
+  unflushed s t output step kept =
+      let a = step.then in
+      let text : List ℕ = response_to s.world a.marked in
+      let wrote = Appends-kept _ _ _ text a.wrote kept in record {
+        came = step.came;
+        consumed = step.consumed;
+        then = inl (record {
+          marked = a.marked;
+          marks = a.marks;
+          rest = t.pending;
+          count = length text;
+          first = a.first;
+          cut = omega arith;
+          wrote = rw (take_all (length text) text (omega arith)) wrote;
+          world = a.world;
+        });
+      }
+
+-- a World that stands, where there are bytes
+pub leads_if : {X : Type 0} (Stands : World → Type 0) (P : X → World → Type 0) (i : Option X) (end : World) → Stands end → IfSome i (λ b. P b end) → IfSome i (λ b. Leads Stands (P b))
+leads_if Stands P None end stands h = tt
+leads_if Stands P (Some b) end stands h = record { end = end; stands = stands; holds = h }

@@ -1,0 +1,38 @@
+use Rattle.std.proofs.Common.{◌≡◌, List, [], refl, sym, ap, ◌∙◌, rules}
+use Rattle.std.proofs.lemmas.Result.{err_from_is_err_and}
+use Rattle.mx_desk.proofs.RunLemmas.{flushed, unflushed}
+use Rattle.mx_desk.proofs.desk.serve_one.Goals as goal
+
+pub returns-in_err-served-clause-steps : goal.returns-in_err-served-clause-steps
+returns-in_err-served-clause-steps g c = λ w honest spelled.
+    let p = err_from_is_err_and c.from_residual.result c.from_residual.ensures.1 in
+    let led = c.in_err-served.ensures.steps w honest spelled in
+    let steps = led.holds in
+    rw (p.1, p.2) (record { end = led.end; stands = led.stands; holds = (c.serve_next.new.input, rw c.new-input.ensures at steps) })
+
+pub returns-in_err-flush_out-clause-steps : goal.returns-in_err-flush_out-clause-steps
+returns-in_err-flush_out-clause-steps g c = λ w honest spelled.
+    let p = err_from_is_err_and c.from_residual-in_err-flush_out.result c.from_residual-in_err-flush_out.ensures.1 in
+    let led = c.in_ok-served.ensures.steps w honest spelled in
+    let steps = led.holds in
+    rw (p.1, p.2, c.in_err-flush_out.ensures.fault) (record {
+      end = led.end;
+      stands = led.stands;
+      holds = (c.serve_next.new.input, unflushed g.B.Book.fails _ _ _ (rw (c.new-input.ensures, c.in-Answered.is) at steps) c.in_err-flush_out.ensures.bytes);
+    })
+
+pub returns-in_ok-flush_out-clause-steps : goal.returns-in_ok-flush_out-clause-steps
+returns-in_ok-flush_out-clause-steps g c = λ w honest spelled.
+    let led = c.in_ok-served.ensures.steps w honest spelled in
+    let steps = led.holds in
+    rw c.in-Answered.is (record {
+      end = led.end;
+      stands = led.stands;
+      holds = (c.serve_next.new.input, flushed g.B.Book.fails _ _ _ (rw (c.new-input.ensures, c.in-Answered.is) at steps) c.flush_out.ensures.bytes);
+    })
+
+pub returns-in_default-clause-steps : goal.returns-in_default-clause-steps
+returns-in_default-clause-steps g c = λ w honest spelled.
+    let led = c.in_ok-served.ensures.steps w honest spelled in
+    let steps = led.holds in
+    record { end = led.end; stands = led.stands; holds = (c.serve_next.new.input, rw c.new-input.ensures at steps) }
