@@ -98,6 +98,6 @@ pub four_fit_at : (r : Rows) (w : World) (op s t : Token) (m h p : Name) (x : Me
 four_fit_at r w op s t m h p x clerk holder apart member_text holder_text purse_text first spelled es is =
     subst (λ (z : World). Fits z es) (one_world r (opening op) w first spelled) (subst (Fits (opening op)) (sym is) (four_fit op s t m h clerk holder apart member_text holder_text p purse_text x))
 
-pub set_fit_at : (r : Rows) (w : World) (op s t : Token) (m h : Name) (q : State) → is_token s op ≡ false → is_token t op ≡ false → is_token t s ≡ false → IsTrue (is_name_text m) → IsTrue (is_name_text h) → IsTrue (is_name_text q.name) → IsPurse q → q.lines ≡ 0 → Spells r (opening op) → Spells r w → (es : List Edit) → es ≡ NewMember m s ∷ NewHolder h m t ∷ NewPurse q.name h ∷ SetPurse q ∷ [] → Fits w es
-set_fit_at r w op s t m h q clerk holder apart member_text holder_text purse_text purse none first spelled es is =
-    subst (λ (z : World). Fits z es) (one_world r (opening op) w first spelled) (subst (Fits (opening op)) (sym is) (set_fit op s t m h clerk holder apart member_text holder_text q.name purse_text q refl purse none))
+pub set_fit_at : (r : Rows) (w : World) (op s t : Token) (m h p : Name) (q : State) → is_token s op ≡ false → is_token t op ≡ false → is_token t s ≡ false → IsTrue (is_name_text m) → IsTrue (is_name_text h) → IsTrue (is_name_text p) → q.name ≡ p → IsPurse q → q.lines ≡ 0 → Spells r (opening op) → Spells r w → (es : List Edit) → es ≡ NewMember m s ∷ NewHolder h m t ∷ NewPurse p h ∷ SetPurse q ∷ [] → Fits w es
+set_fit_at r w op s t m h p q clerk holder apart member_text holder_text purse_text named purse none first spelled es is =
+    subst (λ (z : World). Fits z es) (one_world r (opening op) w first spelled) (subst (Fits (opening op)) (sym is) (set_fit op s t m h clerk holder apart member_text holder_text p purse_text q named purse none))
