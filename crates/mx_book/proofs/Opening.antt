@@ -20,7 +20,7 @@ use Rattle.mx_book.proofs.UnderLemmas.{get-remake, entries_empty}
 not_found : {V : Type 0} {X : Type 0} (o : Option V) (v : V) → o ≡ None → o ≡ Some v → X
 not_found o v none some = absurd (let e : None ≡ Some v = sym none ∙ some in cc)
 
-not_some : {V : Type 0} {X : Type 0} (o : Option V) → o ≡ None → IsSome o → X
+pub not_some : {V : Type 0} {X : Type 0} (o : Option V) → o ≡ None → IsSome o → X
 not_some o none some = absurd (let e : Bool.false ≡ Bool.true = subst IsSome none some in cc)
 
 remake-empty : {X Y : Type 0} (f : Name → X → Y) → remake f (fmap.empty {X = X} {R = name_cmp}) ≡ fmap.empty
