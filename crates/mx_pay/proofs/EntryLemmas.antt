@@ -11,13 +11,14 @@ use Rattle.std.proofs.lemmas.Bool.Decides.{nat_tests}
 use Rattle.std.proofs.Math.Dec.{eqb}
 use Rattle.std.proofs.lemmas.Bool.{eqb-true, eq-eqb}
 use Rattle.std.specs.Cmp.Lexicographic.{pointwise}
+use Rattle.mx_pay.specs.Limits.{most_amount, most_number}
 use Rattle.mx_pay.specs.Names.{is_name_text, is_name, is_name_byte}
 use Rattle.std.specs.List.{list_all}
 use Rattle.std.specs.Int.{IsInRange}
 use Rattle.std.specs.Str.Parse.{AllDigits}
 use Rattle.std.proofs.lemmas.Str.Parse.{IsNumeralModel, numerals_by_value, tells_digits, not_in_digits}
-use Rattle.mx_pay.specs.Details.{Details}
-use Rattle.mx_pay.specs.Codes.{entry_text, IsDetails}
+use Rattle.mx_pay.specs.Details.{Details, IsDetails}
+use Rattle.mx_pay.specs.Codes.{entry_text}
 use Rattle.mx_pay.specs.Reading.{cut, onto, same_bytes, number_of, up_to, limited, name_of, apart, made_of, entry_of}
 use Rattle.mx_pay.proofs.Texts.{left_true, right_true}
 use Rattle.mx_pay.proofs.SameLemmas.{same_names, name_itself}
@@ -169,15 +170,15 @@ unfolding made_of
 made_takes a b c d e x h =
     let s1 = bind_some _ (name_of a) x h in
     let s2 = bind_some _ (name_of b) x s1.1.1 in
-    let s3 = bind_some _ (limited (10 ^ 12) c) x s2.1.1 in
-    let s4 = bind_some _ (limited (10 ^ 15) d) x s3.1.1 in
-    let s5 = bind_some _ (limited (10 ^ 15) e) x s4.1.1 in
+    let s3 = bind_some _ (limited most_amount c) x s2.1.1 in
+    let s4 = bind_some _ (limited most_number d) x s3.1.1 in
+    let s5 = bind_some _ (limited most_number e) x s4.1.1 in
     let made = apart_takes _ x s5.1.1 in
     let n1 = name_takes a _ s1.1.0 in
     let n2 = name_takes b _ s2.1.0 in
-    let n3 = limited_takes (10 ^ 12) c _ s3.1.0 in
-    let n4 = limited_takes (10 ^ 15) d _ s4.1.0 in
-    let n5 = limited_takes (10 ^ 15) e _ s5.1.0 in (
+    let n3 = limited_takes most_amount c _ s3.1.0 in
+    let n4 = limited_takes most_number d _ s4.1.0 in
+    let n5 = limited_takes most_number e _ s5.1.0 in (
       subst IsDetails made.0 (record { from = n1.1; to = n2.1; value = n3.1; from_seq = n4.1; to_seq = n5.1; apart = made.1 }),
       texts a b c d e n1.0 n2.0 n3.0 n4.0 n5.0 ∙ ap entry_text made.0,
     )
@@ -224,9 +225,9 @@ apart_again d h = ap (λ b. cond b None (Some d)) (by_case (is_name d.from d.to)
 pub made_again : (x : Details) → IsDetails x → made_of x.from x.to (decimal x.value) (decimal x.from_seq) (decimal x.to_seq) ≡ Some x
 unfolding made_of
 made_again x h =
-    let v : limited (10 ^ 12) (decimal x.value) ≡ Some x.value = limited_again (10 ^ 12) x.value (let k : x.value ≤ 10 ^ 12 = h.value in omega arith) h.value in
-    let m : limited (10 ^ 15) (decimal x.from_seq) ≡ Some x.from_seq = limited_again (10 ^ 15) x.from_seq (let k : x.from_seq ≤ 10 ^ 15 = h.from_seq in omega arith) h.from_seq in
-    let n : limited (10 ^ 15) (decimal x.to_seq) ≡ Some x.to_seq = limited_again (10 ^ 15) x.to_seq (let k : x.to_seq ≤ 10 ^ 15 = h.to_seq in omega arith) h.to_seq in
+    let v : limited most_amount (decimal x.value) ≡ Some x.value = limited_again most_amount x.value (let k : x.value ≤ most_amount = h.value in omega arith) h.value in
+    let m : limited most_number (decimal x.from_seq) ≡ Some x.from_seq = limited_again most_number x.from_seq (let k : x.from_seq ≤ most_number = h.from_seq in omega arith) h.from_seq in
+    let n : limited most_number (decimal x.to_seq) ≡ Some x.to_seq = limited_again most_number x.to_seq (let k : x.to_seq ≤ most_number = h.to_seq in omega arith) h.to_seq in
     rw (name_again x.from h.from, name_again x.to h.to, v, m, n) (apart_again x h.apart)
 
 names_lack : (c : ℕ) → is_name_byte c ≡ false → (n : List ℕ) → list_all is_name_byte n ≡ true → NoByte c n
@@ -238,6 +239,7 @@ names_lack c other (b ∷ bs) h zero l e =
 names_lack c other (b ∷ bs) h (suc i) l e = names_lack c other bs (right_true (is_name_byte b) _ h) i (omega arith) e
 
 pub name_lacks : (c : ℕ) → is_name_byte c ≡ false → (n : List ℕ) → is_name_text n ≡ true → NoByte c n
+unfolding is_name_text
 name_lacks c other n h = names_lack c other n (right_true _ _ (right_true _ _ h))
 
 own : IsNumeralModel (AllDigits 10) (digits_value 10)
@@ -255,7 +257,7 @@ number_lacks c low n small = number_lacks_at c (λ r. outside c low r) n small
 pub entry_again : (x : Details) → IsDetails x → entry_of (entry_text x) ≡ Some x
 unfolding entry_of
 entry_again x h =
-    let vs : x.value < 2 ^ 64 = (let k : x.value ≤ 10 ^ 12 = h.value in omega arith) in
-    let ms : x.from_seq < 2 ^ 64 = (let k : x.from_seq ≤ 10 ^ 15 = h.from_seq in omega arith) in
+    let vs : x.value < 2 ^ 64 = (let k : x.value ≤ most_amount = h.value in omega arith) in
+    let ms : x.from_seq < 2 ^ 64 = (let k : x.from_seq ≤ most_number = h.from_seq in omega arith) in
     rw (cut_at 44 x.from _ (name_lacks 44 refl x.from h.from), cut_at 44 x.to _ (name_lacks 44 refl x.to h.to), cut_at 44 (decimal x.value) _ (number_lacks 44 (lit< tt) x.value vs), cut_at 44 (decimal x.from_seq) _ (number_lacks 44 (lit< tt) x.from_seq ms))
     (made_again x h)
