@@ -1,16 +1,17 @@
 -- The tests of what always holds of a purse, and what they mean.
-use Rattle.std.proofs.Common.{◌≡◌, ℕ, ◌^◌, ◌<◌, ◌≤◌, inl, inr, Bool, true, false, ◌&&◌, List, sym, ◌∙◌, ap, refl, arith}
-use Rattle.std.specs.Prelude.{nat_le, nat_lt, not}
+use Rattle.std.proofs.Common.{◌≡◌, ℕ, ◌<◌, ◌≤◌, inl, inr, Bool, true, false, ◌&&◌, List, sym, ◌∙◌, ap, refl, arith}
+use Rattle.std.specs.Prelude.{nat_le, nat_lt, not, IfSome, IsTrue, ◌↔◌}
 use Rattle.std.specs.FinMap as fmap
 use Rattle.std.proofs.lemmas.Bool.Decides.{nat_tests}
-use Rattle.mx_pay.specs.Names.{is_name}
-use Rattle.mx_pay.specs.Details.{Details}
-use Rattle.mx_pay.specs.Log.{Entries, log_len, has_logged, logged, owns}
+use Rattle.mx_pay.specs.Limits.{most_number, most_entries}
+use Rattle.mx_pay.specs.Names.{is_name, is_name_text}
+use Rattle.mx_pay.specs.Details.{Details, IsDetails}
+use Rattle.mx_pay.specs.Log.{IsLogValue, Entries, log_len, has_logged, logged, owns, all_owned}
 use Rattle.mx_pay.proofs.Texts.{left_true, right_true, both_true, or_case, or_left, or_right}
 use Rattle.mx_pay.proofs.SameLemmas.{same_names, name_itself, one_of, all_of}
 use Rattle.mx_purse.specs.declared.status.Status.{Status}
 use Rattle.mx_purse.specs.declared.status.Status.TheVariants.{EaFrom, EaTo, Epr, Epv, Epa}
-use Rattle.mx_purse.specs.State.{State, IsPurse, IsInStatus, IsOwnEntry}
+use Rattle.mx_purse.specs.State.{State, IsPurse, details_of, IsInStatus, IsOwnEntry}
 use Rattle.mx_purse.specs.Conditions.{can_log, in_status, is_purse}
 
 -- a test that is negated
@@ -53,16 +54,16 @@ of_three : (a b c : Bool) → a ≡ true → b ≡ true → c ≡ true → (a &&
 of_three a b c p q r = both_true (a && b) c (both_true a b p q) r
 
 -- what the test that details can be added to a log means
-log_means : (log : Entries) (d : Details) → can_log log d ≡ true → (has_logged log d ≡ false) × (log_len log ≤ 15)
+log_means : (log : Entries) (d : Details) → can_log log d ≡ true → (has_logged log d ≡ false) × (log_len log < most_entries)
 log_means log d h = (not_is _ (left_true _ _ h), few (log_len log) (not_is _ (right_true (not (has_logged log d)) _ h)))
   where
-    few : (n : ℕ) → nat_le 16 n ≡ false → n ≤ 15
+    few : (n : ℕ) → nat_le most_entries n ≡ false → n < most_entries
     few n h = grind (arith, nat_tests)
 
-log_tests : (log : Entries) (d : Details) → has_logged log d ≡ false → log_len log ≤ 15 → can_log log d ≡ true
+log_tests : (log : Entries) (d : Details) → has_logged log d ≡ false → log_len log < most_entries → can_log log d ≡ true
 log_tests log d absent room = both_true _ _ (is_not _ absent) (is_not _ (few (log_len log) room))
   where
-    few : (n : ℕ) → n ≤ 15 → nat_le 16 n ≡ false
+    few : (n : ℕ) → n < most_entries → nat_le most_entries n ≡ false
     few n h = grind (arith, nat_tests)
 
 -- what the test of a status means
@@ -111,15 +112,24 @@ owns_tests : (p : State) (d : Details) → IsOwnEntry p d → owns p.name p.next
 owns_tests p d (inl h) = or_left _ _ (both_true _ _ (name_is _ _ h.0) (is_lt _ _ h.1))
 owns_tests p d (inr h) = or_right _ _ (both_true _ _ (name_is _ _ h.0) (is_lt _ _ h.1))
 
--- a purse that passes the tests meets the conditions
-pub means_purse : (p : State) → p.next ≤ 10 ^ 15 → log_len p.log ≤ 16 → is_purse p ≡ true → IsPurse p
-means_purse p next room h =
-    let all = three (nat_le p.balance (10 ^ 15)) (in_status p p.status) _ h in
+-- what the types of a purse's parts say of them
+pub record AreParts (p : State) : Type 0 where
+  pub name : IsTrue (is_name_text p.name)
+  pub next : p.next ≤ most_number
+  pub details : IfSome (details_of p.status) IsDetails
+  pub log : IsLogValue p.log
+
+-- a purse of such parts that passes the tests meets the conditions
+means_purse : (p : State) → AreParts p → is_purse p ≡ true → IsPurse p
+means_purse p parts h =
+    let all = three (nat_le p.balance most_number) (in_status p p.status) _ h in
     record {
+      name = parts.name;
       balance = le_is _ _ all.first;
-      next = next;
+      next = parts.next;
       status = status_means p p.status all.second;
-      room = room;
+      details = parts.details;
+      log = parts.log;
       entries = λ d there. owns_means p d (one_of (owns p.name p.next) d (logged p.log) all.third (sym (fmap.contains_key-keys p.log d) ∙ there));
     }
 
@@ -129,6 +139,21 @@ tests_purse p h =
     of_three _ _ _ (is_le _ _ h.balance) (status_tests p p.status h.status)
     (all_of (owns p.name p.next) (logged p.log) (λ d there. owns_tests p d (h.entries d (fmap.contains_key-keys p.log d ∙ there))))
 
--- what fails the tests doesn't meet the conditions
-pub fails_purse : (p : State) → is_purse p ≡ false → ¬ IsPurse p
-fails_purse p h whole = let both : true ≡ false = sym (tests_purse p whole) ∙ h in cc
+-- an answer of the tests says whether the conditions hold, where it is true only of such parts
+pub whole_iff : (p : State) (answer : Bool) → answer ≡ is_purse p → (answer ≡ true → AreParts p) → IsTrue answer ↔ IsPurse p
+whole_iff p answer is parts = (λ yes. means_purse p (parts yes) (sym is ∙ yes), λ whole. is ∙ tests_purse p whole)
+
+-- the tests as code makes them: one that fails ends them, and else the last decides
+pub last_decides : (p : State) (owned : Bool) → p.balance ≤ most_number → in_status p p.status ≡ true → owned ≡ all_owned p.name p.next p.log → owned ≡ is_purse p
+last_decides p owned low fits is =
+    is ∙ sym (ap (λ b. b && in_status p p.status && all_owned p.name p.next p.log) (is_le _ _ low) ∙ ap (λ b. b && all_owned p.name p.next p.log) fits)
+
+pub above_most : (n : ℕ) → most_number < n → nat_le n most_number ≡ false
+above_most n h = grind (arith, nat_tests)
+
+pub balance_fails : (p : State) → nat_le p.balance most_number ≡ false → is_purse p ≡ false
+balance_fails p fails = ap (λ b. b && in_status p p.status && all_owned p.name p.next p.log) fails
+
+pub status_fails : (p : State) → p.balance ≤ most_number → in_status p p.status ≡ false → is_purse p ≡ false
+status_fails p low fails =
+    ap (λ b. b && in_status p p.status && all_owned p.name p.next p.log) (is_le _ _ low) ∙ ap (λ b. b && all_owned p.name p.next p.log) fails
