@@ -20,7 +20,7 @@ use Rattle.std.proofs.lemmas.Str.Parse.{IsNumeralModel, numerals_by_value, tells
 use Rattle.mx_pay.specs.Details.{Details, IsDetails}
 use Rattle.mx_pay.specs.Codes.{entry_text}
 use Rattle.mx_pay.specs.Reading.{cut, onto, same_bytes, number_of, up_to, limited, name_of, apart, made_of, entry_of}
-use Rattle.mx_pay.proofs.Texts.{left_true, right_true}
+use Rattle.mx_pay.proofs.Texts.{left_true, right_true, name_bytes}
 use Rattle.mx_pay.proofs.SameLemmas.{same_names, name_itself}
 
 some_of : {A : Type 0} (b : Bool) (x y : A) → cond b (Some x) None ≡ Some y → (b ≡ true) × (x ≡ y)
@@ -239,8 +239,7 @@ names_lack c other (b ∷ bs) h zero l e =
 names_lack c other (b ∷ bs) h (suc i) l e = names_lack c other bs (right_true (is_name_byte b) _ h) i (omega arith) e
 
 pub name_lacks : (c : ℕ) → is_name_byte c ≡ false → (n : List ℕ) → is_name_text n ≡ true → NoByte c n
-unfolding is_name_text
-name_lacks c other n h = names_lack c other n (right_true _ _ (right_true _ _ h))
+name_lacks c other n h = names_lack c other n (name_bytes n h)
 
 own : IsNumeralModel (AllDigits 10) (digits_value 10)
 own = numerals_by_value (AllDigits 10) tells_digits
