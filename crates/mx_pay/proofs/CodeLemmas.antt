@@ -1,5 +1,8 @@
 -- The laws of code texts, of all entries.
-use Rattle.std.proofs.Common.{◌≡◌, ◌≢◌, ℕ, ◌+◌, ◌-◌, ◌^◌, ◌<◌, ◌≤◌, suc, zero, Bool, true, false, cond, ◌&&◌, ◌||◌, ◌==◌, List, [], ◌∷◌, ◌++◌, refl, sym, ◌∙◌, ap, subst, Option, Some, None, T, map, length, arith, append_assoc, length-append}
+use Rattle.std.proofs.Common.{◌≡◌, ◌≢◌, ℕ, ◌+◌, ◌-◌, ◌^◌, ◌<◌, ◌≤◌, suc, zero, Bool, true, false, cond, ◌||◌, ◌==◌, List, [], ◌∷◌, ◌++◌, refl, sym, ◌∙◌, ap, subst, Option, Some, None, T, map, length, arith, append_assoc, length-append}
+use Rattle.std.proofs.lemmas.Bool.{not_from_false, lt-leb, or_from, and_from}
+use Rattle.mx_pay.proofs.PutLemmas.{first_true, second_true}
+use Rattle.std.proofs.lemmas.List.{append-nil}
 use Rattle.std.specs.Prelude.{nat_le, decimal, not, slice_get, drop}
 use Rattle.std.proofs.lemmas.Bool.Decides.{nat_tests}
 use Rattle.std.specs.Option.{option_and_then, IfSome}
@@ -16,18 +19,10 @@ use Rattle.mx_pay.specs.Orders.{logged-log_of}
 use Rattle.std.specs.Int.{IsInRange}
 use Rattle.mx_pay.specs.Codes.{entry_text, entry_texts, code}
 use Rattle.mx_pay.specs.Reading.{lead, cut, entry_of, put_last, with_text, after_cut, entries_of}
-use Rattle.mx_pay.proofs.Texts.{left_true, right_true, both_true}
+use Rattle.mx_pay.proofs.Texts.{left_true, right_true}
 use Rattle.mx_pay.proofs.LogLemmas.{details_total, log_of_none}
 use Rattle.mx_pay.proofs.SameLemmas.{each_logged, logged_each}
 use Rattle.mx_pay.proofs.EntryLemmas.{NoByte, bind_some, cut_parts, cut_none, cut_at, entry_takes, entry_again, name_lacks, number_lacks_at}
-
-first_T : (a b : Bool) → T (a && b) → T a
-first_T true b p = tt
-first_T false b p = p
-
-second_T : (a b : Bool) → T (a && b) → T b
-second_T true b p = p
-second_T false b p = absurd p
 
 T_true : (b : Bool) → T b → b ≡ true
 T_true true p = refl
@@ -129,12 +124,12 @@ entry_lacks d h =
     outside r = let k : 59 ≤ 57 = r.1 in omega arith
 
 below_at : (x : Details) (xs : List Details) (d : Details) (ys : List Details) → T (below_all details_cmp x (marks (xs ++ d ∷ ys))) → T (is_lt (details_cmp x d))
-below_at x [] d ys h = first_T _ _ h
-below_at x (y ∷ xs) d ys h = below_at x xs d ys (second_T (is_lt (details_cmp x y)) _ h)
+below_at x [] d ys h = first_true _ _ h
+below_at x (y ∷ xs) d ys h = below_at x xs d ys (second_true (is_lt (details_cmp x y)) _ h)
 
 sorted_below : (xs : List Details) (d : Details) (ys : List Details) → T (is_sorted details_cmp (marks (xs ++ d ∷ ys))) → list_all (λ e. is_lt (details_cmp e d)) xs ≡ true
 sorted_below [] d ys h = refl
-sorted_below (x ∷ xs) d ys h = both_true _ _ (T_true _ (below_at x xs d ys (first_T _ _ h))) (sorted_below xs d ys (second_T (below_all details_cmp x (marks (xs ++ d ∷ ys))) _ h))
+sorted_below (x ∷ xs) d ys h = and_from _ _ (T_true _ (below_at x xs d ys (first_true _ _ h))) (sorted_below xs d ys (second_true (below_all details_cmp x (marks (xs ++ d ∷ ys))) _ h))
 
 none_tied : (d : Details) (xs : List Details) → list_all (λ e. is_lt (details_cmp e d)) xs ≡ true → list_any (eq_by_cmp details_cmp d) xs ≡ false
 none_tied d [] h = refl
@@ -149,20 +144,13 @@ length_keys (e ∷ es) = ap suc (length_keys es)
 pub len_logged : (log : Entries) → log_len log ≡ length (logged log)
 len_logged log = fmap.len-entries log ∙ sym (length_keys (fmap.entries log))
 
-not_full : (n : ℕ) → n < most_entries → nat_le most_entries n ≡ false
-not_full n h = grind (arith, nat_tests)
-
-neither : (a b : Bool) → a ≡ false → b ≡ false → not (a || b) ≡ true
-neither true b h k = cc
-neither false b h k = ap not k
-
 put_again : (log : Entries) (d : Details) → is_below d log ≡ true → length (logged log) < most_entries → put_last log d ≡ Some (with_entry log d)
 put_again log d below room =
     let has : has_logged log d ≡ false = fmap.contains_key-keys log d ∙ none_tied d (logged log) below in
     let e : log_len log ≡ length (logged log) = len_logged log in
-    let full : nat_le most_entries (log_len log) ≡ false = not_full _ (omega arith) in
+    let full : nat_le most_entries (log_len log) ≡ false = lt-leb most_entries (log_len log) (omega arith) in
     ap (λ b. cond b (cond (not (nat_le most_entries (log_len log) || has_logged log d)) (Some (with_entry log d)) None) None) below
-    ∙ ap (λ b. cond b (Some (with_entry log d)) None) (neither _ _ full has)
+    ∙ ap (λ b. cond b (Some (with_entry log d)) None) (not_from_false _ (or_from _ _ full has))
 
 text_again : (log : Entries) (d : Details) → IsDetails d → is_below d log ≡ true → length (logged log) < most_entries → with_text log (entry_text d) ≡ Some (with_entry log d)
 unfolding with_text
@@ -284,11 +272,7 @@ text_from zero ds = entry_texts ds
 text_from (suc n) ds = rest_text ds
 
 code_rest : (d : Details) (ds : List Details) → entry_texts (d ∷ ds) ≡ entry_text d ++ rest_text ds
-code_rest d [] = sym (append_nil (entry_text d))
-  where
-    append_nil : (xs : List ℕ) → xs ++ [] ≡ xs
-    append_nil [] = refl
-    append_nil (x ∷ xs) = ap (λ ys. x ∷ ys) (append_nil xs)
+code_rest d [] = sym (append-nil (entry_text d))
 code_rest d (e ∷ es) = ap (λ ys. entry_text d ++ 59 ∷ ys) (code_rest e es)
 
 five : (t a b c d e : List ℕ) → ((((t ++ (a ++ 44 ∷ [])) ++ (b ++ 44 ∷ [])) ++ (c ++ 44 ∷ [])) ++ (d ++ 44 ∷ [])) ++ e ≡ t ++ (a ++ 44 ∷ (b ++ 44 ∷ (c ++ 44 ∷ (d ++ 44 ∷ e))))
@@ -311,12 +295,8 @@ drop_get zero (e ∷ es) d h = let same : e ≡ d = cc in ap (λ (x : Details). 
 drop_get (suc k) [] d h = cc
 drop_get (suc k) (e ∷ es) d h = drop_get k es d h
 
-nil_right : (xs : List ℕ) → xs ++ [] ≡ xs
-nil_right [] = refl
-nil_right (x ∷ xs) = ap (λ ys. x ∷ ys) (nil_right xs)
-
 lead_step : (k : ℕ) (t : List ℕ) (d : Details) (ds : List Details) → t ++ text_from k (d ∷ ds) ≡ ((t ++ lead k) ++ entry_text d) ++ rest_text ds
-lead_step zero t d ds = ap (λ ys. t ++ ys) (code_rest d ds) ∙ sym (append_assoc t (entry_text d) (rest_text ds)) ∙ ap (λ xs. (xs ++ entry_text d) ++ rest_text ds) (sym (nil_right t))
+lead_step zero t d ds = ap (λ ys. t ++ ys) (code_rest d ds) ∙ sym (append_assoc t (entry_text d) (rest_text ds)) ∙ ap (λ xs. (xs ++ entry_text d) ++ rest_text ds) (sym (append-nil t))
 lead_step (suc k) t d ds = simp append_assoc
 
 pub text_step : (k : ℕ) (t u : List ℕ) (log : Entries) (d : Details) → slice_get (logged log) k ≡ Some d → u ≡ (t ++ lead k) ++ entry_text d
@@ -347,4 +327,4 @@ from_none (suc k) = refl
 pub text_end : (t : List ℕ) (log : Entries) (k : ℕ) → log_len log ≤ k → t ++ text_from k (drop k (logged log)) ≡ code log → t ≡ code log
 text_end t log k l inv =
     let e : log_len log ≡ length (logged log) = len_logged log in
-    sym (nil_right t) ∙ ap (λ ys. t ++ ys) (sym (from_none k) ∙ ap (text_from k) (sym (past k (logged log) (omega arith)))) ∙ inv
+    sym (append-nil t) ∙ ap (λ ys. t ++ ys) (sym (from_none k) ∙ ap (text_from k) (sym (past k (logged log) (omega arith)))) ∙ inv

@@ -1,5 +1,6 @@
 -- The calls of a log as those of its set: each call on the sixteen places gives what the set does.
 use Rattle.std.proofs.Common.{◌≡◌, ℕ, ◌-◌, ◌<◌, ◌≤◌, suc, zero, Bool, true, false, cond, ◌&&◌, ◌||◌, List, [], ◌∷◌, ◌++◌, refl, sym, ◌∙◌, ap, subst, Option, Some, None, T, map, length, replicate, arith}
+use Rattle.std.proofs.lemmas.Bool.{leb-false}
 use Rattle.std.specs.Prelude.{is_some, nat_le, count_by, slice_get, filter}
 use Rattle.std.proofs.lemmas.List.Sums.{length-filter}
 use Rattle.mx_pay.specs.Limits.{most_entries}
@@ -96,7 +97,7 @@ pub is_put : (entries : List (Option Details)) → IsLog entries → (d : Detail
 is_put entries h d valid full there =
     let ds : List Details = some_prefix entries in
     let short : nat_le most_entries (length ds) ≡ false = ap (nat_le most_entries) (sym (len-log_of ds h.rises)) ∙ full in
-    let room : length ds < most_entries = below_most (length ds) short in
+    let room : length ds < most_entries = leb-false most_entries (length ds) short in
     let none : find details_cmp d (marks ds) ≡ None = none_of _ (ap is_some (sym (fmap.get-from_sorted details_cmp (marks ds) d h.rises)) ∙ there) in
     let k : ℕ = most_entries - suc (length ds) in
     let one_more : most_entries - length ds ≡ suc k = omega arith in
@@ -116,9 +117,6 @@ is_put entries h d valid full there =
       view = ap log_of prefix ∙ fmap.same_entries_map _ _ (fmap.entries-from_sorted details_cmp (marks (put_list d ds)) rises ∙ sym (put-marks d ds none)
           ∙ ap (put details_cmp d tt) (sym (fmap.entries-from_sorted details_cmp (marks ds) h.rises)) ∙ sym (fmap.entries-insert details_total (log_of ds) d tt));
     }
-  where
-    below_most : (n : ℕ) → nat_le most_entries n ≡ false → n < most_entries
-    below_most n e = grind (arith, nat_tests)
 
 -- details that compare alike are the same
 pub details_exact : IsAntisymmetric details_cmp

@@ -9,11 +9,12 @@ use Rattle.mx_pay.specs.Details.{Details, details_cmp}
 use Rattle.mx_pay.specs.Log.{marks}
 use Rattle.mx_pay.specs.Places.{put_in}
 
-first_true : (a b : Bool) → T (a && b) → T a
+-- the two parts of a test by `&&` that holds
+pub first_true : (a b : Bool) → T (a && b) → T a
 first_true true b p = tt
 first_true false b p = p
 
-second_true : (a b : Bool) → T (a && b) → T b
+pub second_true : (a b : Bool) → T (a && b) → T b
 second_true true b p = p
 second_true false b p = absurd p
 

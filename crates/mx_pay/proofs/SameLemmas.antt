@@ -1,5 +1,6 @@
 -- What compares alike is the same, and what a log has after an entry.
 use Rattle.std.proofs.Common.{◌≡◌, ℕ, ◌+◌, ◌<◌, Bool, true, false, cond, ◌||◌, List, [], ◌∷◌, refl, sym, ◌∙◌, ap, subst, arith, Option, Some, None, inl, inr}
+use Rattle.std.proofs.lemmas.Bool.{or_cases, or_left, or_right, and_from, false_from_ne_true}
 use Rattle.std.specs.Prelude.{is_some, IsTrue, ◌↔◌}
 use Rattle.std.specs.List.{list_all, list_any, AllByRecursion}
 use Rattle.std.specs.Option.{some_prefix}
@@ -16,7 +17,7 @@ use Rattle.mx_pay.specs.Limits.{most_entries}
 use Rattle.mx_pay.specs.Orders.{logged-log_of}
 use Rattle.mx_pay.specs.Log.{Entries, IsLog, IsLogValue, log_of, log_len, has_logged, with_entry, none_logged, is_same_log, is_within, logged}
 use Rattle.mx_pay.proofs.LogLemmas.{details_total, details_exact, room_is}
-use Rattle.mx_pay.proofs.Texts.{left_true, right_true, both_true, or_case, or_left, or_right}
+use Rattle.mx_pay.proofs.Texts.{left_true, right_true}
 
 is_equal : (o : Ordering) → is_eq o ≡ true → o ≡ Equal
 is_equal Less p = cc
@@ -34,6 +35,9 @@ details_itself a = ap is_eq (tied_itself details_total a)
 
 pub name_itself : (a : List ℕ) → is_name a a ≡ true
 name_itself a = ap is_eq (tied_itself nat_list_cmp_total a)
+
+pub names_alike : (a b : List ℕ) → a ≡ b → is_name a b ≡ true
+names_alike a b e = ap (is_name a) (sym e) ∙ name_itself a
 
 some_is : (b : Bool) (o : Option (Unit {0})) → is_some (cond b (Some tt) o) ≡ (b || is_some o)
 some_is true o = refl
@@ -55,7 +59,7 @@ len-none_logged = fmap.len-empty details_cmp (Unit {0})
 pub one_of : (f : Details → Bool) (d : Details) (ds : List Details) → list_all f ds ≡ true → list_any (is_details d) ds ≡ true → f d ≡ true
 one_of f d [] all any = cc
 one_of f d (e ∷ es) all any =
-    elim (or_case _ _ any) [
+    elim (or_cases _ _ any) [
       | inl same ↦ ap f (same_details d e same) ∙ left_true _ _ all
       | inr there ↦ one_of f d es (right_true (f e) _ all) there
     ]
@@ -64,7 +68,7 @@ one_of f d (e ∷ es) all any =
 pub all_of : (f : Details → Bool) (ds : List Details) → ((d : Details) → list_any (is_details d) ds ≡ true → f d ≡ true) → list_all f ds ≡ true
 all_of f [] h = refl
 all_of f (e ∷ es) h =
-    both_true _ _ (h e (or_left _ _ (details_itself e))) (all_of f es (λ d there. h d (or_right _ _ there)))
+    and_from _ _ (h e (or_left _ _ (details_itself e))) (all_of f es (λ d there. h d (or_right _ _ there)))
 
 -- what a log that is within another says of details
 within_means : (a b : Entries) → is_within a b ≡ true → (d : Details) → has_logged a d ≡ true → has_logged b d ≡ true
@@ -89,22 +93,25 @@ same_logs a b h =
 
 -- a log has the same details as itself
 pub log_itself : (a : Entries) → is_same_log a a ≡ true
-log_itself a = both_true _ _ (within_itself a) (within_itself a)
+log_itself a = and_from _ _ (within_itself a) (within_itself a)
 
 -- what the test of logs answers is true exactly where they are one
 pub same_log_iff : (a b : Entries) (answer : Bool) → answer ≡ is_same_log a b → IsTrue answer ↔ (a ≡ b)
 same_log_iff a b answer is =
     (λ h. same_logs a b (sym is ∙ h), λ e. is ∙ ap (is_same_log a) (sym e) ∙ log_itself a)
 
--- names that the test tells apart differ
+-- the test of names says whether they are one
 pub names_differ : (a b : List ℕ) → is_name a b ≡ false → a ≡ b → ⊥
-names_differ a b apart e = let yes : is_name a b ≡ true = ap (is_name a) (sym e) ∙ name_itself a in cc
+names_differ a b apart e = let same : is_name a b ≡ true = names_alike a b e in cc
+
+pub names_unlike : (a b : List ℕ) → (a ≡ b → ⊥) → is_name a b ≡ false
+names_unlike a b apart = false_from_ne_true _ (λ same. apart (same_names a b same))
 
 -- what holds of each of some details, by recursion and of those that are among them
 pub each_of : (P : Details → Type 0) (ds : List Details) → AllByRecursion P ds → (d : Details) → list_any (is_details d) ds ≡ true → P d
 each_of P [] all d any = cc
 each_of P (e ∷ es) all d any =
-    elim (or_case _ _ any) [
+    elim (or_cases _ _ any) [
       | inl same ↦ subst P (sym (same_details d e same)) all.0
       | inr there ↦ each_of P es all.1 d there
     ]
@@ -138,7 +145,7 @@ pub with_entry_valid : (log : Entries) (d : Details) → IsLogValue log → IsDe
 with_entry_valid log d h valid absent room = record {
   room = omega (arith, len-with_entry log d absent);
   entries = λ e there.
-      elim (or_case (is_details e d) (has_logged log e) (sym (has-with_entry log d e) ∙ there)) [
+      elim (or_cases (is_details e d) (has_logged log e) (sym (has-with_entry log d e) ∙ there)) [
         | inl same ↦ subst IsDetails (sym (same_details e d same)) valid
         | inr before ↦ h.entries e before
       ];

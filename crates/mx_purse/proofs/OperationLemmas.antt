@@ -1,13 +1,12 @@
 -- What always holds of a purse survives its operations, and none of them changes its name.
-use Rattle.std.proofs.Common.{◌≡◌, ℕ, ◌+◌, ◌<◌, ◌≤◌, inl, inr, Bool, true, false, cond, ◌&&◌, ◌||◌, List, refl, sym, ◌∙◌, ap, subst, Option, Some, None, Ok, Err, arith}
+use Rattle.std.proofs.Common.{◌≡◌, ℕ, ◌+◌, ◌<◌, ◌≤◌, inl, inr, Bool, true, false, cond, ◌&&◌, List, refl, sym, ◌∙◌, ap, subst, Option, Some, None, Ok, Err, arith}
+use Rattle.std.proofs.lemmas.Bool.{leb-true, lt-ltb, ltb-false, leb-false, le-ltb, or_parts, or_cases, false_from_ne_true, cond-true, cond-false}
 use Rattle.std.specs.Prelude.{nat_le, nat_lt, is_some, IsNone, IfSome, ◌↔◌}
-use Rattle.std.proofs.lemmas.Bool.Decides.{nat_tests}
 use Rattle.mx_pay.specs.Limits.{most_number, most_entries}
-use Rattle.mx_pay.specs.Names.{is_name}
 use Rattle.mx_pay.specs.Details.{Details, IsDetails, is_details}
 use Rattle.mx_pay.specs.Log.{IsLogValue, Entries, log_len, has_logged}
-use Rattle.mx_pay.proofs.Texts.{left_true, right_true, or_case}
-use Rattle.mx_pay.proofs.SameLemmas.{same_names, same_details, name_itself, has-with_entry, with_entry_valid}
+use Rattle.mx_pay.proofs.Texts.{left_true, right_true}
+use Rattle.mx_pay.proofs.SameLemmas.{same_details, names_alike, names_unlike, has-with_entry, with_entry_valid}
 use Rattle.mx_purse.specs.declared.status.Status.{Status}
 use Rattle.mx_purse.specs.declared.status.Status.TheVariants.{EaFrom, EaTo, Epr, Epv, Epa}
 use Rattle.mx_purse.specs.declared.message.Message.{Message}
@@ -69,7 +68,7 @@ own_after : (p : State) (o : Option Details) → ((d : Details) → o ≡ Some d
     → (e : Details) → has_logged (with_pending p.log o) e ≡ true → IsOwnEntry p e
 own_after p None own entries e h = entries e h
 own_after p (Some d) own entries e h =
-    elim (or_case (is_details e d) (has_logged p.log e) (sym (has-with_entry p.log d e) ∙ h)) [
+    elim (or_cases (is_details e d) (has_logged p.log e) (sym (has-with_entry p.log d e) ∙ h)) [
       | inl same ↦ subst (IsOwnEntry p) (sym (same_details e d same)) (own d refl)
       | inr there ↦ entries e there
     ]
@@ -98,27 +97,17 @@ pub record IsFit (p : State) : Type 0 where
   pub next : p.next < most_number
   pub lines : p.lines < most_number
 
-first_of_two : {R : Type 0} (a b : Bool) (x y : R) → cond a (Some x) (cond b (Some y) None) ≡ None → (a ≡ false) × (b ≡ false)
-first_of_two true b x y h = cc
-first_of_two false true x y h = cc
-first_of_two false false x y h = (refl, refl)
-
-neither : (a b : Bool) → (a || b) ≡ false → (a ≡ false) × (b ≡ false)
-neither true b h = cc
-neither false b h = (refl, h)
-
-below_most_entries : (n : ℕ) → nat_le most_entries n ≡ false → n < most_entries
-below_most_entries n h = grind (arith, nat_tests)
-
-below_most : (n : ℕ) → nat_le most_number n ≡ false → n < most_number
-below_most n h = grind (arith, nat_tests)
+-- where no guard fails, the first passes and none of the others fails
+guard_passes : {R : Type 0} (b : Bool) (r : R) (o : Option R) → cond b (Some r) o ≡ None → (b ≡ false) × (o ≡ None)
+guard_passes true r o h = cc
+guard_passes false r o h = (refl, h)
 
 -- the guards of both starts passed
 pub is_fit : (p : State) → start_worn p ≡ None → IsFit p
 is_fit p h =
-    let both = first_of_two _ _ _ _ h in
-    let numbers = neither _ _ both.1 in
-    record { room = below_most_entries _ both.0; next = below_most _ numbers.0; lines = below_most _ numbers.1 }
+    let first = guard_passes _ _ _ h in
+    let numbers = or_parts _ _ (guard_passes _ _ _ first.1).0 in
+    record { room = leb-false _ _ first.0; next = leb-false _ _ numbers.0; lines = leb-false _ _ numbers.1 }
 
 -- the lines after a start are few
 lines_started : (p : State) (o : Option Details) → p.lines < most_number → lines_with p.lines o ≤ most_number
@@ -142,116 +131,45 @@ started_is p s h fit status details = record {
   entries = λ e there. own_later p s e (own_aborted p h e there);
 }
 
-not_true : (b : Bool) → (b ≡ true → ⊥) → b ≡ false
-not_true true h = absurd (h refl)
-not_true false h = refl
-
 -- details with the purse's next number aren't among its own yet
-not_own_from : (p : State) (peer : List ℕ) (value seq : ℕ) → (p.name ≡ peer → ⊥) → IsOwnEntry p (from_details p peer value seq) → ⊥
-not_own_from p peer value seq apart (inl h) = let k : p.next < p.next = h.1 in omega arith
-not_own_from p peer value seq apart (inr h) = apart (sym h.0)
-
-not_own_to : (p : State) (peer : List ℕ) (value seq : ℕ) → (p.name ≡ peer → ⊥) → IsOwnEntry p (to_details p peer value seq) → ⊥
-not_own_to p peer value seq apart (inl h) = apart (sym h.0)
-not_own_to p peer value seq apart (inr h) = let k : p.next < p.next = h.1 in omega arith
-
--- a purse is one after a start that passes the guards
-from_fit : (p : State) (peer : List ℕ) (value seq : ℕ) → IsPurse p → IsDetails (from_details p peer value seq) → (p.name ≡ peer → ⊥) → value ≤ p.balance → start_worn p ≡ None
-    → IsPurse (started p (Epr (from_details p peer value seq)))
-from_fit p peer value seq h valid apart enough worn =
-    let fit : IsFit p = is_fit p worn in
-    started_is p _ h fit
-    (refl, enough, omega arith, not_true _ (λ there. not_own_from p peer value seq apart (own_aborted p h _ there)), fit.room, lines_started p (pending p.status) fit.lines) valid
-
-to_fit : (p : State) (peer : List ℕ) (value seq : ℕ) → IsPurse p → IsDetails (to_details p peer value seq) → (p.name ≡ peer → ⊥) → start_worn p ≡ None
-    → IsPurse (started p (Epv (to_details p peer value seq)))
-to_fit p peer value seq h valid apart worn =
-    let fit : IsFit p = is_fit p worn in
-    started_is p _ h fit
-    (refl, omega arith, not_true _ (λ there. not_own_to p peer value seq apart (own_aborted p h _ there)), fit.room, lines_started p (pending p.status) fit.lines) valid
-
-apart_means : (a b : List ℕ) → is_name a b ≡ false → a ≡ b → ⊥
-apart_means a b h e = let both : true ≡ false = sym (ap (is_name a) (sym e) ∙ name_itself a) ∙ h in cc
-
--- what a start that isn't refused says: the names differ, for one from the purse the balance covers the value, and
--- no guard of both starts fails
-pub record FromGuards (p : State) (peer : List ℕ) (value : ℕ) : Type 0 where
-  pub apart : p.name ≡ peer → ⊥
-  pub enough : value ≤ p.balance
-  pub worn : start_worn p ≡ None
-
-pub record ToGuards (p : State) (peer : List ℕ) : Type 0 where
-  pub apart : p.name ≡ peer → ⊥
-  pub worn : start_worn p ≡ None
-
-not_less : (a b : ℕ) → nat_lt a b ≡ false → b ≤ a
-not_less a b h = grind (arith, nat_tests)
-
-pub from_guards : (p : State) (peer : List ℕ) (value : ℕ) → start_from_refusal p peer value ≡ None → FromGuards p peer value
-from_guards p peer value h = by_case (is_name p.name peer) (nat_lt p.balance value) refl refl h
-  where
-    by_case : (same less : Bool) → is_name p.name peer ≡ same → nat_lt p.balance value ≡ less
-        → cond same (Some SamePurse) (cond less (Some NotEnough) (start_worn p)) ≡ None → FromGuards p peer value
-    by_case true less is is_less h = cc
-    by_case false true is is_less h = cc
-    by_case false false is is_less h = record { apart = apart_means _ _ is; enough = not_less _ _ is_less; worn = h }
-
-pub to_guards : (p : State) (peer : List ℕ) → start_to_refusal p peer ≡ None → ToGuards p peer
-to_guards p peer h = by_case (is_name p.name peer) refl h
-  where
-    by_case : (same : Bool) → is_name p.name peer ≡ same → cond same (Some SamePurse) (start_worn p) ≡ None → ToGuards p peer
-    by_case true is h = cc
-    by_case false is h = record { apart = apart_means _ _ is; worn = h }
+not_own : (p : State) (d : Details) → (d.from ≡ p.name → d.from_seq ≡ p.next) → (d.to ≡ p.name → d.to_seq ≡ p.next) → IsOwnEntry p d → ⊥
+not_own p d from to (inl h) = let next = from h.0 in let below : d.from_seq < p.next = h.1 in omega (arith, next)
+not_own p d from to (inr h) = let next = to h.0 in let below : d.to_seq < p.next = h.1 in omega (arith, next)
 
 -- a purse is one after a start of a payment to the peer that isn't refused
 pub started_from_is : (p : State) (peer : List ℕ) (value seq : ℕ) → IsPurse p → IsDetails (from_details p peer value seq) → start_from_refusal p peer value ≡ None
     → IsPurse (started p (Epr (from_details p peer value seq)))
 started_from_is p peer value seq h valid free =
-    let guards = from_guards p peer value free in from_fit p peer value seq h valid guards.apart guards.enough guards.worn
+    let enough = guard_passes _ _ _ (guard_passes _ _ _ free).1 in
+    let fit : IsFit p = is_fit p enough.1 in
+    let new = not_own p (from_details p peer value seq) (λ _. refl) (λ same. absurd (valid.apart (sym same))) in
+    started_is p _ h fit
+    (refl, ltb-false _ _ enough.0, omega arith, false_from_ne_true _ (λ there. new (own_aborted p h _ there)), fit.room, lines_started p (pending p.status) fit.lines) valid
 
 -- a purse is one after a start of a payment from the peer that isn't refused
 pub started_to_is : (p : State) (peer : List ℕ) (value seq : ℕ) → IsPurse p → IsDetails (to_details p peer value seq) → start_to_refusal p peer ≡ None
     → IsPurse (started p (Epv (to_details p peer value seq)))
 started_to_is p peer value seq h valid free =
-    let guards = to_guards p peer free in to_fit p peer value seq h valid guards.apart guards.worn
-
--- which guard of a start is the first that fails
-from_by : (p : State) (peer : List ℕ) (value : ℕ) (same less : Bool) → is_name p.name peer ≡ same → nat_lt p.balance value ≡ less
-    → start_from_refusal p peer value ≡ cond same (Some SamePurse) (cond less (Some NotEnough) (start_worn p))
-from_by p peer value same less is is_less =
-    ap (λ b. cond b (Some SamePurse) (cond (nat_lt p.balance value) (Some NotEnough) (start_worn p))) is
-    ∙ ap (λ b. cond same (Some SamePurse) (cond b (Some NotEnough) (start_worn p))) is_less
-
-to_by : (p : State) (peer : List ℕ) (same : Bool) → is_name p.name peer ≡ same → start_to_refusal p peer ≡ cond same (Some SamePurse) (start_worn p)
-to_by p peer same is = ap (λ b. cond b (Some SamePurse) (start_worn p)) is
-
-same_is : (a b : List ℕ) → a ≡ b → is_name a b ≡ true
-same_is a b e = ap (is_name a) (sym e) ∙ name_itself a
-
-apart_is : (a b : List ℕ) → (a ≡ b → ⊥) → is_name a b ≡ false
-apart_is a b h = not_true _ (λ e. h (same_names a b e))
-
-less_is : (a b : ℕ) → a < b → nat_lt a b ≡ true
-less_is a b h = grind (arith, nat_tests)
-
-enough_is : (a b : ℕ) → b ≤ a → nat_lt a b ≡ false
-enough_is a b h = grind (arith, nat_tests)
+    let fit : IsFit p = is_fit p (guard_passes _ _ _ free).1 in
+    let new = not_own p (to_details p peer value seq) (λ same. absurd (valid.apart same)) (λ _. refl) in
+    started_is p _ h fit
+    (refl, omega arith, false_from_ne_true _ (λ there. new (own_aborted p h _ there)), fit.room, lines_started p (pending p.status) fit.lines) valid
 
 -- the refusals of each start by the guards
 pub from_same : (p : State) (peer : List ℕ) (value : ℕ) → p.name ≡ peer → start_from_refusal p peer value ≡ Some SamePurse
-from_same p peer value e = from_by p peer value true _ (same_is _ _ e) refl
+from_same p peer value same = cond-true _ _ _ (names_alike _ _ same)
 
 pub from_little : (p : State) (peer : List ℕ) (value : ℕ) → (p.name ≡ peer → ⊥) → p.balance < value → start_from_refusal p peer value ≡ Some NotEnough
-from_little p peer value apart less = from_by p peer value false true (apart_is _ _ apart) (less_is _ _ less)
+from_little p peer value apart less = cond-false _ _ _ (names_unlike _ _ apart) ∙ cond-true _ _ _ (lt-ltb _ _ less)
 
 pub from_rest : (p : State) (peer : List ℕ) (value : ℕ) → (p.name ≡ peer → ⊥) → value ≤ p.balance → start_from_refusal p peer value ≡ start_worn p
-from_rest p peer value apart enough = from_by p peer value false false (apart_is _ _ apart) (enough_is _ _ enough)
+from_rest p peer value apart enough = cond-false _ _ _ (names_unlike _ _ apart) ∙ cond-false _ _ _ (le-ltb _ _ enough)
 
 pub to_same : (p : State) (peer : List ℕ) → p.name ≡ peer → start_to_refusal p peer ≡ Some SamePurse
-to_same p peer e = to_by p peer true (same_is _ _ e)
+to_same p peer same = cond-true _ _ _ (names_alike _ _ same)
 
 pub to_rest : (p : State) (peer : List ℕ) → (p.name ≡ peer → ⊥) → start_to_refusal p peer ≡ start_worn p
-to_rest p peer apart = to_by p peer false (apart_is _ _ apart)
+to_rest p peer apart = cond-false _ _ _ (names_unlike _ _ apart)
 
 -- ---- the two clauses of a call, where it is refused and where it isn't
 
@@ -270,13 +188,6 @@ moved o p q h = sym (ap (λ x. unless_refused x p q) h)
 -- details that are there: the two names differ
 pub names_apart : {A : Type 0} {D : Type 0} (o : Option D) (d : D) → (IsNone o ↔ A) → o ≡ Some d → A → ⊥
 names_apart o d iff is e = let both : false ≡ true = sym (iff.1 e) ∙ ap is_some is in cc
-
--- ---- a call that may be refused
-
--- a purse is one after a call, where it is one after the operation
-pub unless_refused_is : {R : Type 0} (o : Option R) (p q : State) → IsPurse p → (o ≡ None → IsPurse q) → IsPurse (unless_refused o p q)
-unless_refused_is None p q h is = is refl
-unless_refused_is (Some r) p q h is = h
 
 -- ---- the messages
 
@@ -358,15 +269,12 @@ by_guard : (p : State) (b : Bool) (x : Handled) → IsPurse p → (b ≡ true �
 by_guard p true x h is = is refl
 by_guard p false x h is = h
 
-within : (n : ℕ) → nat_le n most_number ≡ true → n ≤ most_number
-within n h = grind (arith, nat_tests)
-
 -- a purse is one after a message
 pub after_message_is : (p : State) (m : Message) → IsPurse p → IsPurse (after_message p (handled p m))
 after_message_is p (Req d) h = by_guard p (expects_req p.status d) (took.Req d) h (req_is p d h)
 after_message_is p (Val d) h =
     by_guard p (expects_val p.status d && nat_le (p.balance + d.value) most_number) (took.Val d) h
-    (λ both. val_is p d h (left_true _ _ both) (within _ (right_true (expects_val p.status d) _ both)))
+    (λ both. val_is p d h (left_true _ _ both) (leb-true _ _ (right_true (expects_val p.status d) _ both)))
 after_message_is p (Ack d) h = by_guard p (expects_ack p.status d) (took.Ack d) h (ack_is p d h)
 
 -- what an accepted message sends is within its limits
@@ -388,13 +296,11 @@ pub record LoadGuards (p : State) (amount : ℕ) : Type 0 where
   pub lines : p.lines < most_number
   pub balance : p.balance + amount ≤ most_number
 
-within_most : (n : ℕ) → nat_lt most_number n ≡ false → n ≤ most_number
-within_most n h = grind (arith, nat_tests)
-
 pub load_guards : (p : State) (amount : ℕ) → load_refusal p amount ≡ None → LoadGuards p amount
 load_guards p amount h =
-    let both = first_of_two (nat_le most_number p.lines) (nat_lt most_number (p.balance + amount)) load.Worn load.OverCap h in
-    record { lines = below_most _ both.0; balance = within_most _ both.1 }
+    let first = guard_passes (nat_le most_number p.lines) load.Worn _ h in
+    let second = guard_passes (nat_lt most_number (p.balance + amount)) load.OverCap None first.1 in
+    record { lines = leb-false _ _ first.0; balance = ltb-false _ _ second.0 }
 
 status_loaded : (p : State) (amount : ℕ) (s : Status) → p.lines < most_number → IsInStatus p s → IsInStatus (loaded p amount) s
 status_loaded p amount EaFrom low h = omega arith
@@ -427,8 +333,9 @@ pub record RedeemGuards (p : State) (amount : ℕ) : Type 0 where
 
 pub redeem_guards : (p : State) (amount : ℕ) → redeem_refusal p amount ≡ None → RedeemGuards p amount
 redeem_guards p amount h =
-    let both = first_of_two (nat_lt p.balance amount) (nat_le most_number p.lines) redeem.NotEnough redeem.Worn h in
-    record { enough = not_less _ _ both.0; lines = below_most _ both.1 }
+    let first = guard_passes (nat_lt p.balance amount) redeem.NotEnough _ h in
+    let second = guard_passes (nat_le most_number p.lines) redeem.Worn None first.1 in
+    record { enough = ltb-false _ _ first.0; lines = leb-false _ _ second.0 }
 
 -- a purse is one after a redemption where its lines are few
 pub redeem_is : (p : State) (amount : ℕ) → IsPurse p → p.lines < most_number → IsPurse (redeemed p amount)
@@ -452,24 +359,8 @@ redeemed_is p amount h free = redeem_is p amount h (redeem_guards p amount free)
 
 -- ---- the name stays
 
-pub aborted_name : (p : State) → (aborted p).name ≡ p.name
-aborted_name p = refl
-
-pub started_name : (p : State) (s : Status) → (started p s).name ≡ p.name
-started_name p s = refl
-
 pub after_message_name : (p : State) (x : Handled) → (after_message p x).name ≡ p.name
 after_message_name p (took.Req d) = refl
 after_message_name p (took.Val d) = refl
 after_message_name p (took.Ack d) = refl
 after_message_name p took.Ignored = refl
-
-pub loaded_name : (p : State) (amount : ℕ) → (loaded p amount).name ≡ p.name
-loaded_name p amount = refl
-
-pub redeemed_name : (p : State) (amount : ℕ) → (redeemed p amount).name ≡ p.name
-redeemed_name p amount = refl
-
-pub unless_refused_name : {R : Type 0} (o : Option R) (p q : State) → q.name ≡ p.name → (unless_refused o p q).name ≡ p.name
-unless_refused_name None p q same = same
-unless_refused_name (Some r) p q same = refl

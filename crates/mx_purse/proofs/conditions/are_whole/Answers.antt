@@ -1,6 +1,7 @@
 use Rattle.std.proofs.Common.{◌≡◌, Bool, true, false, sym, ◌∙◌}
+use Rattle.std.proofs.lemmas.Bool.{lt-leb}
 use Rattle.mx_purse.specs.State.{State}
-use Rattle.mx_purse.proofs.ConditionLemmas.{whole_iff, last_decides, above_most, balance_fails, status_fails}
+use Rattle.mx_purse.proofs.ConditionLemmas.{whole_iff, last_decides, balance_fails, status_fails}
 use Rattle.mx_purse.proofs.conditions.are_whole.Goals as goal
 use Rattle.mx_purse.proofs.conditions.are_whole.Goals.{then-balance-le-MOST_NUMBER, else-balance-le-MOST_NUMBER}
 
@@ -19,7 +20,7 @@ returns-then-fits_status c =
             details = w.fits_status.ensures.details;
             log = c.are_of.ensures.valid;
           })
-      | else-balance-le-MOST_NUMBER w ↦ both c.if-fits_status.true (w.value-is ∙ above_most _ w.if-balance-le-MOST_NUMBER.false)
+      | else-balance-le-MOST_NUMBER w ↦ both c.if-fits_status.true (w.value-is ∙ lt-leb _ _ w.if-balance-le-MOST_NUMBER.false)
     ]
 
 pub returns-else-fits_status : goal.returns-else-fits_status
@@ -30,6 +31,6 @@ returns-else-fits_status c =
           (c.if-fits_status.false ∙ sym (status_fails p w.if-balance-le-MOST_NUMBER.true (sym w.fits_status.ensures.value ∙ sym w.value-is ∙ c.if-fits_status.false)))
           (λ holds. both holds c.if-fits_status.false)
       | else-balance-le-MOST_NUMBER w ↦ whole_iff p _
-          (c.if-fits_status.false ∙ sym (balance_fails p (above_most _ w.if-balance-le-MOST_NUMBER.false)))
+          (c.if-fits_status.false ∙ sym (balance_fails p (lt-leb _ _ w.if-balance-le-MOST_NUMBER.false)))
           (λ holds. both holds c.if-fits_status.false)
     ]
