@@ -1,18 +1,17 @@
 -- A change of a holder's own of a purse keeps the balance equation.
-use Rattle.std.proofs.Common.{◌≡◌, ℕ, ◌+◌, Bool, true, false, cond, refl, sym, ◌∙◌, ap, subst, Option, Some, None, IsSome, option_and_then, arith}
+use Rattle.std.proofs.Common.{◌≡◌, ℕ, ◌+◌, Bool, true, false, cond, refl, sym, ap, subst, Option, Some, None, IsSome, arith}
 use Rattle.std.specs.FinMap as fmap
-use Rattle.mx_pay.specs.Names.{is_name}
 use Rattle.mx_purse.specs.declared.message.Message.{Message}
 use Rattle.mx_book.specs.Sums.{sum_entries, sum_values}
 use Rattle.mx_book.specs.Reads.{uncollected_row}
 use Rattle.mx_book.specs.World.{World, Row, Holding, Name, set_row, changed_row, change_holding, has_room, delivered, with_message}
-use Rattle.mx_book.proofs.FoundLemmas.{inside, none_some, still_some}
+use Rattle.mx_book.proofs.FoundLemmas.{none_some, still_some}
 use Rattle.mx_book.proofs.NameLemmas.{names_total}
 use Rattle.mx_book.proofs.PurseLemmas.{change_there}
 use Rattle.mx_book.proofs.SumLemmas.{value_of, sum_values-insert}
 use Rattle.mx_office.specs.declared.values.Refusal.TheVariants.{NoSuchPurse}
 use Rattle.mx_office.specs.Balance.{issued_row, redeemed_row}
-use Rattle.mx_office.specs.Step.{Deed, Asks, on_found, in_place, owned_holding, own_holding, on_world, put_sent}
+use Rattle.mx_office.specs.Step.{Deed, Asks, on_found, in_place, own_holding, on_world, put_sent}
 use Rattle.mx_office.proofs.BalanceLemmas.{IsAccounted, IsRow, left_row, set_accounted}
 use Rattle.mx_office.proofs.EntrySumLemmas.{sum_entries-insert}
 use Rattle.mx_office.proofs.OwnLemmas.{is_owned}

@@ -5,14 +5,12 @@ use Rattle.std.specs.Option.{option_map_or}
 use Rattle.std.specs.FinMap as fmap
 use Rattle.mx_pay.specs.Names.{name_cmp}
 use Rattle.mx_purse.specs.Operations.{load_refusal}
-use Rattle.mx_purse.specs.State.{State}
 use Rattle.mx_book.specs.declared.values.Caller.{Caller}
 use Rattle.mx_book.specs.declared.values.Caller.TheVariants.{Operator, Clerk, Holder}
-use Rattle.mx_book.specs.declared.values.Line.{Line}
 use Rattle.mx_book.specs.declared.values.MemberRow.{MemberRow}
 use Rattle.mx_book.specs.Sums.{sum_entries, sum_values}
 use Rattle.mx_book.specs.Reads.{uncollected_row, uncollected_of}
-use Rattle.mx_book.specs.World.{World, Row, Holding, Name, Token, is_of, is_of_member, with_collected, all_collected, set_row, change_row, new_row, opening}
+use Rattle.mx_book.specs.World.{World, Row, Holding, Name, Token, is_of, is_of_member, with_collected, all_collected, set_row, new_row, opening}
 use Rattle.mx_book.proofs.FoundLemmas.{inside}
 use Rattle.mx_book.proofs.MapLemmas.{get-pick}
 use Rattle.mx_book.proofs.NameLemmas.{names_total, names_exact, same_name}
@@ -26,7 +24,7 @@ use Rattle.mx_office.specs.declared.values.Reply.{Reply}
 use Rattle.mx_office.specs.declared.values.Reply.TheVariants as reply
 use Rattle.mx_office.specs.Balance.{IsBalanced, issued_row, redeemed_row, is_chosen, of_purses}
 use Rattle.mx_office.specs.Reachable.{IsReachable}
-use Rattle.mx_office.specs.Step.{Deed, Asked, tell, unless, unless_told, idle, with_purse, asks, new_member, new_member_refusal, new_holder, new_holder_refusal, new_purse, new_purse_refusal, change_member, grant, grant_refusal, loaded_holding, loaded_row, loaded_world, load_of_float_refusal, idle_load_at, idle_load, collect, collect_refusal, base, step, steps}
+use Rattle.mx_office.specs.Step.{Deed, Asked, tell, unless, unless_told, idle, asks, new_member, new_member_refusal, new_holder, new_holder_refusal, new_purse, new_purse_refusal, change_member, grant, grant_refusal, loaded_holding, loaded_row, loaded_world, load_of_float_refusal, idle_load_at, idle_load, collect, collect_refusal, base, step, steps}
 use Rattle.mx_office.proofs.OwnLemmas.{absent, present, none_refused}
 use Rattle.mx_office.proofs.BalanceLemmas.{Choice, IsAccounted, IsRow, left, right, left_row, counted, is_counted, none_counts, same_change, with_member, left_member, right_member, new_member_accounted, left_set, right_set, rows_stay, new_row_accounted, new_holder_accounted, opening_accounted, is_balanced}
 use Rattle.mx_office.proofs.BalanceAccountLemmas.{asks_accounted, sent_accounted}

@@ -1,5 +1,5 @@
 -- A decision is the step's: its reply, and edits that fit and lead to its World.
-use Rattle.std.proofs.Common.{◌≡◌, ℕ, ◌<◌, ◌≤◌, ◌^◌, Bool, true, false, cond, List, [], ◌∷◌, Option, Some, None, refl, sym, ◌∙◌, ap, subst, arith, length, IsSome, IsNone, IsTrue, is_some, is_none, not, option_map, option_and_then}
+use Rattle.std.proofs.Common.{◌≡◌, ℕ, ◌<◌, ◌≤◌, ◌^◌, Bool, true, false, cond, List, [], ◌∷◌, Option, Some, None, refl, sym, ◌∙◌, ap, subst, arith, length, IsSome, IsTrue, is_some, is_none, not, option_map, option_and_then}
 use Rattle.std.specs.Prelude.{nat_le, nat_lt, ◌&&◌}
 use Rattle.std.proofs.lemmas.Bool.Decides.{nat_tests}
 use Rattle.std.proofs.lemmas.Option.{cond_some}
@@ -20,7 +20,7 @@ use Rattle.mx_office.specs.declared.values.Decided.{Decided}
 use Rattle.mx_office.specs.declared.values.Refusal.{Refusal}
 use Rattle.mx_office.specs.declared.values.Reply.{Reply}
 use Rattle.mx_office.specs.declared.values.Reply.TheVariants.{Added, Refused}
-use Rattle.mx_office.specs.Step.{Deed, tell, put_sent, first_refusal, unless, new_member, new_holder, new_purse}
+use Rattle.mx_office.specs.Step.{Deed, tell, put_sent, unless, new_member, new_holder, new_purse}
 use Rattle.mx_office.proofs.OwnLemmas.{absent, present, next, none_left}
 use Rattle.mx_office.specs.Decides.{Decides, finds_place, purse_count}
 

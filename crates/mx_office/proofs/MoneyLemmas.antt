@@ -14,7 +14,7 @@ use Rattle.mx_book.specs.declared.edits.Edit.TheVariants.{SetMember, SetPurse, A
 use Rattle.mx_book.specs.declared.values.Line.{Line}
 use Rattle.mx_book.specs.declared.values.LineKind.TheVariants as kind
 use Rattle.mx_book.specs.declared.values.MemberRow.{MemberRow}
-use Rattle.mx_book.specs.World.{World, Row, Holding, Name, is_of_member, all_collected, set_row}
+use Rattle.mx_book.specs.World.{World, Row, Name, is_of_member, all_collected, set_row}
 use Rattle.mx_book.specs.Conditions.{IsWorld, all_granted}
 use Rattle.mx_book.specs.Reads.{from_row, load_of, uncollected_of}
 use Rattle.mx_book.specs.Edits.{AllSuit, edited, all_edited}
@@ -25,7 +25,7 @@ use Rattle.mx_office.specs.declared.values.Decided.{Decided}
 use Rattle.mx_office.specs.declared.values.Reply.{Reply}
 use Rattle.mx_office.specs.declared.values.Reply.TheVariants as reply
 use Rattle.mx_office.specs.declared.values.Refusal.TheVariants as refusal
-use Rattle.mx_office.specs.Step.{Deed, tell, unless, unless_told, idle, money_line, with_purse, refusal_of_load, float_of, change_member, grant, grant_refusal, collect, collect_refusal, loaded_holding, loaded_row, load_of_float_refusal, idle_load_at, idle_load, loaded_world, load_purse}
+use Rattle.mx_office.specs.Step.{tell, unless, unless_told, idle, money_line, refusal_of_load, float_of, change_member, grant, grant_refusal, collect, collect_refusal, loaded_holding, loaded_row, load_of_float_refusal, idle_load_at, idle_load, loaded_world, load_purse}
 use Rattle.mx_office.specs.Decides.{Decides, member_purse, load_edits}
 use Rattle.mx_office.proofs.DecideLemmas.{edits_decide, told_decides, edit_decides}
 use Rattle.mx_office.proofs.OwnLemmas.{first, next, none_left}
