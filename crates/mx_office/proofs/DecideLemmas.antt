@@ -21,7 +21,7 @@ use Rattle.mx_office.specs.declared.values.Refusal.{Refusal}
 use Rattle.mx_office.specs.declared.values.Reply.{Reply}
 use Rattle.mx_office.specs.declared.values.Reply.TheVariants.{Added, Refused}
 use Rattle.mx_office.specs.Step.{Deed, tell, put_sent, unless, new_member, new_holder, new_purse}
-use Rattle.mx_office.proofs.OwnLemmas.{absent, present, next, none_left}
+use Rattle.mx_office.proofs.OwnLemmas.{absent, present, of_there, next, none_left}
 use Rattle.mx_office.specs.Decides.{Decides, finds_place, purse_count}
 
 -- ---- decisions
@@ -89,11 +89,6 @@ held_count w m h n e = sym (cond_some _ _ n e).1
 
 pub many_held : (w : World) (m h : Name) (n : ℕ) (b : Bool) → purse_count w m h ≡ Some n → nat_le 64 n ≡ b → nat_le 64 (length (purses_of w h)) ≡ b
 many_held w m h n b e is = ap (nat_le 64) (sym (held_count w m h n e)) ∙ is
-
--- a holder that is of a member is there
-of_there : (m : Name) (o : Option Name) → not (is_of m o) ≡ false → IsSome o
-of_there m None f = absurd (cc)
-of_there m (Some x) f = refl
 
 -- a purse is given exactly where it is there, since its holder is
 account_case : (w : World) (p : Name) (o : Option Row) → fmap.get w.rows p ≡ o → IsWorld w → is_some (option_and_then (λ (r : Row). option_map (account_with r) (fmap.get w.holders r.holder)) o) ≡ is_some o

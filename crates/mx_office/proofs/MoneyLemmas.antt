@@ -28,7 +28,7 @@ use Rattle.mx_office.specs.declared.values.Refusal.TheVariants as refusal
 use Rattle.mx_office.specs.Step.{tell, unless, unless_told, idle, money_line, refusal_of_load, float_of, change_member, grant, grant_refusal, collect, collect_refusal, loaded_holding, loaded_row, load_of_float_refusal, idle_load_at, idle_load, loaded_world, load_purse}
 use Rattle.mx_office.specs.Decides.{Decides, member_purse, load_edits}
 use Rattle.mx_office.proofs.DecideLemmas.{edits_decide, told_decides, edit_decides}
-use Rattle.mx_office.proofs.OwnLemmas.{first, next, none_left}
+use Rattle.mx_office.proofs.OwnLemmas.{first, next, none_left, change_to}
 use Rattle.mx_office.proofs.AccountLemmas.{IsFound, Follows, is_found, is_next}
 use Rattle.mx_office.proofs.CommandLemmas.{nothing, is_refused, not_refused}
 
@@ -36,9 +36,6 @@ use Rattle.mx_office.proofs.CommandLemmas.{nothing, is_refused, not_refused}
 
 float_there : (w : World) (m : Name) (row : MemberRow) → fmap.get w.members m ≡ Some row → float_of w m ≡ row.float
 float_there w m row at = ap (λ o. unwrap_or (option_map (λ (x : MemberRow). x.float) o) 0) at
-
-change_to : (w : World) (m : Name) (f : MemberRow → MemberRow) (row : MemberRow) → fmap.get w.members m ≡ Some row → change_member w m f ≡ edited w (SetMember m (f row).granted (f row).float)
-change_to w m f row at = ap (λ o. option_map_or (λ x. let v : World = record w { members = fmap.insert w.members m (f x) } in v) o w) at
 
 -- ---- a grant, by the sum that a number can hold
 

@@ -1,11 +1,13 @@
 -- What is a holder's own, and what tests of options and of refusals tell.
-use Rattle.std.proofs.Common.{◌≡◌, Bool, true, false, cond, List, [], ◌∷◌, refl, ◌∙◌, ap, Option, Some, None, is_some, is_none, option_and_then}
+use Rattle.std.proofs.Common.{◌≡◌, Bool, true, false, not, cond, List, [], ◌∷◌, refl, ◌∙◌, ap, Option, Some, None, IsSome, is_some, is_none, option_and_then}
 use Rattle.std.proofs.lemmas.Option.{cond_some, option_and_then_some}
+use Rattle.std.specs.Option.{option_map_or}
 use Rattle.std.specs.FinMap as fmap
 use Rattle.mx_pay.specs.Names.{is_name}
-use Rattle.mx_book.specs.World.{World, Row, Holding, Name}
+use Rattle.mx_book.specs.declared.values.MemberRow.{MemberRow}
+use Rattle.mx_book.specs.World.{World, Row, Holding, Name, is_of}
 use Rattle.mx_office.specs.declared.values.Refusal.{Refusal}
-use Rattle.mx_office.specs.Step.{first_refusal, owned_holding, own_holding}
+use Rattle.mx_office.specs.Step.{first_refusal, change_member, owned_holding, own_holding}
 
 -- ---- options
 
@@ -20,6 +22,11 @@ gone (Some x) t = cc
 pub present : {X : Type 0} (o : Option X) → is_none o ≡ false → (x : X) × (o ≡ Some x)
 present None f = absurd (cc)
 present (Some x) f = (x, refl)
+
+-- a holder that is of a member is there
+pub of_there : (m : Name) (o : Option Name) → not (is_of m o) ≡ false → IsSome o
+of_there m None f = absurd (cc)
+of_there m (Some x) f = refl
 
 -- ---- the first refusal that applies
 
@@ -39,6 +46,12 @@ pub none_refused : (b : Bool) (r : Refusal) (xs : List (Bool × Refusal)) → fi
 unfolding first_refusal
 none_refused true r xs e = cc
 none_refused false r xs e = (refl, e)
+
+-- ---- a member's row
+
+-- a member who is there has the changed row
+pub change_to : (w : World) (m : Name) (f : MemberRow → MemberRow) (row : MemberRow) → fmap.get w.members m ≡ Some row → change_member w m f ≡ record w { members = fmap.insert w.members m (f row) }
+change_to w m f row at = ap (λ o. option_map_or (λ x. let v : World = record w { members = fmap.insert w.members m (f x) } in v) o w) at
 
 -- ---- the holder's own
 
