@@ -1,7 +1,6 @@
 -- Each command keeps the balance equation.
 use Rattle.std.proofs.Common.{◌≡◌, ℕ, ◌+◌, ◌-◌, ◌≤◌, Bool, true, false, cond, List, [], ◌∷◌, refl, sym, ◌∙◌, ap, subst, Option, Some, None, IsSome, is_some, option_and_then, option_map, arith}
-use Rattle.std.specs.Prelude.{nat_lt, is_none, not}
-use Rattle.std.specs.Option.{option_map_or}
+use Rattle.std.specs.Prelude.{nat_lt, is_none}
 use Rattle.std.specs.FinMap as fmap
 use Rattle.mx_pay.specs.Names.{name_cmp}
 use Rattle.mx_purse.specs.Operations.{load_refusal}
@@ -15,7 +14,6 @@ use Rattle.mx_book.proofs.FoundLemmas.{inside}
 use Rattle.mx_book.proofs.MapLemmas.{get-pick}
 use Rattle.mx_book.proofs.NameLemmas.{names_total, names_exact, same_name}
 use Rattle.mx_book.proofs.PurseLemmas.{change_there}
-use Rattle.mx_book.proofs.SumLemmas.{value_of, sum_values-insert}
 use Rattle.mx_book.proofs.UnderLemmas.{get-remake}
 use Rattle.mx_office.specs.declared.values.Command.{Command}
 use Rattle.mx_office.specs.declared.values.Command.TheVariants.{NewMember, Grant, NewHolder, NewPurse, Load, Collect}
@@ -24,7 +22,7 @@ use Rattle.mx_office.specs.declared.values.Reply.{Reply}
 use Rattle.mx_office.specs.declared.values.Reply.TheVariants as reply
 use Rattle.mx_office.specs.Balance.{IsBalanced, issued_row, redeemed_row, is_chosen, of_purses}
 use Rattle.mx_office.specs.Reachable.{IsReachable}
-use Rattle.mx_office.specs.Step.{Deed, Asked, tell, unless, unless_told, idle, asks, new_member, new_member_refusal, new_holder, new_holder_refusal, new_purse, new_purse_refusal, change_member, grant, grant_refusal, loaded_holding, loaded_row, loaded_world, load_of_float_refusal, idle_load_at, idle_load, collect, collect_refusal, base, step, steps}
+use Rattle.mx_office.specs.Step.{Deed, Asked, tell, unless, unless_told, idle, asks, new_member, new_member_refusal, new_holder, new_holder_refusal, new_purse, new_purse_refusal, change_member, grant, grant_refusal, loaded_holding, loaded_row, loaded_world, new_load_refusal, idle_load_at, idle_load, collect, collect_refusal, base, step, steps}
 use Rattle.mx_office.proofs.OwnLemmas.{absent, present, none_refused, of_there, change_to}
 use Rattle.mx_office.proofs.BalanceLemmas.{Choice, IsAccounted, IsRow, left, right, left_row, counted, is_counted, none_counts, same_change, with_member, left_member, right_member, new_member_accounted, left_set, right_set, rows_stay, new_row_accounted, new_holder_accounted, opening_accounted, is_balanced}
 use Rattle.mx_office.proofs.BalanceAccountLemmas.{asks_accounted, sent_accounted}
@@ -93,7 +91,7 @@ enough_case amount float before x o r false t e = grind arith
 
 module _ (w : World) (m p : Name) (amount : ℕ) (reference : Name) where
   owned_case : (r : Row) (member : MemberRow) (b : Bool) (x : Reply) → fmap.get w.rows p ≡ Some r → fmap.get w.members m ≡ Some member → is_of_member w m r ≡ b
-      → cond b (idle (fmap.get r.loads reference) amount reply.Loaded (load_of_float_refusal member r amount)) (Some x) ≡ None → IsLoad w m p amount reference
+      → cond b (idle (fmap.get r.loads reference) amount reply.Loaded (new_load_refusal member r amount)) (Some x) ≡ None → IsLoad w m p amount reference
   owned_case r member false x at there t e = cc
   owned_case r member true x at there t e = record {
     row = r;

@@ -1,6 +1,5 @@
 -- Grants, loads and collects: each decision is the step's.
 use Rattle.std.proofs.Common.{◌≡◌, ℕ, ◌+◌, ◌-◌, ◌^◌, ◌≤◌, Bool, true, false, cond, List, [], ◌∷◌, ◌++◌, Option, Some, None, Ok, Err, refl, sym, ◌∙◌, ap, subst, arith, is_none, option_map, IsSome, IsTrue}
-use Rattle.std.specs.Option.{option_map_or}
 use Rattle.std.specs.Prelude.{nat_lt, ◌==◌, ◌<◌, min, unwrap_or}
 use Rattle.std.proofs.lemmas.Bool.Decides.{nat_tests}
 use Rattle.std.specs.FinMap as fmap
@@ -25,7 +24,7 @@ use Rattle.mx_office.specs.declared.values.Decided.{Decided}
 use Rattle.mx_office.specs.declared.values.Reply.{Reply}
 use Rattle.mx_office.specs.declared.values.Reply.TheVariants as reply
 use Rattle.mx_office.specs.declared.values.Refusal.TheVariants as refusal
-use Rattle.mx_office.specs.Step.{tell, unless, unless_told, idle, money_line, refusal_of_load, float_of, change_member, grant, grant_refusal, collect, collect_refusal, loaded_holding, loaded_row, load_of_float_refusal, idle_load_at, idle_load, loaded_world, load_purse}
+use Rattle.mx_office.specs.Step.{tell, unless, unless_told, idle, money_line, refusal_of_load, float_of, change_member, grant, grant_refusal, collect, collect_refusal, loaded_holding, loaded_row, new_load_refusal, idle_load_at, idle_load, loaded_world, load_purse}
 use Rattle.mx_office.specs.Decides.{Decides, member_purse, load_edits}
 use Rattle.mx_office.proofs.DecideLemmas.{edits_decide, told_decides, edit_decides}
 use Rattle.mx_office.proofs.OwnLemmas.{first, next, none_left, change_to}
@@ -124,7 +123,7 @@ module _ (w : World) (m p : Name) (amount : ℕ) (reference : Name) (q : State) 
 
   module _ (member : MemberRow) (here : fmap.get w.members m ≡ Some member) where
     -- what a load of it comes to
-    idle_is : (o : Option ℕ) → load_of w p reference ≡ o → idle_load w m p amount reference ≡ idle o amount reply.Loaded (load_of_float_refusal member own.row amount)
+    idle_is : (o : Option ℕ) → load_of w p reference ≡ o → idle_load w m p amount reference ≡ idle o amount reply.Loaded (new_load_refusal member own.row amount)
     unfolding idle_load
     idle_is o is =
         let loads : fmap.get own.row.loads reference ≡ o = sym (ap (from_row None (λ (x : Row). fmap.get x.loads reference)) own.at) ∙ is in

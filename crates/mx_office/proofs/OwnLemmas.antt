@@ -7,7 +7,7 @@ use Rattle.mx_pay.specs.Names.{is_name}
 use Rattle.mx_book.specs.declared.values.MemberRow.{MemberRow}
 use Rattle.mx_book.specs.World.{World, Row, Holding, Name, is_of}
 use Rattle.mx_office.specs.declared.values.Refusal.{Refusal}
-use Rattle.mx_office.specs.Step.{first_refusal, change_member, owned_holding, own_holding}
+use Rattle.mx_office.specs.Step.{first_refusal, change_member, holding_for, own_holding}
 
 -- ---- options
 
@@ -57,7 +57,7 @@ change_to w m f row at = ap (λ o. option_map_or (λ x. let v : World = record w
 
 -- what is the holder's own of a row that is there
 pub own_at : (w : World) (h p : Name) (r : Row) (b : Bool) → fmap.get w.rows p ≡ Some r → is_name h r.holder ≡ b → own_holding w h p ≡ cond b (Some r.holding) None
-own_at w h p r b at t = ap (option_and_then (owned_holding h)) at ∙ ap (λ x. cond x (Some r.holding) None) t
+own_at w h p r b at t = ap (option_and_then (holding_for h)) at ∙ ap (λ x. cond x (Some r.holding) None) t
 
 -- the row of what is the holder's own
 pub record IsOwned (w : World) (h p : Name) (a : Holding) : Type 0 where
@@ -67,5 +67,5 @@ pub record IsOwned (w : World) (h p : Name) (a : Holding) : Type 0 where
   pub holding : row.holding ≡ a
 
 pub is_owned : (w : World) (h p : Name) (a : Holding) → own_holding w h p ≡ Some a → IsOwned w h p a
-is_owned w h p a own = option_and_then_some (owned_holding h) (fmap.get w.rows p) a own (λ r at is.
+is_owned w h p a own = option_and_then_some (holding_for h) (fmap.get w.rows p) a own (λ r at is.
     let x = cond_some (is_name h r.holder) r.holding a is in record { row = r; at = at; owned = x.0; holding = x.1 })
