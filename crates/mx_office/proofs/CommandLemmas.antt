@@ -1,6 +1,7 @@
 -- Each command of a holder on a purse: its decision is the step's.
-use Rattle.std.proofs.Common.{◌≡◌, ℕ, ◌+◌, Bool, true, false, cond, List, [], ◌∷◌, ◌++◌, Option, Some, None, Ok, Err, refl, sym, ◌∙◌, ap, subst, arith, length, length-append, is_some, is_none, option_map, IsTrue, ◌≤◌, ◌^◌}
-use Rattle.std.specs.Prelude.{◌||◌, ◌==◌}
+use Rattle.std.proofs.Common.{◌≡◌, ℕ, ◌+◌, true, false, cond, List, [], ◌∷◌, ◌++◌, Option, Some, None, Ok, Err, refl, sym, ◌∙◌, ap, subst, arith, length, length-append, is_some, is_none, option_map, IsTrue, ◌≤◌, ◌^◌}
+use Rattle.std.specs.Prelude.{◌==◌}
+use Rattle.std.proofs.lemmas.Bool.{or_right}
 use Rattle.std.specs.FinMap as fmap
 use Rattle.mx_pay.specs.Names.{is_name, is_name_text}
 use Rattle.mx_pay.specs.Details.{Details, is_details}
@@ -117,11 +118,7 @@ handle_decides w h p n q after m x d is e message x_is after_is reply_is edits_i
 
 logged_case : (log : Entries) (o : Option Details) (d : Details) → has_logged log d ≡ true → has_logged (with_pending log o) d ≡ true
 logged_case log None d there = there
-logged_case log (Some e) d there = has-with_entry log e d ∙ ap (λ b. is_details d e || b) there ∙ or_true (is_details d e)
-  where
-    or_true : (b : Bool) → b || true ≡ true
-    or_true true = refl
-    or_true false = refl
+logged_case log (Some e) d there = has-with_entry log e d ∙ or_right (is_details d e) (has_logged log d) there
 
 abort_numbered : (p q : State) (o : Option Details) → q.lines ≡ lines_with p.lines o → AreNumbered (p.lines + 1) (listed (abort_line q o)) × (q.lines ≡ p.lines + length (listed (abort_line q o)))
 abort_numbered p q None is = (tt, omega (arith, is))

@@ -103,19 +103,11 @@ pub purse_given : (w : World) (p : Name) (b : Bool) → IsWorld w → is_some (a
 purse_given w p b h is = sym (account_case w p (fmap.get w.rows p) refl h) ∙ is
 
 -- the test of two conditions, by the first of them
-test_second : (a b c : Bool) → a ≡ true → a && b ≡ c → b ≡ c
-test_second true b c t e = e
-test_second false b c t e = absurd (cc)
-
-test_first : (a b c : Bool) → a ≡ false → a && b ≡ c → a ≡ c
-test_first true b c f e = absurd (cc)
-test_first false b c f e = e
-
 pub few_held : (n : ℕ) (b c : Bool) → n < 32 → nat_lt n 32 && b ≡ c → b ≡ c
-few_held n b c lt = test_second (nat_lt n 32) b c (grind (arith, nat_tests, lt))
+few_held n b c lt is = let few : nat_lt n 32 ≡ true = grind (arith, nat_tests, lt) in rw few at is
 
 pub many_messages : (n : ℕ) (b c : Bool) → 32 ≤ n → nat_lt n 32 && b ≡ c → nat_lt n 32 ≡ c
-many_messages n b c le = test_first (nat_lt n 32) b c (grind (arith, nat_tests, le))
+many_messages n b c le is = let many : nat_lt n 32 ≡ false = grind (arith, nat_tests, le) in many ∙ rw many at is
 
 -- what a book gives of a purse tells of its row
 pub given_room : (w : World) (p : Name) (a : given.Account) → account_of w p ≡ Some a → nat_lt a.held 32 && nat_lt a.next_message (10 ^ 15) ≡ finds_place w p
