@@ -1,5 +1,5 @@
 -- What a command makes of a purse and its lines, and the edits that lead there.
-use Rattle.std.proofs.Common.{◌≡◌, ℕ, ◌+◌, Bool, true, false, cond, List, [], ◌∷◌, ◌++◌, Option, Some, None, refl, sym, ◌∙◌, ap, subst, arith, length, length-append, map, option_and_then}
+use Rattle.std.proofs.Common.{◌≡◌, ℕ, ◌+◌, Bool, true, false, cond, List, [], ◌∷◌, ◌++◌, Option, Some, None, refl, sym, ◌∙◌, ap, subst, arith, length, length-append, map}
 use Rattle.std.proofs.lemmas.Option.{cond_some}
 use Rattle.std.specs.FinMap as fmap
 use Rattle.mx_pay.specs.Names.{is_name}
@@ -14,7 +14,6 @@ use Rattle.mx_book.specs.World.{World, Row, Holding, Name, has_room, set_row, ch
 use Rattle.mx_book.specs.Conditions.{IsWorld, AreNumbered}
 use Rattle.mx_book.specs.Reads.{from_row}
 use Rattle.mx_book.specs.Edits.{AllSuit, all_edited}
-use Rattle.mx_book.proofs.FoundLemmas.{inside}
 use Rattle.mx_book.proofs.NameLemmas.{names_total, same_name}
 use Rattle.mx_book.proofs.PurseLemmas.{with_lines, line_edits, change_there, set_same, edits_append, suits_append, purse_leads, purse_suits, purse_stays, put_leads, put_suits, put_stays, put_vanishes, put_nowhere}
 use Rattle.mx_office.specs.declared.values.Decided.{Decided}

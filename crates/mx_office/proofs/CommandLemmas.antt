@@ -1,6 +1,7 @@
 -- Each command of a holder on a purse: its decision is the step's.
-use Rattle.std.proofs.Common.{◌≡◌, ℕ, ◌+◌, Bool, true, false, cond, List, [], ◌∷◌, ◌++◌, Option, Some, None, Result, Ok, Err, refl, sym, ◌∙◌, ap, subst, arith, length, length-append, is_some, is_none, option_map, IsTrue, ◌≤◌, ◌^◌}
-use Rattle.std.specs.Prelude.{◌||◌, ◌==◌}
+use Rattle.std.proofs.Common.{◌≡◌, ℕ, ◌+◌, true, false, cond, List, [], ◌∷◌, ◌++◌, Option, Some, None, Ok, Err, refl, sym, ◌∙◌, ap, subst, arith, length, length-append, is_some, is_none, option_map, IsTrue, ◌≤◌, ◌^◌}
+use Rattle.std.specs.Prelude.{◌==◌}
+use Rattle.std.proofs.lemmas.Bool.{or_right}
 use Rattle.std.specs.FinMap as fmap
 use Rattle.mx_pay.specs.Names.{is_name, is_name_text}
 use Rattle.mx_pay.specs.Details.{Details, is_details}
@@ -15,7 +16,6 @@ use Rattle.mx_purse.specs.declared.refusals.StartRefusal.{StartRefusal}
 use Rattle.mx_purse.specs.declared.refusals.RedeemRefusal.{RedeemRefusal}
 use Rattle.mx_purse.specs.Operations.{or_refused, unless_refused, pending, with_pending, lines_with, aborted, started, handled, after_message, sent_for, redeem_refusal, redeemed}
 use Rattle.mx_purse.proofs.OperationLemmas.{aborted_is, after_message_is, after_message_name, redeemed_is}
-use Rattle.mx_book.specs.declared.edits.Edit.{Edit}
 use Rattle.mx_book.specs.declared.edits.Edit.TheVariants.{SetPurse, DropMessage, AddRedemption}
 use Rattle.mx_book.specs.declared.values.Line.{Line}
 use Rattle.mx_book.specs.declared.values.LineKind.TheVariants as kind
@@ -25,10 +25,10 @@ use Rattle.mx_book.specs.Reads.{from_row, inbox_of, message_of, redemption_of}
 use Rattle.mx_book.proofs.MoneyLemmas.{with_redemption, redemptions_stay, redemption_leads, redemption_suits}
 use Rattle.mx_book.proofs.PurseLemmas.{with_lines, line_edits, discard_leads, discard_suits, discard_stays}
 use Rattle.mx_office.specs.declared.values.Decided.{Decided}
+use Rattle.mx_office.specs.declared.values.Reply.{Reply}
 use Rattle.mx_office.specs.declared.values.Reply.TheVariants as reply
-use Rattle.mx_office.specs.declared.values.Refusal.{Refusal}
 use Rattle.mx_office.specs.declared.values.Refusal.TheVariants.{NoSuchMessage, RefReused}
-use Rattle.mx_office.specs.Step.{Deed, tell, unless, unless_told, on_found, in_place, idle, refusal_of_start, refusal_of_redeem, abort_line, message_line, money_line, listed, with_aborted, show, inbox, discard, abort, handle, handle_message, redeem, on_own}
+use Rattle.mx_office.specs.Step.{Deed, tell, unless, on_found, in_place, refusal_of_start, refusal_of_redeem, abort_line, message_line, money_line, listed, with_aborted, inbox, discard, abort, handle, handle_message, redeem, on_own}
 use Rattle.mx_office.specs.Decides.{Decides, own_purse, placed, purse_edits, redeem_edits}
 use Rattle.mx_office.proofs.DecideLemmas.{edits_decide, edit_decides}
 use Rattle.mx_office.proofs.AccountLemmas.{IsOwn, Follows, is_own, own_there, own_told, numbered_after, is_next, changed_decides}
@@ -36,9 +36,9 @@ use Rattle.mx_office.proofs.OwnLemmas.{gone, present}
 
 -- ---- what is read
 
-pub show_decides : (w : World) (h p : Name) (q : State) (d : Decided) → IsWorld w → own_purse w h p ≡ Some q → d.reply ≡ reply.Shown q → d.edits ≡ [] → Decides w (on_own w h p show) d
-unfolding show
-show_decides w h p q d is e = let own = is_own w h p q e in own_told w h p q own show (reply.Shown q) d is (ap (λ x. tell own.row.holding (reply.Shown x)) own.purse)
+-- a rule that tells what the purse says, and changes nothing
+pub purse_told : (w : World) (h p : Name) (q : State) (f : Holding → Deed Holding) (r : Reply) (d : Decided) → IsWorld w → own_purse w h p ≡ Some q → ((a : Holding) → a.purse ≡ q → f a ≡ tell a r) → d.reply ≡ r → d.edits ≡ [] → Decides w (on_own w h p f) d
+purse_told w h p q f r d is e f_is = let own = is_own w h p q e in own_told w h p q own f r d is (f_is own.row.holding own.purse)
 
 pub inbox_decides : (w : World) (h p : Name) (d : Decided) → IsWorld w → is_none (own_purse w h p) ≡ false → d.reply ≡ reply.Inbox (inbox_of w p) → d.edits ≡ [] → Decides w (on_own w h p inbox) d
 unfolding inbox
@@ -118,11 +118,7 @@ handle_decides w h p n q after m x d is e message x_is after_is reply_is edits_i
 
 logged_case : (log : Entries) (o : Option Details) (d : Details) → has_logged log d ≡ true → has_logged (with_pending log o) d ≡ true
 logged_case log None d there = there
-logged_case log (Some e) d there = has-with_entry log e d ∙ ap (λ b. is_details d e || b) there ∙ or_true (is_details d e)
-  where
-    or_true : (b : Bool) → b || true ≡ true
-    or_true true = refl
-    or_true false = refl
+logged_case log (Some e) d there = has-with_entry log e d ∙ or_right (is_details d e) (has_logged log d) there
 
 abort_numbered : (p q : State) (o : Option Details) → q.lines ≡ lines_with p.lines o → AreNumbered (p.lines + 1) (listed (abort_line q o)) × (q.lines ≡ p.lines + length (listed (abort_line q o)))
 abort_numbered p q None is = (tt, omega (arith, is))

@@ -1,5 +1,5 @@
 -- A decision is the step's: its reply, and edits that fit and lead to its World.
-use Rattle.std.proofs.Common.{◌≡◌, ℕ, ◌<◌, ◌≤◌, ◌^◌, Bool, true, false, cond, List, [], ◌∷◌, Option, Some, None, refl, sym, ◌∙◌, ap, subst, arith, length, IsSome, IsNone, IsTrue, is_some, is_none, not, option_map, option_and_then}
+use Rattle.std.proofs.Common.{◌≡◌, ℕ, ◌<◌, ◌≤◌, ◌^◌, Bool, true, false, cond, List, [], ◌∷◌, Option, Some, None, refl, sym, ◌∙◌, ap, subst, arith, length, IsSome, IsTrue, is_some, is_none, not, option_map, option_and_then}
 use Rattle.std.specs.Prelude.{nat_le, nat_lt, ◌&&◌}
 use Rattle.std.proofs.lemmas.Bool.Decides.{nat_tests}
 use Rattle.std.proofs.lemmas.Option.{cond_some}
@@ -20,8 +20,8 @@ use Rattle.mx_office.specs.declared.values.Decided.{Decided}
 use Rattle.mx_office.specs.declared.values.Refusal.{Refusal}
 use Rattle.mx_office.specs.declared.values.Reply.{Reply}
 use Rattle.mx_office.specs.declared.values.Reply.TheVariants.{Added, Refused}
-use Rattle.mx_office.specs.Step.{Deed, tell, put_sent, first_refusal, unless, new_member, new_holder, new_purse}
-use Rattle.mx_office.proofs.OwnLemmas.{absent, present, next, none_left}
+use Rattle.mx_office.specs.Step.{Deed, tell, put_sent, unless, new_member, new_holder, new_purse}
+use Rattle.mx_office.proofs.OwnLemmas.{absent, present, of_there, next, none_left}
 use Rattle.mx_office.specs.Decides.{Decides, finds_place, purse_count}
 
 -- ---- decisions
@@ -90,11 +90,6 @@ held_count w m h n e = sym (cond_some _ _ n e).1
 pub many_held : (w : World) (m h : Name) (n : ℕ) (b : Bool) → purse_count w m h ≡ Some n → nat_le 64 n ≡ b → nat_le 64 (length (purses_of w h)) ≡ b
 many_held w m h n b e is = ap (nat_le 64) (sym (held_count w m h n e)) ∙ is
 
--- a holder that is of a member is there
-of_there : (m : Name) (o : Option Name) → not (is_of m o) ≡ false → IsSome o
-of_there m None f = absurd (cc)
-of_there m (Some x) f = refl
-
 -- a purse is given exactly where it is there, since its holder is
 account_case : (w : World) (p : Name) (o : Option Row) → fmap.get w.rows p ≡ o → IsWorld w → is_some (option_and_then (λ (r : Row). option_map (account_with r) (fmap.get w.holders r.holder)) o) ≡ is_some o
 account_case w p None at h = refl
@@ -108,19 +103,11 @@ pub purse_given : (w : World) (p : Name) (b : Bool) → IsWorld w → is_some (a
 purse_given w p b h is = sym (account_case w p (fmap.get w.rows p) refl h) ∙ is
 
 -- the test of two conditions, by the first of them
-test_second : (a b c : Bool) → a ≡ true → a && b ≡ c → b ≡ c
-test_second true b c t e = e
-test_second false b c t e = absurd (cc)
-
-test_first : (a b c : Bool) → a ≡ false → a && b ≡ c → a ≡ c
-test_first true b c f e = absurd (cc)
-test_first false b c f e = e
-
 pub few_held : (n : ℕ) (b c : Bool) → n < 32 → nat_lt n 32 && b ≡ c → b ≡ c
-few_held n b c lt = test_second (nat_lt n 32) b c (grind (arith, nat_tests, lt))
+few_held n b c lt is = let few : nat_lt n 32 ≡ true = grind (arith, nat_tests, lt) in rw few at is
 
 pub many_messages : (n : ℕ) (b c : Bool) → 32 ≤ n → nat_lt n 32 && b ≡ c → nat_lt n 32 ≡ c
-many_messages n b c le = test_first (nat_lt n 32) b c (grind (arith, nat_tests, le))
+many_messages n b c le is = let many : nat_lt n 32 ≡ false = grind (arith, nat_tests, le) in many ∙ rw many at is
 
 -- what a book gives of a purse tells of its row
 pub given_room : (w : World) (p : Name) (a : given.Account) → account_of w p ≡ Some a → nat_lt a.held 32 && nat_lt a.next_message (10 ^ 15) ≡ finds_place w p

@@ -1,6 +1,5 @@
 -- Grants, loads and collects: each decision is the step's.
 use Rattle.std.proofs.Common.{◌≡◌, ℕ, ◌+◌, ◌-◌, ◌^◌, ◌≤◌, Bool, true, false, cond, List, [], ◌∷◌, ◌++◌, Option, Some, None, Ok, Err, refl, sym, ◌∙◌, ap, subst, arith, is_none, option_map, IsSome, IsTrue}
-use Rattle.std.specs.Option.{option_map_or}
 use Rattle.std.specs.Prelude.{nat_lt, ◌==◌, ◌<◌, min, unwrap_or}
 use Rattle.std.proofs.lemmas.Bool.Decides.{nat_tests}
 use Rattle.std.specs.FinMap as fmap
@@ -14,7 +13,7 @@ use Rattle.mx_book.specs.declared.edits.Edit.TheVariants.{SetMember, SetPurse, A
 use Rattle.mx_book.specs.declared.values.Line.{Line}
 use Rattle.mx_book.specs.declared.values.LineKind.TheVariants as kind
 use Rattle.mx_book.specs.declared.values.MemberRow.{MemberRow}
-use Rattle.mx_book.specs.World.{World, Row, Holding, Name, is_of_member, all_collected, set_row}
+use Rattle.mx_book.specs.World.{World, Row, Name, is_of_member, all_collected, set_row}
 use Rattle.mx_book.specs.Conditions.{IsWorld, all_granted}
 use Rattle.mx_book.specs.Reads.{from_row, load_of, uncollected_of}
 use Rattle.mx_book.specs.Edits.{AllSuit, edited, all_edited}
@@ -25,10 +24,10 @@ use Rattle.mx_office.specs.declared.values.Decided.{Decided}
 use Rattle.mx_office.specs.declared.values.Reply.{Reply}
 use Rattle.mx_office.specs.declared.values.Reply.TheVariants as reply
 use Rattle.mx_office.specs.declared.values.Refusal.TheVariants as refusal
-use Rattle.mx_office.specs.Step.{Deed, tell, unless, unless_told, idle, money_line, with_purse, refusal_of_load, float_of, change_member, grant, grant_refusal, collect, collect_refusal, loaded_holding, loaded_row, load_of_float_refusal, idle_load_at, idle_load, loaded_world, load_purse}
+use Rattle.mx_office.specs.Step.{tell, unless, unless_told, idle, money_line, refusal_of_load, float_of, change_member, grant, grant_refusal, collect, collect_refusal, loaded_holding, loaded_row, new_load_refusal, idle_load_at, idle_load, loaded_world, load_purse}
 use Rattle.mx_office.specs.Decides.{Decides, member_purse, load_edits}
 use Rattle.mx_office.proofs.DecideLemmas.{edits_decide, told_decides, edit_decides}
-use Rattle.mx_office.proofs.OwnLemmas.{first, next, none_left}
+use Rattle.mx_office.proofs.OwnLemmas.{first, next, none_left, change_to}
 use Rattle.mx_office.proofs.AccountLemmas.{IsFound, Follows, is_found, is_next}
 use Rattle.mx_office.proofs.CommandLemmas.{nothing, is_refused, not_refused}
 
@@ -36,9 +35,6 @@ use Rattle.mx_office.proofs.CommandLemmas.{nothing, is_refused, not_refused}
 
 float_there : (w : World) (m : Name) (row : MemberRow) → fmap.get w.members m ≡ Some row → float_of w m ≡ row.float
 float_there w m row at = ap (λ o. unwrap_or (option_map (λ (x : MemberRow). x.float) o) 0) at
-
-change_to : (w : World) (m : Name) (f : MemberRow → MemberRow) (row : MemberRow) → fmap.get w.members m ≡ Some row → change_member w m f ≡ edited w (SetMember m (f row).granted (f row).float)
-change_to w m f row at = ap (λ o. option_map_or (λ x. let v : World = record w { members = fmap.insert w.members m (f x) } in v) o w) at
 
 -- ---- a grant, by the sum that a number can hold
 
@@ -127,7 +123,7 @@ module _ (w : World) (m p : Name) (amount : ℕ) (reference : Name) (q : State) 
 
   module _ (member : MemberRow) (here : fmap.get w.members m ≡ Some member) where
     -- what a load of it comes to
-    idle_is : (o : Option ℕ) → load_of w p reference ≡ o → idle_load w m p amount reference ≡ idle o amount reply.Loaded (load_of_float_refusal member own.row amount)
+    idle_is : (o : Option ℕ) → load_of w p reference ≡ o → idle_load w m p amount reference ≡ idle o amount reply.Loaded (new_load_refusal member own.row amount)
     unfolding idle_load
     idle_is o is =
         let loads : fmap.get own.row.loads reference ≡ o = sym (ap (from_row None (λ (x : Row). fmap.get x.loads reference)) own.at) ∙ is in

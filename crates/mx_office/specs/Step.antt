@@ -202,11 +202,11 @@ asks (Inbox p) = Asks.OnPurse p inbox
 asks command = Asks.NotAHolders
 
 -- what is the holder's own of a row, and of the purse of that name, where it is the holder's
-abbrev pub owned_holding : Name → Row → Option Holding
-owned_holding h r = if is_name h r.holder then Some r.holding else None
+abbrev pub holding_for : Name → Row → Option Holding
+holding_for h r = if is_name h r.holder then Some r.holding else None
 
 abbrev pub own_holding : World → Name → Name → Option Holding
-own_holding w h p = option_and_then (owned_holding h) (fmap.get w.rows p)
+own_holding w h p = option_and_then (holding_for h) (fmap.get w.rows p)
 
 -- a deed on one holding, where what it leaves is put in its place
 abbrev pub in_place : {S : Type 0} → (Holding → S) → Deed Holding → Deed S
@@ -286,14 +286,14 @@ loaded_holding a amount reference =
 abbrev pub loaded_row : ℕ → Name → Row → Row
 loaded_row amount reference r = record r { holding = loaded_holding r.holding amount reference; loads = fmap.insert r.loads reference amount }
 
--- the first guard of a load that fails: the float covers the amount, and the purse's own
-abbrev pub load_of_float_refusal : MemberRow → Row → ℕ → Option Refusal
-load_of_float_refusal member r amount = if nat_lt member.float amount then Some FloatTooSmall else option_map refusal_of_load (load_refusal r.holding.purse amount)
+-- the refusal of a load under a new reference: the float covers the amount, and then the purse's own guards
+abbrev pub new_load_refusal : MemberRow → Row → ℕ → Option Refusal
+new_load_refusal member r amount = if nat_lt member.float amount then Some FloatTooSmall else option_map refusal_of_load (load_refusal r.holding.purse amount)
 
 -- the reply to a load by the clerk of m that changes nothing
 abbrev pub idle_load_at : World → Name → ℕ → Name → Option Row → Option MemberRow → Option Reply
 idle_load_at w m amount reference (Some r) (Some member) =
-    if is_of_member w m r then idle (fmap.get r.loads reference) amount reply.Loaded (load_of_float_refusal member r amount) else Some (reply.Refused NoSuchPurse)
+    if is_of_member w m r then idle (fmap.get r.loads reference) amount reply.Loaded (new_load_refusal member r amount) else Some (reply.Refused NoSuchPurse)
 idle_load_at w m amount reference _ _ = Some (reply.Refused NoSuchPurse)
 
 unfoldable pub idle_load : World → Name → Name → ℕ → Name → Option Reply
