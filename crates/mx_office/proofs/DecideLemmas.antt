@@ -4,6 +4,7 @@ use Rattle.std.specs.Prelude.{nat_le, nat_lt, ◌&&◌}
 use Rattle.std.proofs.lemmas.Bool.Decides.{nat_tests}
 use Rattle.std.proofs.lemmas.Option.{cond_some}
 use Rattle.std.specs.FinMap as fmap
+use Rattle.mx_pay.specs.Tokens.{IsToken}
 use Rattle.mx_pay.specs.Names.{is_name_text}
 use Rattle.mx_purse.specs.declared.message.Message.{Message}
 use Rattle.mx_book.specs.declared.edits.Edit.{Edit}
@@ -59,19 +60,19 @@ holder_given w h b is = sym (holder_case _ (fmap.get w.holders h)) ∙ is
 
 -- ---- new members, holders and purses
 
-pub new_member_decides : (w : World) (m : Name) (t : Token) (d : Decided) → IsWorld w → IsTrue (is_name_text m) → is_some (fmap.get w.members m) ≡ false → is_some (who_of w t) ≡ false → d.reply ≡ Added → d.edits ≡ NewMember m t ∷ [] → Decides w (new_member w m t) d
-new_member_decides w m t d h text no_member no_token reply edits =
+pub new_member_decides : (w : World) (m : Name) (t : Token) (d : Decided) → IsWorld w → IsTrue (is_name_text m) → IsToken t → is_some (fmap.get w.members m) ≡ false → is_some (who_of w t) ≡ false → d.reply ≡ Added → d.edits ≡ NewMember m t ∷ [] → Decides w (new_member w m t) d
+new_member_decides w m t d h text bytes no_member no_token reply edits =
     let suits : Suits w (NewMember m t) = (no_member, no_token) in
     edit_decides w (new_member w m t) (NewMember m t) Added d
     (ap (λ o. unless w o (tell (edited w (NewMember m t)) Added)) (next _ _ _ _ no_member (next _ _ _ _ no_token none_left)))
-    suits (member_stays w m t suits text h) reply edits
+    suits (member_stays w m t suits text bytes h) reply edits
 
-pub new_holder_decides : (w : World) (m h : Name) (t : Token) (d : Decided) → IsWorld w → IsTrue (is_name_text h) → is_none (fmap.get w.members m) ≡ false → is_some (fmap.get w.holders h) ≡ false → is_some (who_of w t) ≡ false → d.reply ≡ Added → d.edits ≡ NewHolder h m t ∷ [] → Decides w (new_holder w m h t) d
-new_holder_decides w m h t d is text member no_holder no_token reply edits =
+pub new_holder_decides : (w : World) (m h : Name) (t : Token) (d : Decided) → IsWorld w → IsTrue (is_name_text h) → IsToken t → is_none (fmap.get w.members m) ≡ false → is_some (fmap.get w.holders h) ≡ false → is_some (who_of w t) ≡ false → d.reply ≡ Added → d.edits ≡ NewHolder h m t ∷ [] → Decides w (new_holder w m h t) d
+new_holder_decides w m h t d is text bytes member no_holder no_token reply edits =
     let suits : Suits w (NewHolder h m t) = (no_holder, ap is_some (present _ member).1, no_token) in
     edit_decides w (new_holder w m h t) (NewHolder h m t) Added d
     (ap (λ o. unless w o (tell (edited w (NewHolder h m t)) Added)) (next _ _ _ _ member (next _ _ _ _ no_holder (next _ _ _ _ no_token none_left))))
-    suits (holder_stays w h m t suits text is) reply edits
+    suits (holder_stays w h m t suits text bytes is) reply edits
 
 -- what the count of a holder's purses tells
 held_none : (b : Bool) (k : ℕ) → cond b (Some k) None ≡ None → not b ≡ true

@@ -14,6 +14,7 @@ use Rattle.mx_book.specs.declared.values.Line.{Line}
 use Rattle.mx_book.specs.declared.values.LineKind.TheVariants as kind
 use Rattle.mx_book.specs.declared.values.MemberRow.{MemberRow}
 use Rattle.mx_book.specs.World.{World, Row, Name, is_of_member, all_collected, set_row}
+use Rattle.mx_pay.specs.Limits.{most_amount}
 use Rattle.mx_book.specs.Conditions.{IsWorld, all_granted}
 use Rattle.mx_book.specs.Reads.{from_row, load_of, uncollected_of}
 use Rattle.mx_book.specs.Edits.{AllSuit, edited, all_edited}
@@ -139,7 +140,7 @@ module _ (w : World) (m p : Name) (amount : ℕ) (reference : Name) (q : State) 
     pub load_refuses : (r : LoadRefusal) → load_of w p reference ≡ None → amount ≤ member.float → or_refused (load_refusal q amount) nothing ≡ Err r → idle_load w m p amount reference ≡ Some (reply.Refused (refusal_of_load r))
     load_refuses r new enough refused = let large : nat_lt member.float amount ≡ false = grind (arith, nat_tests, enough) in idle_is None new ∙ rw (large, own.purse, is_refused (load_refusal q amount) _ r refused) refl
 
-    pub load_made : (after : State) (d : Decided) → IsWorld w → load_of w p reference ≡ None → amount ≤ member.float → IsTrue (is_name_text reference) → amount ≤ 10 ^ 12
+    pub load_made : (after : State) (d : Decided) → IsWorld w → load_of w p reference ≡ None → amount ≤ member.float → IsTrue (is_name_text reference) → amount ≤ most_amount
         → or_refused (load_refusal q amount) nothing ≡ Ok nothing → after ≡ unless_refused (load_refusal q amount) q (loaded q amount)
         → d.reply ≡ reply.Loaded → d.edits ≡ load_edits after amount reference m member → Decides w (load_purse w m p amount reference) d
     unfolding loaded_holding
@@ -151,7 +152,8 @@ module _ (w : World) (m p : Name) (amount : ℕ) (reference : Name) (q : State) 
         let now_is : after ≡ now = after_is ∙ ap (λ o. unless_refused o q now) free in
         let ls : List Line = money_line now kind.Loaded amount reference ∷ [] in
         let whole = subst IsPurse own.purse (is.purses.each p r own.at).purse in
-        let follows : Follows q now ls = record { name = refl; whole = loaded_is q amount whole free; numbered = (refl, tt); counted = omega arith; logged = λ x there. there } in
+        let next = loaded_is q amount whole free in
+        let follows : Follows q now ls = record { name = refl; whole = next; numbered = (refl, tt); counted = omega arith; valid = (record { amount = small; balance = next.balance; note = text }, tt); logged = λ x there. there } in
         let next_row = is_next w p (is_of_member w m) q own now ls is follows in
         let s : Row = with_load (with_lines r now ls) reference amount in
         let v : World = set_row w p s in
@@ -171,7 +173,7 @@ module _ (w : World) (m p : Name) (amount : ℕ) (reference : Name) (q : State) 
         (suits_append w firsts (last ∷ []) (load_suits w p r now ls reference amount own.at next_row.named next_row.numbered loads) (subst (λ z. AllSuit z (last ∷ [])) (sym lead) (there, tt)))
         (edits_append w firsts (last ∷ []) ∙ ap (λ z. edited z last) lead)
         (set_member_stays v m member.granted (member.float - amount) there (omega (arith, float_most)) (omega (arith, sums, most))
-        (loads_stay w p r now ls reference amount own.at next_row.named follows.whole next_row.numbered next_row.counted next_row.logged text small is))
+        (loads_stay w p r now ls reference amount own.at next_row.named follows.whole next_row.numbered next_row.counted follows.valid next_row.logged text small is))
         reply_is
         (edits_is ∙ ap (λ x. load_edits x amount reference m member) now_is
         ∙ (λ i. next_row.edits i ++ AddLoad (next_row.named i) reference amount ∷ last ∷ []))

@@ -34,6 +34,7 @@ pub(crate) fn new_member<B: Book>(
         return Ok(refuse(Refusal::TokenTaken));
     }
     let _text = member.as_str();
+    let _bytes = token.as_bytes();
     Ok(added(Edit::NewMember {
         member,
         clerk: token,
@@ -62,6 +63,7 @@ pub(crate) fn new_holder<B: Book>(
         return Ok(refuse(Refusal::TokenTaken));
     }
     let _text = holder.as_str();
+    let _bytes = token.as_bytes();
     Ok(added(Edit::NewHolder {
         holder,
         member,
