@@ -25,7 +25,7 @@ use Rattle.mx_book.specs.declared.edits.Edit.TheVariants.{NewMember, NewHolder, 
 use Rattle.mx_book.specs.Edits.{edited, Suits}
 use Rattle.mx_book.proofs.NameLemmas.{names_total, same_name, same_number, get-inserted}
 use Rattle.mx_book.proofs.SumLemmas.{sum_values-insert, value_of}
-use Rattle.mx_book.proofs.FoundLemmas.{inside, some_of, none_found, none_some, each_inserted, some_inserted, still_some, kept_value}
+use Rattle.mx_book.proofs.FoundLemmas.{inside, none_is, some_of, none_found, none_some, each_inserted, some_inserted, still_some, kept_value}
 
 -- ---- tokens: one more, of a caller that had none
 
@@ -37,10 +37,6 @@ who_cases false (Some c) h = absurd (cc)
 -- a token that is nobody's is neither the operator's nor another's
 pub nobody : (w : World) (t : Token) → IsNone (who_of w t) → (is_token t w.operator ≡ false) × (fmap.get w.tokens t ≡ None)
 nobody w t h = who_cases (is_token t w.operator) (fmap.get w.tokens t) h
-
-none_is : {X : Type 0} (o : Option X) → IsNone o → o ≡ None
-none_is None h = refl
-none_is (Some x) h = absurd (cc)
 
 module _ (w v : World) (t : Token) (c : Caller) (h : TokensHold w) (free : (is_token t w.operator ≡ false) × (fmap.get w.tokens t ≡ None)) (same : v.operator ≡ w.operator) (is : v.tokens ≡ fmap.insert w.tokens t c) where
   token_at : (q : Token) → fmap.get v.tokens q ≡ fmap.get (fmap.insert w.tokens t c) q

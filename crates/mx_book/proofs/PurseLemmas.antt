@@ -1,9 +1,10 @@
 -- What an operation of a purse, a message and a discard make of the World.
-use Rattle.std.proofs.Common.{◌≡◌, ℕ, ◌+◌, ◌<◌, Bool, true, false, cond, ◌&&◌, List, [], ◌∷◌, ◌++◌, length, append_assoc, refl, sym, ◌∙◌, ap, subst, Option, Some, None, IsSome}
+use Rattle.std.proofs.Common.{◌≡◌, ℕ, ◌+◌, ◌<◌, Bool, true, false, cond, List, [], ◌∷◌, ◌++◌, length, append_assoc, refl, sym, ◌∙◌, ap, subst, Option, Some, None, IsSome}
+use Rattle.std.proofs.lemmas.List.{append-nil}
 use Rattle.std.specs.Prelude.{nat_lt, IsSomeAnd, IsTrue}
 use Rattle.std.specs.List.{AllByRecursion}
 use Rattle.std.specs.FinMap as fmap
-use Rattle.std.proofs.lemmas.Bool.{ltb-true}
+use Rattle.std.proofs.lemmas.Bool.{ltb-true, and_parts}
 use Rattle.mx_book.specs.Limits.{most_messages, most_purses}
 use Rattle.mx_pay.specs.Limits.{most_number}
 use Rattle.mx_pay.specs.Names.{name_cmp, is_name, is_name_text}
@@ -79,10 +80,6 @@ abbrev pub line_edits : Name → List Line → List Edit
 line_edits p [] = []
 line_edits p (l ∷ ls) = AddLine p l ∷ line_edits p ls
 
-append_none : {X : Type 0} (xs : List X) → xs ++ [] ≡ xs
-append_none [] = refl
-append_none (x ∷ xs) = ap (λ ys. x ∷ ys) (append_none xs)
-
 -- the row with more lines
 abbrev more_lines : Row → List Line → Row
 more_lines r ls = record r { holding = record r.holding { lines = r.holding.lines ++ ls } }
@@ -91,7 +88,7 @@ line_leads : (w : World) (p : Name) (r : Row) (l : Line) → edited (set_row w p
 line_leads w p r l = change_set w p r (λ x. more_lines x (l ∷ []))
 
 lines_lead : (w : World) (p : Name) (r : Row) (ls : List Line) → all_edited (set_row w p r) (line_edits p ls) ≡ set_row w p (more_lines r ls)
-lines_lead w p r [] = ap (λ xs. set_row w p (record r { holding = record r.holding { lines = xs } })) (sym (append_none r.holding.lines))
+lines_lead w p r [] = ap (λ xs. set_row w p (record r { holding = record r.holding { lines = xs } })) (sym (append-nil r.holding.lines))
 lines_lead w p r (l ∷ ls) =
     ap (λ z. all_edited z (line_edits p ls)) (line_leads w p r l)
     ∙ lines_lead w p (more_lines r (l ∷ [])) ls
@@ -143,14 +140,10 @@ numbered_more = numbered-append
 
 -- ---- a message
 
-both_of : (a b : Bool) → (a && b) ≡ true → (a ≡ true) × (b ≡ true)
-both_of true b h = (refl, h)
-both_of false b h = absurd (cc)
-
 -- where there is room, the inbox is below its limit and so is the next number
 room_is : (a : Holding) → has_room a ≡ true → (fmap.len a.inbox < most_messages) × (a.next_message < most_number)
 unfolding has_room
-room_is a room = let x = both_of (nat_lt (fmap.len a.inbox) most_messages) (nat_lt a.next_message most_number) room in (ltb-true _ _ x.0, ltb-true _ _ x.1)
+room_is a room = let x = and_parts (nat_lt (fmap.len a.inbox) most_messages) (nat_lt a.next_message most_number) room in (ltb-true _ _ x.0, ltb-true _ _ x.1)
 
 put_there : (w : World) (p : Name) (m : Message) (r : Row) (b : Bool) → fmap.get w.rows p ≡ Some r → has_room r.holding ≡ b → put w p m ≡ set_row w p (record r { holding = cond b (delivered r.holding m) r.holding })
 put_there w p m r b at room = change_there w p (λ x. record x { holding = with_message x.holding m }) r at ∙ ap (λ c. set_row w p (record r { holding = cond c (delivered r.holding m) r.holding })) room

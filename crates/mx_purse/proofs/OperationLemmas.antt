@@ -140,20 +140,22 @@ not_own p d from to (inr h) = let next = to h.0 in let below : d.to_seq < p.next
 pub started_from_is : (p : State) (peer : List ℕ) (value seq : ℕ) → IsPurse p → IsDetails (from_details p peer value seq) → start_from_refusal p peer value ≡ None
     → IsPurse (started p (Epr (from_details p peer value seq)))
 started_from_is p peer value seq h valid free =
+    let rises : p.next < p.next + 1 = omega arith in
     let enough = guard_passes _ _ _ (guard_passes _ _ _ free).1 in
     let fit : IsFit p = is_fit p enough.1 in
     let new = not_own p (from_details p peer value seq) (λ _. refl) (λ same. absurd (valid.apart (sym same))) in
     started_is p _ h fit
-    (refl, ltb-false _ _ enough.0, omega arith, false_from_ne_true _ (λ there. new (own_aborted p h _ there)), fit.room, lines_started p (pending p.status) fit.lines) valid
+    (refl, ltb-false _ _ enough.0, rises, false_from_ne_true _ (λ there. new (own_aborted p h _ there)), fit.room, lines_started p (pending p.status) fit.lines) valid
 
 -- a purse is one after a start of a payment from the peer that isn't refused
 pub started_to_is : (p : State) (peer : List ℕ) (value seq : ℕ) → IsPurse p → IsDetails (to_details p peer value seq) → start_to_refusal p peer ≡ None
     → IsPurse (started p (Epv (to_details p peer value seq)))
 started_to_is p peer value seq h valid free =
+    let rises : p.next < p.next + 1 = omega arith in
     let fit : IsFit p = is_fit p (guard_passes _ _ _ free).1 in
     let new = not_own p (to_details p peer value seq) (λ same. absurd (valid.apart same)) (λ _. refl) in
     started_is p _ h fit
-    (refl, omega arith, false_from_ne_true _ (λ there. new (own_aborted p h _ there)), fit.room, lines_started p (pending p.status) fit.lines) valid
+    (refl, rises, false_from_ne_true _ (λ there. new (own_aborted p h _ there)), fit.room, lines_started p (pending p.status) fit.lines) valid
 
 -- the refusals of each start by the guards
 pub from_same : (p : State) (peer : List ℕ) (value : ℕ) → p.name ≡ peer → start_from_refusal p peer value ≡ Some SamePurse
