@@ -1,5 +1,7 @@
 -- What a command does to the World, and what is answered.
 use Rattle.std.specs.Prelude.{ℕ, ◌+◌, ◌-◌, ◌^◌, ◌==◌, nat_lt, nat_le, unwrap_or, option_map, option_and_then, not, Bool, if◌then◌else◌, List, [], ◌∷◌, ◌++◌, length, Option, Some, None, is_some, is_none}
+use Rattle.mx_pay.specs.Limits.{most_number}
+use Rattle.mx_book.specs.Limits.{most_purses}
 use Rattle.std.specs.Option.{option_map_or}
 use Rattle.std.specs.FinMap as fmap
 use Rattle.mx_pay.specs.Names.{is_name}
@@ -252,7 +254,7 @@ new_purse_refusal w m p h =
     first_refusal (
     (not (is_of m (fmap.get w.holders h)), NoSuchHolder)
     ∷ (is_some (fmap.get w.rows p), NameTaken)
-    ∷ (nat_le 64 (length (purses_of w h)), TooManyPurses) ∷ [])
+    ∷ (nat_le most_purses (length (purses_of w h)), TooManyPurses) ∷ [])
 
 abbrev pub new_purse : World → Name → Name → Name → Deed World
 new_purse w m p h = unless w (new_purse_refusal w m p h) (tell (set_row w p (new_row h p)) reply.Added)
@@ -270,8 +272,8 @@ abbrev pub grant_refusal : World → Name → ℕ → Option Refusal
 grant_refusal w m amount =
     first_refusal (
     (is_none (fmap.get w.members m), NoSuchMember)
-    ∷ (nat_lt (10 ^ 15) (all_granted w + amount), GrantTooLarge)
-    ∷ (nat_lt (10 ^ 15) (float_of w m + amount), FloatFull) ∷ [])
+    ∷ (nat_lt most_number (all_granted w + amount), GrantTooLarge)
+    ∷ (nat_lt most_number (float_of w m + amount), FloatFull) ∷ [])
 
 abbrev pub grant : World → Name → ℕ → Deed World
 grant w m amount = unless w (grant_refusal w m amount) (tell (change_member w m (λ row. record { granted = row.granted + amount; float = row.float + amount })) reply.Granted)
@@ -308,7 +310,7 @@ load_purse w m p amount reference = unless_told w (idle_load w m p amount refere
 
 -- collect, by the clerk of m: the float rises by what isn't collected, which is then
 abbrev pub collect_refusal : World → Name → Option Refusal
-collect_refusal w m = first_refusal ((is_none (fmap.get w.members m), NoSuchMember) ∷ (nat_lt (10 ^ 15) (float_of w m + uncollected_of w m), FloatFull) ∷ [])
+collect_refusal w m = first_refusal ((is_none (fmap.get w.members m), NoSuchMember) ∷ (nat_lt most_number (float_of w m + uncollected_of w m), FloatFull) ∷ [])
 
 abbrev pub collect : World → Name → Deed World
 collect w m = unless w (collect_refusal w m) (tell (change_member (all_collected w m) m (λ row. record row { float = row.float + uncollected_of w m })) (reply.Collected (uncollected_of w m)))

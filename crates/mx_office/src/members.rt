@@ -9,12 +9,10 @@ use crate::decisions::{added, refuse};
 use crate::values::{Decided, Refusal};
 use mx_book::contract::{Book, StoreFault};
 use mx_book::edits::Edit;
+use mx_book::values::MOST_PURSES;
 use mx_pay::names::same_name;
 use mx_pay::{Name, Token};
 use std::alloc::Global;
-
-/// The most purses of one holder.
-const MOST_PURSES: usize = 64;
 
 /// A new member with the token of its clerk.
 pub(crate) fn new_member<B: Book>(
