@@ -1,10 +1,13 @@
 -- An edit of the rows is the edit of the World.
 use Rattle.std.proofs.Common.{◌≡◌, ℕ, ◌+◌, ◌<◌, Bool, true, false, cond, List, [], ◌∷◌, ◌++◌, map, refl, sym, ◌∙◌, ap, subst, Option, Some, None, IsSome, option_and_then}
-use Rattle.std.specs.Prelude.{◌^◌, ◌||◌, option_map, IsNone}
+use Rattle.mx_book.proofs.FoundLemmas.{none_is, inside}
+use Rattle.std.specs.Prelude.{◌||◌, option_map, IsNone}
 use Rattle.std.specs.Ordering.{nat_cmp}
 use Rattle.std.specs.Cmp.{nat_cmp_total}
 use Rattle.std.specs.FinMap as fmap
 use Rattle.std.specs.FinMap.{nat_cmp-IsAntisymmetric}
+use Rattle.mx_book.specs.Limits.{most_messages}
+use Rattle.mx_pay.specs.Limits.{most_number}
 use Rattle.mx_pay.specs.Names.{name_cmp, is_name}
 use Rattle.mx_purse.specs.State.{State, new_purse}
 use Rattle.mx_purse.specs.declared.message.Message.{Message}
@@ -219,21 +222,17 @@ module _ (r : Rows) (m : Name) where
 
 -- ---- each edit
 
-no_value : {X : Type 0} (o : Option X) → IsNone o → o ≡ None
-no_value None h = refl
-no_value (Some x) h = absurd (cc)
-
 pub edit_is : (r : Rows) (e : Edit) → IsProper r → Suits (world_of r) e → Spelled (rewritten r e) (edited (world_of r) e)
 edit_is r (NewMember m t) h fits = record { world = refl; proper = h }
 edit_is r (SetMember m granted float) h fits = record { world = refl; proper = h }
 edit_is r (NewHolder g m t) h fits = record { world = refl; proper = h }
 edit_is r (NewPurse p g) h fits = new_purse_row r h p g (not_there r p fits.0)
 edit_is r (SetPurse q) h fits = let x = found_row r q.name fits in set_purse r h q x.0 x.1
-edit_is r (AddMessage p m) h fits = let x = found r p (λ row. (fmap.len row.holding.inbox < 32) × (row.holding.next_message < 10 ^ 15)) fits in add_message r h p m x.0 x.1
+edit_is r (AddMessage p m) h fits = let x = found r p (λ row. (fmap.len row.holding.inbox < most_messages) × (row.holding.next_message < most_number)) fits in add_message r h p m x.0 x.1
 edit_is r (DropMessage p k) h fits = let x = found r p (λ row. IsSome (fmap.get row.holding.inbox k)) fits in drop_message r h p k x.0 x.1
 edit_is r (AddLine p l) h fits = let x = found r p (λ row. AreNumbered 1 (row.holding.lines ++ l ∷ [])) fits in add_line r h p l x.0 x.1 x.2
 edit_is r (AddLoad p ref amount) h fits = let x = found r p (λ row. IsNone (fmap.get row.loads ref)) fits in add_load r h p ref amount x.0 x.1
-edit_is r (AddRedemption p ref amount) h fits = let x = found r p (λ row. IsNone (fmap.get row.holding.redemptions ref)) fits in add_redemption r h p ref amount x.0 x.1 (no_value _ x.2)
+edit_is r (AddRedemption p ref amount) h fits = let x = found r p (λ row. IsNone (fmap.get row.holding.redemptions ref)) fits in add_redemption r h p ref amount x.0 x.1 (none_is _ x.2)
 edit_is r (Collect m) h fits = collect r m h
 
 -- and so of a list of edits
@@ -246,9 +245,6 @@ edits_spelled r w (e ∷ es) h fits = edits_spelled (rewritten r e) (edited w e)
 
 -- ---- what a write needs
 
-same_row : (x y : PurseRow) → Some x ≡ Some y → x ≡ y
-same_row x y e = cc
-
 able : (r : Rows) (e : Edit) → Suits (world_of r) e → Able r e
 able r (NewMember m t) fits = tt
 able r (SetMember m granted float) fits = tt
@@ -256,8 +252,8 @@ able r (NewHolder g m t) fits = tt
 able r (NewPurse p g) fits = tt
 able r (SetPurse q) fits = tt
 able r (AddMessage p m) fits = λ x is.
-    let z = found r p (λ row. (fmap.len row.holding.inbox < 32) × (row.holding.next_message < 10 ^ 15)) fits in
-    subst (λ (y : PurseRow). y.next_message < 10 ^ 15) (same_row z.0 x (sym z.1 ∙ is)) z.2.1
+    let z = found r p (λ row. (fmap.len row.holding.inbox < most_messages) × (row.holding.next_message < most_number)) fits in
+    subst (λ (y : PurseRow). y.next_message < most_number) (inside z.0 x (sym z.1 ∙ is)) z.2.1
 able r (DropMessage p k) fits = tt
 able r (AddLine p l) fits = tt
 able r (AddLoad p ref amount) fits = tt

@@ -1,28 +1,30 @@
 -- The first edits of a new book fit.
 use Rattle.std.proofs.Common.{◌≡◌, ◌<◌, Bool, false, cond, List, [], ◌∷◌, refl, sym, ◌∙◌, ap, subst, Option, Some, None, arith}
-use Rattle.std.specs.Prelude.{◌^◌, IsNone, IsSomeAnd, IsTrue}
+use Rattle.std.specs.Prelude.{IsNone, IsSomeAnd, IsTrue}
 use Rattle.std.specs.Ordering.{nat_cmp}
 use Rattle.std.specs.FinMap as fmap
+use Rattle.mx_book.specs.Limits.{most_messages}
+use Rattle.mx_pay.specs.Limits.{most_number}
 use Rattle.mx_pay.specs.Names.{name_cmp, is_name_text}
-use Rattle.mx_pay.specs.Tokens.{token_cmp, is_token}
+use Rattle.mx_pay.specs.Tokens.{token_cmp, is_token, IsToken}
+use Rattle.mx_pay.specs.Details.{details_cmp}
+use Rattle.mx_purse.specs.State.{State, IsPurse}
 use Rattle.mx_purse.specs.declared.message.Message.{Message}
+use Rattle.mx_purse.specs.Messages.{IsMessage}
 use Rattle.mx_book.specs.declared.values.Caller.{Caller}
 use Rattle.mx_book.specs.declared.values.Caller.TheVariants.{Operator, Clerk}
 use Rattle.mx_book.specs.World.{World, Row, Name, Token, opening, new_row}
 use Rattle.mx_book.specs.Conditions.{IsWorld}
 use Rattle.mx_book.specs.Rows.{Rows}
-use Rattle.mx_book.specs.Spells.{Spells}
+use Rattle.mx_book.specs.Spells.{Spells, one_world}
 use Rattle.mx_book.specs.declared.edits.Edit.{Edit}
-use Rattle.mx_book.specs.declared.edits.Edit.TheVariants.{NewMember, NewHolder, NewPurse, AddMessage}
+use Rattle.mx_book.specs.declared.edits.Edit.TheVariants.{NewMember, NewHolder, NewPurse, SetPurse, AddMessage}
 use Rattle.mx_book.specs.Edits.{edited, Suits, Fits}
 use Rattle.mx_book.proofs.NameLemmas.{names_total, get-inserted}
 use Rattle.mx_book.proofs.FoundLemmas.{some_of}
-use Rattle.mx_book.proofs.Opening.{opening_is, none_held}
+use Rattle.mx_book.proofs.Opening.{opening_is, none_held, not_some}
 use Rattle.mx_book.proofs.KeepLemmas.{member_world, holder_world, purse_world, message_world}
-
--- rows spell one World at most
-pub one_world : (r : Rows) (v w : World) → Spells r v → Spells r w → v ≡ w
-one_world r v w h g = h.spelled.world ∙ sym g.spelled.world
+use Rattle.mx_book.proofs.PurseLemmas.{purse_leads, purse_suits, purse_stays}
 
 no_one : (b : Bool) (o : Option Caller) → b ≡ false → o ≡ None → IsNone (cond b (Some Operator) o)
 no_one b o f none = subst (λ x. IsNone (cond x (Some Operator) o)) (sym f) (subst IsNone (sym none) refl)
@@ -30,7 +32,7 @@ no_one b o f none = subst (λ x. IsNone (cond x (Some Operator) o)) (sym f) (sub
 is_none_of : {X : Type 0} (o : Option X) → o ≡ None → IsNone o
 is_none_of o e = subst IsNone (sym e) refl
 
-module _ (op s t : Token) (m h : Name) (clerk : is_token s op ≡ false) (holder : is_token t op ≡ false) (apart : is_token t s ≡ false) (member_text : IsTrue (is_name_text m)) (holder_text : IsTrue (is_name_text h)) where
+module _ (op s t : Token) (m h : Name) (clerk : is_token s op ≡ false) (holder : is_token t op ≡ false) (apart : is_token t s ≡ false) (member_text : IsTrue (is_name_text m)) (holder_text : IsTrue (is_name_text h)) (op_whole : IsToken op) (clerk_whole : IsToken s) (holder_whole : IsToken t) where
   member_suits : Suits (opening op) (NewMember m s)
   member_suits = (is_none_of _ (fmap.get-empty name_cmp m), no_one (is_token s op) _ clerk (fmap.get-empty token_cmp s))
 
@@ -48,42 +50,53 @@ module _ (op s t : Token) (m h : Name) (clerk : is_token s op ≡ false) (holder
   with_both = edited with_member (NewHolder h m t)
 
   with_both_is : IsWorld with_both
-  with_both_is = holder_world with_member h m t holder_suits holder_text (member_world (opening op) m s member_suits member_text (opening_is op))
+  with_both_is = holder_world with_member h m t holder_suits holder_text holder_whole (member_world (opening op) m s member_suits member_text clerk_whole (opening_is op op_whole))
 
   -- a member and a holder
   pub both_fit : Fits (opening op) (NewMember m s ∷ NewHolder h m t ∷ [])
   both_fit = record { each = (member_suits, (holder_suits, tt)); end = with_both_is }
 
-  module _ (p : Name) (purse_text : IsTrue (is_name_text p)) (x : Message) where
-    purse_suits : Suits with_both (NewPurse p h)
-    purse_suits = (fmap.get-empty name_cmp p, some_of _ _ (get-inserted fmap.empty h m))
+  module _ (p : Name) (purse_text : IsTrue (is_name_text p)) where
+    new_suits : Suits with_both (NewPurse p h)
+    new_suits = (fmap.get-empty name_cmp p, some_of _ _ (get-inserted fmap.empty h m))
 
     abbrev with_purse : World
     with_purse = edited with_both (NewPurse p h)
 
     with_purse_is : IsWorld with_purse
-    with_purse_is = let none = none_held op h in purse_world with_both p h purse_suits purse_text (omega (arith, none)) with_both_is
+    with_purse_is = let none = none_held op h in purse_world with_both p h new_suits purse_text (omega (arith, none)) with_both_is
 
     here : fmap.get with_purse.rows p ≡ Some (new_row h p)
     here = get-inserted fmap.empty p (new_row h p)
 
-    room : fmap.len (fmap.empty {X = Message} {R = nat_cmp}) < 32
+    room : fmap.len (fmap.empty {X = Message} {R = nat_cmp}) < most_messages
     room = let none = fmap.len-empty nat_cmp Message in omega (arith, none)
 
-    next : 0 < 10 ^ 15
+    next : 0 < most_number
     next = omega arith
 
-    message_suits : Suits with_purse (AddMessage p x)
-    message_suits = subst (λ (o : Option Row). IsSomeAnd o (λ r. (fmap.len r.holding.inbox < 32) × (r.holding.next_message < 10 ^ 15))) (sym here) (room, next)
+    message_suits : (x : Message) → Suits with_purse (AddMessage p x)
+    message_suits x = subst (λ (o : Option Row). IsSomeAnd o (λ r. (fmap.len r.holding.inbox < most_messages) × (r.holding.next_message < most_number))) (sym here) (room, next)
 
     -- and a purse with a message
-    pub four_fit : Fits (opening op) (NewMember m s ∷ NewHolder h m t ∷ NewPurse p h ∷ AddMessage p x ∷ [])
-    four_fit = record { each = (member_suits, (holder_suits, (purse_suits, (message_suits, tt)))); end = message_world with_purse p x (new_row h p) here room next with_purse_is }
+    pub four_fit : (x : Message) → IsMessage x → Fits (opening op) (NewMember m s ∷ NewHolder h m t ∷ NewPurse p h ∷ AddMessage p x ∷ [])
+    four_fit x valid = record { each = (member_suits, (holder_suits, (new_suits, (message_suits x, tt)))); end = message_world with_purse p x (new_row h p) valid here room next with_purse_is }
+
+    -- and a purse that becomes another one, which has no lines either
+    pub set_fit : (q : State) → q.name ≡ p → IsPurse q → q.lines ≡ 0 → Fits (opening op) (NewMember m s ∷ NewHolder h m t ∷ NewPurse p h ∷ SetPurse q ∷ [])
+    set_fit q named purse none = record {
+      each = (member_suits, (holder_suits, (new_suits, purse_suits with_purse p (new_row h p) q [] here named tt)));
+      end = subst IsWorld (sym (purse_leads with_purse p (new_row h p) q [] here named)) (purse_stays with_purse p (new_row h p) q [] here named purse tt (sym none) tt (λ d. not_some _ (fmap.get-empty details_cmp d)) with_purse_is);
+    }
 
 -- at rows that spell the opening World
-pub both_fit_at : (r : Rows) (w : World) (op s t : Token) (m h : Name) → is_token s op ≡ false → is_token t op ≡ false → is_token t s ≡ false → IsTrue (is_name_text m) → IsTrue (is_name_text h) → Spells r (opening op) → Spells r w → Fits w (NewMember m s ∷ NewHolder h m t ∷ [])
-both_fit_at r w op s t m h clerk holder apart member_text holder_text first spelled = subst (λ (z : World). Fits z (NewMember m s ∷ NewHolder h m t ∷ [])) (one_world r (opening op) w first spelled) (both_fit op s t m h clerk holder apart member_text holder_text)
+pub both_fit_at : (r : Rows) (w : World) (op s t : Token) (m h : Name) → is_token s op ≡ false → is_token t op ≡ false → is_token t s ≡ false → IsTrue (is_name_text m) → IsTrue (is_name_text h) → IsToken s → IsToken t → Spells r (opening op) → Spells r w → Fits w (NewMember m s ∷ NewHolder h m t ∷ [])
+both_fit_at r w op s t m h clerk holder apart member_text holder_text clerk_whole holder_whole first spelled = subst (λ (z : World). Fits z (NewMember m s ∷ NewHolder h m t ∷ [])) (one_world r (opening op) w first spelled) (both_fit op s t m h clerk holder apart member_text holder_text first.sound.tokens.operator_bytes clerk_whole holder_whole)
 
-pub four_fit_at : (r : Rows) (w : World) (op s t : Token) (m h p : Name) (x : Message) → is_token s op ≡ false → is_token t op ≡ false → is_token t s ≡ false → IsTrue (is_name_text m) → IsTrue (is_name_text h) → IsTrue (is_name_text p) → Spells r (opening op) → Spells r w → (es : List Edit) → es ≡ NewMember m s ∷ NewHolder h m t ∷ NewPurse p h ∷ AddMessage p x ∷ [] → Fits w es
-four_fit_at r w op s t m h p x clerk holder apart member_text holder_text purse_text first spelled es is =
-    subst (λ (z : World). Fits z es) (one_world r (opening op) w first spelled) (subst (Fits (opening op)) (sym is) (four_fit op s t m h clerk holder apart member_text holder_text p purse_text x))
+pub four_fit_at : (r : Rows) (w : World) (op s t : Token) (m h p : Name) (x : Message) → is_token s op ≡ false → is_token t op ≡ false → is_token t s ≡ false → IsTrue (is_name_text m) → IsTrue (is_name_text h) → IsTrue (is_name_text p) → IsToken s → IsToken t → IsMessage x → Spells r (opening op) → Spells r w → (es : List Edit) → es ≡ NewMember m s ∷ NewHolder h m t ∷ NewPurse p h ∷ AddMessage p x ∷ [] → Fits w es
+four_fit_at r w op s t m h p x clerk holder apart member_text holder_text purse_text clerk_whole holder_whole valid first spelled es is =
+    subst (λ (z : World). Fits z es) (one_world r (opening op) w first spelled) (subst (Fits (opening op)) (sym is) (four_fit op s t m h clerk holder apart member_text holder_text first.sound.tokens.operator_bytes clerk_whole holder_whole p purse_text x valid))
+
+pub set_fit_at : (r : Rows) (w : World) (op s t : Token) (m h p : Name) (q : State) → is_token s op ≡ false → is_token t op ≡ false → is_token t s ≡ false → IsTrue (is_name_text m) → IsTrue (is_name_text h) → IsTrue (is_name_text p) → IsToken s → IsToken t → q.name ≡ p → IsPurse q → q.lines ≡ 0 → Spells r (opening op) → Spells r w → (es : List Edit) → es ≡ NewMember m s ∷ NewHolder h m t ∷ NewPurse p h ∷ SetPurse q ∷ [] → Fits w es
+set_fit_at r w op s t m h p q clerk holder apart member_text holder_text purse_text clerk_whole holder_whole named purse none first spelled es is =
+    subst (λ (z : World). Fits z es) (one_world r (opening op) w first spelled) (subst (Fits (opening op)) (sym is) (set_fit op s t m h clerk holder apart member_text holder_text first.sound.tokens.operator_bytes clerk_whole holder_whole p purse_text q named purse none))

@@ -1,6 +1,6 @@
 -- What is found in a map by names after a write.
 use Rattle.std.proofs.Common.{◌≡◌, ◌⊎◌, inl, inr, Bool, true, false, cond, refl, sym, ◌∙◌, ap, subst, Option, Some, None, IsSome, is_some}
-use Rattle.std.specs.Prelude.{unwrap_or}
+use Rattle.std.specs.Prelude.{unwrap_or, IsNone}
 use Rattle.std.specs.FinMap as fmap
 use Rattle.mx_pay.specs.Names.{name_cmp, is_name}
 use Rattle.mx_book.specs.World.{Name}
@@ -13,13 +13,15 @@ inside x y e = ap (λ o. unwrap_or o x) e
 pub some_of : {X : Type 0} (o : Option X) (x : X) → o ≡ Some x → IsSome o
 some_of o x e = ap is_some e
 
-some_case : {X : Type 0} (o : Option X) → IsSome o → (x : X) × (o ≡ Some x)
-some_case None h = absurd (cc)
-some_case (Some x) h = (x, refl)
-
 -- some value is found
 pub value_found : {X : Type 0} (o : Option X) → IsSome o → (x : X) × (o ≡ Some x)
-value_found o h = some_case o h
+value_found None h = absurd (cc)
+value_found (Some x) h = (x, refl)
+
+-- none is found
+pub none_is : {X : Type 0} (o : Option X) → IsNone o → o ≡ None
+none_is None h = refl
+none_is (Some x) h = absurd (cc)
 
 -- nothing is found, and so no value is
 pub none_found : {X Y : Type 0} (o : Option X) (x : X) → o ≡ None → o ≡ Some x → Y

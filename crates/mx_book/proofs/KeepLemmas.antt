@@ -1,16 +1,19 @@
 -- Which conditions of the World an edit keeps, by groups.
 use Rattle.std.proofs.Common.{◌≡◌, ◌⊎◌, inl, inr, ℕ, ◌+◌, ◌-◌, ◌<◌, ◌≤◌, Bool, true, false, cond, List, [], ◌∷◌, map, length, refl, sym, ◌∙◌, ap, subst, Option, Some, None, IsSome, arith}
-use Rattle.std.specs.Prelude.{◌^◌, filter, sum_by, IsNone, IsTrue}
+use Rattle.std.specs.Prelude.{filter, sum_by, IsNone, IsTrue}
 use Rattle.std.specs.Cmp.{nat_cmp_total, eq_by_cmp_equiv}
 use Rattle.std.specs.Ordering.{nat_cmp, eq_by_cmp}
 use Rattle.std.specs.FinMap as fmap
 use Rattle.std.proofs.lemmas.List.Sums.{sum_by-cons}
+use Rattle.mx_book.specs.Limits.{most_messages, most_purses}
+use Rattle.mx_pay.specs.Limits.{most_number}
 use Rattle.mx_pay.specs.Names.{name_cmp, is_name, is_name_text}
-use Rattle.mx_pay.specs.Tokens.{is_token}
+use Rattle.mx_pay.specs.Tokens.{is_token, IsToken}
 use Rattle.mx_pay.specs.Details.{Details}
 use Rattle.mx_pay.specs.Log.{has_logged}
 use Rattle.mx_purse.proofs.Laws.{new_is}
 use Rattle.mx_purse.specs.declared.message.Message.{Message}
+use Rattle.mx_purse.specs.Messages.{IsMessage}
 use Rattle.mx_book.specs.declared.values.Caller.{Caller}
 use Rattle.mx_book.specs.declared.values.Caller.TheVariants.{Operator, Clerk, Holder}
 use Rattle.mx_book.specs.declared.values.MemberRow.{MemberRow}
@@ -22,7 +25,7 @@ use Rattle.mx_book.specs.declared.edits.Edit.TheVariants.{NewMember, NewHolder, 
 use Rattle.mx_book.specs.Edits.{edited, Suits}
 use Rattle.mx_book.proofs.NameLemmas.{names_total, same_name, same_number, get-inserted}
 use Rattle.mx_book.proofs.SumLemmas.{sum_values-insert, value_of}
-use Rattle.mx_book.proofs.FoundLemmas.{inside, some_of, none_found, none_some, each_inserted, some_inserted, still_some, kept_value}
+use Rattle.mx_book.proofs.FoundLemmas.{inside, none_is, some_of, none_found, none_some, each_inserted, some_inserted, still_some, kept_value}
 
 -- ---- tokens: one more, of a caller that had none
 
@@ -34,10 +37,6 @@ who_cases false (Some c) h = absurd (cc)
 -- a token that is nobody's is neither the operator's nor another's
 pub nobody : (w : World) (t : Token) → IsNone (who_of w t) → (is_token t w.operator ≡ false) × (fmap.get w.tokens t ≡ None)
 nobody w t h = who_cases (is_token t w.operator) (fmap.get w.tokens t) h
-
-none_is : {X : Type 0} (o : Option X) → IsNone o → o ≡ None
-none_is None h = refl
-none_is (Some x) h = absurd (cc)
 
 module _ (w v : World) (t : Token) (c : Caller) (h : TokensHold w) (free : (is_token t w.operator ≡ false) × (fmap.get w.tokens t ≡ None)) (same : v.operator ≡ w.operator) (is : v.tokens ≡ fmap.insert w.tokens t c) where
   token_at : (q : Token) → fmap.get v.tokens q ≡ fmap.get (fmap.insert w.tokens t c) q
@@ -64,8 +63,10 @@ module _ (w v : World) (t : Token) (c : Caller) (h : TokensHold w) (free : (is_t
   single_case p q d new (inr a) (inl b) = absurd (new (subst (IsOwner w) (sym b.1) (h.owners p d a)))
   single_case p q d new (inr a) (inr b) = h.single p q d a b
 
-  pub tokens_more : (IsOwner w c → ⊥) → IsOwner v c → ((d : Caller) → IsOwner w d → IsOwner v d) → ((m : Name) → IsSome (fmap.get v.members m) → (c ≡ Clerk m) ⊎ IsSome (fmap.get w.members m)) → ((g : Name) → IsSome (fmap.get v.holders g) → (c ≡ Holder g) ⊎ IsSome (fmap.get w.holders g)) → TokensHold v
-  tokens_more new owner stay members holders = record {
+  pub tokens_more : IsToken t → (IsOwner w c → ⊥) → IsOwner v c → ((d : Caller) → IsOwner w d → IsOwner v d) → ((m : Name) → IsSome (fmap.get v.members m) → (c ≡ Clerk m) ⊎ IsSome (fmap.get w.members m)) → ((g : Name) → IsSome (fmap.get v.holders g) → (c ≡ Holder g) ⊎ IsSome (fmap.get w.holders g)) → TokensHold v
+  tokens_more whole new owner stay members holders = record {
+    operator_bytes = subst IsToken (sym same) h.operator_bytes;
+    bytes = λ q d at. each_inserted w.tokens t c (λ p e. IsToken p) whole h.bytes q d (sym (token_at q) ∙ at);
     operator = operator_free;
     owners = λ q d at. each_inserted w.tokens t c (λ p e. IsOwner v e) owner (λ p e old. stay e (h.owners p e old)) q d (sym (token_at q) ∙ at);
     clerks = λ m there. has_case (Clerk m) (IsSome (fmap.get w.members m)) (h.clerks m) (members m there);
@@ -95,8 +96,8 @@ module _ (w : World) (m : Name) (t : Token) (suits : Suits w (NewMember m t)) wh
   clerk_stays (Clerk n) h = still_some w.members m new_member_row n h
   clerk_stays (Holder g) h = h
 
-  pub member_tokens : TokensHold w → TokensHold with_member
-  member_tokens h = tokens_more w with_member t (Clerk m) h (nobody w t suits.1) refl refl
+  pub member_tokens : IsToken t → TokensHold w → TokensHold with_member
+  member_tokens whole h = tokens_more w with_member t (Clerk m) h (nobody w t suits.1) refl refl whole
       (λ there. none_some _ (none_is _ suits.0) there)
       (some_of _ _ (get-inserted w.members m new_member_row))
       clerk_stays
@@ -110,18 +111,18 @@ module _ (w : World) (m : Name) (t : Token) (suits : Suits w (NewMember m t)) wh
         let sums = sum_values-insert names_total (λ (row : MemberRow). row.granted) w.members m new_member_row in
         let none : value_of (λ (row : MemberRow). row.granted) (fmap.get w.members m) ≡ 0 = ap (value_of (λ (row : MemberRow). row.granted)) (none_is _ suits.0) in
         omega (arith, sums, none, h.granted);
-    floats = each_inserted w.members m new_member_row (λ n row. row.float ≤ 10 ^ 15) (omega arith) h.floats;
+    floats = each_inserted w.members m new_member_row (λ n row. row.float ≤ most_number) (omega arith) h.floats;
     holders = λ g n at. let x = h.holders g n at in (x.0, still_some w.members m new_member_row n x.1);
   }
 
-  pub member_world : IsTrue (is_name_text m) → IsWorld w → IsWorld with_member
-  member_world text h = record {
-    tokens = member_tokens h.tokens;
+  pub member_world : IsTrue (is_name_text m) → IsToken t → IsWorld w → IsWorld with_member
+  member_world text whole h = record {
+    tokens = member_tokens whole h.tokens;
     members = member_members text h.members;
     purses = record { each = λ p r at. let x = h.purses.each p r at in record { text = x.text; named = x.named; holder = x.holder; purse = x.purse }; few = h.purses.few };
     inboxes = record { each = h.inboxes.each };
     lines = record { each = h.lines.each };
-    results = record { archived = h.results.archived; logged = h.results.logged; apart = h.results.apart };
+    results = record { archived = h.results.archived; details = h.results.details; logged = h.results.logged; apart = h.results.apart };
     payments = record { each = h.payments.each };
   }
 
@@ -136,8 +137,8 @@ module _ (w : World) (g m : Name) (t : Token) (suits : Suits w (NewHolder g m t)
   holder_stays (Clerk n) h = h
   holder_stays (Holder x) h = still_some w.holders g m x h
 
-  pub holder_tokens : TokensHold w → TokensHold with_holder
-  holder_tokens h = tokens_more w with_holder t (Holder g) h (nobody w t suits.2) refl refl
+  pub holder_tokens : IsToken t → TokensHold w → TokensHold with_holder
+  holder_tokens whole h = tokens_more w with_holder t (Holder g) h (nobody w t suits.2) refl refl whole
       (λ there. none_some _ (none_is _ suits.0) there)
       (some_of _ _ (get-inserted w.holders g m))
       holder_stays
@@ -152,14 +153,14 @@ module _ (w : World) (g m : Name) (t : Token) (suits : Suits w (NewHolder g m t)
     holders = each_inserted w.holders g m (λ x n. IsTrue (is_name_text x) × IsSome (fmap.get w.members n)) (text, suits.1) h.holders;
   }
 
-  pub holder_world : IsTrue (is_name_text g) → IsWorld w → IsWorld with_holder
-  holder_world text h = record {
-    tokens = holder_tokens h.tokens;
+  pub holder_world : IsTrue (is_name_text g) → IsToken t → IsWorld w → IsWorld with_holder
+  holder_world text whole h = record {
+    tokens = holder_tokens whole h.tokens;
     members = holder_members text h.members;
     purses = record { each = λ p r at. let x = h.purses.each p r at in record { text = x.text; named = x.named; holder = still_some w.holders g m r.holder x.holder; purse = x.purse }; few = h.purses.few };
     inboxes = record { each = h.inboxes.each };
     lines = record { each = h.lines.each };
-    results = record { archived = h.results.archived; logged = h.results.logged; apart = h.results.apart };
+    results = record { archived = h.results.archived; details = h.results.details; logged = h.results.logged; apart = h.results.apart };
     payments = record { each = h.payments.each };
   }
 
@@ -186,7 +187,7 @@ module _ (w : World) (p g : Name) (suits : Suits w (NewPurse p g)) where
   abbrev with_purse : World
   with_purse = edited w (NewPurse p g)
 
-  few_case : (x : Name) (b : Bool) → is_name x g ≡ b → length (purses_of w g) < 64 → length (purses_of w x) ≤ 64 → length (purses_of w x) + cond b 1 0 ≤ 64
+  few_case : (x : Name) (b : Bool) → is_name x g ≡ b → length (purses_of w g) < most_purses → length (purses_of w x) ≤ most_purses → length (purses_of w x) + cond b 1 0 ≤ most_purses
   few_case x true t room few = let e : length (purses_of w x) ≡ length (purses_of w g) = ap (λ y. length (purses_of w y)) (same_name x g t) in omega (arith, e, room)
   few_case x false t room few = omega (arith, few)
 
@@ -196,9 +197,9 @@ module _ (w : World) (p g : Name) (suits : Suits w (NewPurse p g)) where
       let none : value_of (one_held x) (fmap.get w.rows p) ≡ 0 = ap (value_of (one_held x)) suits.0 in
       omega (arith, sums, none, held_count with_purse x, held_count w x)
 
-  pub purse_purses : IsTrue (is_name_text p) → length (purses_of w g) < 64 → PursesHold w → PursesHold with_purse
+  pub purse_purses : IsTrue (is_name_text p) → length (purses_of w g) < most_purses → PursesHold w → PursesHold with_purse
   purse_purses text room h = record {
-    each = each_inserted w.rows p (new_row g p) (λ q r. IsPurseRow with_purse q r) (record { text = text; named = refl; holder = suits.1; purse = new_is p }) (λ q r at. let x = h.each q r at in record { text = x.text; named = x.named; holder = x.holder; purse = x.purse });
+    each = each_inserted w.rows p (new_row g p) (λ q r. IsPurseRow with_purse q r) (record { text = text; named = refl; holder = suits.1; purse = new_is p text }) (λ q r at. let x = h.each q r at in record { text = x.text; named = x.named; holder = x.holder; purse = x.purse });
     few = λ x. let few = few_case x (is_name x g) refl room (h.few x) in let is = purse_count x in omega (arith, few, is);
   }
 
@@ -208,15 +209,17 @@ module _ (w : World) (p g : Name) (suits : Suits w (NewPurse p g)) where
       few = let none = fmap.len-empty nat_cmp Message in omega (arith, none);
       below = λ n there. none_some _ (fmap.get-empty nat_cmp n) there;
       next = omega arith;
+      messages = λ n m at. none_found _ m (fmap.get-empty nat_cmp n) at;
     }) h.each;
   }
 
   pub purse_lines : LinesHold w → LinesHold with_purse
-  purse_lines h = record { each = each_inserted w.rows p (new_row g p) (λ q r. AreLines r) (record { numbered = tt; counted = refl }) h.each }
+  purse_lines h = record { each = each_inserted w.rows p (new_row g p) (λ q r. AreLines r) (record { numbered = tt; counted = refl; each = tt }) h.each }
 
   pub purse_results : ResultsHold w → ResultsHold with_purse
   purse_results h = record {
     archived = λ q d there. still_some w.rows p (new_row g p) q (h.archived q d there);
+    details = h.details;
     logged = λ q d there. let x = h.logged q d there in (x.0, kept_value w.rows p (new_row g p) suits.0 q x.0 x.1, x.2);
     apart = h.apart;
   }
@@ -230,9 +233,9 @@ module _ (w : World) (p g : Name) (suits : Suits w (NewPurse p g)) where
     }) h.each;
   }
 
-  pub purse_world : IsTrue (is_name_text p) → length (purses_of w g) < 64 → IsWorld w → IsWorld with_purse
+  pub purse_world : IsTrue (is_name_text p) → length (purses_of w g) < most_purses → IsWorld w → IsWorld with_purse
   purse_world text room h = record {
-    tokens = record { operator = h.tokens.operator; owners = h.tokens.owners; clerks = h.tokens.clerks; holders = h.tokens.holders; single = h.tokens.single };
+    tokens = record { operator_bytes = h.tokens.operator_bytes; bytes = h.tokens.bytes; operator = h.tokens.operator; owners = h.tokens.owners; clerks = h.tokens.clerks; holders = h.tokens.holders; single = h.tokens.single };
     members = record { named = h.members.named; granted = h.members.granted; floats = h.members.floats; holders = h.members.holders };
     purses = purse_purses text room h.purses;
     inboxes = purse_inboxes h.inboxes;
@@ -245,7 +248,7 @@ module _ (w : World) (p g : Name) (suits : Suits w (NewPurse p g)) where
 
 module _ (w : World) (p : Name) (r s : Row) (at : fmap.get w.rows p ≡ Some r) where
   pub set_tokens : TokensHold w → TokensHold (set_row w p s)
-  set_tokens h = record { operator = h.operator; owners = h.owners; clerks = h.clerks; holders = h.holders; single = h.single }
+  set_tokens h = record { operator_bytes = h.operator_bytes; bytes = h.bytes; operator = h.operator; owners = h.owners; clerks = h.clerks; holders = h.holders; single = h.single }
 
   pub set_members : MembersHold w → MembersHold (set_row w p s)
   set_members h = record { named = h.named; granted = h.granted; floats = h.floats; holders = h.holders }
@@ -276,6 +279,7 @@ module _ (w : World) (p : Name) (r s : Row) (at : fmap.get w.rows p ≡ Some r) 
   pub set_results : ((d : Details) → fmap.contains_key w.tray (p, d) ≡ true → has_logged s.holding.purse.log d ≡ true) → ResultsHold w → ResultsHold (set_row w p s)
   set_results still h = record {
     archived = λ q d there. still_some w.rows p s q (h.archived q d there);
+    details = h.details;
     logged = λ q d there.
         let x = entry_case q d (is_name q p) refl (λ e. still d (subst (λ y. fmap.contains_key w.tray (y, d) ≡ true) e there)) (h.logged q d there) in
         (x.0, fmap.get-insert names_total w.rows p s q ∙ x.1, x.2);
@@ -309,7 +313,7 @@ module _ (w : World) (p : Name) (r s : Row) (at : fmap.get w.rows p ≡ Some r) 
       set_world (ap (λ x. x.holder) is)
       (subst (IsPurseRow w p) (sym is) (record { text = purse.text; named = purse.named; holder = purse.holder; purse = purse.purse }))
       inbox
-      (subst AreLines (sym is) (record { numbered = lines.numbered; counted = lines.counted }))
+      (subst AreLines (sym is) (record { numbered = lines.numbered; counted = lines.counted; each = lines.each }))
       (subst IsPaid (sym is) (record { loads = paid.loads; redemptions = paid.redemptions; collected = paid.collected }))
       (λ d there. subst (λ (x : Row). has_logged x.holding.purse.log d ≡ true) (sym is) (entry_here h d there))
       h
@@ -328,12 +332,21 @@ below_case : (r : Row) (m : Message) (k : ℕ) (b : Bool) → eq_by_cmp nat_cmp 
 below_case r m k true t h there = let e : k ≡ r.holding.next_message = same_number k r.holding.next_message t in omega (arith, e)
 below_case r m k false t h there = let old = h.below k there in omega (arith, old)
 
-pub delivered_inbox : (r : Row) (m : Message) → IsInbox r → fmap.len r.holding.inbox < 32 → r.holding.next_message < 10 ^ 15 → IsInbox (record r { holding = delivered r.holding m })
-delivered_inbox r m h room next = record {
+message_case : (r : Row) (m x : Message) (k : ℕ) (b : Bool) → IsMessage m → (fmap.get r.holding.inbox k ≡ Some x → IsMessage x) → cond b (Some m) (fmap.get r.holding.inbox k) ≡ Some x → IsMessage x
+message_case r m x k true new old is = subst IsMessage (inside m x is) new
+message_case r m x k false new old is = old is
+
+pub delivered_inbox : (r : Row) (m : Message) → IsMessage m → IsInbox r → fmap.len r.holding.inbox < most_messages → r.holding.next_message < most_number → IsInbox (record r { holding = delivered r.holding m })
+delivered_inbox r m valid h room next = record {
   few = let is = fmap.len-insert nat_cmp_total r.holding.inbox r.holding.next_message m in let most = at_most (fmap.contains_key r.holding.inbox r.holding.next_message) (fmap.len r.holding.inbox) in omega (arith, is, most, room);
   below = λ k there. below_case r m k (eq_by_cmp nat_cmp k r.holding.next_message) refl h (subst IsSome (fmap.get-insert nat_cmp_total r.holding.inbox r.holding.next_message m k) there);
   next = omega (arith, next);
+  messages = λ k x is. message_case r m x k (eq_by_cmp nat_cmp k r.holding.next_message) valid (h.messages k x) (sym (fmap.get-insert nat_cmp_total r.holding.inbox r.holding.next_message m k) ∙ is);
 }
+
+left_case : (b : Bool) (o : Option Message) (x : Message) → cond b None o ≡ Some x → o ≡ Some x
+left_case true o x is = absurd (cc)
+left_case false o x is = is
 
 gone_case : (b : Bool) (o : Option Message) → IsSome (cond b None o) → IsSome o
 gone_case true o h = absurd (cc)
@@ -344,11 +357,12 @@ dropped_inbox r n h = record {
   few = let is = fmap.len-remove nat_cmp_total r.holding.inbox n in let most = at_least (fmap.contains_key r.holding.inbox n) (fmap.len r.holding.inbox) in let few = h.few in omega (arith, is, most, few);
   below = λ k there. h.below k (gone_case (eq_by_cmp nat_cmp k n) (fmap.get r.holding.inbox k) (subst IsSome (fmap.get-remove nat_cmp_total r.holding.inbox n k) there));
   next = h.next;
+  messages = λ k x is. h.messages k x (left_case (eq_by_cmp nat_cmp k n) (fmap.get r.holding.inbox k) x (sym (fmap.get-remove nat_cmp_total r.holding.inbox n k) ∙ is));
 }
 
-pub message_world : (w : World) (p : Name) (m : Message) (r : Row) → fmap.get w.rows p ≡ Some r → fmap.len r.holding.inbox < 32 → r.holding.next_message < 10 ^ 15 → IsWorld w → IsWorld (edited w (AddMessage p m))
-message_world w p m r at room next h =
-    subst IsWorld (ap (changed_row w p (λ x. record x { holding = delivered x.holding m })) (sym at)) (inbox_world w p r (record r { holding = delivered r.holding m }) at refl (delivered_inbox r m (h.inboxes.each p r at) room next) h)
+pub message_world : (w : World) (p : Name) (m : Message) (r : Row) → IsMessage m → fmap.get w.rows p ≡ Some r → fmap.len r.holding.inbox < most_messages → r.holding.next_message < most_number → IsWorld w → IsWorld (edited w (AddMessage p m))
+message_world w p m r valid at room next h =
+    subst IsWorld (ap (changed_row w p (λ x. record x { holding = delivered x.holding m })) (sym at)) (inbox_world w p r (record r { holding = delivered r.holding m }) at refl (delivered_inbox r m valid (h.inboxes.each p r at) room next) h)
 
 pub dropped_world : (w : World) (p : Name) (n : ℕ) (r : Row) → fmap.get w.rows p ≡ Some r → IsWorld w → IsWorld (edited w (DropMessage p n))
 dropped_world w p n r at h =

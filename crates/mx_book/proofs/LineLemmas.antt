@@ -4,6 +4,7 @@ use Rattle.std.specs.declared.cmp.Ordering.{Ordering}
 use Rattle.std.specs.declared.cmp.Ordering.TheVariants.{Less, Equal, Greater}
 use Rattle.std.specs.Ordering.{nat_cmp, MatchOrdering}
 use Rattle.std.specs.Cmp.{ranks, nat_cmp_total}
+use Rattle.std.specs.List.{AllByRecursion}
 use Rattle.std.specs.FinMap.{FinMap, insert, entries, entries-insert}
 use Rattle.std.specs.FinMap.Entries.{put, by_order}
 use Rattle.mx_book.specs.declared.values.Line.{Line}
@@ -40,3 +41,8 @@ lines-insert m l h = ap (map line_at) (entries-insert nat_cmp_total m l.number (
 pub numbered-append : (j : ℕ) (ls : List Line) (l : Line) → AreNumbered j ls → l.number ≡ j + length ls → AreNumbered j (ls ++ l ∷ [])
 numbered-append j [] l h is = (omega arith, tt)
 numbered-append j (x ∷ ls) l h is = (h.0, numbered-append (j + 1) ls l h.1 (omega arith))
+
+-- ---- what holds of each of two lists holds of each of both
+pub all_append : {X : Type 0} (P : X → Type 0) (xs ys : List X) → AllByRecursion P xs → AllByRecursion P ys → AllByRecursion P (xs ++ ys)
+all_append P [] ys h g = g
+all_append P (x ∷ xs) ys h g = (h.0, all_append P xs ys h.1 g)

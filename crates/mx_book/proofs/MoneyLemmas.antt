@@ -1,7 +1,9 @@
 -- What grants, loads, redemptions and collects make of the World.
-use Rattle.std.proofs.Common.{◌≡◌, ℕ, ◌+◌, ◌^◌, ◌≤◌, Bool, true, false, cond, List, [], ◌∷◌, ◌++◌, length, refl, sym, ◌∙◌, ap, subst, arith, Option, Some, None, IsSome, IsNone, IsTrue, is_some, option_map, option_and_then, map}
+use Rattle.std.proofs.Common.{◌≡◌, ℕ, ◌+◌, ◌≤◌, Bool, true, false, cond, List, [], ◌∷◌, ◌++◌, length, refl, sym, ◌∙◌, ap, subst, arith, Option, Some, None, IsSome, IsNone, IsTrue, is_some, option_map, option_and_then, map}
 use Rattle.std.specs.Prelude.{IsSomeAnd, filter}
+use Rattle.std.specs.List.{AllByRecursion}
 use Rattle.std.specs.FinMap as fmap
+use Rattle.mx_pay.specs.Limits.{most_amount, most_number}
 use Rattle.mx_pay.specs.Names.{name_cmp, is_name, is_name_text}
 use Rattle.mx_pay.specs.Details.{Details}
 use Rattle.mx_pay.specs.Log.{has_logged}
@@ -10,20 +12,20 @@ use Rattle.mx_book.specs.declared.values.Caller.{Caller}
 use Rattle.mx_book.specs.declared.values.Caller.TheVariants.{Operator, Clerk, Holder}
 use Rattle.mx_book.specs.declared.values.Line.{Line}
 use Rattle.mx_book.specs.declared.values.MemberRow.{MemberRow}
-use Rattle.mx_book.specs.declared.edits.Edit.{Edit}
-use Rattle.mx_book.specs.declared.edits.Edit.TheVariants.{SetMember, SetPurse, AddLine, AddLoad, AddRedemption, Collect}
-use Rattle.mx_book.specs.World.{World, Row, Holding, Name, is_of_member, with_collected, all_collected, set_row, change_row, changed_row}
+use Rattle.mx_book.specs.declared.edits.Edit.TheVariants.{SetMember, SetPurse, AddLoad, AddRedemption, Collect}
+use Rattle.mx_book.specs.World.{World, Row, Name, is_of_member, with_collected, all_collected, set_row}
 use Rattle.mx_book.specs.Reads.{purses_of}
-use Rattle.mx_book.specs.Conditions.{IsOwner, IsWorld, IsPurseRow, IsInbox, IsPaid, AreLines, AreNumbered, IsEntry, PursesHold, all_granted}
+use Rattle.mx_book.specs.Conditions.{IsOwner, IsWorld, IsLine, IsPurseRow, IsInbox, IsPaid, AreLines, AreNumbered, all_granted}
 use Rattle.mx_book.specs.Edits.{edited, all_edited, Suits, AllSuit}
 use Rattle.mx_book.proofs.NameLemmas.{names_total, names_exact, same_name, get-inserted}
 use Rattle.mx_book.proofs.UnderLemmas.{get-remake, entries-remake}
 use Rattle.mx_book.specs.Under.{remade}
 use Rattle.mx_book.proofs.MapLemmas.{get-pick}
 use Rattle.mx_book.proofs.SumLemmas.{sum_values-insert, value_of}
-use Rattle.mx_book.proofs.FoundLemmas.{inside, some_of, none_found, none_some, each_inserted, still_some, some_inserted}
-use Rattle.mx_book.proofs.KeepLemmas.{set_world, entry_here, held_count}
-use Rattle.mx_book.proofs.PurseLemmas.{with_lines, line_edits, change_there, change_set, set_twice, edits_append, suits_append, purse_leads, purse_suits}
+use Rattle.mx_book.proofs.FoundLemmas.{inside, each_inserted, still_some}
+use Rattle.mx_book.proofs.LineLemmas.{all_append}
+use Rattle.mx_book.proofs.KeepLemmas.{set_world, entry_here}
+use Rattle.mx_book.proofs.PurseLemmas.{with_lines, line_edits, change_set, edits_append, suits_append, purse_leads, purse_suits}
 
 -- ---- rows with more
 
@@ -60,9 +62,11 @@ module _ (w : World) (m : Name) (granted float : ℕ) (there : IsSome (fmap.get 
   owner_stays (Holder g) o = o
 
   -- another row of a member that is there
-  pub set_member_stays : float ≤ 10 ^ 15 → all_granted with_row ≤ 10 ^ 15 → IsWorld w → IsWorld with_row
+  pub set_member_stays : float ≤ most_number → all_granted with_row ≤ most_number → IsWorld w → IsWorld with_row
   set_member_stays room most h = record {
     tokens = record {
+      operator_bytes = h.tokens.operator_bytes;
+      bytes = h.tokens.bytes;
       operator = h.tokens.operator;
       owners = λ t c at. owner_stays c (h.tokens.owners t c at);
       clerks = λ n some. h.tokens.clerks n (known n some);
@@ -72,13 +76,13 @@ module _ (w : World) (m : Name) (granted float : ℕ) (there : IsSome (fmap.get 
     members = record {
       named = λ n some. h.members.named n (known n some);
       granted = most;
-      floats = each_inserted w.members m row (λ n x. x.float ≤ 10 ^ 15) room h.members.floats;
+      floats = each_inserted w.members m row (λ n x. x.float ≤ most_number) room h.members.floats;
       holders = λ g n at. let x = h.members.holders g n at in (x.0, still_some w.members m row n x.1);
     };
     purses = record { each = λ p r at. let x = h.purses.each p r at in record { text = x.text; named = x.named; holder = x.holder; purse = x.purse }; few = h.purses.few };
     inboxes = record { each = h.inboxes.each };
     lines = record { each = h.lines.each };
-    results = record { archived = h.results.archived; logged = h.results.logged; apart = h.results.apart };
+    results = record { archived = h.results.archived; details = h.results.details; logged = h.results.logged; apart = h.results.apart };
     payments = record { each = h.payments.each };
   }
 
@@ -93,38 +97,40 @@ granted_after w m granted float old at =
 -- ---- a purse with loads or redemptions more
 
 -- what is kept of loads
-pub loads_stay : (w : World) (p : Name) (r : Row) (q : State) (ls : List Line) (reference : Name) (amount : ℕ) → fmap.get w.rows p ≡ Some r → q.name ≡ p → IsPurse q → AreNumbered 1 (r.holding.lines ++ ls) → length (r.holding.lines ++ ls) ≡ q.lines
-    → ((d : Details) → has_logged r.holding.purse.log d ≡ true → has_logged q.log d ≡ true) → IsTrue (is_name_text reference) → amount ≤ 10 ^ 12
+pub loads_stay : (w : World) (p : Name) (r : Row) (q : State) (ls : List Line) (reference : Name) (amount : ℕ) → fmap.get w.rows p ≡ Some r → q.name ≡ p → IsPurse q → AreNumbered 1 (r.holding.lines ++ ls) → length (r.holding.lines ++ ls) ≡ q.lines → AllByRecursion IsLine ls
+    → ((d : Details) → has_logged r.holding.purse.log d ≡ true → has_logged q.log d ≡ true) → IsTrue (is_name_text reference) → amount ≤ most_amount
     → IsWorld w → IsWorld (set_row w p (with_load (with_lines r q ls) reference amount))
-loads_stay w p r q ls reference amount at name purse numbered counted logged text small h =
+loads_stay w p r q ls reference amount at name purse numbered counted valid logged text small h =
     let s : Row = with_load (with_lines r q ls) reference amount in
     let old : IsPurseRow w p r = h.purses.each p r at in
     let inbox = h.inboxes.each p r at in
+    let lines = h.lines.each p r at in
     let paid = h.payments.each p r at in
     set_world w p r s at refl
     (record { text = old.text; named = name; holder = old.holder; purse = purse })
-    (record { few = inbox.few; below = inbox.below; next = inbox.next })
-    (record { numbered = numbered; counted = counted })
-    (record { loads = each_inserted r.loads reference amount (λ k n. IsTrue (is_name_text k) × (n ≤ 10 ^ 12)) (text, small) paid.loads; redemptions = paid.redemptions; collected = paid.collected })
+    (record { few = inbox.few; below = inbox.below; next = inbox.next; messages = inbox.messages })
+    (record { numbered = numbered; counted = counted; each = all_append IsLine r.holding.lines ls lines.each valid })
+    (record { loads = each_inserted r.loads reference amount (λ k n. IsTrue (is_name_text k) × (n ≤ most_amount)) (text, small) paid.loads; redemptions = paid.redemptions; collected = paid.collected })
     (λ d there. logged d (entry_here w p r s at h d there))
     h
 
 -- what is kept of redemptions
-pub redemptions_stay : (w : World) (p : Name) (r : Row) (q : State) (ls : List Line) (reference : Name) (amount : ℕ) → fmap.get w.rows p ≡ Some r → q.name ≡ p → IsPurse q → AreNumbered 1 (r.holding.lines ++ ls) → length (r.holding.lines ++ ls) ≡ q.lines
-    → ((d : Details) → has_logged r.holding.purse.log d ≡ true → has_logged q.log d ≡ true) → IsTrue (is_name_text reference) → amount ≤ 10 ^ 12
+pub redemptions_stay : (w : World) (p : Name) (r : Row) (q : State) (ls : List Line) (reference : Name) (amount : ℕ) → fmap.get w.rows p ≡ Some r → q.name ≡ p → IsPurse q → AreNumbered 1 (r.holding.lines ++ ls) → length (r.holding.lines ++ ls) ≡ q.lines → AllByRecursion IsLine ls
+    → ((d : Details) → has_logged r.holding.purse.log d ≡ true → has_logged q.log d ≡ true) → IsTrue (is_name_text reference) → amount ≤ most_amount
     → IsWorld w → IsWorld (set_row w p (with_redemption (with_lines r q ls) reference amount))
-redemptions_stay w p r q ls reference amount at name purse numbered counted logged text small h =
+redemptions_stay w p r q ls reference amount at name purse numbered counted valid logged text small h =
     let s : Row = with_redemption (with_lines r q ls) reference amount in
     let old : IsPurseRow w p r = h.purses.each p r at in
     let inbox = h.inboxes.each p r at in
+    let lines = h.lines.each p r at in
     let paid = h.payments.each p r at in
     set_world w p r s at refl
     (record { text = old.text; named = name; holder = old.holder; purse = purse })
-    (record { few = inbox.few; below = inbox.below; next = inbox.next })
-    (record { numbered = numbered; counted = counted })
+    (record { few = inbox.few; below = inbox.below; next = inbox.next; messages = inbox.messages })
+    (record { numbered = numbered; counted = counted; each = all_append IsLine r.holding.lines ls lines.each valid })
     (record {
       loads = paid.loads;
-      redemptions = each_inserted r.holding.redemptions reference amount (λ k n. IsTrue (is_name_text k) × (n ≤ 10 ^ 12)) (text, small) paid.redemptions;
+      redemptions = each_inserted r.holding.redemptions reference amount (λ k n. IsTrue (is_name_text k) × (n ≤ most_amount)) (text, small) paid.redemptions;
       collected = λ k there. still_some r.holding.redemptions reference amount k (paid.collected k there);
     })
     (λ d there. logged d (entry_here w p r s at h d there))
@@ -216,11 +222,11 @@ row_case w v p r true same is = record { text = is.text; named = is.named; holde
 row_case w v p r false same is = record { text = is.text; named = is.named; holder = subst (λ (hs : fmap.FinMap name_cmp Name). IsSome (fmap.get hs r.holder)) (sym same) is.holder; purse = is.purse }
 
 inbox_case : (r : Row) (b : Bool) → IsInbox r → IsInbox (cond b (with_collected r) r)
-inbox_case r true is = record { few = is.few; below = is.below; next = is.next }
+inbox_case r true is = record { few = is.few; below = is.below; next = is.next; messages = is.messages }
 inbox_case r false is = is
 
 lines_case : (r : Row) (b : Bool) → AreLines r → AreLines (cond b (with_collected r) r)
-lines_case r true is = record { numbered = is.numbered; counted = is.counted }
+lines_case r true is = record { numbered = is.numbered; counted = is.counted; each = is.each }
 lines_case r false is = is
 
 purse_case : (r : Row) (b : Bool) → (cond b (with_collected r) r).holding.purse ≡ r.holding.purse
@@ -236,7 +242,7 @@ still_there w m p (Some r) there = refl
 
 pub collect_stays : (w : World) (m : Name) → IsWorld w → IsWorld (all_collected w m)
 collect_stays w m h = record {
-  tokens = record { operator = h.tokens.operator; owners = h.tokens.owners; clerks = h.tokens.clerks; holders = h.tokens.holders; single = h.tokens.single };
+  tokens = record { operator_bytes = h.tokens.operator_bytes; bytes = h.tokens.bytes; operator = h.tokens.operator; owners = h.tokens.owners; clerks = h.tokens.clerks; holders = h.tokens.holders; single = h.tokens.single };
   members = record { named = h.members.named; granted = h.members.granted; floats = h.members.floats; holders = h.members.holders };
   purses = record {
     each = back w m (λ p r. IsPurseRow (all_collected w m) p r) (λ p r at. row_case w (all_collected w m) p r (is_of_member w m r) refl (h.purses.each p r at));
@@ -246,6 +252,7 @@ collect_stays w m h = record {
   lines = record { each = back w m (λ p r. AreLines r) (λ p r at. lines_case r (is_of_member w m r) (h.lines.each p r at)) };
   results = record {
     archived = λ p d there. subst IsSome (sym (get_collected w m p)) (still_there w m p (fmap.get w.rows p) (h.results.archived p d there));
+    details = h.results.details;
     logged = λ p d there.
         let x = h.results.logged p d there in
         (collect_row w m x.0, found_row w m p x.0 x.1, ap (λ (q : State). has_logged q.log d) (purse_case x.0 (is_of_member w m x.0)) ∙ x.2);

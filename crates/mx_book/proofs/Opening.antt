@@ -5,7 +5,7 @@ use Rattle.std.specs.Ordering.{nat_cmp}
 use Rattle.std.specs.FinMap as fmap
 use Rattle.std.specs.List.{sum_by}
 use Rattle.mx_pay.specs.Names.{name_cmp, is_name}
-use Rattle.mx_pay.specs.Tokens.{token_cmp}
+use Rattle.mx_pay.specs.Tokens.{token_cmp, IsToken}
 use Rattle.mx_book.specs.declared.values.MemberRow.{MemberRow}
 use Rattle.mx_book.specs.Sums.{sum_values}
 use Rattle.mx_book.specs.Under.{pair_cmp, remake}
@@ -20,7 +20,7 @@ use Rattle.mx_book.proofs.UnderLemmas.{get-remake, entries_empty}
 not_found : {V : Type 0} {X : Type 0} (o : Option V) (v : V) → o ≡ None → o ≡ Some v → X
 not_found o v none some = absurd (let e : None ≡ Some v = sym none ∙ some in cc)
 
-not_some : {V : Type 0} {X : Type 0} (o : Option V) → o ≡ None → IsSome o → X
+pub not_some : {V : Type 0} {X : Type 0} (o : Option V) → o ≡ None → IsSome o → X
 not_some o none some = absurd (let e : Bool.false ≡ Bool.true = subst IsSome none some in cc)
 
 remake-empty : {X Y : Type 0} (f : Name → X → Y) → remake f (fmap.empty {X = X} {R = name_cmp}) ≡ fmap.empty
@@ -33,9 +33,11 @@ none_granted t = ap (sum_by (λ (e : Name × MemberRow). e.1.granted)) (entries_
 pub none_held : (t : Token) (h : Name) → length (map (λ (e : Name × Row). e.0) (filter (λ (e : Name × Row). is_name h e.1.holder) (fmap.entries (opening t).rows))) ≡ 0
 none_held t h = ap (λ es. length (map (λ (e : Name × Row). e.0) (filter (λ (e : Name × Row). is_name h e.1.holder) es))) (entries_empty name_cmp)
 
-pub opening_is : (t : Token) → IsWorld (opening t)
-opening_is t = record {
+pub opening_is : (t : Token) → IsToken t → IsWorld (opening t)
+opening_is t whole = record {
   tokens = record {
+    operator_bytes = whole;
+    bytes = λ q c. not_found _ c (fmap.get-empty token_cmp q);
     operator = fmap.get-empty token_cmp t;
     owners = λ q c. not_found _ c (fmap.get-empty token_cmp q);
     clerks = λ m. not_some _ (fmap.get-empty name_cmp m);
@@ -56,14 +58,15 @@ opening_is t = record {
   lines = record { each = λ p r. not_found _ r (fmap.get-empty name_cmp p) };
   results = record {
     archived = λ p d. not_some _ (fmap.get-empty result_cmp (p, d));
+    details = λ p d. not_some _ (fmap.get-empty result_cmp (p, d));
     logged = λ p d. not_some _ (fmap.get-empty result_cmp (p, d));
     apart = λ p d. not_some _ (fmap.get-empty result_cmp (p, d));
   };
   payments = record { each = λ p r. not_found _ r (fmap.get-empty name_cmp p) };
 }
 
-pub opening_spelled : (t : Token) → Spells (opening_rows t) (opening t)
-opening_spelled t = record {
+pub opening_spelled : (t : Token) → IsToken t → Spells (opening_rows t) (opening t)
+opening_spelled t whole = record {
   spelled = record {
     world = ap (λ rows. record (opening t) { rows = rows }) (sym (remake-empty (row_of (opening_rows t))));
     proper = record {
@@ -73,10 +76,10 @@ opening_spelled t = record {
       redemptions = λ p k gone. fmap.get-empty (pair_cmp name_cmp name_cmp) (p, k);
     };
   };
-  sound = opening_is t;
+  sound = opening_is t whole;
 }
 
-pub opening_own : (t : Token) (r : Rows) → r ≡ opening_rows t → ∥ Spells r (world_of r) ∥₁
-opening_own t r is =
-    let own : Spells (opening_rows t) (world_of (opening_rows t)) = subst (λ (w : World). Spells (opening_rows t) w) (opening_spelled t).spelled.world (opening_spelled t) in
+pub opening_own : (t : Token) (r : Rows) → IsToken t → r ≡ opening_rows t → ∥ Spells r (world_of r) ∥₁
+opening_own t r whole is =
+    let own : Spells (opening_rows t) (world_of (opening_rows t)) = subst (λ (w : World). Spells (opening_rows t) w) (opening_spelled t whole).spelled.world (opening_spelled t whole) in
     ∣ subst (λ (z : Rows). Spells z (world_of z)) (sym is) own ∣₁

@@ -1,23 +1,29 @@
 -- What an operation of a purse, a message and a discard make of the World.
-use Rattle.std.proofs.Common.{◌≡◌, ℕ, ◌+◌, ◌<◌, Bool, true, false, cond, ◌&&◌, List, [], ◌∷◌, ◌++◌, length, append_assoc, refl, sym, ◌∙◌, ap, subst, Option, Some, None, IsSome}
-use Rattle.std.specs.Prelude.{◌^◌, nat_lt, IsSomeAnd, IsTrue}
+use Rattle.std.proofs.Common.{◌≡◌, ℕ, ◌+◌, ◌<◌, Bool, true, false, cond, List, [], ◌∷◌, ◌++◌, length, append_assoc, refl, sym, ◌∙◌, ap, subst, Option, Some, None, IsSome}
+use Rattle.std.proofs.lemmas.List.{append-nil}
+use Rattle.std.specs.Prelude.{nat_lt, IsSomeAnd, IsTrue}
+use Rattle.std.specs.List.{AllByRecursion}
 use Rattle.std.specs.FinMap as fmap
-use Rattle.std.proofs.lemmas.Bool.{ltb-true}
+use Rattle.std.proofs.lemmas.Bool.{ltb-true, and_parts}
+use Rattle.mx_book.specs.Limits.{most_messages, most_purses}
+use Rattle.mx_pay.specs.Limits.{most_number}
 use Rattle.mx_pay.specs.Names.{name_cmp, is_name, is_name_text}
 use Rattle.mx_pay.specs.Details.{Details}
 use Rattle.mx_pay.specs.Log.{has_logged}
 use Rattle.mx_purse.specs.State.{State, IsPurse}
+use Rattle.mx_pay.specs.Tokens.{IsToken}
 use Rattle.mx_purse.specs.declared.message.Message.{Message}
+use Rattle.mx_purse.specs.Messages.{IsMessage}
 use Rattle.mx_book.specs.declared.values.Line.{Line}
 use Rattle.mx_book.specs.World.{World, Row, Holding, Name, Token, set_row, change_row, changed_row, has_room, delivered, with_message, put}
 use Rattle.mx_book.specs.Reads.{purses_of}
-use Rattle.mx_book.specs.Conditions.{IsWorld, IsPurseRow, AreNumbered}
+use Rattle.mx_book.specs.Conditions.{IsWorld, IsPurseRow, IsLine, AreNumbered}
 use Rattle.mx_book.specs.declared.edits.Edit.{Edit}
 use Rattle.mx_book.specs.declared.edits.Edit.TheVariants.{NewMember, NewHolder, NewPurse, SetPurse, AddMessage, DropMessage, AddLine}
 use Rattle.mx_book.specs.Edits.{edited, all_edited, Suits, AllSuit}
 use Rattle.mx_book.proofs.NameLemmas.{names_total, names_exact, same_name, get-inserted}
 use Rattle.mx_book.proofs.FoundLemmas.{some_of}
-use Rattle.mx_book.proofs.LineLemmas.{numbered-append}
+use Rattle.mx_book.proofs.LineLemmas.{numbered-append, all_append}
 use Rattle.mx_book.proofs.KeepLemmas.{set_world, entry_here, member_world, holder_world, purse_world, message_world, dropped_world}
 
 -- ---- two writes at one key
@@ -74,10 +80,6 @@ abbrev pub line_edits : Name → List Line → List Edit
 line_edits p [] = []
 line_edits p (l ∷ ls) = AddLine p l ∷ line_edits p ls
 
-append_none : {X : Type 0} (xs : List X) → xs ++ [] ≡ xs
-append_none [] = refl
-append_none (x ∷ xs) = ap (λ ys. x ∷ ys) (append_none xs)
-
 -- the row with more lines
 abbrev more_lines : Row → List Line → Row
 more_lines r ls = record r { holding = record r.holding { lines = r.holding.lines ++ ls } }
@@ -86,7 +88,7 @@ line_leads : (w : World) (p : Name) (r : Row) (l : Line) → edited (set_row w p
 line_leads w p r l = change_set w p r (λ x. more_lines x (l ∷ []))
 
 lines_lead : (w : World) (p : Name) (r : Row) (ls : List Line) → all_edited (set_row w p r) (line_edits p ls) ≡ set_row w p (more_lines r ls)
-lines_lead w p r [] = ap (λ xs. set_row w p (record r { holding = record r.holding { lines = xs } })) (sym (append_none r.holding.lines))
+lines_lead w p r [] = ap (λ xs. set_row w p (record r { holding = record r.holding { lines = xs } })) (sym (append-nil r.holding.lines))
 lines_lead w p r (l ∷ ls) =
     ap (λ z. all_edited z (line_edits p ls)) (line_leads w p r l)
     ∙ lines_lead w p (more_lines r (l ∷ [])) ls
@@ -118,16 +120,17 @@ purse_suits w p r q ls at name numbered = (
   subst (λ (z : World). AllSuit z (line_edits p ls)) (sym (purse_leads_one w p r q at name)) (lines_suit w p (record r { holding = record r.holding { purse = q } }) ls numbered),
 )
 
-pub purse_stays : (w : World) (p : Name) (r : Row) (q : State) (ls : List Line) → fmap.get w.rows p ≡ Some r → q.name ≡ p → IsPurse q → AreNumbered 1 (r.holding.lines ++ ls) → length (r.holding.lines ++ ls) ≡ q.lines
+pub purse_stays : (w : World) (p : Name) (r : Row) (q : State) (ls : List Line) → fmap.get w.rows p ≡ Some r → q.name ≡ p → IsPurse q → AreNumbered 1 (r.holding.lines ++ ls) → length (r.holding.lines ++ ls) ≡ q.lines → AllByRecursion IsLine ls
     → ((d : Details) → has_logged r.holding.purse.log d ≡ true → has_logged q.log d ≡ true) → IsWorld w → IsWorld (set_row w p (with_lines r q ls))
-purse_stays w p r q ls at name purse numbered counted logged h =
+purse_stays w p r q ls at name purse numbered counted valid logged h =
     let old : IsPurseRow w p r = h.purses.each p r at in
     let inbox = h.inboxes.each p r at in
+    let lines = h.lines.each p r at in
     let paid = h.payments.each p r at in
     set_world w p r (with_lines r q ls) at refl
     (record { text = old.text; named = name; holder = old.holder; purse = purse })
-    (record { few = inbox.few; below = inbox.below; next = inbox.next })
-    (record { numbered = numbered; counted = counted })
+    (record { few = inbox.few; below = inbox.below; next = inbox.next; messages = inbox.messages })
+    (record { numbered = numbered; counted = counted; each = all_append IsLine r.holding.lines ls lines.each valid })
     (record { loads = paid.loads; redemptions = paid.redemptions; collected = paid.collected })
     (λ d there. logged d (entry_here w p r (with_lines r q ls) at h d there))
     h
@@ -137,14 +140,10 @@ numbered_more = numbered-append
 
 -- ---- a message
 
-both_of : (a b : Bool) → (a && b) ≡ true → (a ≡ true) × (b ≡ true)
-both_of true b h = (refl, h)
-both_of false b h = absurd (cc)
-
 -- where there is room, the inbox is below its limit and so is the next number
-room_is : (a : Holding) → has_room a ≡ true → (fmap.len a.inbox < 32) × (a.next_message < 10 ^ 15)
+room_is : (a : Holding) → has_room a ≡ true → (fmap.len a.inbox < most_messages) × (a.next_message < most_number)
 unfolding has_room
-room_is a room = let x = both_of (nat_lt (fmap.len a.inbox) 32) (nat_lt a.next_message (10 ^ 15)) room in (ltb-true _ _ x.0, ltb-true _ _ x.1)
+room_is a room = let x = and_parts (nat_lt (fmap.len a.inbox) most_messages) (nat_lt a.next_message most_number) room in (ltb-true _ _ x.0, ltb-true _ _ x.1)
 
 put_there : (w : World) (p : Name) (m : Message) (r : Row) (b : Bool) → fmap.get w.rows p ≡ Some r → has_room r.holding ≡ b → put w p m ≡ set_row w p (record r { holding = cond b (delivered r.holding m) r.holding })
 put_there w p m r b at room = change_there w p (λ x. record x { holding = with_message x.holding m }) r at ∙ ap (λ c. set_row w p (record r { holding = cond c (delivered r.holding m) r.holding })) room
@@ -154,7 +153,7 @@ pub put_leads : (w : World) (p : Name) (m : Message) (r : Row) → fmap.get w.ro
 put_leads w p m r at room = change_there w p (λ x. record x { holding = delivered x.holding m }) r at ∙ sym (put_there w p m r true at room)
 
 pub put_suits : (w : World) (p : Name) (m : Message) (r : Row) → fmap.get w.rows p ≡ Some r → has_room r.holding ≡ true → Suits w (AddMessage p m)
-put_suits w p m r at room = subst (λ (o : Option Row). IsSomeAnd o (λ x. (fmap.len x.holding.inbox < 32) × (x.holding.next_message < 10 ^ 15))) (sym at) (room_is r.holding room)
+put_suits w p m r at room = subst (λ (o : Option Row). IsSomeAnd o (λ x. (fmap.len x.holding.inbox < most_messages) × (x.holding.next_message < most_number))) (sym at) (room_is r.holding room)
 
 -- one that finds no place vanishes, and so does one for a purse that isn't there
 pub put_vanishes : (w : World) (p : Name) (m : Message) (r : Row) → fmap.get w.rows p ≡ Some r → has_room r.holding ≡ false → put w p m ≡ w
@@ -163,16 +162,16 @@ put_vanishes w p m r at room = put_there w p m r false at room ∙ set_same w p 
 pub put_nowhere : (w : World) (p : Name) (m : Message) → fmap.get w.rows p ≡ None → put w p m ≡ w
 put_nowhere w p m gone = ap (changed_row w p (λ x. record x { holding = with_message x.holding m })) gone
 
-stays_in : (w : World) (p : Name) (m : Message) (r : Row) → fmap.get w.rows p ≡ Some r → (b : Bool) → has_room r.holding ≡ b → IsWorld w → IsWorld (put w p m)
-stays_in w p m r at true room h = let few = room_is r.holding room in subst IsWorld (put_leads w p m r at room) (message_world w p m r at few.0 few.1 h)
-stays_in w p m r at false room h = subst IsWorld (sym (put_vanishes w p m r at room)) h
+stays_in : (w : World) (p : Name) (m : Message) (r : Row) → IsMessage m → fmap.get w.rows p ≡ Some r → (b : Bool) → has_room r.holding ≡ b → IsWorld w → IsWorld (put w p m)
+stays_in w p m r valid at true room h = let few = room_is r.holding room in subst IsWorld (put_leads w p m r at room) (message_world w p m r valid at few.0 few.1 h)
+stays_in w p m r valid at false room h = subst IsWorld (sym (put_vanishes w p m r at room)) h
 
-stays_at : (w : World) (p : Name) (m : Message) (o : Option Row) → fmap.get w.rows p ≡ o → IsWorld w → IsWorld (put w p m)
-stays_at w p m None at h = subst IsWorld (sym (put_nowhere w p m at)) h
-stays_at w p m (Some r) at h = stays_in w p m r at (has_room r.holding) refl h
+stays_at : (w : World) (p : Name) (m : Message) (o : Option Row) → IsMessage m → fmap.get w.rows p ≡ o → IsWorld w → IsWorld (put w p m)
+stays_at w p m None valid at h = subst IsWorld (sym (put_nowhere w p m at)) h
+stays_at w p m (Some r) valid at h = stays_in w p m r valid at (has_room r.holding) refl h
 
-pub put_stays : (w : World) (p : Name) (m : Message) → IsWorld w → IsWorld (put w p m)
-put_stays w p m h = stays_at w p m (fmap.get w.rows p) refl h
+pub put_stays : (w : World) (p : Name) (m : Message) → IsMessage m → IsWorld w → IsWorld (put w p m)
+put_stays w p m valid h = stays_at w p m (fmap.get w.rows p) valid refl h
 
 -- ---- a discard
 
@@ -191,11 +190,11 @@ discard_stays w p n r at h = subst IsWorld (discard_leads w p n r at) (dropped_w
 
 -- ---- what is new
 
-pub member_stays : (w : World) (m : Name) (t : Token) → Suits w (NewMember m t) → IsTrue (is_name_text m) → IsWorld w → IsWorld (edited w (NewMember m t))
-member_stays w m t suits text h = member_world w m t suits text h
+pub member_stays : (w : World) (m : Name) (t : Token) → Suits w (NewMember m t) → IsTrue (is_name_text m) → IsToken t → IsWorld w → IsWorld (edited w (NewMember m t))
+member_stays w m t suits text whole h = member_world w m t suits text whole h
 
-pub holder_stays : (w : World) (g m : Name) (t : Token) → Suits w (NewHolder g m t) → IsTrue (is_name_text g) → IsWorld w → IsWorld (edited w (NewHolder g m t))
-holder_stays w g m t suits text h = holder_world w g m t suits text h
+pub holder_stays : (w : World) (g m : Name) (t : Token) → Suits w (NewHolder g m t) → IsTrue (is_name_text g) → IsToken t → IsWorld w → IsWorld (edited w (NewHolder g m t))
+holder_stays w g m t suits text whole h = holder_world w g m t suits text whole h
 
-pub new_purse_stays : (w : World) (p g : Name) → Suits w (NewPurse p g) → IsTrue (is_name_text p) → length (purses_of w g) < 64 → IsWorld w → IsWorld (edited w (NewPurse p g))
+pub new_purse_stays : (w : World) (p g : Name) → Suits w (NewPurse p g) → IsTrue (is_name_text p) → length (purses_of w g) < most_purses → IsWorld w → IsWorld (edited w (NewPurse p g))
 new_purse_stays w p g suits text room h = purse_world w p g suits text room h

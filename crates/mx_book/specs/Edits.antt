@@ -1,6 +1,8 @@
 -- What edits make of a World, and when they fit it.
-use Rattle.std.specs.Prelude.{◌≡◌, ◌<◌, ◌^◌, List, [], ◌∷◌, ◌++◌, None, IsSome, IsNone, IsSomeAnd}
+use Rattle.std.specs.Prelude.{◌≡◌, ◌<◌, List, [], ◌∷◌, ◌++◌, None, IsSome, IsNone, IsSomeAnd}
 use Rattle.std.specs.FinMap as fmap
+use Rattle.mx_book.specs.Limits.{most_messages}
+use Rattle.mx_pay.specs.Limits.{most_number}
 use Rattle.mx_book.specs.declared.values.Caller.TheVariants.{Clerk, Holder}
 use Rattle.mx_book.specs.declared.edits.Edit.{Edit}
 use Rattle.mx_book.specs.declared.edits.Edit.TheVariants.{NewMember, SetMember, NewHolder, NewPurse, SetPurse, AddMessage, DropMessage, AddLine, AddLoad, AddRedemption, Collect}
@@ -30,7 +32,7 @@ Suits w (SetMember m granted float) = IsSome (fmap.get w.members m)
 Suits w (NewHolder h m t) = IsNone (fmap.get w.holders h) × IsSome (fmap.get w.members m) × IsNone (who_of w t)
 Suits w (NewPurse p h) = (fmap.get w.rows p ≡ None) × IsSome (fmap.get w.holders h)
 Suits w (SetPurse q) = IsSome (fmap.get w.rows q.name)
-Suits w (AddMessage p m) = IsSomeAnd (fmap.get w.rows p) (λ r. (fmap.len r.holding.inbox < 32) × (r.holding.next_message < 10 ^ 15))
+Suits w (AddMessage p m) = IsSomeAnd (fmap.get w.rows p) (λ r. (fmap.len r.holding.inbox < most_messages) × (r.holding.next_message < most_number))
 Suits w (DropMessage p n) = IsSomeAnd (fmap.get w.rows p) (λ r. IsSome (fmap.get r.holding.inbox n))
 Suits w (AddLine p l) = IsSomeAnd (fmap.get w.rows p) (λ r. AreNumbered 1 (r.holding.lines ++ l ∷ []))
 Suits w (AddLoad p reference amount) = IsSomeAnd (fmap.get w.rows p) (λ r. IsNone (fmap.get r.loads reference))

@@ -1,7 +1,8 @@
 -- What edits make of rows.
-use Rattle.std.specs.Prelude.{Bool, ◌||◌, ◌+◌, ◌<◌, ◌^◌, List, [], ◌∷◌, Option, Some, None}
+use Rattle.std.specs.Prelude.{Bool, ◌||◌, ◌+◌, ◌<◌, List, [], ◌∷◌, Option, Some, None}
 use Rattle.std.specs.Option.{ForSome}
 use Rattle.std.specs.FinMap as fmap
+use Rattle.mx_pay.specs.Limits.{most_number}
 use Rattle.mx_pay.specs.Names.{name_cmp}
 use Rattle.mx_purse.specs.State.{new_purse}
 use Rattle.mx_book.specs.declared.values.Caller.TheVariants.{Clerk, Holder}
@@ -52,7 +53,7 @@ all_rewritten r (e ∷ es) = all_rewritten (rewritten r e) es
 
 -- what a write of the rows needs: a next message number can rise
 abbrev pub Able : Rows → Edit → Type 0
-Able r (AddMessage p m) = ForSome (fmap.get r.purses p) (λ x. x.next_message < 10 ^ 15)
+Able r (AddMessage p m) = ForSome (fmap.get r.purses p) (λ x. x.next_message < most_number)
 Able r e = Unit {0}
 
 -- and so for edits, in order

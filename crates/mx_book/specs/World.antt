@@ -1,8 +1,10 @@
 -- The World: everything that the office keeps.
-use Rattle.std.specs.Prelude.{ℕ, ◌+◌, ◌^◌, nat_lt, ◌&&◌, Bool, if◌then◌else◌, List, [], Option, Some, None}
+use Rattle.std.specs.Prelude.{ℕ, ◌+◌, nat_lt, ◌&&◌, Bool, if◌then◌else◌, List, [], Option, Some, None}
 use Rattle.std.specs.Ordering.{nat_cmp}
 use Rattle.std.specs.FinMap as fmap
 use Rattle.std.specs.FinSet.{FinSet}
+use Rattle.mx_book.specs.Limits.{most_messages}
+use Rattle.mx_pay.specs.Limits.{most_number}
 use Rattle.mx_pay.specs.Names.{name_cmp, is_name}
 use Rattle.mx_pay.specs.Tokens.{token_cmp}
 use Rattle.mx_pay.specs.Details.{Details, details_cmp}
@@ -73,7 +75,7 @@ new_row holder name = record { holder = holder; holding = new_holding name; load
 
 -- whether a message finds a place in the inbox of an account
 unfoldable pub has_room : Holding → Bool
-has_room a = nat_lt (fmap.len a.inbox) 32 && nat_lt a.next_message (10 ^ 15)
+has_room a = nat_lt (fmap.len a.inbox) most_messages && nat_lt a.next_message most_number
 
 -- an account with a message under its next number, which rises by one
 abbrev pub delivered : Holding → Message → Holding

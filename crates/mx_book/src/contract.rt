@@ -150,4 +150,7 @@ pub trait Book {
 
     /// What is spelled meets the conditions of a World.
     ghost sound: { (r : Rows) (w : World) → spells r w → IsWorld w };
+
+    /// Rows spell one World at most.
+    ghost single: { (r : Rows) (v w : World) → spells r v → spells r w → v ≡ w };
 }

@@ -95,6 +95,7 @@ pub enum Edit {
 }
 
 /// A name, for the edit that fills a place that no edit takes.
+#[tactic(auto, unfolding(mx_pay::specs::Names::is_name_text))]
 fn some_name() -> Name {
     match Name::read("none") {
         Some(name) => name,

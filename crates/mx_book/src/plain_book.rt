@@ -2,7 +2,7 @@
 ghost use Rattle.mx_book.specs.World.{opening};
 ghost use Rattle.mx_book.specs.Rows.{Rows as Kept, world_of};
 ghost use Rattle.mx_book.specs.Shelves.{rows_of};
-ghost use Rattle.mx_book.specs.Spells.{Spells};
+ghost use Rattle.mx_book.specs.Spells.{Spells, one_world};
 
 use crate::contract::{Book, StoreFault};
 use crate::edits::Edit;
@@ -25,6 +25,8 @@ impl PlainBook {
     pub fn new(alloc: Global, operator: Token) -> PlainBook
         ensures { ⟦<PlainBook as Book>⟧.spells (⟦<PlainBook as Book>⟧.rows result) (opening operator) }
     {
+        // The reader says that the token has its bytes.
+        let _bytes = operator.as_bytes();
         PlainBook {
             shelves: Shelves::new(alloc, operator),
         }
@@ -132,4 +134,6 @@ impl Book for PlainBook {
     }
 
     ghost sound = { λ r w h. h.sound };
+
+    ghost single = { one_world };
 }

@@ -2,6 +2,12 @@
 use mx_pay::{Amount, Name, PayDetails};
 use mx_purse::Purse;
 
+/// How many messages an inbox holds at most.
+pub const MOST_MESSAGES: usize = 32;
+
+/// How many purses a holder has at most.
+pub const MOST_PURSES: usize = 64;
+
 /// Who asks.
 #[derive(Clone, Copy, Debug)]
 pub enum Caller {

@@ -9,6 +9,7 @@ use Rattle.json.specs.Print.{escape, escape_byte}
 use Rattle.serde_json.specs.Data.{Data, string, object, member, no_members}
 use Rattle.serde_json.specs.Written.{compact_text}
 use Rattle.serde_json.proofs.OnLiterals.{serde_json_on_literals}
+use Rattle.mx_pay.proofs.Texts.{name_bytes}
 use Rattle.mx_pay.specs.Names.{is_name_byte, is_name_text}
 use Rattle.mx_purse.specs.State.{State}
 use Rattle.mx_purse.specs.declared.status.Status.{Status}
@@ -31,7 +32,7 @@ bytes_plain (b ∷ bs) h =
     rw (first, rest) refl
 
 pub name_plain : (bs : List ℕ) → is_name_text bs ≡ true → escape bs ≡ bs
-name_plain bs h = bytes_plain bs (and_parts _ _ (and_parts _ _ h).1).1
+name_plain bs h = bytes_plain bs (name_bytes bs h)
 
 pub status_plain : (s : Status) → escape (status_text s) ≡ status_text s
 unfolding escape_byte

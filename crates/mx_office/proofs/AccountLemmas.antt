@@ -1,5 +1,5 @@
 -- What a command makes of a purse and its lines, and the edits that lead there.
-use Rattle.std.proofs.Common.{◌≡◌, ℕ, ◌+◌, Bool, true, false, cond, List, [], ◌∷◌, ◌++◌, Option, Some, None, refl, sym, ◌∙◌, ap, subst, arith, length, length-append, map, option_and_then}
+use Rattle.std.proofs.Common.{◌≡◌, ℕ, ◌+◌, Bool, true, false, cond, List, [], ◌∷◌, ◌++◌, Option, Some, None, refl, sym, ◌∙◌, ap, subst, arith, length, length-append, map}
 use Rattle.std.proofs.lemmas.Option.{cond_some}
 use Rattle.std.specs.FinMap as fmap
 use Rattle.mx_pay.specs.Names.{is_name}
@@ -11,10 +11,11 @@ use Rattle.mx_book.specs.declared.edits.Edit.{Edit}
 use Rattle.mx_book.specs.declared.edits.Edit.TheVariants.{SetPurse, AddLine}
 use Rattle.mx_book.specs.declared.values.Line.{Line}
 use Rattle.mx_book.specs.World.{World, Row, Holding, Name, has_room, set_row, change_holding}
-use Rattle.mx_book.specs.Conditions.{IsWorld, AreNumbered}
+use Rattle.std.specs.List.{AllByRecursion}
+use Rattle.mx_purse.specs.Messages.{IsMessage}
+use Rattle.mx_book.specs.Conditions.{IsWorld, AreNumbered, IsLine}
 use Rattle.mx_book.specs.Reads.{from_row}
 use Rattle.mx_book.specs.Edits.{AllSuit, all_edited}
-use Rattle.mx_book.proofs.FoundLemmas.{inside}
 use Rattle.mx_book.proofs.NameLemmas.{names_total, same_name}
 use Rattle.mx_book.proofs.PurseLemmas.{with_lines, line_edits, change_there, set_same, edits_append, suits_append, purse_leads, purse_suits, purse_stays, put_leads, put_suits, put_stays, put_vanishes, put_nowhere}
 use Rattle.mx_office.specs.declared.values.Decided.{Decided}
@@ -90,19 +91,25 @@ puts : (w : World) (sent : Option (Name × Message)) → Puts w sent (put_edits 
 puts w None = record { suits = tt; leads = refl }
 puts w (Some m) = put_case w m.0 m.1 (fmap.get w.rows m.0) refl
 
-sent_stays : (w : World) (sent : Option (Name × Message)) → IsWorld w → IsWorld (put_sent w sent)
-sent_stays w None h = h
-sent_stays w (Some m) h = put_stays w m.0 m.1 h
+-- a message that is sent is within its limits
+abbrev pub IsSent : Option (Name × Message) → Type 0
+IsSent None = Unit {0}
+IsSent (Some m) = IsMessage m.1
+
+sent_stays : (w : World) (sent : Option (Name × Message)) → IsSent sent → IsWorld w → IsWorld (put_sent w sent)
+sent_stays w None valid h = h
+sent_stays w (Some m) valid h = put_stays w m.0 m.1 valid h
 
 -- ---- a purse that changes
 
--- the purse after an operation, with its lines, is one that the World can have: the lines are numbered on, and
--- counted, and what was logged is still
+-- the purse after an operation, with its lines, is one that the World can have: the lines are numbered on, counted and
+-- within their limits, and what was logged is still
 pub record Follows (p q : State) (ls : List Line) : Type 0 where
   pub name : q.name ≡ p.name
   pub whole : IsPurse q
   pub numbered : AreNumbered (p.lines + 1) ls
   pub counted : q.lines ≡ p.lines + length ls
+  pub valid : AllByRecursion IsLine ls
   pub logged : (d : Details) → has_logged p.log d ≡ true → has_logged q.log d ≡ true
 
 pub numbered_after : (j k : ℕ) (ls ms : List Line) → k ≡ j + length ls → AreNumbered j ls → AreNumbered k ms → AreNumbered j (ls ++ ms)
@@ -149,9 +156,9 @@ module _ (w : World) (g p : Name) (before : State) (own : IsOwn w g p before) (q
   unfolding has_room
   same_places sent = placed_kept w p own.row (with_lines own.row q ls) sent own.at refl
 
-  pub changed_decides : (f : Holding → Deed Holding) (r : Reply) (sent : Option (Name × Message)) (d : Decided) → f own.row.holding ≡ record { state = with_purse own.row.holding q line; reply = r; sent = sent }
+  pub changed_decides : (f : Holding → Deed Holding) (r : Reply) (sent : Option (Name × Message)) (d : Decided) → IsSent sent → f own.row.holding ≡ record { state = with_purse own.row.holding q line; reply = r; sent = sent }
       → d.reply ≡ r → d.edits ≡ purse_edits q line (placed w sent) → Decides w (on_own w g p f) d
-  changed_decides f r sent d f_is reply_is edits_is =
+  changed_decides f r sent d valid f_is reply_is edits_is =
       let next = is_next w p (λ x. is_name g x.holder) before own q ls h follows in
       let first : List Edit = SetPurse q ∷ line_edits p ls in
       let last : List Edit = put_edits (placed w sent) in
@@ -160,5 +167,5 @@ module _ (w : World) (g p : Name) (before : State) (own : IsOwn w g p before) (q
       edits_decide w changed (on_own w g p f) r sent (first ++ last) d (own_there w g p before own f ∙ ap (in_place (λ b. set_row w p (record own.row { holding = b }))) f_is)
       (suits_append w first last (purse_suits w p own.row q ls own.at next.named next.numbered) (subst (λ x. AllSuit x last) (sym lead) here.suits))
       (edits_append w first last ∙ ap (λ x. all_edited x last) lead ∙ here.leads)
-      (sent_stays changed sent (purse_stays w p own.row q ls own.at next.named follows.whole next.numbered next.counted next.logged h))
+      (sent_stays changed sent valid (purse_stays w p own.row q ls own.at next.named follows.whole next.numbered next.counted follows.valid next.logged h))
       reply_is (edits_is ∙ ap (λ es. es ++ last) next.edits)

@@ -1,20 +1,17 @@
 -- A change of a holder's own of a purse keeps the balance equation.
-use Rattle.std.proofs.Common.{◌≡◌, ℕ, ◌+◌, Bool, true, false, cond, refl, sym, ◌∙◌, ap, subst, Option, Some, None, IsSome, option_and_then, arith}
+use Rattle.std.proofs.Common.{◌≡◌, ℕ, ◌+◌, Bool, true, false, cond, refl, sym, ◌∙◌, ap, subst, Option, Some, None, IsSome, arith}
 use Rattle.std.specs.FinMap as fmap
-use Rattle.mx_pay.specs.Names.{is_name}
 use Rattle.mx_purse.specs.declared.message.Message.{Message}
 use Rattle.mx_book.specs.Sums.{sum_entries, sum_values}
 use Rattle.mx_book.specs.Reads.{uncollected_row}
 use Rattle.mx_book.specs.World.{World, Row, Holding, Name, set_row, changed_row, change_holding, has_room, delivered, with_message}
-use Rattle.mx_book.proofs.FoundLemmas.{inside, none_some, still_some}
-use Rattle.mx_book.proofs.NameLemmas.{names_total}
+use Rattle.mx_book.proofs.FoundLemmas.{none_some, still_some}
 use Rattle.mx_book.proofs.PurseLemmas.{change_there}
-use Rattle.mx_book.proofs.SumLemmas.{value_of, sum_values-insert}
 use Rattle.mx_office.specs.declared.values.Refusal.TheVariants.{NoSuchPurse}
 use Rattle.mx_office.specs.Balance.{issued_row, redeemed_row}
-use Rattle.mx_office.specs.Step.{Deed, Asks, on_found, in_place, owned_holding, own_holding, on_world, put_sent}
+use Rattle.mx_office.specs.Step.{Deed, Asks, on_found, in_place, own_holding, on_world, put_sent}
 use Rattle.mx_office.proofs.BalanceLemmas.{IsAccounted, IsRow, left_row, set_accounted}
-use Rattle.mx_office.proofs.EntrySumLemmas.{sum_entries-insert}
+use Rattle.mx_office.proofs.EntrySumLemmas.{sum_entries-new, sum_values-new}
 use Rattle.mx_office.proofs.OwnLemmas.{is_owned}
 use Rattle.mx_office.proofs.RuleLemmas.{Redeems, Same, More, Keeps, EachKeeps}
 
@@ -46,18 +43,11 @@ module _ (w : World) (p : Name) (r : Row) (b : Holding) (at : fmap.get w.rows p 
 
   more_money : (reference : Name) (amount : ℕ) → fmap.get r.holding.redemptions reference ≡ None → b.redemptions ≡ fmap.insert r.holding.redemptions reference amount → left_row changed + redeemed_row r ≡ left_row r + redeemed_row changed
   more_money reference amount gone is =
-      let e1 : sum_entries (λ k n. cond (fmap.contains_key r.collected k) 0 n) (fmap.insert r.holding.redemptions reference amount)
-      + value_of (λ n. cond (fmap.contains_key r.collected reference) 0 n) (fmap.get r.holding.redemptions reference)
-      ≡ uncollected_row r + cond (fmap.contains_key r.collected reference) 0 amount =
-      sum_entries-insert (λ k n. cond (fmap.contains_key r.collected k) 0 n) r.holding.redemptions reference amount in
-      let e2 : uncollected_row changed ≡ sum_entries (λ k n. cond (fmap.contains_key r.collected k) 0 n) (fmap.insert r.holding.redemptions reference amount) = ap (sum_entries (λ k n. cond (fmap.contains_key r.collected k) 0 n)) is in
-      let e3 : value_of (λ n. cond (fmap.contains_key r.collected reference) 0 n) (fmap.get r.holding.redemptions reference) ≡ 0 = ap (value_of (λ n. cond (fmap.contains_key r.collected reference) 0 n)) gone in
-      let e4 : cond (fmap.contains_key r.collected reference) 0 amount ≡ amount = ap (λ c. cond c 0 amount) (not_collected reference gone (fmap.contains_key r.collected reference) refl) in
-      let e5 : sum_values (λ n. n) (fmap.insert r.holding.redemptions reference amount) + value_of (λ n. n) (fmap.get r.holding.redemptions reference) ≡ redeemed_row r + amount =
-      sum_values-insert names_total (λ n. n) r.holding.redemptions reference amount in
-      let e6 : redeemed_row changed ≡ sum_values (λ n. n) (fmap.insert r.holding.redemptions reference amount) = ap (sum_values (λ n. n)) is in
-      let e7 : value_of (λ n. n) (fmap.get r.holding.redemptions reference) ≡ 0 = ap (value_of (λ n. n)) gone in
-      omega (arith, e1, e2, e3, e4, e5, e6, e7)
+      let open_amount : Name → ℕ → ℕ = λ k n. cond (fmap.contains_key r.collected k) 0 n in
+      let e1 : uncollected_row changed ≡ uncollected_row r + cond (fmap.contains_key r.collected reference) 0 amount = ap (sum_entries open_amount) is ∙ sum_entries-new open_amount r.holding.redemptions reference amount gone in
+      let e2 : cond (fmap.contains_key r.collected reference) 0 amount ≡ amount = ap (λ c. cond c 0 amount) (not_collected reference gone (fmap.contains_key r.collected reference) refl) in
+      let e3 : redeemed_row changed ≡ redeemed_row r + amount = ap (sum_values (λ n. n)) is ∙ sum_values-new (λ n. n) r.holding.redemptions reference amount gone in
+      omega (arith, e1, e2, e3)
 
   account_accounted : Redeems r.holding b → IsAccounted (set_row w p changed)
   account_accounted (Same same) = set_accounted w p changed r at refl (same_money same) (stays_row same) h

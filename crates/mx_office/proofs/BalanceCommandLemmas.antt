@@ -1,23 +1,19 @@
 -- Each command keeps the balance equation.
 use Rattle.std.proofs.Common.{◌≡◌, ℕ, ◌+◌, ◌-◌, ◌≤◌, Bool, true, false, cond, List, [], ◌∷◌, refl, sym, ◌∙◌, ap, subst, Option, Some, None, IsSome, is_some, option_and_then, option_map, arith}
-use Rattle.std.specs.Prelude.{nat_lt, is_none, not}
-use Rattle.std.specs.Option.{option_map_or}
+use Rattle.std.specs.Prelude.{nat_lt, is_none}
 use Rattle.std.specs.FinMap as fmap
 use Rattle.mx_pay.specs.Names.{name_cmp}
 use Rattle.mx_purse.specs.Operations.{load_refusal}
-use Rattle.mx_purse.specs.State.{State}
 use Rattle.mx_book.specs.declared.values.Caller.{Caller}
 use Rattle.mx_book.specs.declared.values.Caller.TheVariants.{Operator, Clerk, Holder}
-use Rattle.mx_book.specs.declared.values.Line.{Line}
 use Rattle.mx_book.specs.declared.values.MemberRow.{MemberRow}
 use Rattle.mx_book.specs.Sums.{sum_entries, sum_values}
 use Rattle.mx_book.specs.Reads.{uncollected_row, uncollected_of}
-use Rattle.mx_book.specs.World.{World, Row, Holding, Name, Token, is_of, is_of_member, with_collected, all_collected, set_row, change_row, new_row, opening}
+use Rattle.mx_book.specs.World.{World, Row, Holding, Name, Token, is_of, is_of_member, with_collected, all_collected, set_row, new_row, opening}
 use Rattle.mx_book.proofs.FoundLemmas.{inside}
 use Rattle.mx_book.proofs.MapLemmas.{get-pick}
 use Rattle.mx_book.proofs.NameLemmas.{names_total, names_exact, same_name}
 use Rattle.mx_book.proofs.PurseLemmas.{change_there}
-use Rattle.mx_book.proofs.SumLemmas.{value_of, sum_values-insert}
 use Rattle.mx_book.proofs.UnderLemmas.{get-remake}
 use Rattle.mx_office.specs.declared.values.Command.{Command}
 use Rattle.mx_office.specs.declared.values.Command.TheVariants.{NewMember, Grant, NewHolder, NewPurse, Load, Collect}
@@ -26,12 +22,12 @@ use Rattle.mx_office.specs.declared.values.Reply.{Reply}
 use Rattle.mx_office.specs.declared.values.Reply.TheVariants as reply
 use Rattle.mx_office.specs.Balance.{IsBalanced, issued_row, redeemed_row, is_chosen, of_purses}
 use Rattle.mx_office.specs.Reachable.{IsReachable}
-use Rattle.mx_office.specs.Step.{Deed, Asked, tell, unless, unless_told, idle, with_purse, asks, new_member, new_member_refusal, new_holder, new_holder_refusal, new_purse, new_purse_refusal, change_member, grant, grant_refusal, loaded_holding, loaded_row, loaded_world, load_of_float_refusal, idle_load_at, idle_load, collect, collect_refusal, base, step, steps}
-use Rattle.mx_office.proofs.OwnLemmas.{absent, present, none_refused}
+use Rattle.mx_office.specs.Step.{Deed, Asked, tell, unless, unless_told, idle, asks, new_member, new_member_refusal, new_holder, new_holder_refusal, new_purse, new_purse_refusal, change_member, grant, grant_refusal, loaded_holding, loaded_row, loaded_world, new_load_refusal, idle_load_at, idle_load, collect, collect_refusal, base, step, steps}
+use Rattle.mx_office.proofs.OwnLemmas.{absent, present, none_refused, of_there, change_to}
 use Rattle.mx_office.proofs.BalanceLemmas.{Choice, IsAccounted, IsRow, left, right, left_row, counted, is_counted, none_counts, same_change, with_member, left_member, right_member, new_member_accounted, left_set, right_set, rows_stay, new_row_accounted, new_holder_accounted, opening_accounted, is_balanced}
 use Rattle.mx_office.proofs.BalanceAccountLemmas.{asks_accounted, sent_accounted}
 use Rattle.mx_office.proofs.RuleLemmas.{new_reference, each_rule}
-use Rattle.mx_office.proofs.EntrySumLemmas.{sum_entries-same, sum_entries-add, sum_entries-empty, sum_values-empty, sum_values-zero, sum_values-remake, values_are}
+use Rattle.mx_office.proofs.EntrySumLemmas.{sum_entries-same, sum_entries-add, sum_entries-empty, sum_values-empty, sum_values-zero, sum_values-remake, sum_values-new, values_are}
 
 -- ---- refusals
 
@@ -52,21 +48,14 @@ holder_accounted w m h t is = unless_accounted w (new_holder_refusal w m h t) _ 
     let new = new_holder_accounted w h m (absent _ (none_refused _ _ _ (none_refused _ _ _ e).1).0) is in
     record { equal = new.equal; rows = new.rows })
 
-there_of : (m : Name) (o : Option Name) → not (is_of m o) ≡ false → IsSome o
-there_of m None e = cc
-there_of m (Some x) e = refl
-
 purse_accounted : (w : World) (m p h : Name) → IsAccounted w → IsAccounted (new_purse w m p h).state
 purse_accounted w m p h is = unless_accounted w (new_purse_refusal w m p h) _ is (λ e.
     new_row_accounted w p (new_row h p) (absent _ (none_refused _ _ _ (none_refused _ _ _ e).1).0)
     (sum_entries-empty (λ k n. cond (fmap.contains_key fmap.empty k) 0 n)) (sum_values-empty (λ n. n)) (sum_values-empty (λ n. n))
-    (record { holder = there_of m _ (none_refused _ _ _ e).0; collected = λ k t. absurd (let f : true ≡ false = sym t ∙ ap is_some (fmap.get-empty name_cmp k) in cc) })
+    (record { holder = of_there m _ (none_refused _ _ _ e).0; collected = λ k t. absurd (let f : true ≡ false = sym t ∙ ap is_some (fmap.get-empty name_cmp k) in cc) })
     is)
 
 -- ---- a grant
-
-change_to : (w : World) (m : Name) (f : MemberRow → MemberRow) (row : MemberRow) → fmap.get w.members m ≡ Some row → change_member w m f ≡ with_member w m (f row)
-change_to w m f row at = ap (λ o. option_map_or (λ x. let v : World = record w { members = fmap.insert w.members m (f x) } in v) o w) at
 
 granted_accounted : (w : World) (m : Name) (amount : ℕ) (row : MemberRow) → fmap.get w.members m ≡ Some row → IsAccounted w
     → IsAccounted (change_member w m (λ x. record { granted = x.granted + amount; float = x.float + amount }))
@@ -102,7 +91,7 @@ enough_case amount float before x o r false t e = grind arith
 
 module _ (w : World) (m p : Name) (amount : ℕ) (reference : Name) where
   owned_case : (r : Row) (member : MemberRow) (b : Bool) (x : Reply) → fmap.get w.rows p ≡ Some r → fmap.get w.members m ≡ Some member → is_of_member w m r ≡ b
-      → cond b (idle (fmap.get r.loads reference) amount reply.Loaded (load_of_float_refusal member r amount)) (Some x) ≡ None → IsLoad w m p amount reference
+      → cond b (idle (fmap.get r.loads reference) amount reply.Loaded (new_load_refusal member r amount)) (Some x) ≡ None → IsLoad w m p amount reference
   owned_case r member false x at there t e = cc
   owned_case r member true x at there t e = record {
     row = r;
@@ -159,9 +148,8 @@ module _ (w : World) (m p : Name) (amount : ℕ) (reference : Name) (load : IsLo
   new_left : left_row new ≡ left_row load.row + amount
   new_left =
       let e1 : uncollected_row new ≡ uncollected_row load.row = ap (sum_entries (λ k n. cond (fmap.contains_key load.row.collected k) 0 n)) redemptions in
-      let e2 : issued_row new + value_of (λ n. n) (fmap.get load.row.loads reference) ≡ issued_row load.row + amount = sum_values-insert names_total (λ n. n) load.row.loads reference amount in
-      let e3 : value_of (λ n. n) (fmap.get load.row.loads reference) ≡ 0 = ap (value_of (λ n. n)) load.fresh in
-      omega (arith, e1, e2, e3)
+      let e2 : issued_row new ≡ issued_row load.row + amount = sum_values-new (λ n. n) load.row.loads reference amount load.fresh in
+      omega (arith, e1, e2)
 
   new_right : redeemed_row new ≡ redeemed_row load.row
   new_right = ap (sum_values (λ n. n)) redemptions

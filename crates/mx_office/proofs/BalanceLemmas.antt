@@ -10,7 +10,7 @@ use Rattle.mx_book.proofs.FoundLemmas.{value_found, none_found, kept_value, each
 use Rattle.mx_book.proofs.NameLemmas.{names_total}
 use Rattle.mx_book.proofs.SumLemmas.{value_of, sum_values-insert}
 use Rattle.mx_office.specs.Balance.{IsBalanced, IsMemberBalanced, issued_row, redeemed_row, is_chosen, of_members, of_purses}
-use Rattle.mx_office.proofs.EntrySumLemmas.{sum_entries-insert, sum_entries-one, sum_entries-empty, sum_values-same, sum_values-empty}
+use Rattle.mx_office.proofs.EntrySumLemmas.{sum_entries-insert, sum_entries-new, sum_values-new, sum_entries-one, sum_entries-empty, sum_values-same, sum_values-empty}
 
 -- a choice of members
 abbrev pub Choice : Type 0
@@ -88,10 +88,9 @@ module _ (w : World) (m : Name) (row : MemberRow) where
   module _ (gone : fmap.get w.members m ≡ None) where
     member_new : (chosen : Choice) (f : MemberRow → ℕ) → f row ≡ 0 → of_members with_member chosen f ≡ of_members w chosen f
     member_new chosen f zero =
-        let set : of_members with_member chosen f + value_of (λ x. cond (chosen m) (f x) 0) (fmap.get w.members m) ≡ of_members w chosen f + cond (chosen m) (f row) 0 = members_set chosen f in
-        let old : value_of (λ x. cond (chosen m) (f x) 0) (fmap.get w.members m) ≡ 0 = ap (value_of (λ x. cond (chosen m) (f x) 0)) gone in
+        let set : of_members with_member chosen f ≡ of_members w chosen f + cond (chosen m) (f row) 0 = sum_entries-new (λ k x. cond (chosen k) (f x) 0) w.members m row gone in
         let new : cond (chosen m) (f row) 0 ≡ 0 = ap (λ n. cond (chosen m) n 0) zero ∙ none_counts (chosen m) in
-        omega (arith, set, old, new)
+        omega (arith, set, new)
 
     pub new_member_accounted : row.float ≡ 0 → row.granted ≡ 0 → IsAccounted w → IsAccounted with_member
     new_member_accounted float granted h = record {
@@ -140,10 +139,9 @@ module _ (w : World) (p : Name) (s : Row) where
   module _ (gone : fmap.get w.rows p ≡ None) where
     row_new : (chosen : Choice) (f : Row → ℕ) → f s ≡ 0 → of_purses (set_row w p s) chosen f ≡ of_purses w chosen f
     row_new chosen f zero =
-        let set : of_purses (set_row w p s) chosen f + value_of (counted w chosen f) (fmap.get w.rows p) ≡ of_purses w chosen f + counted w chosen f s = rows_set chosen f in
-        let old : value_of (counted w chosen f) (fmap.get w.rows p) ≡ 0 = ap (value_of (counted w chosen f)) gone in
+        let set : of_purses (set_row w p s) chosen f ≡ of_purses w chosen f + counted w chosen f s = sum_values-new (counted w chosen f) w.rows p s gone in
         let new : counted w chosen f s ≡ 0 = ap (λ n. cond (is_counted w chosen s) n 0) zero ∙ none_counts (is_counted w chosen s) in
-        omega (arith, set, old, new)
+        omega (arith, set, new)
 
     pub new_row_accounted : uncollected_row s ≡ 0 → issued_row s ≡ 0 → redeemed_row s ≡ 0 → IsRow w.holders s → IsAccounted w → IsAccounted (set_row w p s)
     new_row_accounted uncollected issued redeemed new h = record {

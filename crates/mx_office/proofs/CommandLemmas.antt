@@ -1,44 +1,52 @@
 -- Each command of a holder on a purse: its decision is the step's.
-use Rattle.std.proofs.Common.{◌≡◌, ℕ, ◌+◌, Bool, true, false, cond, List, [], ◌∷◌, ◌++◌, Option, Some, None, Result, Ok, Err, refl, sym, ◌∙◌, ap, subst, arith, length, length-append, is_some, is_none, option_map, IsTrue, ◌≤◌, ◌^◌}
-use Rattle.std.specs.Prelude.{◌||◌, ◌==◌}
+use Rattle.std.proofs.Common.{Bool, ◌≡◌, ℕ, ◌+◌, true, false, cond, List, [], ◌∷◌, ◌++◌, Option, Some, None, Ok, Err, refl, sym, ◌∙◌, ap, subst, arith, length, length-append, is_some, is_none, option_map, IsTrue, ◌≤◌, ◌^◌}
+use Rattle.std.specs.Prelude.{◌==◌}
+use Rattle.std.proofs.lemmas.Bool.{or_right}
 use Rattle.std.specs.FinMap as fmap
 use Rattle.mx_pay.specs.Names.{is_name, is_name_text}
 use Rattle.mx_pay.specs.Details.{Details, is_details}
 use Rattle.mx_pay.specs.Log.{Entries, has_logged}
 use Rattle.mx_pay.proofs.SameLemmas.{has-with_entry}
-use Rattle.mx_purse.specs.State.{State, IsPurse}
+use Rattle.mx_purse.specs.State.{State, IsPurse, details_of}
 use Rattle.mx_purse.specs.declared.status.Status.{Status}
 use Rattle.mx_purse.specs.declared.message.Message.{Message}
+use Rattle.mx_purse.specs.declared.message.Message.TheVariants.{Req, Val, Ack}
 use Rattle.mx_purse.specs.declared.message.Handled.{Handled}
 use Rattle.mx_purse.specs.declared.message.Handled.TheVariants as took
 use Rattle.mx_purse.specs.declared.refusals.StartRefusal.{StartRefusal}
 use Rattle.mx_purse.specs.declared.refusals.RedeemRefusal.{RedeemRefusal}
-use Rattle.mx_purse.specs.Operations.{or_refused, unless_refused, pending, with_pending, lines_with, aborted, started, handled, after_message, sent_for, redeem_refusal, redeemed}
+use Rattle.mx_purse.specs.Operations.{or_refused, unless_refused, pending, with_pending, lines_with, aborted, started, expects_req, expects_val, expects_ack, handled, after_message, sent_for, redeem_refusal, redeemed}
 use Rattle.mx_purse.proofs.OperationLemmas.{aborted_is, after_message_is, after_message_name, redeemed_is}
-use Rattle.mx_book.specs.declared.edits.Edit.{Edit}
 use Rattle.mx_book.specs.declared.edits.Edit.TheVariants.{SetPurse, DropMessage, AddRedemption}
 use Rattle.mx_book.specs.declared.values.Line.{Line}
+use Rattle.mx_book.specs.declared.values.LineKind.{LineKind}
 use Rattle.mx_book.specs.declared.values.LineKind.TheVariants as kind
 use Rattle.mx_book.specs.World.{World, Row, Holding, Name, set_row}
-use Rattle.mx_book.specs.Conditions.{IsWorld, AreNumbered}
+use Rattle.std.specs.List.{AllByRecursion}
+use Rattle.std.specs.Prelude.{IfSome}
+use Rattle.mx_pay.specs.Limits.{most_amount, most_number}
+use Rattle.mx_pay.specs.Details.{IsDetails}
+use Rattle.mx_purse.specs.Messages.{IsMessage}
+use Rattle.mx_purse.proofs.OperationLemmas.{pending_valid}
+use Rattle.mx_book.specs.Conditions.{IsWorld, AreNumbered, IsLine}
 use Rattle.mx_book.specs.Reads.{from_row, inbox_of, message_of, redemption_of}
 use Rattle.mx_book.proofs.MoneyLemmas.{with_redemption, redemptions_stay, redemption_leads, redemption_suits}
 use Rattle.mx_book.proofs.PurseLemmas.{with_lines, line_edits, discard_leads, discard_suits, discard_stays}
 use Rattle.mx_office.specs.declared.values.Decided.{Decided}
+use Rattle.mx_office.specs.declared.values.Reply.{Reply}
 use Rattle.mx_office.specs.declared.values.Reply.TheVariants as reply
-use Rattle.mx_office.specs.declared.values.Refusal.{Refusal}
 use Rattle.mx_office.specs.declared.values.Refusal.TheVariants.{NoSuchMessage, RefReused}
-use Rattle.mx_office.specs.Step.{Deed, tell, unless, unless_told, on_found, in_place, idle, refusal_of_start, refusal_of_redeem, abort_line, message_line, money_line, listed, with_aborted, show, inbox, discard, abort, handle, handle_message, redeem, on_own}
+use Rattle.mx_office.specs.Step.{Deed, tell, unless, on_found, in_place, refusal_of_start, refusal_of_redeem, abort_line, payment_line, message_line, money_line, listed, with_aborted, inbox, discard, abort, handle, handle_message, redeem, on_own}
 use Rattle.mx_office.specs.Decides.{Decides, own_purse, placed, purse_edits, redeem_edits}
 use Rattle.mx_office.proofs.DecideLemmas.{edits_decide, edit_decides}
-use Rattle.mx_office.proofs.AccountLemmas.{IsOwn, Follows, is_own, own_there, own_told, numbered_after, is_next, changed_decides}
+use Rattle.mx_office.proofs.AccountLemmas.{IsOwn, IsSent, Follows, is_own, own_there, own_told, numbered_after, is_next, changed_decides}
 use Rattle.mx_office.proofs.OwnLemmas.{gone, present}
 
 -- ---- what is read
 
-pub show_decides : (w : World) (h p : Name) (q : State) (d : Decided) → IsWorld w → own_purse w h p ≡ Some q → d.reply ≡ reply.Shown q → d.edits ≡ [] → Decides w (on_own w h p show) d
-unfolding show
-show_decides w h p q d is e = let own = is_own w h p q e in own_told w h p q own show (reply.Shown q) d is (ap (λ x. tell own.row.holding (reply.Shown x)) own.purse)
+-- a rule that tells what the purse says, and changes nothing
+pub purse_told : (w : World) (h p : Name) (q : State) (f : Holding → Deed Holding) (r : Reply) (d : Decided) → IsWorld w → own_purse w h p ≡ Some q → ((a : Holding) → a.purse ≡ q → f a ≡ tell a r) → d.reply ≡ r → d.edits ≡ [] → Decides w (on_own w h p f) d
+purse_told w h p q f r d is e f_is = let own = is_own w h p q e in own_told w h p q own f r d is (f_is own.row.holding own.purse)
 
 pub inbox_decides : (w : World) (h p : Name) (d : Decided) → IsWorld w → is_none (own_purse w h p) ≡ false → d.reply ≡ reply.Inbox (inbox_of w p) → d.edits ≡ [] → Decides w (on_own w h p inbox) d
 unfolding inbox
@@ -93,10 +101,42 @@ message_log p (took.Val d) = refl
 message_log p (took.Ack d) = refl
 message_log p took.Ignored = refl
 
-message_follows : (p : State) (m : Message) → IsPurse p → Follows p (after_message p (handled p m)) (listed (message_line (after_message p (handled p m)) (handled p m)))
-message_follows p m is =
+-- what is handled has the details of its message
+abbrev IsTaken : Handled → Type 0
+IsTaken (took.Req d) = IsDetails d
+IsTaken (took.Val d) = IsDetails d
+IsTaken (took.Ack d) = IsDetails d
+IsTaken took.Ignored = Unit {0}
+
+taken_case : (b : Bool) (x : Handled) → IsTaken x → IsTaken (cond b x took.Ignored)
+taken_case true x valid = valid
+taken_case false x valid = tt
+
+taken_valid : (p : State) (m : Message) → IsMessage m → IsTaken (handled p m)
+taken_valid p (Req d) valid = taken_case (expects_req p.status d) (took.Req d) valid
+taken_valid p (Val d) valid = taken_case _ (took.Val d) valid
+taken_valid p (Ack d) valid = taken_case (expects_ack p.status d) (took.Ack d) valid
+
+payment_valid : (q : State) (k : LineKind) (d : Details) → q.balance ≤ most_number → IsDetails d → IsLine (payment_line q k d)
+payment_valid q k d balance valid = record { amount = valid.value; balance = balance; note = valid }
+
+message_line_valid : (q : State) (x : Handled) → q.balance ≤ most_number → IsTaken x → AllByRecursion IsLine (listed (message_line q x))
+message_line_valid q (took.Req d) balance valid = (payment_valid q _ d balance valid, tt)
+message_line_valid q (took.Val d) balance valid = (payment_valid q _ d balance valid, tt)
+message_line_valid q (took.Ack d) balance valid = tt
+message_line_valid q took.Ignored balance valid = tt
+
+sent_valid : (x : Handled) → IsTaken x → IsSent (sent_for x)
+sent_valid (took.Req d) valid = valid
+sent_valid (took.Val d) valid = valid
+sent_valid (took.Ack d) valid = tt
+sent_valid took.Ignored valid = tt
+
+message_follows : (p : State) (m : Message) → IsPurse p → IsMessage m → Follows p (after_message p (handled p m)) (listed (message_line (after_message p (handled p m)) (handled p m)))
+message_follows p m is valid =
     let x = handled p m in
-    record { name = after_message_name p x; whole = after_message_is p m is; numbered = (message_numbered p x).0; counted = (message_numbered p x).1; logged = λ d there. ap (λ log. has_logged log d) (message_log p x) ∙ there }
+    let whole = after_message_is p m is in
+    record { name = after_message_name p x; whole = whole; numbered = (message_numbered p x).0; counted = (message_numbered p x).1; valid = message_line_valid (after_message p x) x whole.balance (taken_valid p m valid); logged = λ d there. ap (λ log. has_logged log d) (message_log p x) ∙ there }
 
 -- a purse that is found is whole
 whole : (w : World) (h p : Name) (q : State) → IsWorld w → IsOwn w h p q → IsPurse q
@@ -110,29 +150,31 @@ handle_decides w h p n q after m x d is e message x_is after_is reply_is edits_i
     let own = is_own w h p q e in
     let y = handled q m in
     let now = after_message q y in
-    changed_decides w h p q own now (message_line now y) is (message_follows q m (whole w h p q is own)) (handle n) (reply.Handled y) (sent_for y) d
-    (ap (λ o. on_found own.row.holding NoSuchMessage o (handle_message own.row.holding)) (message_at w p n own.row (Some m) own.at message) ∙ rw own.purse refl)
+    let there : fmap.get own.row.holding.inbox n ≡ Some m = message_at w p n own.row (Some m) own.at message in
+    let valid : IsMessage m = (is.inboxes.each p own.row own.at).messages n m there in
+    changed_decides w h p q own now (message_line now y) is (message_follows q m (whole w h p q is own) valid) (handle n) (reply.Handled y) (sent_for y) d (sent_valid y (taken_valid q m valid))
+    (ap (λ o. on_found own.row.holding NoSuchMessage o (handle_message own.row.holding)) there ∙ rw own.purse refl)
     (reply_is ∙ ap reply.Handled x_is) (edits_is ∙ (λ i. purse_edits (after_is i) (message_line (after_is i) (x_is i)) (placed w (sent_for (x_is i)))))
 
 -- ---- aborts and starts
 
 logged_case : (log : Entries) (o : Option Details) (d : Details) → has_logged log d ≡ true → has_logged (with_pending log o) d ≡ true
 logged_case log None d there = there
-logged_case log (Some e) d there = has-with_entry log e d ∙ ap (λ b. is_details d e || b) there ∙ or_true (is_details d e)
-  where
-    or_true : (b : Bool) → b || true ≡ true
-    or_true true = refl
-    or_true false = refl
+logged_case log (Some e) d there = has-with_entry log e d ∙ or_right (is_details d e) (has_logged log d) there
 
 abort_numbered : (p q : State) (o : Option Details) → q.lines ≡ lines_with p.lines o → AreNumbered (p.lines + 1) (listed (abort_line q o)) × (q.lines ≡ p.lines + length (listed (abort_line q o)))
 abort_numbered p q None is = (tt, omega (arith, is))
 abort_numbered p q (Some d) is = ((is, tt), omega (arith, is))
 
+abort_line_valid : (q : State) (o : Option Details) → q.balance ≤ most_number → IfSome o IsDetails → AllByRecursion IsLine (listed (abort_line q o))
+abort_line_valid q None balance valid = tt
+abort_line_valid q (Some d) balance valid = (payment_valid q _ d balance valid, tt)
+
 -- what an abort leaves follows the purse, and so does what a start makes of it
-abort_follows : (p q : State) → q.name ≡ p.name → q.lines ≡ (aborted p).lines → q.log ≡ (aborted p).log → IsPurse q → Follows p q (listed (abort_line q (pending p.status)))
-abort_follows p q name lines log is =
+abort_follows : (p q : State) → IsPurse p → q.name ≡ p.name → q.lines ≡ (aborted p).lines → q.log ≡ (aborted p).log → IsPurse q → Follows p q (listed (abort_line q (pending p.status)))
+abort_follows p q old name lines log is =
     let next = abort_numbered p q (pending p.status) lines in
-    record { name = name; whole = is; numbered = next.0; counted = next.1; logged = λ d there. ap (λ l. has_logged l d) log ∙ logged_case p.log (pending p.status) d there }
+    record { name = name; whole = is; numbered = next.0; counted = next.1; valid = abort_line_valid q (pending p.status) is.balance (pending_valid p.status old.details); logged = λ d there. ap (λ l. has_logged l d) log ∙ logged_case p.log (pending p.status) d there }
 
 pub abort_decides : (w : World) (h p : Name) (q after : State) (d : Decided) → IsWorld w → own_purse w h p ≡ Some q → after ≡ aborted q
     → d.reply ≡ reply.Aborted (is_some (pending q.status)) → d.edits ≡ purse_edits after (abort_line after (pending q.status)) None → Decides w (on_own w h p abort) d
@@ -140,8 +182,8 @@ unfolding abort
 abort_decides w h p q after d is e after_is reply_is edits_is =
     let own = is_own w h p q e in
     let now = aborted q in
-    changed_decides w h p q own now (abort_line now (pending q.status)) is (abort_follows q now refl refl refl (aborted_is q (whole w h p q is own)))
-    abort (reply.Aborted (is_some (pending q.status))) None d (rw own.purse refl) reply_is (edits_is ∙ ap (λ x. purse_edits x (abort_line x (pending q.status)) None) after_is)
+    changed_decides w h p q own now (abort_line now (pending q.status)) is (abort_follows q now (whole w h p q is own) refl refl refl (aborted_is q (whole w h p q is own)))
+    abort (reply.Aborted (is_some (pending q.status))) None d tt (rw own.purse refl) reply_is (edits_is ∙ ap (λ x. purse_edits x (abort_line x (pending q.status)) None) after_is)
 
 -- what an operation with no output answers
 abbrev pub nothing : Unit {0}
@@ -163,7 +205,7 @@ same_answer (Some r) a x e = absurd (cc)
 -- a start from a purse or to one, by its guards, its status and its details
 module _ (w : World) (h p : Name) (q : State) (f : Holding → Deed Holding) (o : Option StartRefusal) (status : Status) (details : Details) (sent : Details → Option (Name × Message))
     (f_is : (a : Holding) → a.purse ≡ q → f a ≡ unless a (option_map refusal_of_start o) (record { state = with_aborted a (started q status); reply = reply.Started details; sent = sent details }))
-    (d : Decided) (is : IsWorld w) (e : own_purse w h p ≡ Some q) where
+    (sent_is : IfSome (details_of status) IsDetails → IsSent (sent details)) (d : Decided) (is : IsWorld w) (e : own_purse w h p ≡ Some q) where
   abbrev done : Holding → Deed Holding
   done a = record { state = with_aborted a (started q status); reply = reply.Started details; sent = sent details }
 
@@ -172,15 +214,17 @@ module _ (w : World) (h p : Name) (q : State) (f : Holding → Deed Holding) (o 
       let own = is_own w h p q e in
       own_told w h p q own f (reply.Refused (refusal_of_start r)) d is (f_is own.row.holding own.purse ∙ ap (λ x. unless own.row.holding (option_map refusal_of_start x) (done own.row.holding)) (is_refused o details r refused))
 
-  pub start_decides : (o ≡ None → IsPurse q → IsPurse (started q status)) → (after : State) (x : Details) → or_refused o details ≡ Ok x → after ≡ unless_refused o q (started q status)
+  pub start_decides : (after : State) (x : Details) → IsPurse after → or_refused o details ≡ Ok x → after ≡ unless_refused o q (started q status)
       → d.reply ≡ reply.Started x → d.edits ≡ purse_edits after (abort_line after (pending q.status)) (placed w (sent x)) → Decides w (on_own w h p f) d
-  start_decides stays after x accepted after_is reply_is edits_is =
+  start_decides after x stays accepted after_is reply_is edits_is =
       let own = is_own w h p q e in
       let free = not_refused o details x accepted in
       let now = started q status in
       let now_is : after ≡ now = after_is ∙ ap (λ y. unless_refused y q now) free in
       let x_is : x ≡ details = sym (same_answer o details x accepted) in
-      changed_decides w h p q own now (abort_line now (pending q.status)) is (abort_follows q now refl refl refl (stays free (whole w h p q is own))) f (reply.Started details) (sent details) d
+      let purse = whole w h p q is own in
+      let next = subst IsPurse now_is stays in
+      changed_decides w h p q own now (abort_line now (pending q.status)) is (abort_follows q now purse refl refl refl next) f (reply.Started details) (sent details) d (sent_is next.details)
       (f_is own.row.holding own.purse ∙ ap (λ y. unless own.row.holding (option_map refusal_of_start y) (done own.row.holding)) free ∙ rw own.purse refl)
       (reply_is ∙ ap reply.Started x_is) (edits_is ∙ (λ i. purse_edits (now_is i) (abort_line (now_is i) (pending q.status)) (placed w (sent (x_is i)))))
 
@@ -189,15 +233,22 @@ module _ (w : World) (h p : Name) (q : State) (f : Holding → Deed Holding) (o 
 redemption_at : (w : World) (p reference : Name) (r : Row) (o : Option ℕ) → fmap.get w.rows p ≡ Some r → redemption_of w p reference ≡ o → fmap.get r.holding.redemptions reference ≡ o
 redemption_at w p reference r o at is = sym (ap (from_row None (λ (x : Row). fmap.get x.holding.redemptions reference)) at) ∙ is
 
-redeem_follows : (p : State) (amount : ℕ) (reference : Name) → IsPurse p → redeem_refusal p amount ≡ None
+-- lines that are each within their limits, end to end
+both_valid : (ls ms : List Line) → AllByRecursion IsLine ls → AllByRecursion IsLine ms → AllByRecursion IsLine (ls ++ ms)
+both_valid [] ms all more = more
+both_valid (l ∷ ls) ms all more = (all.0, both_valid ls ms all.1 more)
+
+redeem_follows : (p : State) (amount : ℕ) (reference : Name) → IsPurse p → IsTrue (is_name_text reference) → amount ≤ most_amount → redeem_refusal p amount ≡ None
     → Follows p (redeemed p amount) (listed (abort_line (aborted p) (pending p.status)) ++ money_line (redeemed p amount) kind.Redeemed amount reference ∷ [])
-redeem_follows p amount reference is free =
+redeem_follows p amount reference is text small free =
     let logged_lines = listed (abort_line (aborted p) (pending p.status)) in
-    let rest = abort_follows p (aborted p) refl refl refl (aborted_is p is) in
+    let rest = abort_follows p (aborted p) is refl refl refl (aborted_is p is) in
+    let next = redeemed_is p amount is free in
     let lines = rest.counted in
     record {
       name = refl;
-      whole = redeemed_is p amount is free;
+      whole = next;
+      valid = both_valid logged_lines _ rest.valid (record { amount = small; balance = next.balance; note = text }, tt);
       numbered = numbered_after (p.lines + 1) ((aborted p).lines + 1) logged_lines _ (omega (arith, lines)) rest.numbered (refl, tt);
       counted = omega (arith, lines, length-append logged_lines (money_line (redeemed p amount) kind.Redeemed amount reference ∷ []));
       logged = rest.logged;
@@ -218,7 +269,7 @@ module _ (w : World) (h p : Name) (amount : ℕ) (reference : Name) (q : State) 
       let own = is_own w h p q e in
       own_told w h p q own (redeem amount reference) (reply.Refused (refusal_of_redeem x)) d is (rw (redemption_at w p reference own.row None own.at new, own.purse, is_refused (redeem_refusal q amount) _ x refused) refl)
 
-  pub redeem_made : (rested after : State) → redemption_of w p reference ≡ None → IsTrue (is_name_text reference) → amount ≤ 10 ^ 12
+  pub redeem_made : (rested after : State) → redemption_of w p reference ≡ None → IsTrue (is_name_text reference) → amount ≤ most_amount
       → or_refused (redeem_refusal q amount) nothing ≡ Ok nothing → after ≡ unless_refused (redeem_refusal q amount) q (redeemed q amount) → rested ≡ aborted q
       → d.reply ≡ reply.Redeemed → d.edits ≡ redeem_edits after (abort_line rested (pending q.status)) amount reference → Decides w (on_own w h p (redeem amount reference)) d
   unfolding redeem
@@ -228,7 +279,7 @@ module _ (w : World) (h p : Name) (amount : ℕ) (reference : Name) (q : State) 
       let now : State = redeemed q amount in
       let now_is : after ≡ now = after_is ∙ ap (λ o. unless_refused o q now) free in
       let ls : List Line = listed (abort_line (aborted q) (pending q.status)) ++ money_line now kind.Redeemed amount reference ∷ [] in
-      let follows = redeem_follows q amount reference (whole w h p q is own) free in
+      let follows = redeem_follows q amount reference (whole w h p q is own) text small free in
       let next = is_next w p (λ r. is_name h r.holder) q own now ls is follows in
       let fresh = redemption_at w p reference own.row None own.at new in
       let v : World = set_row w p (with_redemption (with_lines own.row now ls) reference amount) in
@@ -236,7 +287,7 @@ module _ (w : World) (h p : Name) (amount : ℕ) (reference : Name) (q : State) 
       (own_there w h p q own (redeem amount reference) ∙ rw (fresh, own.purse, free) refl)
       (redemption_suits w p own.row now ls reference amount own.at next.named next.numbered fresh)
       (redemption_leads w p own.row now ls reference amount own.at next.named)
-      (redemptions_stay w p own.row now ls reference amount own.at next.named follows.whole next.numbered next.counted next.logged text small is)
+      (redemptions_stay w p own.row now ls reference amount own.at next.named follows.whole next.numbered next.counted follows.valid next.logged text small is)
       reply_is
       (edits_is ∙ (λ i. redeem_edits (now_is i) (abort_line (rested_is i) (pending q.status)) amount reference)
       ∙ (λ i. next.edits i ++ AddRedemption (next.named i) reference amount ∷ []))

@@ -1,9 +1,12 @@
 -- A decision is the step's: its reply, and edits that fit and lead to its World.
-use Rattle.std.proofs.Common.{◌≡◌, ℕ, ◌<◌, ◌≤◌, ◌^◌, Bool, true, false, cond, List, [], ◌∷◌, Option, Some, None, refl, sym, ◌∙◌, ap, subst, arith, length, IsSome, IsNone, IsTrue, is_some, is_none, not, option_map, option_and_then}
+use Rattle.std.proofs.Common.{◌≡◌, ℕ, ◌<◌, ◌≤◌, ◌^◌, Bool, true, false, cond, List, [], ◌∷◌, Option, Some, None, refl, sym, ◌∙◌, ap, subst, arith, length, IsSome, IsTrue, is_some, is_none, not, option_map, option_and_then}
+use Rattle.mx_pay.specs.Limits.{most_number}
+use Rattle.mx_book.specs.Limits.{most_purses, most_messages}
 use Rattle.std.specs.Prelude.{nat_le, nat_lt, ◌&&◌}
 use Rattle.std.proofs.lemmas.Bool.Decides.{nat_tests}
 use Rattle.std.proofs.lemmas.Option.{cond_some}
 use Rattle.std.specs.FinMap as fmap
+use Rattle.mx_pay.specs.Tokens.{IsToken}
 use Rattle.mx_pay.specs.Names.{is_name_text}
 use Rattle.mx_purse.specs.declared.message.Message.{Message}
 use Rattle.mx_book.specs.declared.edits.Edit.{Edit}
@@ -20,8 +23,8 @@ use Rattle.mx_office.specs.declared.values.Decided.{Decided}
 use Rattle.mx_office.specs.declared.values.Refusal.{Refusal}
 use Rattle.mx_office.specs.declared.values.Reply.{Reply}
 use Rattle.mx_office.specs.declared.values.Reply.TheVariants.{Added, Refused}
-use Rattle.mx_office.specs.Step.{Deed, tell, put_sent, first_refusal, unless, new_member, new_holder, new_purse}
-use Rattle.mx_office.proofs.OwnLemmas.{absent, present, next, none_left}
+use Rattle.mx_office.specs.Step.{Deed, tell, put_sent, unless, new_member, new_holder, new_purse}
+use Rattle.mx_office.proofs.OwnLemmas.{absent, present, of_there, next, none_left}
 use Rattle.mx_office.specs.Decides.{Decides, finds_place, purse_count}
 
 -- ---- decisions
@@ -59,19 +62,19 @@ holder_given w h b is = sym (holder_case _ (fmap.get w.holders h)) ∙ is
 
 -- ---- new members, holders and purses
 
-pub new_member_decides : (w : World) (m : Name) (t : Token) (d : Decided) → IsWorld w → IsTrue (is_name_text m) → is_some (fmap.get w.members m) ≡ false → is_some (who_of w t) ≡ false → d.reply ≡ Added → d.edits ≡ NewMember m t ∷ [] → Decides w (new_member w m t) d
-new_member_decides w m t d h text no_member no_token reply edits =
+pub new_member_decides : (w : World) (m : Name) (t : Token) (d : Decided) → IsWorld w → IsTrue (is_name_text m) → IsToken t → is_some (fmap.get w.members m) ≡ false → is_some (who_of w t) ≡ false → d.reply ≡ Added → d.edits ≡ NewMember m t ∷ [] → Decides w (new_member w m t) d
+new_member_decides w m t d h text bytes no_member no_token reply edits =
     let suits : Suits w (NewMember m t) = (no_member, no_token) in
     edit_decides w (new_member w m t) (NewMember m t) Added d
     (ap (λ o. unless w o (tell (edited w (NewMember m t)) Added)) (next _ _ _ _ no_member (next _ _ _ _ no_token none_left)))
-    suits (member_stays w m t suits text h) reply edits
+    suits (member_stays w m t suits text bytes h) reply edits
 
-pub new_holder_decides : (w : World) (m h : Name) (t : Token) (d : Decided) → IsWorld w → IsTrue (is_name_text h) → is_none (fmap.get w.members m) ≡ false → is_some (fmap.get w.holders h) ≡ false → is_some (who_of w t) ≡ false → d.reply ≡ Added → d.edits ≡ NewHolder h m t ∷ [] → Decides w (new_holder w m h t) d
-new_holder_decides w m h t d is text member no_holder no_token reply edits =
+pub new_holder_decides : (w : World) (m h : Name) (t : Token) (d : Decided) → IsWorld w → IsTrue (is_name_text h) → IsToken t → is_none (fmap.get w.members m) ≡ false → is_some (fmap.get w.holders h) ≡ false → is_some (who_of w t) ≡ false → d.reply ≡ Added → d.edits ≡ NewHolder h m t ∷ [] → Decides w (new_holder w m h t) d
+new_holder_decides w m h t d is text bytes member no_holder no_token reply edits =
     let suits : Suits w (NewHolder h m t) = (no_holder, ap is_some (present _ member).1, no_token) in
     edit_decides w (new_holder w m h t) (NewHolder h m t) Added d
     (ap (λ o. unless w o (tell (edited w (NewHolder h m t)) Added)) (next _ _ _ _ member (next _ _ _ _ no_holder (next _ _ _ _ no_token none_left))))
-    suits (holder_stays w h m t suits text is) reply edits
+    suits (holder_stays w h m t suits text bytes is) reply edits
 
 -- what the count of a holder's purses tells
 held_none : (b : Bool) (k : ℕ) → cond b (Some k) None ≡ None → not b ≡ true
@@ -87,13 +90,8 @@ a_holder w m h n e = ap not (cond_some _ _ n e).0
 pub held_count : (w : World) (m h : Name) (n : ℕ) → purse_count w m h ≡ Some n → n ≡ length (purses_of w h)
 held_count w m h n e = sym (cond_some _ _ n e).1
 
-pub many_held : (w : World) (m h : Name) (n : ℕ) (b : Bool) → purse_count w m h ≡ Some n → nat_le 64 n ≡ b → nat_le 64 (length (purses_of w h)) ≡ b
-many_held w m h n b e is = ap (nat_le 64) (sym (held_count w m h n e)) ∙ is
-
--- a holder that is of a member is there
-of_there : (m : Name) (o : Option Name) → not (is_of m o) ≡ false → IsSome o
-of_there m None f = absurd (cc)
-of_there m (Some x) f = refl
+pub many_held : (w : World) (m h : Name) (n : ℕ) (b : Bool) → purse_count w m h ≡ Some n → nat_le most_purses n ≡ b → nat_le most_purses (length (purses_of w h)) ≡ b
+many_held w m h n b e is = ap (nat_le most_purses) (sym (held_count w m h n e)) ∙ is
 
 -- a purse is given exactly where it is there, since its holder is
 account_case : (w : World) (p : Name) (o : Option Row) → fmap.get w.rows p ≡ o → IsWorld w → is_some (option_and_then (λ (r : Row). option_map (account_with r) (fmap.get w.holders r.holder)) o) ≡ is_some o
@@ -108,39 +106,31 @@ pub purse_given : (w : World) (p : Name) (b : Bool) → IsWorld w → is_some (a
 purse_given w p b h is = sym (account_case w p (fmap.get w.rows p) refl h) ∙ is
 
 -- the test of two conditions, by the first of them
-test_second : (a b c : Bool) → a ≡ true → a && b ≡ c → b ≡ c
-test_second true b c t e = e
-test_second false b c t e = absurd (cc)
+pub few_held : (n : ℕ) (b c : Bool) → n < most_messages → nat_lt n most_messages && b ≡ c → b ≡ c
+few_held n b c lt is = let few : nat_lt n most_messages ≡ true = grind (arith, nat_tests, lt) in rw few at is
 
-test_first : (a b c : Bool) → a ≡ false → a && b ≡ c → a ≡ c
-test_first true b c f e = absurd (cc)
-test_first false b c f e = e
-
-pub few_held : (n : ℕ) (b c : Bool) → n < 32 → nat_lt n 32 && b ≡ c → b ≡ c
-few_held n b c lt = test_second (nat_lt n 32) b c (grind (arith, nat_tests, lt))
-
-pub many_messages : (n : ℕ) (b c : Bool) → 32 ≤ n → nat_lt n 32 && b ≡ c → nat_lt n 32 ≡ c
-many_messages n b c le = test_first (nat_lt n 32) b c (grind (arith, nat_tests, le))
+pub many_messages : (n : ℕ) (b c : Bool) → most_messages ≤ n → nat_lt n most_messages && b ≡ c → nat_lt n most_messages ≡ c
+many_messages n b c le is = let many : nat_lt n most_messages ≡ false = grind (arith, nat_tests, le) in many ∙ rw many at is
 
 -- what a book gives of a purse tells of its row
-pub given_room : (w : World) (p : Name) (a : given.Account) → account_of w p ≡ Some a → nat_lt a.held 32 && nat_lt a.next_message (10 ^ 15) ≡ finds_place w p
+pub given_room : (w : World) (p : Name) (a : given.Account) → account_of w p ≡ Some a → nat_lt a.held most_messages && nat_lt a.next_message most_number ≡ finds_place w p
 unfolding has_room
 given_room w p a is = given_case (fmap.get w.rows p) is
   where
-    member_case : (r : Row) (o : Option Name) → option_map (account_with r) o ≡ Some a → nat_lt a.held 32 && nat_lt a.next_message (10 ^ 15) ≡ nat_lt (fmap.len r.holding.inbox) 32 && nat_lt r.holding.next_message (10 ^ 15)
+    member_case : (r : Row) (o : Option Name) → option_map (account_with r) o ≡ Some a → nat_lt a.held most_messages && nat_lt a.next_message most_number ≡ nat_lt (fmap.len r.holding.inbox) 32 && nat_lt r.holding.next_message most_number
     member_case r None e = absurd (cc)
-    member_case r (Some m) e = ap (λ x. nat_lt x.held 32 && nat_lt x.next_message (10 ^ 15)) (sym (inside (account_with r m) a e))
+    member_case r (Some m) e = ap (λ x. nat_lt x.held most_messages && nat_lt x.next_message most_number) (sym (inside (account_with r m) a e))
 
-    given_case : (o : Option Row) → option_and_then (λ (r : Row). option_map (account_with r) (fmap.get w.holders r.holder)) o ≡ Some a → nat_lt a.held 32 && nat_lt a.next_message (10 ^ 15) ≡ from_row false (λ r. has_room r.holding) o
+    given_case : (o : Option Row) → option_and_then (λ (r : Row). option_map (account_with r) (fmap.get w.holders r.holder)) o ≡ Some a → nat_lt a.held most_messages && nat_lt a.next_message most_number ≡ from_row false (λ r. has_room r.holding) o
     given_case None e = absurd (cc)
     given_case (Some r) e = member_case r (fmap.get w.holders r.holder) e
 
-pub new_purse_decides : (w : World) (m p h : Name) (d : Decided) → IsWorld w → IsTrue (is_name_text p) → not (is_of m (fmap.get w.holders h)) ≡ false → is_some (fmap.get w.rows p) ≡ false → nat_le 64 (length (purses_of w h)) ≡ false → d.reply ≡ Added → d.edits ≡ NewPurse p h ∷ [] → Decides w (new_purse w m p h) d
+pub new_purse_decides : (w : World) (m p h : Name) (d : Decided) → IsWorld w → IsTrue (is_name_text p) → not (is_of m (fmap.get w.holders h)) ≡ false → is_some (fmap.get w.rows p) ≡ false → nat_le most_purses (length (purses_of w h)) ≡ false → d.reply ≡ Added → d.edits ≡ NewPurse p h ∷ [] → Decides w (new_purse w m p h) d
 new_purse_decides w m p h d is text holder no_purse few reply edits =
     let suits : Suits w (NewPurse p h) = (absent _ no_purse, of_there m _ holder) in
     edit_decides w (new_purse w m p h) (NewPurse p h) Added d
     (ap (λ o. unless w o (tell (edited w (NewPurse p h)) Added)) (next _ _ _ _ holder (next _ _ _ _ no_purse (next _ _ _ _ few none_left))))
-    suits (new_purse_stays w p h suits text (below_64 _ few) is) reply edits
+    suits (new_purse_stays w p h suits text (below_most _ few) is) reply edits
   where
-    below_64 : (n : ℕ) → nat_le 64 n ≡ false → n < 64
-    below_64 n f = grind (arith, nat_tests, f)
+    below_most : (n : ℕ) → nat_le most_purses n ≡ false → n < most_purses
+    below_most n f = grind (arith, nat_tests, f)

@@ -83,6 +83,13 @@ module _ {X : Type 0} where
       let e5 : value_of (λ n. n) (fmap.get (remake f m) k) ≡ value_of (f k) (fmap.get m k) = ap (value_of (λ n. n)) (get-remake name_cmp f names_exact m k) ∙ value_made (f k) (fmap.get m k) in
       omega (arith, e1, e2, e3, e4, e5)
 
+  -- a value under a new key is added
+  pub sum_entries-new : (f : Name → X → ℕ) (m : fmap.FinMap name_cmp X) (k : Name) (v : X) → fmap.get m k ≡ None → sum_entries f (fmap.insert m k v) ≡ sum_entries f m + f k v
+  sum_entries-new f m k v none = let old : value_of (f k) (fmap.get m k) ≡ 0 = ap (value_of (f k)) none in omega (arith, old, sum_entries-insert f m k v)
+
+  pub sum_values-new : (f : X → ℕ) (m : fmap.FinMap name_cmp X) (k : Name) (v : X) → fmap.get m k ≡ None → sum_values f (fmap.insert m k v) ≡ sum_values f m + f v
+  sum_values-new f m k v none = values_are f (fmap.insert m k v) ∙ sum_entries-new (λ q x. f x) m k v none ∙ ap (λ n. n + f v) (sym (values_are f m))
+
 -- ---- numbers that are all zero
 
 zero_sum : {X : Type 0} (es : List (Name × X)) → sum_by (λ (e : Name × X). 0) es ≡ 0

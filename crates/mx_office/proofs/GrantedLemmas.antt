@@ -1,5 +1,6 @@
 -- The sum of all grants, member by member.
 use Rattle.std.proofs.Common.{◌≡◌, ℕ, ◌+◌, ◌-◌, ◌^◌, ◌<◌, ◌≤◌, List, [], ◌∷◌, refl, sym, ◌∙◌, ap, arith, length, take, get_or, map, option_map}
+use Rattle.mx_pay.specs.Limits.{most_number}
 use Rattle.std.specs.Prelude.{sum_by, min, unwrap_or}
 use Rattle.std.specs.FinMap as fmap
 use Rattle.std.proofs.lemmas.List.{take_more, take_all}
@@ -24,7 +25,7 @@ granted_sum w =
     ∙ sum_entries-same (λ m row. granted_to w m) (λ m row. row.granted) w.members (λ m row at. ap (λ o. unwrap_or (option_map (λ (x : MemberRow). x.granted) o) 0) at)
     ∙ sym (values_are (λ (row : MemberRow). row.granted) w.members)
 
-capped_sum : (n a : ℕ) → n ≡ min a (2 ^ 128 - 1) → a ≤ 10 ^ 15 → n ≡ a
+capped_sum : (n a : ℕ) → n ≡ min a (2 ^ 128 - 1) → a ≤ most_number → n ≡ a
 capped_sum n a is le = grind (arith, is, le)
 
 -- one member more: the sum stays within the numbers of 128 bits, since all grants are at most 10^15

@@ -1,7 +1,6 @@
 -- The law of isolation: each command's change of the World, cut to one holder, is what the holder's view alone gives.
 use Rattle.std.proofs.Common.{◌≡◌, Bool, true, false, cond, List, [], ◌∷◌, ◌++◌, append_assoc, refl, sym, ◌∙◌, ap, Option, Some, None, ◌&&◌, option_and_then, option_map, ℕ}
 use Rattle.std.proofs.lemmas.List.{append-nil}
-use Rattle.std.proofs.lemmas.Option.{option_and_then_some}
 use Rattle.std.specs.Option.{option_map_or}
 use Rattle.std.specs.Prelude.{map, filter, is_none, is_some}
 use Rattle.std.specs.FinMap as fmap
@@ -13,7 +12,6 @@ use Rattle.mx_book.specs.declared.values.MemberRow.{MemberRow}
 use Rattle.mx_book.specs.Maps.{picked, with_picked}
 use Rattle.mx_book.specs.World.{World, Row, Holding, Name, is_of_member, with_collected, all_collected, set_row, change_row, changed_row, change_holding, has_room, delivered, with_message, new_row}
 use Rattle.mx_book.specs.Reads.{purses_of}
-use Rattle.mx_book.proofs.FoundLemmas.{inside, none_found}
 use Rattle.mx_book.proofs.MapLemmas.{get-pick, entries-pick, pick-insert, pick-skip}
 use Rattle.mx_book.proofs.NameLemmas.{names_total, names_exact, same_name}
 use Rattle.mx_book.proofs.UnderLemmas.{get-remake}
@@ -23,21 +21,21 @@ use Rattle.mx_office.specs.declared.values.Refusal.{Refusal}
 use Rattle.mx_office.specs.declared.values.Refusal.TheVariants.{NoSuchPurse}
 use Rattle.mx_office.specs.declared.values.Reply.{Reply}
 use Rattle.mx_office.specs.declared.values.Reply.TheVariants as reply
-use Rattle.mx_office.specs.Step.{Deed, Asks, Asked, Course, ends, tell, unless, unless_told, on_found, in_place, asks, owned_holding, own_holding, on_world, loaded_holding, loaded_row, loaded_world, idle_load, change_member, first_refusal, new_purse_refusal, base, put_sent, step, steps, course}
+use Rattle.mx_office.specs.Step.{Deed, Asks, Asked, Course, ends, tell, unless, unless_told, on_found, in_place, asks, holding_for, own_holding, on_world, loaded_holding, loaded_row, loaded_world, idle_load, change_member, new_purse_refusal, base, put_sent, step, steps, course}
 use Rattle.mx_office.proofs.OwnLemmas.{absent, none_refused, own_at, is_owned}
 use Rattle.mx_office.specs.Isolation.{Event, Holdings, only_if, for_holder, issued_event, put_event, view_of, view, on_holdings, with_changed, after_event, local, cut, told_to}
 
 -- ---- what is cut out
 
 get-cut : (w : World) (h p : Name) → fmap.get (cut w h) p ≡ own_holding w h p
-get-cut w h p = get-pick names_total (owned_holding h) w.rows p
+get-cut w h p = get-pick names_total (holding_for h) w.rows p
 
 -- a row of the holder is written, or another's where none was the holder's
 cut-own : (w : World) (h p : Name) (r : Row) → is_name h r.holder ≡ true → cut (set_row w p r) h ≡ fmap.insert (cut w h) p r.holding
-cut-own w h p r t = pick-insert names_total (owned_holding h) names_exact w.rows p r r.holding (ap (λ b. cond b (Some r.holding) None) t)
+cut-own w h p r t = pick-insert names_total (holding_for h) names_exact w.rows p r r.holding (ap (λ b. cond b (Some r.holding) None) t)
 
 cut-other : (w : World) (h p : Name) (r : Row) → own_holding w h p ≡ None → is_name h r.holder ≡ false → cut (set_row w p r) h ≡ cut w h
-cut-other w h p r none f = pick-skip names_total (owned_holding h) names_exact w.rows p r (ap (λ b. cond b (Some r.holding) None) f) none
+cut-other w h p r none f = pick-skip names_total (holding_for h) names_exact w.rows p r (ap (λ b. cond b (Some r.holding) None) f) none
 
 -- a write of what is there
 insert_case : {X : Type 0} (b : Bool) (x : X) (o : Option X) → (b ≡ true → o ≡ Some x) → cond b (Some x) o ≡ o
@@ -64,7 +62,7 @@ module _ (w : World) (h p : Name) (f : Row → Row) (g : Holding → Holding) (h
   row_case r at false t = let none = own_at w h p r false at t in cut-other w h p (f r) none (ap (is_name h) (holder r) ∙ t) ∙ sym (changed_at w h p g None none)
 
   change_case : (o : Option Row) → fmap.get w.rows p ≡ o → cut (changed_row w p f o) h ≡ with_changed (cut w h) p g
-  change_case None at = sym (changed_at w h p g None (ap (option_and_then (owned_holding h)) at))
+  change_case None at = sym (changed_at w h p g None (ap (option_and_then (holding_for h)) at))
   change_case (Some r) at = row_case r at (is_name h r.holder) refl
 
   -- whoever's it is
@@ -100,13 +98,13 @@ name_case k r true es fs is = ap (λ ks. k ∷ ks) is
 name_case k r false es fs is = is
 
 names_picked : (h : Name) (es : List (Name × Row))
-    → map (λ (e : Name × Row). e.0) (filter (λ (e : Name × Row). is_name h e.1.holder) es) ≡ map (λ (e : Name × Holding). e.0) (picked (owned_holding h) es)
+    → map (λ (e : Name × Row). e.0) (filter (λ (e : Name × Row). is_name h e.1.holder) es) ≡ map (λ (e : Name × Holding). e.0) (picked (holding_for h) es)
 names_picked h [] = refl
 names_picked h (e ∷ es) =
-    name_case e.0 e.1 (is_name h e.1.holder) (picked (owned_holding h) es) (filter (λ (x : Name × Row). is_name h x.1.holder) es) (names_picked h es)
+    name_case e.0 e.1 (is_name h e.1.holder) (picked (holding_for h) es) (filter (λ (x : Name × Row). is_name h x.1.holder) es) (names_picked h es)
 
 names-cut : (w : World) (h : Name) → fmap.keys (cut w h) ≡ purses_of w h
-names-cut w h = sym (names_picked h (fmap.entries w.rows) ∙ ap (map (λ (e : Name × Holding). e.0)) (sym (entries-pick names_total (owned_holding h) w.rows)))
+names-cut w h = sym (names_picked h (fmap.entries w.rows) ∙ ap (map (λ (e : Name × Holding). e.0)) (sym (entries-pick names_total (holding_for h) w.rows)))
 
 -- a deed, of which a holder sees what is cut out
 abbrev cut_deed : Name → Deed World → Deed Holdings
@@ -151,7 +149,7 @@ holder_law w h g c false t = ap silent (sym (other_law w h g (asks c) t))
 
 issued_case : (w : World) (h p g : Name) → fmap.get w.rows p ≡ None → (b : Bool) → is_name h g ≡ b → local (cut w h) (only_if b (Event.Issued p)) ≡ silent (cut (set_row w p (new_row g p)) h)
 issued_case w h p g at true t = ap silent (sym (cut-own w h p (new_row g p) t))
-issued_case w h p g at false t = ap silent (sym (cut-other w h p (new_row g p) (ap (option_and_then (owned_holding h)) at) t))
+issued_case w h p g at false t = ap silent (sym (cut-other w h p (new_row g p) (ap (option_and_then (holding_for h)) at) t))
 
 issued_law : (w : World) (h m p g : Name) (o : Option Refusal) → new_purse_refusal w m p g ≡ o
     → local (cut w h) (only_if (is_none o && is_name h g) (Event.Issued p)) ≡ silent (cut (unless w o (tell (set_row w p (new_row g p)) reply.Added)).state h)
@@ -178,18 +176,18 @@ load_law w h m p amount reference None =
     ∙ cut-change w h p (loaded_row amount reference) (λ a. loaded_holding a amount reference) (λ r. refl) (λ r. refl)))
 
 -- collected redemptions are none of what is cut out
-collected_case : (h : Name) (r : Row) (b : Bool) → owned_holding h (cond b (with_collected r) r) ≡ owned_holding h r
+collected_case : (h : Name) (r : Row) (b : Bool) → holding_for h (cond b (with_collected r) r) ≡ holding_for h r
 collected_case h r true = refl
 collected_case h r false = refl
 
-each_case : (w : World) (h m : Name) (o : Option Row) → option_and_then (owned_holding h) (option_map (λ r. cond (is_of_member w m r) (with_collected r) r) o) ≡ option_and_then (owned_holding h) o
+each_case : (w : World) (h m : Name) (o : Option Row) → option_and_then (holding_for h) (option_map (λ r. cond (is_of_member w m r) (with_collected r) r) o) ≡ option_and_then (holding_for h) o
 each_case w h m None = refl
 each_case w h m (Some r) = collected_case h r (is_of_member w m r)
 
 cut-collected : (w : World) (h m : Name) → cut (all_collected w m) h ≡ cut w h
 cut-collected w h m = fmap.same_map names_total names_exact _ _ (λ q.
     get-cut (all_collected w m) h q
-    ∙ ap (option_and_then (owned_holding h)) (get-remake name_cmp (λ p r. cond (is_of_member w m r) (with_collected r) r) names_exact w.rows q)
+    ∙ ap (option_and_then (holding_for h)) (get-remake name_cmp (λ p r. cond (is_of_member w m r) (with_collected r) r) names_exact w.rows q)
     ∙ each_case w h m (fmap.get w.rows q)
     ∙ sym (get-cut w h q))
 

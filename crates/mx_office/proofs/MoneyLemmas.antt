@@ -1,6 +1,5 @@
 -- Grants, loads and collects: each decision is the step's.
 use Rattle.std.proofs.Common.{◌≡◌, ℕ, ◌+◌, ◌-◌, ◌^◌, ◌≤◌, Bool, true, false, cond, List, [], ◌∷◌, ◌++◌, Option, Some, None, Ok, Err, refl, sym, ◌∙◌, ap, subst, arith, is_none, option_map, IsSome, IsTrue}
-use Rattle.std.specs.Option.{option_map_or}
 use Rattle.std.specs.Prelude.{nat_lt, ◌==◌, ◌<◌, min, unwrap_or}
 use Rattle.std.proofs.lemmas.Bool.Decides.{nat_tests}
 use Rattle.std.specs.FinMap as fmap
@@ -14,7 +13,8 @@ use Rattle.mx_book.specs.declared.edits.Edit.TheVariants.{SetMember, SetPurse, A
 use Rattle.mx_book.specs.declared.values.Line.{Line}
 use Rattle.mx_book.specs.declared.values.LineKind.TheVariants as kind
 use Rattle.mx_book.specs.declared.values.MemberRow.{MemberRow}
-use Rattle.mx_book.specs.World.{World, Row, Holding, Name, is_of_member, all_collected, set_row}
+use Rattle.mx_book.specs.World.{World, Row, Name, is_of_member, all_collected, set_row}
+use Rattle.mx_pay.specs.Limits.{most_amount, most_number}
 use Rattle.mx_book.specs.Conditions.{IsWorld, all_granted}
 use Rattle.mx_book.specs.Reads.{from_row, load_of, uncollected_of}
 use Rattle.mx_book.specs.Edits.{AllSuit, edited, all_edited}
@@ -25,10 +25,10 @@ use Rattle.mx_office.specs.declared.values.Decided.{Decided}
 use Rattle.mx_office.specs.declared.values.Reply.{Reply}
 use Rattle.mx_office.specs.declared.values.Reply.TheVariants as reply
 use Rattle.mx_office.specs.declared.values.Refusal.TheVariants as refusal
-use Rattle.mx_office.specs.Step.{Deed, tell, unless, unless_told, idle, money_line, with_purse, refusal_of_load, float_of, change_member, grant, grant_refusal, collect, collect_refusal, loaded_holding, loaded_row, load_of_float_refusal, idle_load_at, idle_load, loaded_world, load_purse}
+use Rattle.mx_office.specs.Step.{tell, unless, unless_told, idle, money_line, refusal_of_load, float_of, change_member, grant, grant_refusal, collect, collect_refusal, loaded_holding, loaded_row, new_load_refusal, idle_load_at, idle_load, loaded_world, load_purse}
 use Rattle.mx_office.specs.Decides.{Decides, member_purse, load_edits}
 use Rattle.mx_office.proofs.DecideLemmas.{edits_decide, told_decides, edit_decides}
-use Rattle.mx_office.proofs.OwnLemmas.{first, next, none_left}
+use Rattle.mx_office.proofs.OwnLemmas.{first, next, none_left, change_to}
 use Rattle.mx_office.proofs.AccountLemmas.{IsFound, Follows, is_found, is_next}
 use Rattle.mx_office.proofs.CommandLemmas.{nothing, is_refused, not_refused}
 
@@ -37,26 +37,23 @@ use Rattle.mx_office.proofs.CommandLemmas.{nothing, is_refused, not_refused}
 float_there : (w : World) (m : Name) (row : MemberRow) → fmap.get w.members m ≡ Some row → float_of w m ≡ row.float
 float_there w m row at = ap (λ o. unwrap_or (option_map (λ (x : MemberRow). x.float) o) 0) at
 
-change_to : (w : World) (m : Name) (f : MemberRow → MemberRow) (row : MemberRow) → fmap.get w.members m ≡ Some row → change_member w m f ≡ edited w (SetMember m (f row).granted (f row).float)
-change_to w m f row at = ap (λ o. option_map_or (λ x. let v : World = record w { members = fmap.insert w.members m (f x) } in v) o w) at
-
 -- ---- a grant, by the sum that a number can hold
 
 module _ (w : World) (m : Name) (amount : ℕ) (row : MemberRow) (all sum : ℕ) (at : fmap.get w.members m ≡ Some row) (all_is : all ≡ all_granted w) (sum_is : sum ≡ min (all + amount) (2 ^ 128 - 1)) where
-  pub large_grant : 10 ^ 15 < sum → grant_refusal w m amount ≡ Some refusal.GrantTooLarge
+  pub large_grant : most_number < sum → grant_refusal w m amount ≡ Some refusal.GrantTooLarge
   large_grant lt = next _ _ _ _ (ap is_none at) (first _ _ _ (grind (arith, nat_tests, all_is, sum_is, lt)))
 
-  not_large : sum ≤ 10 ^ 15 → nat_lt (10 ^ 15) (all_granted w + amount) ≡ false
+  not_large : sum ≤ most_number → nat_lt most_number (all_granted w + amount) ≡ false
   not_large le = grind (arith, nat_tests, all_is, sum_is, le)
 
   -- the test of the float
-  float_test : (b : Bool) → nat_lt (10 ^ 15) (row.float + amount) ≡ b → nat_lt (10 ^ 15) (float_of w m + amount) ≡ b
-  float_test b is = ap (λ f. nat_lt (10 ^ 15) (f + amount)) (float_there w m row at) ∙ is
+  float_test : (b : Bool) → nat_lt most_number (row.float + amount) ≡ b → nat_lt most_number (float_of w m + amount) ≡ b
+  float_test b is = ap (λ f. nat_lt most_number (f + amount)) (float_there w m row at) ∙ is
 
-  pub full_grant : sum ≤ 10 ^ 15 → 10 ^ 15 < row.float + amount → grant_refusal w m amount ≡ Some refusal.FloatFull
+  pub full_grant : sum ≤ most_number → most_number < row.float + amount → grant_refusal w m amount ≡ Some refusal.FloatFull
   full_grant le lt = next _ _ _ _ (ap is_none at) (next _ _ _ _ (not_large le) (first _ _ _ (float_test true (grind (arith, nat_tests, lt)))))
 
-  pub grant_decides : (granted : ℕ) (d : Decided) → IsWorld w → sum ≤ 10 ^ 15 → row.float + amount ≤ 10 ^ 15 → granted ≡ min (row.granted + amount) (2 ^ 64 - 1)
+  pub grant_decides : (granted : ℕ) (d : Decided) → IsWorld w → sum ≤ most_number → row.float + amount ≤ most_number → granted ≡ min (row.granted + amount) (2 ^ 64 - 1)
       → d.reply ≡ reply.Granted → d.edits ≡ SetMember m granted (row.float + amount) ∷ [] → Decides w (grant w m amount) d
   grant_decides granted d is le room granted_is reply_is edits_is =
       let rise : MemberRow → MemberRow = λ x. record { granted = x.granted + amount; float = x.float + amount } in
@@ -64,7 +61,7 @@ module _ (w : World) (m : Name) (amount : ℕ) (row : MemberRow) (all sum : ℕ)
       let there : IsSome (fmap.get w.members m) = some_of _ row at in
       let sums = granted_after w m (row.granted + amount) (row.float + amount) row at in
       let others = granted_after w m 0 row.float row at in
-      let most : all_granted w + amount ≤ 10 ^ 15 = omega (arith, all_is, sum_is, le) in
+      let most : all_granted w + amount ≤ most_number = omega (arith, all_is, sum_is, le) in
       let all_of_it : granted ≡ row.granted + amount = omega (arith, granted_is, others, most) in
       edit_decides w (grant w m amount) (SetMember m (row.granted + amount) (row.float + amount)) reply.Granted d
       (ap (λ o. unless w o (tell (change_member w m rise) reply.Granted)) free ∙ ap (λ x. tell x reply.Granted) (change_to w m rise row at))
@@ -74,13 +71,13 @@ module _ (w : World) (m : Name) (amount : ℕ) (row : MemberRow) (all sum : ℕ)
 -- ---- a collect, by the sum that a number can hold
 
 module _ (w : World) (m : Name) (row : MemberRow) (u sum : ℕ) (at : fmap.get w.members m ≡ Some row) (u_is : u ≡ uncollected_of w m) (sum_is : sum ≡ min (u + row.float) (2 ^ 128 - 1)) where
-  uncollected_test : (b : Bool) → nat_lt (10 ^ 15) (row.float + uncollected_of w m) ≡ b → nat_lt (10 ^ 15) (float_of w m + uncollected_of w m) ≡ b
-  uncollected_test b is = ap (λ f. nat_lt (10 ^ 15) (f + uncollected_of w m)) (float_there w m row at) ∙ is
+  uncollected_test : (b : Bool) → nat_lt most_number (row.float + uncollected_of w m) ≡ b → nat_lt most_number (float_of w m + uncollected_of w m) ≡ b
+  uncollected_test b is = ap (λ f. nat_lt most_number (f + uncollected_of w m)) (float_there w m row at) ∙ is
 
-  pub full_collect : 10 ^ 15 < sum → collect_refusal w m ≡ Some refusal.FloatFull
+  pub full_collect : most_number < sum → collect_refusal w m ≡ Some refusal.FloatFull
   full_collect lt = next _ _ _ _ (ap is_none at) (first _ _ _ (uncollected_test true (grind (arith, nat_tests, u_is, sum_is, lt))))
 
-  pub collect_decides : (d : Decided) → IsWorld w → sum ≤ 10 ^ 15 → d.reply ≡ reply.Collected u → d.edits ≡ Collect m ∷ SetMember m row.granted sum ∷ [] → Decides w (collect w m) d
+  pub collect_decides : (d : Decided) → IsWorld w → sum ≤ most_number → d.reply ≡ reply.Collected u → d.edits ≡ Collect m ∷ SetMember m row.granted sum ∷ [] → Decides w (collect w m) d
   collect_decides d is le reply_is edits_is =
       let v : World = all_collected w m in
       let float : ℕ = row.float + uncollected_of w m in
@@ -127,7 +124,7 @@ module _ (w : World) (m p : Name) (amount : ℕ) (reference : Name) (q : State) 
 
   module _ (member : MemberRow) (here : fmap.get w.members m ≡ Some member) where
     -- what a load of it comes to
-    idle_is : (o : Option ℕ) → load_of w p reference ≡ o → idle_load w m p amount reference ≡ idle o amount reply.Loaded (load_of_float_refusal member own.row amount)
+    idle_is : (o : Option ℕ) → load_of w p reference ≡ o → idle_load w m p amount reference ≡ idle o amount reply.Loaded (new_load_refusal member own.row amount)
     unfolding idle_load
     idle_is o is =
         let loads : fmap.get own.row.loads reference ≡ o = sym (ap (from_row None (λ (x : Row). fmap.get x.loads reference)) own.at) ∙ is in
@@ -143,7 +140,7 @@ module _ (w : World) (m p : Name) (amount : ℕ) (reference : Name) (q : State) 
     pub load_refuses : (r : LoadRefusal) → load_of w p reference ≡ None → amount ≤ member.float → or_refused (load_refusal q amount) nothing ≡ Err r → idle_load w m p amount reference ≡ Some (reply.Refused (refusal_of_load r))
     load_refuses r new enough refused = let large : nat_lt member.float amount ≡ false = grind (arith, nat_tests, enough) in idle_is None new ∙ rw (large, own.purse, is_refused (load_refusal q amount) _ r refused) refl
 
-    pub load_made : (after : State) (d : Decided) → IsWorld w → load_of w p reference ≡ None → amount ≤ member.float → IsTrue (is_name_text reference) → amount ≤ 10 ^ 12
+    pub load_made : (after : State) (d : Decided) → IsWorld w → load_of w p reference ≡ None → amount ≤ member.float → IsTrue (is_name_text reference) → amount ≤ most_amount
         → or_refused (load_refusal q amount) nothing ≡ Ok nothing → after ≡ unless_refused (load_refusal q amount) q (loaded q amount)
         → d.reply ≡ reply.Loaded → d.edits ≡ load_edits after amount reference m member → Decides w (load_purse w m p amount reference) d
     unfolding loaded_holding
@@ -155,7 +152,8 @@ module _ (w : World) (m p : Name) (amount : ℕ) (reference : Name) (q : State) 
         let now_is : after ≡ now = after_is ∙ ap (λ o. unless_refused o q now) free in
         let ls : List Line = money_line now kind.Loaded amount reference ∷ [] in
         let whole = subst IsPurse own.purse (is.purses.each p r own.at).purse in
-        let follows : Follows q now ls = record { name = refl; whole = loaded_is q amount whole free; numbered = (refl, tt); counted = omega arith; logged = λ x there. there } in
+        let next = loaded_is q amount whole free in
+        let follows : Follows q now ls = record { name = refl; whole = next; numbered = (refl, tt); counted = omega arith; valid = (record { amount = small; balance = next.balance; note = text }, tt); logged = λ x there. there } in
         let next_row = is_next w p (is_of_member w m) q own now ls is follows in
         let s : Row = with_load (with_lines r now ls) reference amount in
         let v : World = set_row w p s in
@@ -169,13 +167,13 @@ module _ (w : World) (m p : Name) (amount : ℕ) (reference : Name) (q : State) 
         let loads : fmap.get r.loads reference ≡ None = sym (ap (from_row None (λ (x : Row). fmap.get x.loads reference)) own.at) ∙ new in
         let sums = granted_after v m member.granted (member.float - amount) member here in
         let most = is.members.granted in
-        let float_most : member.float ≤ 10 ^ 15 = is.members.floats m member here in
+        let float_most : member.float ≤ most_number = is.members.floats m member here in
         edits_decide w (edited v last) (load_purse w m p amount reference) reply.Loaded None (firsts ++ last ∷ []) d
         (ap (λ o. unless_told w o (tell (loaded_world w m p amount reference) reply.Loaded)) none ∙ ap (λ x. tell (change_member x m lower) reply.Loaded) (change_there w p (loaded_row amount reference) r own.at ∙ ap (set_row w p) row_is) ∙ ap (λ x. tell x reply.Loaded) (change_to v m lower member here))
         (suits_append w firsts (last ∷ []) (load_suits w p r now ls reference amount own.at next_row.named next_row.numbered loads) (subst (λ z. AllSuit z (last ∷ [])) (sym lead) (there, tt)))
         (edits_append w firsts (last ∷ []) ∙ ap (λ z. edited z last) lead)
         (set_member_stays v m member.granted (member.float - amount) there (omega (arith, float_most)) (omega (arith, sums, most))
-        (loads_stay w p r now ls reference amount own.at next_row.named follows.whole next_row.numbered next_row.counted next_row.logged text small is))
+        (loads_stay w p r now ls reference amount own.at next_row.named follows.whole next_row.numbered next_row.counted follows.valid next_row.logged text small is))
         reply_is
         (edits_is ∙ ap (λ x. load_edits x amount reference m member) now_is
         ∙ (λ i. next_row.edits i ++ AddLoad (next_row.named i) reference amount ∷ last ∷ []))

@@ -1,11 +1,13 @@
 -- What is a holder's own, and what tests of options and of refusals tell.
-use Rattle.std.proofs.Common.{◌≡◌, Bool, true, false, cond, List, [], ◌∷◌, refl, ◌∙◌, ap, Option, Some, None, IsSome, is_some, is_none, option_and_then}
+use Rattle.std.proofs.Common.{◌≡◌, Bool, true, false, not, cond, List, [], ◌∷◌, refl, ◌∙◌, ap, Option, Some, None, IsSome, is_some, is_none, option_and_then}
 use Rattle.std.proofs.lemmas.Option.{cond_some, option_and_then_some}
+use Rattle.std.specs.Option.{option_map_or}
 use Rattle.std.specs.FinMap as fmap
 use Rattle.mx_pay.specs.Names.{is_name}
-use Rattle.mx_book.specs.World.{World, Row, Holding, Name}
+use Rattle.mx_book.specs.declared.values.MemberRow.{MemberRow}
+use Rattle.mx_book.specs.World.{World, Row, Holding, Name, is_of}
 use Rattle.mx_office.specs.declared.values.Refusal.{Refusal}
-use Rattle.mx_office.specs.Step.{first_refusal, owned_holding, own_holding}
+use Rattle.mx_office.specs.Step.{first_refusal, change_member, holding_for, own_holding}
 
 -- ---- options
 
@@ -20,6 +22,11 @@ gone (Some x) t = cc
 pub present : {X : Type 0} (o : Option X) → is_none o ≡ false → (x : X) × (o ≡ Some x)
 present None f = absurd (cc)
 present (Some x) f = (x, refl)
+
+-- a holder that is of a member is there
+pub of_there : (m : Name) (o : Option Name) → not (is_of m o) ≡ false → IsSome o
+of_there m None f = absurd (cc)
+of_there m (Some x) f = refl
 
 -- ---- the first refusal that applies
 
@@ -40,11 +47,17 @@ unfolding first_refusal
 none_refused true r xs e = cc
 none_refused false r xs e = (refl, e)
 
+-- ---- a member's row
+
+-- a member who is there has the changed row
+pub change_to : (w : World) (m : Name) (f : MemberRow → MemberRow) (row : MemberRow) → fmap.get w.members m ≡ Some row → change_member w m f ≡ record w { members = fmap.insert w.members m (f row) }
+change_to w m f row at = ap (λ o. option_map_or (λ x. let v : World = record w { members = fmap.insert w.members m (f x) } in v) o w) at
+
 -- ---- the holder's own
 
 -- what is the holder's own of a row that is there
 pub own_at : (w : World) (h p : Name) (r : Row) (b : Bool) → fmap.get w.rows p ≡ Some r → is_name h r.holder ≡ b → own_holding w h p ≡ cond b (Some r.holding) None
-own_at w h p r b at t = ap (option_and_then (owned_holding h)) at ∙ ap (λ x. cond x (Some r.holding) None) t
+own_at w h p r b at t = ap (option_and_then (holding_for h)) at ∙ ap (λ x. cond x (Some r.holding) None) t
 
 -- the row of what is the holder's own
 pub record IsOwned (w : World) (h p : Name) (a : Holding) : Type 0 where
@@ -54,5 +67,5 @@ pub record IsOwned (w : World) (h p : Name) (a : Holding) : Type 0 where
   pub holding : row.holding ≡ a
 
 pub is_owned : (w : World) (h p : Name) (a : Holding) → own_holding w h p ≡ Some a → IsOwned w h p a
-is_owned w h p a own = option_and_then_some (owned_holding h) (fmap.get w.rows p) a own (λ r at is.
+is_owned w h p a own = option_and_then_some (holding_for h) (fmap.get w.rows p) a own (λ r at is.
     let x = cond_some (is_name h r.holder) r.holding a is in record { row = r; at = at; owned = x.0; holding = x.1 })

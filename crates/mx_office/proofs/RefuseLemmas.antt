@@ -1,12 +1,8 @@
 -- A refused command leaves the World.
-use Rattle.std.proofs.Common.{◌≡◌, refl, sym, ◌∙◌, ap, Bool, true, false, cond, Option, Some, None, option_and_then, option_map}
-use Rattle.std.proofs.lemmas.Option.{option_and_then_some}
-use Rattle.std.specs.FinMap as fmap
-use Rattle.mx_pay.specs.Names.{is_name}
+use Rattle.std.proofs.Common.{◌≡◌, refl, sym, ◌∙◌, ap, false, Option, Some, None, option_map}
 use Rattle.mx_book.specs.declared.values.Caller.{Caller}
 use Rattle.mx_book.specs.declared.values.Caller.TheVariants.{Operator, Clerk, Holder}
-use Rattle.mx_book.specs.World.{World, Row, Holding, Name, set_row, change_holding}
-use Rattle.mx_book.proofs.FoundLemmas.{inside}
+use Rattle.mx_book.specs.World.{World, Holding, Name, set_row, change_holding}
 use Rattle.mx_book.proofs.PurseLemmas.{change_there, set_same}
 use Rattle.mx_office.specs.declared.values.Command.{Command}
 use Rattle.mx_office.specs.declared.values.Command.TheVariants.{NewMember, Grant, NewHolder, NewPurse, Load, Collect}
@@ -14,7 +10,7 @@ use Rattle.mx_office.specs.declared.values.Refusal.{Refusal}
 use Rattle.mx_office.specs.declared.values.Refusal.TheVariants.{NoSuchPurse}
 use Rattle.mx_office.specs.declared.values.Reply.{Reply}
 use Rattle.mx_office.specs.declared.values.Reply.TheVariants as reply
-use Rattle.mx_office.specs.Step.{Deed, Asks, unless, unless_told, new_member_refusal, new_holder_refusal, new_purse_refusal, grant_refusal, collect_refusal, idle_load, on_found, in_place, asks, owned_holding, own_holding, on_world, base, put_sent, step}
+use Rattle.mx_office.specs.Step.{Deed, Asks, unless, unless_told, new_member_refusal, new_holder_refusal, new_purse_refusal, grant_refusal, collect_refusal, idle_load, on_found, in_place, asks, own_holding, on_world, base, put_sent, step}
 use Rattle.mx_office.proofs.OwnLemmas.{is_owned}
 use Rattle.mx_office.proofs.RuleLemmas.{Leaves, EachKeeps, is_refusal, accepted_leaves, each_rule}
 

@@ -9,7 +9,7 @@ use Rattle.mx_book.specs.declared.edits.Edit.TheVariants.{SetMember, SetPurse, A
 use Rattle.mx_book.specs.declared.values.Line.{Line}
 use Rattle.mx_book.specs.declared.values.LineKind.TheVariants as kind
 use Rattle.mx_book.specs.declared.values.MemberRow.{MemberRow}
-use Rattle.mx_book.specs.World.{World, Row, Name, is_of, is_of_member, has_room}
+use Rattle.mx_book.specs.World.{World, Name, is_of, is_of_member, has_room}
 use Rattle.mx_book.specs.Reads.{of_purse, purses_of}
 use Rattle.mx_book.specs.Edits.{Fits, all_edited}
 use Rattle.mx_office.specs.declared.values.Decided.{Decided}
@@ -25,13 +25,9 @@ pub record Decides (w : World) (to : Deed World) (d : Decided) : Type 0 where
 abbrev pub purse_count : World → Name → Name → Option ℕ
 purse_count w m h = if is_of m (fmap.get w.holders h) then Some (length (purses_of w h)) else None
 
--- the purse of a row, where it is the holder's
-abbrev pub owned_purse : Name → Row → Option State
-owned_purse h r = if is_name h r.holder then Some r.holding.purse else None
-
 -- the purse of that name, where it is the holder's
 abbrev pub own_purse : World → Name → Name → Option State
-own_purse w h p = of_purse None (owned_purse h) w p
+own_purse w h p = of_purse None (λ r. if is_name h r.holder then Some r.holding.purse else None) w p
 
 -- whether a message to that purse finds a place
 abbrev pub finds_place : World → Name → Bool

@@ -8,7 +8,7 @@ use Rattle.mx_book.specs.declared.values.Caller.{Caller}
 use Rattle.mx_book.specs.declared.values.Caller.TheVariants.{Clerk, Holder}
 use Rattle.mx_book.specs.World.{World, Holding, Name, new_holding, has_room, with_message}
 use Rattle.mx_book.specs.Maps.{pick}
-use Rattle.mx_office.specs.Step.{Deed, Asks, Asked, Course, ends, tell, refuse, on_found, in_place, asks, owned_holding, own_holding, loaded_holding, idle_load, new_purse_refusal, base, step, course}
+use Rattle.mx_office.specs.Step.{Deed, Asks, Asked, Course, ends, tell, refuse, on_found, in_place, asks, holding_for, own_holding, loaded_holding, idle_load, new_purse_refusal, base, step, course}
 use Rattle.mx_office.specs.declared.values.Command.{Command}
 use Rattle.mx_office.specs.declared.values.Command.TheVariants.{NewPurse, Load}
 use Rattle.mx_office.specs.declared.values.Refusal.TheVariants.{NotForCaller, NoSuchPurse}
@@ -86,7 +86,7 @@ local = course after_event
 
 -- the holder's own of each of the holder's purses, taken out of the World
 abbrev pub cut : World → Name → Holdings
-cut w h = pick (owned_holding h) w.rows
+cut w h = pick (holding_for h) w.rows
 
 -- the replies that are given to the holder, in order
 abbrev pub told_to : Name → List (Caller × Reply) → List Reply

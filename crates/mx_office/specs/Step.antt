@@ -1,5 +1,7 @@
 -- What a command does to the World, and what is answered.
 use Rattle.std.specs.Prelude.{ℕ, ◌+◌, ◌-◌, ◌^◌, ◌==◌, nat_lt, nat_le, unwrap_or, option_map, option_and_then, not, Bool, if◌then◌else◌, List, [], ◌∷◌, ◌++◌, length, Option, Some, None, is_some, is_none}
+use Rattle.mx_pay.specs.Limits.{most_number}
+use Rattle.mx_book.specs.Limits.{most_purses}
 use Rattle.std.specs.Option.{option_map_or}
 use Rattle.std.specs.FinMap as fmap
 use Rattle.mx_pay.specs.Names.{is_name}
@@ -202,11 +204,11 @@ asks (Inbox p) = Asks.OnPurse p inbox
 asks command = Asks.NotAHolders
 
 -- what is the holder's own of a row, and of the purse of that name, where it is the holder's
-abbrev pub owned_holding : Name → Row → Option Holding
-owned_holding h r = if is_name h r.holder then Some r.holding else None
+abbrev pub holding_for : Name → Row → Option Holding
+holding_for h r = if is_name h r.holder then Some r.holding else None
 
 abbrev pub own_holding : World → Name → Name → Option Holding
-own_holding w h p = option_and_then (owned_holding h) (fmap.get w.rows p)
+own_holding w h p = option_and_then (holding_for h) (fmap.get w.rows p)
 
 -- a deed on one holding, where what it leaves is put in its place
 abbrev pub in_place : {S : Type 0} → (Holding → S) → Deed Holding → Deed S
@@ -252,7 +254,7 @@ new_purse_refusal w m p h =
     first_refusal (
     (not (is_of m (fmap.get w.holders h)), NoSuchHolder)
     ∷ (is_some (fmap.get w.rows p), NameTaken)
-    ∷ (nat_le 64 (length (purses_of w h)), TooManyPurses) ∷ [])
+    ∷ (nat_le most_purses (length (purses_of w h)), TooManyPurses) ∷ [])
 
 abbrev pub new_purse : World → Name → Name → Name → Deed World
 new_purse w m p h = unless w (new_purse_refusal w m p h) (tell (set_row w p (new_row h p)) reply.Added)
@@ -270,8 +272,8 @@ abbrev pub grant_refusal : World → Name → ℕ → Option Refusal
 grant_refusal w m amount =
     first_refusal (
     (is_none (fmap.get w.members m), NoSuchMember)
-    ∷ (nat_lt (10 ^ 15) (all_granted w + amount), GrantTooLarge)
-    ∷ (nat_lt (10 ^ 15) (float_of w m + amount), FloatFull) ∷ [])
+    ∷ (nat_lt most_number (all_granted w + amount), GrantTooLarge)
+    ∷ (nat_lt most_number (float_of w m + amount), FloatFull) ∷ [])
 
 abbrev pub grant : World → Name → ℕ → Deed World
 grant w m amount = unless w (grant_refusal w m amount) (tell (change_member w m (λ row. record { granted = row.granted + amount; float = row.float + amount })) reply.Granted)
@@ -286,14 +288,14 @@ loaded_holding a amount reference =
 abbrev pub loaded_row : ℕ → Name → Row → Row
 loaded_row amount reference r = record r { holding = loaded_holding r.holding amount reference; loads = fmap.insert r.loads reference amount }
 
--- the first guard of a load that fails: the float covers the amount, and the purse's own
-abbrev pub load_of_float_refusal : MemberRow → Row → ℕ → Option Refusal
-load_of_float_refusal member r amount = if nat_lt member.float amount then Some FloatTooSmall else option_map refusal_of_load (load_refusal r.holding.purse amount)
+-- the refusal of a load under a new reference: the float covers the amount, and then the purse's own guards
+abbrev pub new_load_refusal : MemberRow → Row → ℕ → Option Refusal
+new_load_refusal member r amount = if nat_lt member.float amount then Some FloatTooSmall else option_map refusal_of_load (load_refusal r.holding.purse amount)
 
 -- the reply to a load by the clerk of m that changes nothing
 abbrev pub idle_load_at : World → Name → ℕ → Name → Option Row → Option MemberRow → Option Reply
 idle_load_at w m amount reference (Some r) (Some member) =
-    if is_of_member w m r then idle (fmap.get r.loads reference) amount reply.Loaded (load_of_float_refusal member r amount) else Some (reply.Refused NoSuchPurse)
+    if is_of_member w m r then idle (fmap.get r.loads reference) amount reply.Loaded (new_load_refusal member r amount) else Some (reply.Refused NoSuchPurse)
 idle_load_at w m amount reference _ _ = Some (reply.Refused NoSuchPurse)
 
 unfoldable pub idle_load : World → Name → Name → ℕ → Name → Option Reply
@@ -308,7 +310,7 @@ load_purse w m p amount reference = unless_told w (idle_load w m p amount refere
 
 -- collect, by the clerk of m: the float rises by what isn't collected, which is then
 abbrev pub collect_refusal : World → Name → Option Refusal
-collect_refusal w m = first_refusal ((is_none (fmap.get w.members m), NoSuchMember) ∷ (nat_lt (10 ^ 15) (float_of w m + uncollected_of w m), FloatFull) ∷ [])
+collect_refusal w m = first_refusal ((is_none (fmap.get w.members m), NoSuchMember) ∷ (nat_lt most_number (float_of w m + uncollected_of w m), FloatFull) ∷ [])
 
 abbrev pub collect : World → Name → Deed World
 collect w m = unless w (collect_refusal w m) (tell (change_member (all_collected w m) m (λ row. record row { float = row.float + uncollected_of w m })) (reply.Collected (uncollected_of w m)))

@@ -9,12 +9,10 @@ use crate::decisions::{added, refuse};
 use crate::values::{Decided, Refusal};
 use mx_book::contract::{Book, StoreFault};
 use mx_book::edits::Edit;
+use mx_book::values::MOST_PURSES;
 use mx_pay::names::same_name;
 use mx_pay::{Name, Token};
 use std::alloc::Global;
-
-/// The most purses of one holder.
-const MOST_PURSES: usize = 64;
 
 /// A new member with the token of its clerk.
 pub(crate) fn new_member<B: Book>(
@@ -34,6 +32,7 @@ pub(crate) fn new_member<B: Book>(
         return Ok(refuse(Refusal::TokenTaken));
     }
     let _text = member.as_str();
+    let _bytes = token.as_bytes();
     Ok(added(Edit::NewMember {
         member,
         clerk: token,
@@ -62,6 +61,7 @@ pub(crate) fn new_holder<B: Book>(
         return Ok(refuse(Refusal::TokenTaken));
     }
     let _text = holder.as_str();
+    let _bytes = token.as_bytes();
     Ok(added(Edit::NewHolder {
         holder,
         member,

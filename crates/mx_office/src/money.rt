@@ -13,12 +13,13 @@ use mx_book::contract::{Book, StoreFault};
 use mx_book::edits::{Edit, Edits};
 use mx_book::values::{LineKind, MemberRow};
 use mx_pay::names::same_name;
+use mx_pay::numbers::MOST_NUMBER;
 use mx_pay::{Amount, Name};
 use mx_purse::Purse;
 use std::alloc::Global;
 
 /// The most of a float, and of all grants together.
-const MOST: u128 = 1_000_000_000_000_000;
+const MOST: u128 = MOST_NUMBER as u128;
 
 /// How much a member was granted; 0 where there is no such member.
 fn granted_of<B: Book>(book: &mut B, alloc: Global, member: Name) -> Result<u64, StoreFault>

@@ -14,16 +14,12 @@ use crate::decisions::{
 use crate::values::{Decided, Messages, Names, Refusal, Reply};
 use mx_book::contract::{Book, StoreFault};
 use mx_book::edits::{Edit, Edits};
+use mx_book::values::MOST_MESSAGES;
 use mx_pay::names::same_name;
+use mx_pay::numbers::MOST_NUMBER;
 use mx_pay::{Amount, Name, Seq};
 use mx_purse::{Message, Purse};
 use std::alloc::Global;
-
-/// The most messages of an inbox.
-const MOST_MESSAGES: usize = 32;
-
-/// The limit of the numbers of messages, which no message has.
-const LIMIT: u64 = 1_000_000_000_000_000;
 
 /// The purse of that name, where it is the holder's.
 fn own_purse<B: Book>(
@@ -49,7 +45,7 @@ fn finds_place<B: Book>(book: &mut B, alloc: Global, purse: Name) -> Result<bool
     ensures fault { IfErr result B.fails }
 {
     match book.purse(alloc, purse)? {
-        Some(account) => Ok(account.held < MOST_MESSAGES && account.next_message < LIMIT),
+        Some(account) => Ok(account.held < MOST_MESSAGES && account.next_message < MOST_NUMBER),
         None => Ok(false),
     }
 }

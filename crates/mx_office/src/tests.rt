@@ -6,6 +6,7 @@ mod money;
 mod payments;
 mod scripts;
 mod words;
+mod worn;
 
 use self::scripts::{read_script, token};
 use self::words::outcome_words;

@@ -1,6 +1,9 @@
 -- The laws of code texts, of all entries.
-use Rattle.std.proofs.Common.{◌≡◌, ◌≢◌, ℕ, ◌+◌, ◌-◌, ◌^◌, ◌<◌, ◌≤◌, suc, zero, Bool, true, false, cond, ◌&&◌, ◌||◌, ◌==◌, List, [], ◌∷◌, ◌++◌, refl, sym, ◌∙◌, ap, subst, Option, Some, None, T, map, length, arith, append_assoc, length-append}
-use Rattle.std.specs.Prelude.{nat_le, decimal, not, slice_get, take, drop}
+use Rattle.std.proofs.Common.{◌≡◌, ◌≢◌, ℕ, ◌+◌, ◌-◌, ◌^◌, ◌<◌, ◌≤◌, suc, zero, Bool, true, false, cond, ◌||◌, ◌==◌, List, [], ◌∷◌, ◌++◌, refl, sym, ◌∙◌, ap, subst, Option, Some, None, T, map, length, arith, append_assoc, length-append}
+use Rattle.std.proofs.lemmas.Bool.{not_from_false, lt-leb, or_from, and_from}
+use Rattle.mx_pay.proofs.PutLemmas.{first_true, second_true}
+use Rattle.std.proofs.lemmas.List.{append-nil}
+use Rattle.std.specs.Prelude.{nat_le, decimal, not, slice_get, drop}
 use Rattle.std.proofs.lemmas.Bool.Decides.{nat_tests}
 use Rattle.std.specs.Option.{option_and_then, IfSome}
 use Rattle.std.specs.List.{list_all, list_any, AllByRecursion}
@@ -9,23 +12,17 @@ use Rattle.std.specs.declared.cmp.Ordering.TheVariants as o
 use Rattle.std.specs.Ordering.{is_lt, is_eq, eq_by_cmp, ordering_reverse}
 use Rattle.std.specs.FinMap as fmap
 use Rattle.std.specs.FinMap.Entries.{put, is_sorted, below_all, by_order}
-use Rattle.mx_pay.specs.Details.{Details, details_cmp}
-use Rattle.mx_pay.specs.Log.{Entries, logged, log_len, has_logged, with_entry, none_logged, is_below, marks}
+use Rattle.mx_pay.specs.Limits.{most_amount, most_number, most_entries}
+use Rattle.mx_pay.specs.Details.{Details, IsDetails, details_cmp}
+use Rattle.mx_pay.specs.Log.{IsLogValue, Entries, logged, log_len, has_logged, with_entry, none_logged, is_below, marks}
 use Rattle.mx_pay.specs.Orders.{logged-log_of}
 use Rattle.std.specs.Int.{IsInRange}
-use Rattle.mx_pay.specs.Codes.{entry_text, entry_texts, code, IsDetails, IsLogValue}
+use Rattle.mx_pay.specs.Codes.{entry_text, entry_texts, code}
 use Rattle.mx_pay.specs.Reading.{lead, cut, entry_of, put_last, with_text, after_cut, entries_of}
-use Rattle.mx_pay.proofs.Texts.{left_true, right_true, both_true}
+use Rattle.mx_pay.proofs.Texts.{left_true, right_true}
 use Rattle.mx_pay.proofs.LogLemmas.{details_total, log_of_none}
+use Rattle.mx_pay.proofs.SameLemmas.{each_logged, logged_each}
 use Rattle.mx_pay.proofs.EntryLemmas.{NoByte, bind_some, cut_parts, cut_none, cut_at, entry_takes, entry_again, name_lacks, number_lacks_at}
-
-first_T : (a b : Bool) → T (a && b) → T a
-first_T true b p = tt
-first_T false b p = p
-
-second_T : (a b : Bool) → T (a && b) → T b
-second_T true b p = p
-second_T false b p = absurd p
 
 T_true : (b : Bool) → T b → b ≡ true
 T_true true p = refl
@@ -115,9 +112,9 @@ comma_apart e = omega arith
 entry_lacks : (d : Details) → IsDetails d → NoByte 59 (entry_text d)
 entry_lacks d h =
     let apart = comma_apart in
-    let vs : d.value < 2 ^ 64 = (let k : d.value ≤ 10 ^ 12 = h.value in omega arith) in
-    let ms : d.from_seq < 2 ^ 64 = (let k : d.from_seq ≤ 10 ^ 15 = h.from_seq in omega arith) in
-    let ns : d.to_seq < 2 ^ 64 = (let k : d.to_seq ≤ 10 ^ 15 = h.to_seq in omega arith) in
+    let vs : d.value < 2 ^ 64 = (let k : d.value ≤ most_amount = h.value in omega arith) in
+    let ms : d.from_seq < 2 ^ 64 = (let k : d.from_seq ≤ most_number = h.from_seq in omega arith) in
+    let ns : d.to_seq < 2 ^ 64 = (let k : d.to_seq ≤ most_number = h.to_seq in omega arith) in
     lacks_join 59 44 _ _ apart (name_lacks 59 refl d.from h.from)
     (lacks_join 59 44 _ _ apart (name_lacks 59 refl d.to h.to)
     (lacks_join 59 44 _ _ apart (number_lacks_at 59 outside d.value vs)
@@ -127,12 +124,12 @@ entry_lacks d h =
     outside r = let k : 59 ≤ 57 = r.1 in omega arith
 
 below_at : (x : Details) (xs : List Details) (d : Details) (ys : List Details) → T (below_all details_cmp x (marks (xs ++ d ∷ ys))) → T (is_lt (details_cmp x d))
-below_at x [] d ys h = first_T _ _ h
-below_at x (y ∷ xs) d ys h = below_at x xs d ys (second_T (is_lt (details_cmp x y)) _ h)
+below_at x [] d ys h = first_true _ _ h
+below_at x (y ∷ xs) d ys h = below_at x xs d ys (second_true (is_lt (details_cmp x y)) _ h)
 
 sorted_below : (xs : List Details) (d : Details) (ys : List Details) → T (is_sorted details_cmp (marks (xs ++ d ∷ ys))) → list_all (λ e. is_lt (details_cmp e d)) xs ≡ true
 sorted_below [] d ys h = refl
-sorted_below (x ∷ xs) d ys h = both_true _ _ (T_true _ (below_at x xs d ys (first_T _ _ h))) (sorted_below xs d ys (second_T (below_all details_cmp x (marks (xs ++ d ∷ ys))) _ h))
+sorted_below (x ∷ xs) d ys h = and_from _ _ (T_true _ (below_at x xs d ys (first_true _ _ h))) (sorted_below xs d ys (second_true (below_all details_cmp x (marks (xs ++ d ∷ ys))) _ h))
 
 none_tied : (d : Details) (xs : List Details) → list_all (λ e. is_lt (details_cmp e d)) xs ≡ true → list_any (eq_by_cmp details_cmp d) xs ≡ false
 none_tied d [] h = refl
@@ -147,22 +144,15 @@ length_keys (e ∷ es) = ap suc (length_keys es)
 pub len_logged : (log : Entries) → log_len log ≡ length (logged log)
 len_logged log = fmap.len-entries log ∙ sym (length_keys (fmap.entries log))
 
-not_full : (n : ℕ) → n < 16 → nat_le 16 n ≡ false
-not_full n h = grind (arith, nat_tests)
-
-neither : (a b : Bool) → a ≡ false → b ≡ false → not (a || b) ≡ true
-neither true b h k = cc
-neither false b h k = ap not k
-
-put_again : (log : Entries) (d : Details) → is_below d log ≡ true → length (logged log) < 16 → put_last log d ≡ Some (with_entry log d)
+put_again : (log : Entries) (d : Details) → is_below d log ≡ true → length (logged log) < most_entries → put_last log d ≡ Some (with_entry log d)
 put_again log d below room =
     let has : has_logged log d ≡ false = fmap.contains_key-keys log d ∙ none_tied d (logged log) below in
     let e : log_len log ≡ length (logged log) = len_logged log in
-    let full : nat_le 16 (log_len log) ≡ false = not_full _ (omega arith) in
-    ap (λ b. cond b (cond (not (nat_le 16 (log_len log) || has_logged log d)) (Some (with_entry log d)) None) None) below
-    ∙ ap (λ b. cond b (Some (with_entry log d)) None) (neither _ _ full has)
+    let full : nat_le most_entries (log_len log) ≡ false = lt-leb most_entries (log_len log) (omega arith) in
+    ap (λ b. cond b (cond (not (nat_le most_entries (log_len log) || has_logged log d)) (Some (with_entry log d)) None) None) below
+    ∙ ap (λ b. cond b (Some (with_entry log d)) None) (not_from_false _ (or_from _ _ full has))
 
-text_again : (log : Entries) (d : Details) → IsDetails d → is_below d log ≡ true → length (logged log) < 16 → with_text log (entry_text d) ≡ Some (with_entry log d)
+text_again : (log : Entries) (d : Details) → IsDetails d → is_below d log ≡ true → length (logged log) < most_entries → with_text log (entry_text d) ≡ Some (with_entry log d)
 unfolding with_text
 text_again log d h below room = ap (option_and_then (put_last log)) (entry_again d h) ∙ put_again log d below room
 
@@ -171,7 +161,7 @@ pub record IsFound (n : ℕ) (t : List ℕ) (log : Entries) (ds : List Details) 
   pub read : entries_of n t log ≡ Some value
   pub logs : logged value ≡ logged log ++ ds
 
-pub entries_again : (n : ℕ) (d : Details) (ds : List Details) (log : Entries) → length ds < n → length (logged log) + length ds < 16 → AllByRecursion IsDetails (d ∷ ds)
+pub entries_again : (n : ℕ) (d : Details) (ds : List Details) (log : Entries) → length ds < n → length (logged log) + length ds < most_entries → AllByRecursion IsDetails (d ∷ ds)
     → T (is_sorted details_cmp (marks (logged log ++ d ∷ ds))) → IsFound n (entry_texts (d ∷ ds)) log (d ∷ ds)
 entries_again zero d ds log turns room valid sorted = absurd (omega arith)
 entries_again (suc n) d [] log turns room valid sorted =
@@ -209,43 +199,36 @@ logged_sorted s = subst (λ es. T (is_sorted details_cmp es)) (sym (marks_keys (
 pub none_is : logged none_logged ≡ []
 none_is = ap logged (sym log_of_none) ∙ logged-log_of [] tt
 
-pub found_in : (t : List ℕ) (r : Option Entries) → r ≡ entries_of 16 t none_logged → IfSome r (λ log. t ≡ code log)
+pub found_in : (t : List ℕ) (r : Option Entries) → r ≡ entries_of most_entries t none_logged → IfSome r (λ log. t ≡ code log)
 found_in t None h = tt
 found_in t (Some s) h =
-    let f = entries_take 16 t none_logged s (sym h) in
+    let f = entries_take most_entries t none_logged s (sym h) in
     let e : logged s ≡ f.first ∷ f.rest = f.logs ∙ ap (λ ds. ds ++ f.first ∷ f.rest) none_is in
     f.text ∙ ap entry_texts (sym e)
 
-pub valid_in : (t : List ℕ) (r : Option Entries) → r ≡ entries_of 16 t none_logged → IfSome r IsLogValue
+pub valid_in : (t : List ℕ) (r : Option Entries) → r ≡ entries_of most_entries t none_logged → IfSome r IsLogValue
 valid_in t None h = tt
 valid_in t (Some s) h =
-    let f = entries_take 16 t none_logged s (sym h) in
+    let f = entries_take most_entries t none_logged s (sym h) in
     let e : logged s ≡ f.first ∷ f.rest = f.logs ∙ ap (λ ds. ds ++ f.first ∷ f.rest) none_is in
-    let few : length f.rest < 16 = f.few in
+    let few : length f.rest < most_entries = f.few in
     let len : log_len s ≡ length (f.first ∷ f.rest) = len_logged s ∙ ap length e in
-    record { room = omega arith; entries = subst (AllByRecursion IsDetails) (sym e) f.valid }
+    record { room = omega arith; entries = each_logged s (subst (AllByRecursion IsDetails) (sym e) f.valid) }
 
--- the empty log is within its limits
-pub none_valid : IsLogValue none_logged
-none_valid = record {
-  room = let len : log_len none_logged ≡ 0 = len_logged none_logged ∙ ap length none_is in omega arith;
-  entries = subst (AllByRecursion IsDetails) (sym none_is) tt;
-}
-
-pub only_in : (t : List ℕ) (r : Option Entries) → r ≡ entries_of 16 t none_logged → (t ≡ [] → ⊥) → (log : Entries) → IsLogValue log → t ≡ code log → r ≡ Some log
+pub only_in : (t : List ℕ) (r : Option Entries) → r ≡ entries_of most_entries t none_logged → (t ≡ [] → ⊥) → (log : Entries) → IsLogValue log → t ≡ code log → r ≡ Some log
 only_in t r h nonempty log valid is = by_list (logged log) refl
   where
     by_list : (ds : List Details) → logged log ≡ ds → r ≡ Some log
     by_list [] e = absurd (nonempty (is ∙ ap entry_texts e))
     by_list (d ∷ ds) e =
         let len : log_len log ≡ length (d ∷ ds) = len_logged log ∙ ap length e in
-        let room : log_len log ≤ 16 = valid.room in
+        let room : log_len log ≤ most_entries = valid.room in
         let start : logged none_logged ++ d ∷ ds ≡ d ∷ ds = ap (λ xs. xs ++ d ∷ ds) none_is in
         let nothing : length (logged none_logged) ≡ 0 = ap length none_is in
-        let f : IsFound 16 (entry_texts (d ∷ ds)) none_logged (d ∷ ds) =
-        entries_again 16 d ds none_logged (omega arith) (omega arith) (subst (AllByRecursion IsDetails) e valid.entries)
+        let f : IsFound most_entries (entry_texts (d ∷ ds)) none_logged (d ∷ ds) =
+        entries_again most_entries d ds none_logged (omega arith) (omega arith) (subst (AllByRecursion IsDetails) e (logged_each log valid.entries))
         (subst (λ xs. T (is_sorted details_cmp (marks xs))) (e ∙ sym start) (logged_sorted log)) in
-        h ∙ ap (λ u. entries_of 16 u none_logged) (is ∙ ap entry_texts e) ∙ f.read ∙ ap Some (same_logged f.value log (f.logs ∙ start ∙ sym e))
+        h ∙ ap (λ u. entries_of most_entries u none_logged) (is ∙ ap entry_texts e) ∙ f.read ∙ ap Some (same_logged f.value log (f.logs ∙ start ∙ sym e))
 
 joined_some : (a : List ℕ) (x : ℕ) (b : List ℕ) → a ++ x ∷ b ≡ [] → ⊥
 joined_some [] x b e = cc
@@ -274,10 +257,10 @@ nonempty_of [] h e = false_true h
 nonempty_of (x ∷ xs) h e = cc
 
 -- a turn of the reader's loop
-pub turn_more : (k : ℕ) (t : List ℕ) (log m : Entries) (p : List ℕ × List ℕ) → k < 16 → cut 59 t ≡ Some p → with_text log p.0 ≡ Some m → entries_of (16 - (k + 1)) p.1 m ≡ entries_of (16 - k) t log
+pub turn_more : (k : ℕ) (t : List ℕ) (log m : Entries) (p : List ℕ × List ℕ) → k < most_entries → cut 59 t ≡ Some p → with_text log p.0 ≡ Some m → entries_of (most_entries - (k + 1)) p.1 m ≡ entries_of (most_entries - k) t log
 turn_more k t log m p low is text =
-    let e : 16 - k ≡ suc (16 - (k + 1)) = omega arith in
-    sym (ap (λ n. entries_of n t log) e ∙ ap (after_cut (entries_of (16 - (k + 1))) t log) is ∙ ap (option_and_then (entries_of (16 - (k + 1)) p.1)) text)
+    let e : most_entries - k ≡ suc (most_entries - (k + 1)) = omega arith in
+    sym (ap (λ n. entries_of n t log) e ∙ ap (after_cut (entries_of (most_entries - (k + 1))) t log) is ∙ ap (option_and_then (entries_of (most_entries - (k + 1)) p.1)) text)
 
 -- the rest of a text, behind a first entry or not
 abbrev pub rest_text : List Details → List ℕ
@@ -289,11 +272,7 @@ text_from zero ds = entry_texts ds
 text_from (suc n) ds = rest_text ds
 
 code_rest : (d : Details) (ds : List Details) → entry_texts (d ∷ ds) ≡ entry_text d ++ rest_text ds
-code_rest d [] = sym (append_nil (entry_text d))
-  where
-    append_nil : (xs : List ℕ) → xs ++ [] ≡ xs
-    append_nil [] = refl
-    append_nil (x ∷ xs) = ap (λ ys. x ∷ ys) (append_nil xs)
+code_rest d [] = sym (append-nil (entry_text d))
 code_rest d (e ∷ es) = ap (λ ys. entry_text d ++ 59 ∷ ys) (code_rest e es)
 
 five : (t a b c d e : List ℕ) → ((((t ++ (a ++ 44 ∷ [])) ++ (b ++ 44 ∷ [])) ++ (c ++ 44 ∷ [])) ++ (d ++ 44 ∷ [])) ++ e ≡ t ++ (a ++ 44 ∷ (b ++ 44 ∷ (c ++ 44 ∷ (d ++ 44 ∷ e))))
@@ -316,12 +295,8 @@ drop_get zero (e ∷ es) d h = let same : e ≡ d = cc in ap (λ (x : Details). 
 drop_get (suc k) [] d h = cc
 drop_get (suc k) (e ∷ es) d h = drop_get k es d h
 
-nil_right : (xs : List ℕ) → xs ++ [] ≡ xs
-nil_right [] = refl
-nil_right (x ∷ xs) = ap (λ ys. x ∷ ys) (nil_right xs)
-
 lead_step : (k : ℕ) (t : List ℕ) (d : Details) (ds : List Details) → t ++ text_from k (d ∷ ds) ≡ ((t ++ lead k) ++ entry_text d) ++ rest_text ds
-lead_step zero t d ds = ap (λ ys. t ++ ys) (code_rest d ds) ∙ sym (append_assoc t (entry_text d) (rest_text ds)) ∙ ap (λ xs. (xs ++ entry_text d) ++ rest_text ds) (sym (nil_right t))
+lead_step zero t d ds = ap (λ ys. t ++ ys) (code_rest d ds) ∙ sym (append_assoc t (entry_text d) (rest_text ds)) ∙ ap (λ xs. (xs ++ entry_text d) ++ rest_text ds) (sym (append-nil t))
 lead_step (suc k) t d ds = simp append_assoc
 
 pub text_step : (k : ℕ) (t u : List ℕ) (log : Entries) (d : Details) → slice_get (logged log) k ≡ Some d → u ≡ (t ++ lead k) ++ entry_text d
@@ -352,27 +327,4 @@ from_none (suc k) = refl
 pub text_end : (t : List ℕ) (log : Entries) (k : ℕ) → log_len log ≤ k → t ++ text_from k (drop k (logged log)) ≡ code log → t ≡ code log
 text_end t log k l inv =
     let e : log_len log ≡ length (logged log) = len_logged log in
-    sym (nil_right t) ∙ ap (λ ys. t ++ ys) (sym (from_none k) ∙ ap (text_from k) (sym (past k (logged log) (omega arith)))) ∙ inv
-
--- one more entry is within its limits
-pub valid_more : (k : ℕ) (ds : List Details) (d : Details) → slice_get ds k ≡ Some d → IsDetails d → AllByRecursion IsDetails (take k ds)
-    → AllByRecursion IsDetails (take (k + 1) ds)
-valid_more k ds d h valid all =
-    let next : suc k ≡ k + 1 = omega arith in
-    subst (λ (n : ℕ). AllByRecursion IsDetails (take n ds)) next (by_place k ds h all)
-  where
-    by_place : (k : ℕ) (ds : List Details) → slice_get ds k ≡ Some d → AllByRecursion IsDetails (take k ds) → AllByRecursion IsDetails (take (suc k) ds)
-    by_place zero [] h all = tt
-    by_place zero (e ∷ es) h all = let same : e ≡ d = cc in (subst IsDetails (sym same) valid, tt)
-    by_place (suc k) [] h all = tt
-    by_place (suc k) (e ∷ es) h all = (all.0, by_place k es h all.1)
-
--- all entries are within their limits, once the place is past them
-pub valid_all : (k : ℕ) (log : Entries) → log_len log ≤ k → AllByRecursion IsDetails (take k (logged log)) → AllByRecursion IsDetails (logged log)
-valid_all k log past = let e : log_len log ≡ length (logged log) = len_logged log in by_place k (logged log) (omega arith)
-  where
-    by_place : (k : ℕ) (ds : List Details) → length ds ≤ k → AllByRecursion IsDetails (take k ds) → AllByRecursion IsDetails ds
-    by_place zero [] past all = tt
-    by_place zero (d ∷ ds) past all = absurd (omega arith)
-    by_place (suc k) [] past all = tt
-    by_place (suc k) (d ∷ ds) past all = (all.0, by_place k ds (omega arith) all.1)
+    sym (append-nil t) ∙ ap (λ ys. t ++ ys) (sym (from_none k) ∙ ap (text_from k) (sym (past k (logged log) (omega arith)))) ∙ inv

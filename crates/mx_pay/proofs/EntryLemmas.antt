@@ -1,6 +1,6 @@
 -- The laws of code texts, of one entry.
 use Rattle.std.proofs.Common.{◌≡◌, ◌≢◌, ℕ, ◌^◌, ◌<◌, ◌≤◌, suc, zero, Bool, true, false, cond, ◌&&◌, ◌==◌, List, [], ◌∷◌, ◌++◌, refl, sym, ◌∙◌, ap, subst, Option, Some, None, length, get_or, arith}
-use Rattle.std.specs.Prelude.{nat_le, nat_lt, decimal}
+use Rattle.std.specs.Prelude.{nat_lt, decimal}
 use Rattle.std.specs.Option.{option_and_then, option_map, IsNone, IfSome}
 use Rattle.std.proofs.lemmas.Str.Pattern.{IsSplitOnceResult, split_parts}
 use Rattle.std.proofs.Common.{Bor}
@@ -9,18 +9,19 @@ use Rattle.std.proofs.lemmas.Fmt.{decimal_is_IsNumeral, digits_decimal}
 use Rattle.std.proofs.Common.{lit<}
 use Rattle.std.proofs.lemmas.Bool.Decides.{nat_tests}
 use Rattle.std.proofs.Math.Dec.{eqb}
-use Rattle.std.proofs.lemmas.Bool.{eqb-true, eq-eqb}
+use Rattle.std.proofs.lemmas.Bool.{eqb-true, eq-eqb, leb-true, le-leb, ltb-true, lt-ltb, false_from_ne_true}
 use Rattle.std.specs.Cmp.Lexicographic.{pointwise}
+use Rattle.mx_pay.specs.Limits.{most_amount, most_number}
 use Rattle.mx_pay.specs.Names.{is_name_text, is_name, is_name_byte}
 use Rattle.std.specs.List.{list_all}
 use Rattle.std.specs.Int.{IsInRange}
 use Rattle.std.specs.Str.Parse.{AllDigits}
 use Rattle.std.proofs.lemmas.Str.Parse.{IsNumeralModel, numerals_by_value, tells_digits, not_in_digits}
-use Rattle.mx_pay.specs.Details.{Details}
-use Rattle.mx_pay.specs.Codes.{entry_text, IsDetails}
+use Rattle.mx_pay.specs.Details.{Details, IsDetails}
+use Rattle.mx_pay.specs.Codes.{entry_text}
 use Rattle.mx_pay.specs.Reading.{cut, onto, same_bytes, number_of, up_to, limited, name_of, apart, made_of, entry_of}
-use Rattle.mx_pay.proofs.Texts.{left_true, right_true}
-use Rattle.mx_pay.proofs.SameLemmas.{same_names, name_itself}
+use Rattle.mx_pay.proofs.Texts.{left_true, right_true, name_bytes}
+use Rattle.mx_pay.proofs.SameLemmas.{same_names, name_itself, names_unlike}
 
 some_of : {A : Type 0} (b : Bool) (x y : A) → cond b (Some x) None ≡ Some y → (b ≡ true) × (x ≡ y)
 some_of true x y h = (refl, cc)
@@ -68,20 +69,14 @@ number_takes t n h =
     let s = some_of _ _ _ h in
     let e : digits_value 10 t ≡ n = s.1 in
     let low : nat_lt (digits_value 10 t) (2 ^ 64) ≡ true = left_true _ _ s.0 in
-    (bytes_same _ _ (right_true (nat_lt (digits_value 10 t) (2 ^ 64)) _ s.0) ∙ ap decimal e, subst (λ (k : ℕ). k < 2 ^ 64) e (below _ low))
-  where
-    below : (k : ℕ) → nat_lt k (2 ^ 64) ≡ true → k < 2 ^ 64
-    below k h = grind (arith, nat_tests)
-
-lt_true : (k : ℕ) → k < 2 ^ 64 → nat_lt k (2 ^ 64) ≡ true
-lt_true k h = grind (arith, nat_tests)
+    (bytes_same _ _ (right_true (nat_lt (digits_value 10 t) (2 ^ 64)) _ s.0) ∙ ap decimal e, subst (λ (k : ℕ). k < 2 ^ 64) e (ltb-true _ _ low))
 
 pub number_again : (n : ℕ) → n < 2 ^ 64 → number_of (decimal n) ≡ Some n
 unfolding number_of
 number_again n h =
     let v : digits_value 10 (decimal n) ≡ n = (decimal_is_IsNumeral n h).1 in
     ap (λ (k : ℕ). cond (nat_lt k (2 ^ 64) && same_bytes (decimal n) (decimal k)) (Some k) None) v
-    ∙ ap (λ b. cond (b && same_bytes (decimal n) (decimal n)) (Some n) None) (lt_true n h)
+    ∙ ap (λ b. cond (b && same_bytes (decimal n) (decimal n)) (Some n) None) (lt-ltb _ _ h)
     ∙ ap (λ b. cond b (Some n) None) (bytes_itself (decimal n))
 
 none_or : (o : Option ℕ) → ((n : ℕ) → o ≡ Some n → ⊥) → o ≡ None
@@ -134,10 +129,7 @@ limited_takes most t n h =
     let b = bind_some (up_to most) (number_of t) n h in
     let s = some_of _ _ _ b.1.1 in
     let e : b.0 ≡ n = s.1 in
-    (subst (λ (k : ℕ). t ≡ decimal k) e (number_takes t b.0 b.1.0).0, subst (λ (k : ℕ). k ≤ most) e (low most b.0 s.0))
-  where
-    low : (m k : ℕ) → nat_le k m ≡ true → k ≤ m
-    low m k h = grind (arith, nat_tests)
+    (subst (λ (k : ℕ). t ≡ decimal k) e (number_takes t b.0 b.1.0).0, subst (λ (k : ℕ). k ≤ most) e (leb-true _ _ s.0))
 
 -- what the calls give
 pub cut_is : (c : ℕ) (bs : List ℕ) (r : Option (Bor (List ℕ) × Bor (List ℕ))) → IsSplitOnceResult c bs r → c < 128 → option_map (λ (x : Bor (List ℕ) × Bor (List ℕ)). (x.0.now, x.1.now)) r ≡ cut c bs
@@ -148,14 +140,10 @@ cut_is c bs (Some x) h low =
 
 pub new_apart : (r : Option Details) (d : Details) → (IsNone r → d.from ≡ d.to) × (d.from ≡ d.to → IsNone r) → IfSome r (λ x. x ≡ d) → r ≡ apart d
 new_apart None d none new = sym (ap (λ b. cond b None (Some d)) (ap (is_name d.from) (sym (none.0 refl)) ∙ name_itself d.from))
-new_apart (Some x) d none new = ap Some new ∙ sym (ap (λ b. cond b None (Some d)) (not_true _ (λ e. some_none (none.1 (same_names _ _ e)))))
+new_apart (Some x) d none new = ap Some new ∙ sym (ap (λ b. cond b None (Some d)) (false_from_ne_true _ (λ e. some_none (none.1 (same_names _ _ e)))))
   where
     some_none : IsNone (Some x) → ⊥
     some_none h = cc
-
-    not_true : (b : Bool) → (b ≡ true → ⊥) → b ≡ false
-    not_true true h = absurd (h refl)
-    not_true false h = refl
 
 apart_takes : (d e : Details) → apart d ≡ Some e → (d ≡ e) × (d.from ≡ d.to → ⊥)
 apart_takes d e h = by_case (is_name d.from d.to) refl h
@@ -169,15 +157,15 @@ unfolding made_of
 made_takes a b c d e x h =
     let s1 = bind_some _ (name_of a) x h in
     let s2 = bind_some _ (name_of b) x s1.1.1 in
-    let s3 = bind_some _ (limited (10 ^ 12) c) x s2.1.1 in
-    let s4 = bind_some _ (limited (10 ^ 15) d) x s3.1.1 in
-    let s5 = bind_some _ (limited (10 ^ 15) e) x s4.1.1 in
+    let s3 = bind_some _ (limited most_amount c) x s2.1.1 in
+    let s4 = bind_some _ (limited most_number d) x s3.1.1 in
+    let s5 = bind_some _ (limited most_number e) x s4.1.1 in
     let made = apart_takes _ x s5.1.1 in
     let n1 = name_takes a _ s1.1.0 in
     let n2 = name_takes b _ s2.1.0 in
-    let n3 = limited_takes (10 ^ 12) c _ s3.1.0 in
-    let n4 = limited_takes (10 ^ 15) d _ s4.1.0 in
-    let n5 = limited_takes (10 ^ 15) e _ s5.1.0 in (
+    let n3 = limited_takes most_amount c _ s3.1.0 in
+    let n4 = limited_takes most_number d _ s4.1.0 in
+    let n5 = limited_takes most_number e _ s5.1.0 in (
       subst IsDetails made.0 (record { from = n1.1; to = n2.1; value = n3.1; from_seq = n4.1; to_seq = n5.1; apart = made.1 }),
       texts a b c d e n1.0 n2.0 n3.0 n4.0 n5.0 ∙ ap entry_text made.0,
     )
@@ -208,25 +196,18 @@ NoByte c xs = (i : ℕ) → i < length xs → get_or xs i 0 ≢ c
 name_again : (n : List ℕ) → is_name_text n ≡ true → name_of n ≡ Some n
 name_again n h = ap (λ b. cond b (Some n) None) h
 
-le_true : (m k : ℕ) → k ≤ m → nat_le k m ≡ true
-le_true m k h = grind (arith, nat_tests)
-
 limited_again : (most n : ℕ) → n < 2 ^ 64 → n ≤ most → limited most (decimal n) ≡ Some n
-limited_again most n small low = ap (option_and_then (up_to most)) (number_again n small) ∙ ap (λ b. cond b (Some n) None) (le_true most n low)
+limited_again most n small low = ap (option_and_then (up_to most)) (number_again n small) ∙ ap (λ b. cond b (Some n) None) (le-leb _ _ low)
 
 apart_again : (d : Details) → (d.from ≡ d.to → ⊥) → apart d ≡ Some d
-apart_again d h = ap (λ b. cond b None (Some d)) (by_case (is_name d.from d.to) (λ e. h (same_names _ _ e)))
-  where
-    by_case : (b : Bool) → (b ≡ true → ⊥) → b ≡ false
-    by_case true h = absurd (h refl)
-    by_case false h = refl
+apart_again d h = ap (λ b. cond b None (Some d)) (names_unlike _ _ h)
 
 pub made_again : (x : Details) → IsDetails x → made_of x.from x.to (decimal x.value) (decimal x.from_seq) (decimal x.to_seq) ≡ Some x
 unfolding made_of
 made_again x h =
-    let v : limited (10 ^ 12) (decimal x.value) ≡ Some x.value = limited_again (10 ^ 12) x.value (let k : x.value ≤ 10 ^ 12 = h.value in omega arith) h.value in
-    let m : limited (10 ^ 15) (decimal x.from_seq) ≡ Some x.from_seq = limited_again (10 ^ 15) x.from_seq (let k : x.from_seq ≤ 10 ^ 15 = h.from_seq in omega arith) h.from_seq in
-    let n : limited (10 ^ 15) (decimal x.to_seq) ≡ Some x.to_seq = limited_again (10 ^ 15) x.to_seq (let k : x.to_seq ≤ 10 ^ 15 = h.to_seq in omega arith) h.to_seq in
+    let v : limited most_amount (decimal x.value) ≡ Some x.value = limited_again most_amount x.value (let k : x.value ≤ most_amount = h.value in omega arith) h.value in
+    let m : limited most_number (decimal x.from_seq) ≡ Some x.from_seq = limited_again most_number x.from_seq (let k : x.from_seq ≤ most_number = h.from_seq in omega arith) h.from_seq in
+    let n : limited most_number (decimal x.to_seq) ≡ Some x.to_seq = limited_again most_number x.to_seq (let k : x.to_seq ≤ most_number = h.to_seq in omega arith) h.to_seq in
     rw (name_again x.from h.from, name_again x.to h.to, v, m, n) (apart_again x h.apart)
 
 names_lack : (c : ℕ) → is_name_byte c ≡ false → (n : List ℕ) → list_all is_name_byte n ≡ true → NoByte c n
@@ -238,7 +219,7 @@ names_lack c other (b ∷ bs) h zero l e =
 names_lack c other (b ∷ bs) h (suc i) l e = names_lack c other bs (right_true (is_name_byte b) _ h) i (omega arith) e
 
 pub name_lacks : (c : ℕ) → is_name_byte c ≡ false → (n : List ℕ) → is_name_text n ≡ true → NoByte c n
-name_lacks c other n h = names_lack c other n (right_true _ _ (right_true _ _ h))
+name_lacks c other n h = names_lack c other n (name_bytes n h)
 
 own : IsNumeralModel (AllDigits 10) (digits_value 10)
 own = numerals_by_value (AllDigits 10) tells_digits
@@ -255,7 +236,7 @@ number_lacks c low n small = number_lacks_at c (λ r. outside c low r) n small
 pub entry_again : (x : Details) → IsDetails x → entry_of (entry_text x) ≡ Some x
 unfolding entry_of
 entry_again x h =
-    let vs : x.value < 2 ^ 64 = (let k : x.value ≤ 10 ^ 12 = h.value in omega arith) in
-    let ms : x.from_seq < 2 ^ 64 = (let k : x.from_seq ≤ 10 ^ 15 = h.from_seq in omega arith) in
+    let vs : x.value < 2 ^ 64 = (let k : x.value ≤ most_amount = h.value in omega arith) in
+    let ms : x.from_seq < 2 ^ 64 = (let k : x.from_seq ≤ most_number = h.from_seq in omega arith) in
     rw (cut_at 44 x.from _ (name_lacks 44 refl x.from h.from), cut_at 44 x.to _ (name_lacks 44 refl x.to h.to), cut_at 44 (decimal x.value) _ (number_lacks 44 (lit< tt) x.value vs), cut_at 44 (decimal x.from_seq) _ (number_lacks 44 (lit< tt) x.from_seq ms))
     (made_again x h)

@@ -1,3 +1,4 @@
+pub mod LimitLemmas
 pub mod CodeLemmas
 pub mod EntryLemmas
 pub mod LogLemmas

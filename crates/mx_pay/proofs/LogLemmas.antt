@@ -1,10 +1,12 @@
 -- The calls of a log as those of its set: each call on the sixteen places gives what the set does.
 use Rattle.std.proofs.Common.{◌≡◌, ℕ, ◌-◌, ◌<◌, ◌≤◌, suc, zero, Bool, true, false, cond, ◌&&◌, ◌||◌, List, [], ◌∷◌, ◌++◌, refl, sym, ◌∙◌, ap, subst, Option, Some, None, T, map, length, replicate, arith}
+use Rattle.std.proofs.lemmas.Bool.{leb-false}
 use Rattle.std.specs.Prelude.{is_some, nat_le, count_by, slice_get, filter}
 use Rattle.std.proofs.lemmas.List.Sums.{length-filter}
+use Rattle.mx_pay.specs.Limits.{most_entries}
 use Rattle.mx_pay.specs.Orders.{logged-log_of}
 use Rattle.std.specs.Option.{some_prefix}
-use Rattle.std.specs.List.{list_all, list_any}
+use Rattle.std.specs.List.{list_all, list_any, AllByRecursion}
 use Rattle.std.proofs.lemmas.Bool.Decides.{nat_tests}
 use Rattle.std.specs.Ordering.{is_lt, eq_by_cmp, nat_cmp}
 use Rattle.std.specs.Cmp.{IsTotalOrder}
@@ -14,10 +16,10 @@ use Rattle.std.proofs.lemmas.Map.Lookups.{exact_pairs, exact_unsigned}
 use Rattle.std.specs.FinMap.{IsAntisymmetric, slice_cmp-IsAntisymmetric, nat_cmp-IsAntisymmetric}
 use Rattle.std.specs.FinMap as fmap
 use Rattle.std.specs.FinMap.Entries.{put, find, is_sorted, is_sorted-put}
-use Rattle.mx_pay.specs.Details.{Details, details_cmp}
+use Rattle.mx_pay.specs.Details.{Details, IsDetails, details_cmp}
 use Rattle.mx_pay.specs.Log.{Entries, IsLog, marks, places, log_of, log_len, has_logged, with_entry, is_within, entry_at, is_below, owns, all_owned}
 use Rattle.mx_pay.specs.Places.{put_in, holds_at, stands_in, option_join, is_behind, owns_place}
-use Rattle.mx_pay.proofs.PutLemmas.{put_list, put_in-places, put-marks, length-put_list}
+use Rattle.mx_pay.proofs.PutLemmas.{put_list, put_in-places, put-marks, length-put_list, put_all}
 
 -- a list of no entries
 nil_of : (es : List (Details × Unit {0})) → length es ≡ 0 → es ≡ []
@@ -70,16 +72,16 @@ any_place d [] n = any_none d n
 any_place d (e ∷ es) n = any_case (eq_by_cmp details_cmp d e) _ (find details_cmp d (marks es)) (any_place d es n)
 
 -- the three calls, of the fields
-pub full_is : (entries : List (Option Details)) → IsLog entries → list_all is_some entries ≡ nat_le 16 (log_len (log_of (some_prefix entries)))
+pub full_is : (entries : List (Option Details)) → IsLog entries → list_all is_some entries ≡ nat_le most_entries (log_len (log_of (some_prefix entries)))
 full_is entries h =
     let ds : List Details = some_prefix entries in
-    let room : length ds ≤ 16 = h.room in
-    let last : nat_le (16 - length ds) 0 ≡ nat_le 16 (length ds) = grind (arith, nat_tests) in
-    ap (list_all is_some) (sym h.exact) ∙ taken ds (16 - length ds) ∙ last ∙ ap (nat_le 16) (sym (len-log_of ds h.rises))
+    let room : length ds ≤ most_entries = h.room in
+    let last : nat_le (most_entries - length ds) 0 ≡ nat_le most_entries (length ds) = grind (arith, nat_tests) in
+    ap (list_all is_some) (sym h.exact) ∙ taken ds (most_entries - length ds) ∙ last ∙ ap (nat_le most_entries) (sym (len-log_of ds h.rises))
 
 pub has_is : (entries : List (Option Details)) → IsLog entries → (d : Details) → list_any (holds_at d) entries ≡ has_logged (log_of (some_prefix entries)) d
 has_is entries h d =
-    ap (list_any (holds_at d)) (sym h.exact) ∙ any_place d (some_prefix entries) (16 - length (some_prefix entries))
+    ap (list_any (holds_at d)) (sym h.exact) ∙ any_place d (some_prefix entries) (most_entries - length (some_prefix entries))
     ∙ ap is_some (sym (fmap.get-from_sorted details_cmp (marks (some_prefix entries)) d h.rises))
 
 none_of : (o : Option (Unit {0})) → is_some o ≡ false → o ≡ None
@@ -91,32 +93,30 @@ pub record IsPut (entries : List (Option Details)) (d : Details) : Type 0 where
   pub fields : IsLog (put_in d entries)
   pub view : log_of (some_prefix (put_in d entries)) ≡ with_entry (log_of (some_prefix entries)) d
 
-pub is_put : (entries : List (Option Details)) → IsLog entries → (d : Details) → nat_le 16 (log_len (log_of (some_prefix entries))) ≡ false → has_logged (log_of (some_prefix entries)) d ≡ false → IsPut entries d
-is_put entries h d full there =
+pub is_put : (entries : List (Option Details)) → IsLog entries → (d : Details) → IsDetails d → nat_le most_entries (log_len (log_of (some_prefix entries))) ≡ false → has_logged (log_of (some_prefix entries)) d ≡ false → IsPut entries d
+is_put entries h d valid full there =
     let ds : List Details = some_prefix entries in
-    let short : nat_le 16 (length ds) ≡ false = ap (nat_le 16) (sym (len-log_of ds h.rises)) ∙ full in
-    let room : length ds < 16 = below_16 (length ds) short in
+    let short : nat_le most_entries (length ds) ≡ false = ap (nat_le most_entries) (sym (len-log_of ds h.rises)) ∙ full in
+    let room : length ds < most_entries = leb-false most_entries (length ds) short in
     let none : find details_cmp d (marks ds) ≡ None = none_of _ (ap is_some (sym (fmap.get-from_sorted details_cmp (marks ds) d h.rises)) ∙ there) in
-    let k : ℕ = 15 - length ds in
-    let one_more : 16 - length ds ≡ suc k = omega arith in
+    let k : ℕ = most_entries - suc (length ds) in
+    let one_more : most_entries - length ds ≡ suc k = omega arith in
     let before : entries ≡ map Some ds ++ None ∷ replicate k None = sym h.exact ∙ ap (λ m. map Some ds ++ replicate m None) one_more in
     let after : put_in d entries ≡ map Some (put_list d ds) ++ replicate k None = ap (put_in d) before ∙ put_in-places d ds (replicate k None) h.rises none in
     let prefix : some_prefix (put_in d entries) ≡ put_list d ds = ap some_prefix after ∙ prefix_of (put_list d ds) k in
     let longer : length (put_list d ds) ≡ suc (length ds) = length-put_list d ds none in
     let rises : T (is_sorted details_cmp (marks (put_list d ds))) = subst (λ es. T (is_sorted details_cmp es)) (put-marks d ds none) (is_sorted-put details_cmp details_total d tt (marks ds) h.rises) in
-    let left : 16 - length (put_list d ds) ≡ k = omega arith in
+    let left : most_entries - length (put_list d ds) ≡ k = omega arith in
     record {
       fields = record {
-        room = subst (λ xs. length xs ≤ 16) (sym prefix) (omega arith);
+        room = subst (λ xs. length xs ≤ most_entries) (sym prefix) (omega arith);
         exact = ap places prefix ∙ ap (λ m. map Some (put_list d ds) ++ replicate m None) left ∙ sym after;
         rises = subst (λ xs. T (is_sorted details_cmp (marks xs))) (sym prefix) rises;
+        each = subst (AllByRecursion IsDetails) (sym prefix) (put_all IsDetails d ds valid h.each);
       };
       view = ap log_of prefix ∙ fmap.same_entries_map _ _ (fmap.entries-from_sorted details_cmp (marks (put_list d ds)) rises ∙ sym (put-marks d ds none)
           ∙ ap (put details_cmp d tt) (sym (fmap.entries-from_sorted details_cmp (marks ds) h.rises)) ∙ sym (fmap.entries-insert details_total (log_of ds) d tt));
     }
-  where
-    below_16 : (n : ℕ) → nat_le 16 n ≡ false → n < 16
-    below_16 n e = grind (arith, nat_tests)
 
 -- details that compare alike are the same
 pub details_exact : IsAntisymmetric details_cmp
@@ -190,5 +190,5 @@ owned_places x k (d ∷ ds) n = ap (λ b. owns x k d && b) (owned_places x k ds 
 pub owned_is : (entries : List (Option Details)) → IsLog entries → (x : List ℕ) (k : ℕ) → list_all (owns_place x k) entries ≡ all_owned x k (log_of (some_prefix entries))
 owned_is entries h x k = ap (list_all (owns_place x k)) (sym h.exact) ∙ owned_places x k (some_prefix entries) _ ∙ ap (list_all (owns x k)) (sym (logged-log_of _ h.rises))
 
-pub room_is : (entries : List (Option Details)) → IsLog entries → log_len (log_of (some_prefix entries)) ≤ 16
-room_is entries h = subst (λ (n : ℕ). n ≤ 16) (sym (len-log_of _ h.rises)) h.room
+pub room_is : (entries : List (Option Details)) → IsLog entries → log_len (log_of (some_prefix entries)) ≤ most_entries
+room_is entries h = subst (λ (n : ℕ). n ≤ most_entries) (sym (len-log_of _ h.rises)) h.room

@@ -3,16 +3,18 @@ use Rattle.std.proofs.Common.{◌≡◌, Bool, true, false, cond, ◌&&◌, List
 use Rattle.std.specs.declared.cmp.Ordering.{Ordering}
 use Rattle.std.specs.declared.cmp.Ordering.TheVariants.{Less, Equal, Greater}
 use Rattle.std.specs.Ordering.{is_lt, is_eq}
+use Rattle.std.specs.List.{AllByRecursion}
 use Rattle.std.specs.FinMap.Entries.{put, find, is_sorted, below_all, by_order}
 use Rattle.mx_pay.specs.Details.{Details, details_cmp}
 use Rattle.mx_pay.specs.Log.{marks}
 use Rattle.mx_pay.specs.Places.{put_in}
 
-first_true : (a b : Bool) → T (a && b) → T a
+-- the two parts of a test by `&&` that holds
+pub first_true : (a b : Bool) → T (a && b) → T a
 first_true true b p = tt
 first_true false b p = p
 
-second_true : (a b : Bool) → T (a && b) → T b
+pub second_true : (a b : Bool) → T (a && b) → T b
 second_true true b p = p
 second_true false b p = absurd p
 
@@ -78,3 +80,13 @@ len_case d e es Greater apart rest = ap suc rest
 pub length-put_list : (d : Details) (es : List Details) → find details_cmp d (marks es) ≡ None → length (put_list d es) ≡ suc (length es)
 length-put_list d [] none = refl
 length-put_list d (e ∷ es) none = len_case d e es (details_cmp d e) (not_tied _ true e _ none) (length-put_list d es (rest_none _ _ none))
+
+-- what holds of details and of each of a list holds of each of the list with the details
+pub put_all : (P : Details → Type 0) (d : Details) (es : List Details) → P d → AllByRecursion P es → AllByRecursion P (put_list d es)
+put_all P d [] one all = (one, tt)
+put_all P d (e ∷ es) one all = by_case (details_cmp d e) (put_all P d es one all.1)
+  where
+    by_case : (r : Ordering) → AllByRecursion P (put_list d es) → AllByRecursion P (by_order r (d ∷ e ∷ es) (d ∷ es) (e ∷ put_list d es))
+    by_case Less rest = (one, all)
+    by_case Equal rest = (one, all.1)
+    by_case Greater rest = (all.0, rest)

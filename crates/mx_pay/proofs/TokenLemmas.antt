@@ -7,6 +7,7 @@ use Rattle.std.proofs.lemmas.Bool.{and_parts, cases_lt, eqb-true}
 use Rattle.hex.specs.Hex.{decode_pairs, decode_sized, digit_or_error, encode_lower, encode_with, hex_digit_value, lower_digits, pair_value, value_at, ◌>>=◌}
 use Rattle.hex.specs.declared.error.FromHexError.{FromHexError}
 use Rattle.hex.proofs.HexLemmas.{IsAscii-encode_with, IsOk-decode_sized, decode_of-even, decode_sized-ok, decode_sized-twice}
+use Rattle.mx_pay.specs.Limits.{token_bytes}
 use Rattle.mx_pay.proofs.Texts.{IsAscii-name_bytes}
 use Rattle.mx_pay.specs.Tokens.{token_of, IsTokenText, lower_case}
 
@@ -99,11 +100,11 @@ result_comes_back s n (Ok bytes) h =
 
 -- the text of a token that was read is the text that it was read from, in lower case
 pub IfSome-token_of : (text : List ℕ) → IfSome (token_of text) (λ token. encode_lower token ≡ lower_case text)
-IfSome-token_of text = result_comes_back text 16 (decode_sized text 16) refl
+IfSome-token_of text = result_comes_back text token_bytes (decode_sized text token_bytes) refl
 
 -- the texts that are tokens are 32 hexadecimal digits
 pub IsSome-token_of : (text : List ℕ) → IsSome (token_of text) ↔ IsTokenText text
-IsSome-token_of text = by_result (decode_sized text 16) (IsOk-decode_sized text 16)
+IsSome-token_of text = by_result (decode_sized text token_bytes) (IsOk-decode_sized text token_bytes)
   where
     by_result : (r : Result (List ℕ) FromHexError) → IsOk r ↔ IsTokenText text → IsSome (result_ok r) ↔ IsTokenText text
     by_result (Ok bytes) h = (λ _. h.0 refl, λ _. refl)
@@ -111,9 +112,9 @@ IsSome-token_of text = by_result (decode_sized text 16) (IsOk-decode_sized text 
 
 -- what decoding into sixteen bytes that succeeds writes is the token
 pub token_of-written : (text out : List ℕ) (r : Result Unit FromHexError)
-    → MatchResult (decode_sized text 16) (λ bytes. (r ≡ Ok tt) × (out ≡ bytes)) (λ e. r ≡ Err e) → IsOk r
+    → MatchResult (decode_sized text token_bytes) (λ bytes. (r ≡ Ok tt) × (out ≡ bytes)) (λ e. r ≡ Err e) → IsOk r
     → token_of text ≡ Some out
-token_of-written text out r = by_result (decode_sized text 16)
+token_of-written text out r = by_result (decode_sized text token_bytes)
   where
     by_result : (d : Result (List ℕ) FromHexError)
         → MatchResult d (λ bytes. (r ≡ Ok tt) × (out ≡ bytes)) (λ e. r ≡ Err e) → IsOk r → result_ok d ≡ Some out
@@ -122,9 +123,9 @@ token_of-written text out r = by_result (decode_sized text 16)
 
 -- where decoding into sixteen bytes fails there is no token
 pub token_of-refused : (text out : List ℕ) (r : Result Unit FromHexError)
-    → MatchResult (decode_sized text 16) (λ bytes. (r ≡ Ok tt) × (out ≡ bytes)) (λ e. r ≡ Err e) → IsErr r
+    → MatchResult (decode_sized text token_bytes) (λ bytes. (r ≡ Ok tt) × (out ≡ bytes)) (λ e. r ≡ Err e) → IsErr r
     → token_of text ≡ None
-token_of-refused text out r = by_result (decode_sized text 16)
+token_of-refused text out r = by_result (decode_sized text token_bytes)
   where
     by_result : (d : Result (List ℕ) FromHexError)
         → MatchResult d (λ bytes. (r ≡ Ok tt) × (out ≡ bytes)) (λ e. r ≡ Err e) → IsErr r → result_ok d ≡ None

@@ -1,6 +1,6 @@
 -- A log is a finite set of payment details (PRG-126: the exception log of the schema ConPurse).
 use Rattle.std.specs.Prelude.{◌≡◌, ℕ, ◌-◌, ◌≤◌, nat_lt, Bool, ◌&&◌, ◌||◌, List, ◌++◌, length, map, replicate, slice_get, Option, Some, None, T}
-use Rattle.std.specs.List.{list_all}
+use Rattle.std.specs.List.{list_all, AllByRecursion}
 use Rattle.std.specs.Option.{some_prefix}
 use Rattle.std.specs.Ordering.{is_lt}
 use Rattle.std.specs.Coded.{Coded}
@@ -8,8 +8,9 @@ use Rattle.std.specs.FinMap as fmap
 use Rattle.std.specs.FinMap.Entries.{is_sorted}
 use Rattle.std.specs.FinSet.{FinSet}
 use Rattle.std.specs.FinSet as fset
+use Rattle.mx_pay.specs.Limits.{most_entries}
 use Rattle.mx_pay.specs.Names.{is_name}
-use Rattle.mx_pay.specs.Details.{Details, details_cmp, coded_details}
+use Rattle.mx_pay.specs.Details.{Details, IsDetails, details_cmp, coded_details}
 
 -- a set of details
 abbrev pub Entries : Type 0
@@ -63,6 +64,11 @@ owns name next d = (is_name d.from name && nat_lt d.from_seq next) || (is_name d
 abbrev pub all_owned : List ℕ → ℕ → Entries → Bool
 all_owned name next log = list_all (owns name next) (logged log)
 
+-- a log has at most 16 details, each within its limits
+pub record IsLogValue (log : Entries) : Type 0 where
+  pub room : log_len log ≤ most_entries
+  pub entries : (d : Details) → has_logged log d ≡ Bool.true → IsDetails d
+
 -- details as the entries of a map to nothing, which is what a set is made of
 abbrev pub marks : List Details → List (Details × Unit {0})
 marks ds = map (λ d. (d, tt)) ds
@@ -73,10 +79,11 @@ log_of ds = fmap.from_sorted (marks ds)
 
 -- sixteen places, of which the first hold the details and the others nothing
 abbrev pub places : List Details → List (Option Details)
-places ds = map Some ds ++ replicate (16 - length ds) None
+places ds = map Some ds ++ replicate (most_entries - length ds) None
 
--- sixteen places are those of a log: at most 16 details in rising order, then nothing
+-- sixteen places are those of a log: at most 16 details in rising order, each within its limits, then nothing
 pub record IsLog (entries : List (Option Details)) : Type 0 where
-  pub room : length (some_prefix entries) ≤ 16
+  pub room : length (some_prefix entries) ≤ most_entries
   pub exact : places (some_prefix entries) ≡ entries
   pub rises : T (is_sorted details_cmp (marks (some_prefix entries)))
+  pub each : AllByRecursion IsDetails (some_prefix entries)

@@ -2,6 +2,7 @@
 use Rattle.std.specs.Prelude.{ℕ, suc, zero, ◌^◌, nat_le, nat_lt, ◌==◌, ◌&&◌, ◌||◌, not, Bool, List, [], ◌∷◌, if◌then◌else◌, Option, Some, None, decimal}
 use Rattle.std.specs.Option.{option_and_then}
 use Rattle.std.specs.Str.Parse.{digits_value}
+use Rattle.mx_pay.specs.Limits.{most_amount, most_number, most_entries}
 use Rattle.mx_pay.specs.Names.{is_name_text, is_name}
 use Rattle.mx_pay.specs.Details.{Details}
 use Rattle.mx_pay.specs.Log.{Entries, log_len, with_entry, has_logged, is_below}
@@ -49,7 +50,7 @@ unfoldable pub made_of : List ℕ → List ℕ → List ℕ → List ℕ → Lis
 made_of a b c d e =
     option_and_then (λ from. option_and_then (λ to. option_and_then (λ value. option_and_then (λ from_seq. option_and_then (λ to_seq.
     apart (record { from = from; to = to; value = value; from_seq = from_seq; to_seq = to_seq }))
-    (limited (10 ^ 15) e)) (limited (10 ^ 15) d)) (limited (10 ^ 12) c)) (name_of b)) (name_of a)
+    (limited most_number e)) (limited most_number d)) (limited most_amount c)) (name_of b)) (name_of a)
 
 -- the details whose entry this text is
 unfoldable pub entry_of : List ℕ → Option Details
@@ -61,7 +62,7 @@ entry_of t =
 abbrev pub put_last : Entries → Details → Option Entries
 put_last log d =
     if is_below d log then
-    (if not (nat_le 16 (log_len log) || has_logged log d) then Some (with_entry log d) else None) else None
+    (if not (nat_le most_entries (log_len log) || has_logged log d) then Some (with_entry log d) else None) else None
 
 -- a log with the entry of a text at its end
 unfoldable pub with_text : Entries → List ℕ → Option Entries

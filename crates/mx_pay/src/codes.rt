@@ -1,11 +1,12 @@
 //! Code texts: the text of a log, and the log of a text.
 ghost use Rattle.std.specs.Prelude.{◌≡◌, ◌^◌, ◌++◌, ◌∷◌, [], Some, option_map, IfSome, IfOk, string_bytes};
-ghost use Rattle.mx_pay.specs.Codes.{code, entry_text, IsDetails, IsLogValue};
+ghost use Rattle.mx_pay.specs.Limits.{most_amount, most_number, most_entries};
+ghost use Rattle.mx_pay.specs.Codes.{code, entry_text};
 ghost use Rattle.mx_pay.specs.Reading.{cut, number_of, limited, apart, made_of, entry_of, put_last, with_text, entries_of, lead};
-ghost use Rattle.mx_pay.specs.Log.{Entries, none_logged};
+ghost use Rattle.mx_pay.specs.Log.{IsLogValue, Entries, none_logged};
 
 use crate::details::PayDetails;
-use crate::log::Log;
+use crate::log::{Log, MOST_ENTRIES};
 use crate::names::Name;
 use crate::numbers::{Amount, Seq};
 use std::alloc::{AllocError, Global};
@@ -15,7 +16,7 @@ use std::alloc::{AllocError, Global};
 /// log is empty. Err only where an allocation fails.
 pub fn code_text(alloc: Global, log: &Log) -> Result<String, AllocError>
     ensures text { IfOk result (λ text. string_bytes text ≡ code log.now) }
-    ensures valid { IfOk result (λ _. IsLogValue log.now) }
+    ensures valid { IsLogValue log.now }
 {
     let mut text = String::new(alloc);
     for place in 0..log.len() {
@@ -28,8 +29,7 @@ pub fn code_text(alloc: Global, log: &Log) -> Result<String, AllocError>
 
 /// Writes the entry at a place, behind a semicolon where it isn't the first.
 fn push_at(text: &mut String, place: usize, details: &PayDetails) -> Result<(), AllocError>
-    ensures text { IfOk result (λ _. string_bytes text.new ≡ (string_bytes text.old ++ lead place) ++ entry_text details.now) }
-    ensures valid { IfOk result (λ _. IsDetails details.now) }
+    ensures { IfOk result (λ _. string_bytes text.new ≡ (string_bytes text.old ++ lead place) ++ entry_text details.now) }
 {
     if place != 0 {
         text.push_str(";")?;
@@ -40,8 +40,7 @@ fn push_at(text: &mut String, place: usize, details: &PayDetails) -> Result<(), 
 /// Writes the code text of one entry at the end of `text`: the five fields with commas between them, the numbers in
 /// decimal without leading zeros. Err only where an allocation fails; then a part of it may stand there.
 pub fn push_entry(text: &mut String, details: &PayDetails) -> Result<(), AllocError>
-    ensures text { IfOk result (λ _. string_bytes text.new ≡ string_bytes text.old ++ entry_text details.now) }
-    ensures valid { IfOk result (λ _. IsDetails details.now) }
+    ensures { IfOk result (λ _. string_bytes text.new ≡ string_bytes text.old ++ entry_text details.now) }
 {
     let mut buffer = itoa::Buffer::new();
     push_field(text, details.from().as_str())?;
@@ -77,11 +76,11 @@ pub fn read_code(text: &str) -> Option<Log>
 }
 
 fn read_entries(text: &str) -> Option<Log>
-    ensures { result ≡ entries_of 16 text.now none_logged }
+    ensures { result ≡ entries_of most_entries text.now none_logged }
 {
     let mut log = Log::new();
     let mut rest = text;
-    for _turn in 0..16u8 {
+    for _turn in 0..MOST_ENTRIES {
         match cut_semicolon(rest) {
             None => return with_text(&log, rest),
             Some((first, more)) => {
@@ -152,13 +151,13 @@ fn with_fields(
 }
 
 fn read_amount(text: &str) -> Option<Amount>
-    ensures { result ≡ limited (10 ^ 12) text.now }
+    ensures { result ≡ limited most_amount text.now }
 {
     Amount::new(read_number(text)?)
 }
 
 fn read_seq(text: &str) -> Option<Seq>
-    ensures { result ≡ limited (10 ^ 15) text.now }
+    ensures { result ≡ limited most_number text.now }
 {
     Seq::new(read_number(text)?)
 }

@@ -1,7 +1,8 @@
 //! Payment details.
-ghost use Rattle.std.specs.Prelude.{◌≡◌, ◌≢◌, IsNone, IfSome, ◌↔◌};
+ghost use Rattle.std.specs.Prelude.{◌≡◌, IsNone, IfSome, ◌↔◌};
+ghost use Rattle.mx_pay.specs.Details.{IsDetails};
 
-use crate::names::Name;
+use crate::names::{Name, same_name};
 use crate::numbers::{Amount, Seq};
 use std::marker::Model;
 
@@ -17,8 +18,7 @@ pub struct PayDetails {
 }
 
 impl Model for PayDetails {
-    ghost use Rattle.std.specs.Prelude.{◌≢◌};
-    ghost use Rattle.mx_pay.specs.Details.{Details, coded_details};
+    ghost use Rattle.mx_pay.specs.Details.{Details, IsDetails, coded_details};
 
     ghost Value = { Details };
 
@@ -32,7 +32,13 @@ impl Model for PayDetails {
       to_seq = d.to_seq;
     } };
 
-    ghost invariant = { λ d. d.from ≢ d.to };
+    ghost invariant = { λ d. IsDetails (record {
+      from = d.from;
+      to = d.to;
+      value = d.value;
+      from_seq = d.from_seq;
+      to_seq = d.to_seq;
+    }) };
 
     ghost inverse = { λ d. record {
       from = d.from;
@@ -61,8 +67,11 @@ impl PayDetails {
           from_seq = from_seq;
           to_seq = to_seq;
         }) }
+        ensures valid { IfSome result IsDetails }
     {
-        if from == to {
+        // Each reader says its value's limit.
+        let _limits = (value.get(), from_seq.get(), to_seq.get());
+        if same_name(&from, &to) {
             return None;
         }
         Some(PayDetails {
@@ -76,7 +85,8 @@ impl PayDetails {
 
     /// The name of the purse that pays.
     pub fn from(&self) -> Name
-        ensures { result ≡ self.now.from }
+        ensures value { result ≡ self.now.from }
+        ensures valid { IsDetails self.now }
     {
         self.from
     }
@@ -84,28 +94,31 @@ impl PayDetails {
     /// The name of the purse that is paid, another than the one that pays.
     pub fn to(&self) -> Name
         ensures value { result ≡ self.now.to }
-        ensures other { result ≢ self.now.from }
+        ensures valid { IsDetails self.now }
     {
         self.to
     }
 
     /// The sequence number that the purse that pays has for this payment, from 0 to 10^15.
     pub fn from_seq(&self) -> Seq
-        ensures { result ≡ self.now.from_seq }
+        ensures value { result ≡ self.now.from_seq }
+        ensures valid { IsDetails self.now }
     {
         self.from_seq
     }
 
     /// The sequence number that the purse that is paid has for this payment, from 0 to 10^15.
     pub fn to_seq(&self) -> Seq
-        ensures { result ≡ self.now.to_seq }
+        ensures value { result ≡ self.now.to_seq }
+        ensures valid { IsDetails self.now }
     {
         self.to_seq
     }
 
     /// How much is paid, from 0 to 10^12.
     pub fn value(&self) -> Amount
-        ensures { result ≡ self.now.value }
+        ensures value { result ≡ self.now.value }
+        ensures valid { IsDetails self.now }
     {
         self.value
     }

@@ -15,7 +15,7 @@ pub mod token;
 
 pub use codes::{code_text, push_entry, read_code};
 pub use details::PayDetails;
-pub use log::Log;
-pub use names::Name;
-pub use numbers::{Amount, Seq};
-pub use token::Token;
+pub use log::{Log, MOST_ENTRIES};
+pub use names::{MOST_NAME_BYTES, Name};
+pub use numbers::{Amount, MOST_AMOUNT, MOST_NUMBER, Seq};
+pub use token::{TOKEN_BYTES, Token};

@@ -1,7 +1,8 @@
 //! Logs.
 ghost use Rattle.std.specs.Prelude.{◌≡◌, ◌≤◌, ◌↔◌, ◌||◌, IsTrue, not, nat_le, is_some, count_by, slice_get, if◌then◌else◌};
 ghost use Rattle.std.specs.List.{list_all, list_any};
-ghost use Rattle.mx_pay.specs.Log.{none_logged, log_len, has_logged, entry_at, with_entry, is_within, is_same_log, is_below, all_owned};
+ghost use Rattle.mx_pay.specs.Limits.{most_entries};
+ghost use Rattle.mx_pay.specs.Log.{IsLogValue, none_logged, log_len, has_logged, entry_at, with_entry, is_within, is_same_log, is_below, all_owned};
 ghost use Rattle.mx_pay.specs.Places.{put_in, holds_at, stands_in, option_join, is_behind, owns_place};
 
 use crate::details::PayDetails;
@@ -9,11 +10,14 @@ use crate::names::{Name, same_name};
 use crate::numbers::Seq;
 use std::marker::Model;
 
+/// How many payments a log holds at most.
+pub const MOST_ENTRIES: usize = 16;
+
 /// An exception log: at most 16 payment details, all different, kept in order. A contract sees it as the set
 /// of these details.
 #[derive(Clone, Copy, Debug)]
 pub struct Log {
-    entries: [Option<PayDetails>; 16],
+    entries: [Option<PayDetails>; MOST_ENTRIES],
 }
 
 impl Model for Log {
@@ -40,21 +44,23 @@ impl Log {
         ensures { result ≡ none_logged }
     {
         Log {
-            entries: [None; 16],
+            entries: [None; MOST_ENTRIES],
         }
     }
 
     /// How many details the log has, from 0 to 16.
     pub fn len(&self) -> usize
         ensures value { result ≡ log_len self.now }
-        ensures limit { result ≤ 16 }
+        ensures limit { result ≤ most_entries }
+        ensures valid { IsLogValue self.now }
     {
         count(&self.entries)
     }
 
     /// Whether the log has 16 details, so that no more can be added.
     pub fn is_full(&self) -> bool
-        ensures { result ≡ nat_le 16 (log_len self.now) }
+        ensures value { result ≡ nat_le most_entries (log_len self.now) }
+        ensures valid { IsLogValue self.now }
     {
         all_taken(&self.entries)
     }
@@ -62,14 +68,16 @@ impl Log {
     /// The details at `place`, counted from 0, in order. None exactly where the log has no more than `place`
     /// details.
     pub fn at(&self, place: usize) -> Option<PayDetails>
-        ensures { result ≡ entry_at self.now place }
+        ensures value { result ≡ entry_at self.now place }
+        ensures valid { IsLogValue self.now }
     {
         slot(&self.entries, place)
     }
 
     /// Whether `details` are in the log.
     pub fn has(&self, details: &PayDetails) -> bool
-        ensures { result ≡ has_logged self.now details.now }
+        ensures value { result ≡ has_logged self.now details.now }
+        ensures valid { IsLogValue self.now }
     {
         holds(&self.entries, details)
     }
@@ -77,9 +85,11 @@ impl Log {
     /// Adds `details` at their place in the order. The answer is false exactly where they are in the log
     /// already or the log has 16 details; it is then as it was.
     pub fn add(&mut self, details: PayDetails) -> bool
-        ensures answer { result ≡ not (nat_le 16 (log_len self.old) || has_logged self.old details) }
+        ensures answer { result ≡ not (nat_le most_entries (log_len self.old) || has_logged self.old details) }
         ensures new { self.new ≡ (if result then with_entry self.old details else self.old) }
     {
+        // The reader says the limits of the details.
+        let _limits = details.value();
         if self.is_full() || self.has(&details) {
             return false;
         }
@@ -105,7 +115,8 @@ impl Log {
     /// Whether all details of the log name the purse `name`, on either side, and have the purse's own
     /// sequence number below `next`.
     pub fn are_of(&self, name: &Name, next: Seq) -> bool
-        ensures { result ≡ all_owned name.now next self.now }
+        ensures value { result ≡ all_owned name.now next self.now }
+        ensures valid { IsLogValue self.now }
     {
         all_owned(&self.entries, name, next)
     }

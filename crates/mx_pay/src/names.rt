@@ -9,11 +9,14 @@ ghost use Rattle.mx_pay.specs.Names.{is_name_text, is_name_byte, begins_with_let
 use std::cmp::Ordering;
 use std::marker::Model;
 
+/// How many bytes a name has at most.
+pub const MOST_NAME_BYTES: usize = 24;
+
 /// A name of a member, a holder or a purse, or a reference: 1 to 24 bytes of `a` to `z`, `0` to `9` and `-`,
 /// the first a letter. Names are ordered by their bytes. A contract sees a name as its bytes.
 #[derive(Clone, Copy, Debug)]
 pub struct Name {
-    bytes: [u8; 24],
+    bytes: [u8; MOST_NAME_BYTES],
     len: u8,
 }
 
@@ -54,16 +57,18 @@ fn all_may_stand(bytes: &[u8]) -> bool
     bytes.iter().all(|b| may_stand(*b))
 }
 
+#[tactic(auto, unfolding(crate::specs::Names::is_name_text))]
 fn is_text(bytes: &[u8]) -> bool
     ensures { result ≡ is_name_text bytes.now }
 {
-    bytes.len() <= 24 && begins(bytes) && all_may_stand(bytes)
+    bytes.len() <= MOST_NAME_BYTES && begins(bytes) && all_may_stand(bytes)
 }
 
 impl Name {
     /// The name that is spelled `text`. None exactly where `text` is no name: where it is empty, has more than
     /// 24 bytes, begins with another byte than `a` to `z`, or has a byte that is none of `a` to `z`, `0` to `9`
     /// and `-`.
+    #[tactic(auto, unfolding(crate::specs::Names::is_name_text))]
     pub fn read(text: &str) -> Option<Name>
         ensures { result ≡ (if is_name_text text.now then Some text.now else None) }
     {
@@ -71,7 +76,7 @@ impl Name {
         if !is_text(source) {
             return None;
         }
-        let mut bytes = [0u8; 24];
+        let mut bytes = [0u8; MOST_NAME_BYTES];
         bytes[..source.len()].copy_from_slice(source);
         Some(Name {
             bytes,
@@ -128,7 +133,9 @@ impl Ord for Name {
 
 /// Whether two names are the same.
 pub fn same_name(a: &Name, b: &Name) -> bool
-    ensures { result ≡ is_name a.now b.now }
+    ensures value { result ≡ is_name a.now b.now }
+    ensures first { IsTrue (is_name_text a.now) }
+    ensures second { IsTrue (is_name_text b.now) }
 {
-    a.cmp(b).is_eq()
+    a.as_str().cmp(b.as_str()).is_eq()
 }

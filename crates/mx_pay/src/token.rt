@@ -4,16 +4,19 @@ ghost use Rattle.std.specs.Ordering.{nat_cmp};
 ghost use Rattle.std.specs.Cmp.{partial_equiv_from_equiv};
 ghost use Rattle.std.specs.Cmp.Lexicographic.{pointwise, slice_cmp, nat_list_eq_equiv, nat_list_cmp_total, texts_po, texts_ties};
 ghost use Rattle.hex.specs.Hex.{encode_lower};
-ghost use Rattle.mx_pay.specs.Tokens.{token_of, is_token, IsTokenText, lower_case};
+ghost use Rattle.mx_pay.specs.Tokens.{token_of, is_token, IsToken, IsTokenText, lower_case};
 
 use std::cmp::Ordering;
 use std::marker::Model;
+
+/// How many bytes a token has.
+pub const TOKEN_BYTES: usize = 16;
 
 /// The token by which a caller is known: 16 bytes, written as 32 hexadecimal digits. Tokens are ordered by
 /// their bytes. A contract sees a token as its bytes.
 #[derive(Clone, Copy, Debug)]
 pub struct Token {
-    bytes: [u8; 16],
+    bytes: [u8; TOKEN_BYTES],
 }
 
 impl Model for Token {
@@ -44,11 +47,20 @@ impl Token {
         ensures accepted { IsSome result ↔ IsTokenText text.now }
         ensures text { IfSome result (λ token. encode_lower token ≡ lower_case text.now) }
     {
-        let mut bytes = [0u8; 16];
+        let mut bytes = [0u8; TOKEN_BYTES];
         match hex::decode_to_slice(text, &mut bytes) {
             Ok(()) => Some(Token { bytes }),
             Err(_) => None,
         }
+    }
+
+    /// The 16 bytes of the token.
+    pub fn as_bytes(&self) -> &[u8]
+        ensures bytes { result.now ≡ self.now }
+        ensures valid { IsToken self.now }
+    {
+        let bytes = self.bytes.as_slice();
+        bytes
     }
 
     /// The 32 hexadecimal digits of the token, with letters in lower case.
@@ -56,18 +68,21 @@ impl Token {
         ensures value { result ≡ encode_lower self.now }
         ensures length { length result ≡ 32 }
         ensures ascii { IsAscii result }
+        ensures valid { IsToken self.now }
     {
         let mut digits = [0u8; 32];
-        let _done = hex::encode_to_slice(&self.bytes[..], &mut digits);
+        let _done = hex::encode_to_slice(self.as_bytes(), &mut digits);
         digits
     }
 }
 
 /// Whether two tokens are the same.
 pub fn same_token(a: &Token, b: &Token) -> bool
-    ensures { result ≡ is_token a.now b.now }
+    ensures value { result ≡ is_token a.now b.now }
+    ensures first { IsToken a.now }
+    ensures second { IsToken b.now }
 {
-    a.cmp(b).is_eq()
+    a.as_bytes().cmp(b.as_bytes()).is_eq()
 }
 
 impl PartialEq for Token {
@@ -76,7 +91,7 @@ impl PartialEq for Token {
     ghost laws = { partial_equiv_from_equiv nat_list_eq_equiv };
 
     fn eq(&self, other: &Token) -> bool {
-        self.bytes[..] == other.bytes[..]
+        self.as_bytes() == other.as_bytes()
     }
 }
 
@@ -104,6 +119,6 @@ impl Ord for Token {
     ghost matches_eq = { texts_ties };
 
     fn cmp(&self, other: &Token) -> Ordering {
-        self.bytes[..].cmp(&other.bytes[..])
+        self.as_bytes().cmp(other.as_bytes())
     }
 }

@@ -1,3 +1,4 @@
 pub mod State
+pub mod Messages
 pub mod Conditions
 pub mod Operations

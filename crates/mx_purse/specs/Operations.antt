@@ -1,7 +1,8 @@
 -- The operations of a purse (PRG-126: the operations on ConPurse, each with a case Okay, which its guard allows,
 -- and a case in which nothing changes). Each is two functions of the purse before and the input: the first guard
 -- that fails, and the purse and the output where none does. What is marked (own) is a choice of this office.
-use Rattle.std.specs.Prelude.{ℕ, ◌+◌, ◌-◌, ◌^◌, nat_lt, nat_le, ◌&&◌, ◌||◌, Bool, if◌then◌else◌, List, Option, Some, None, Result, Ok, Err}
+use Rattle.std.specs.Prelude.{ℕ, ◌+◌, ◌-◌, nat_lt, nat_le, ◌&&◌, ◌||◌, Bool, if◌then◌else◌, List, Option, Some, None, Result, Ok, Err}
+use Rattle.mx_pay.specs.Limits.{most_number, most_entries}
 use Rattle.mx_pay.specs.Names.{is_name}
 use Rattle.mx_pay.specs.Details.{Details, is_details}
 use Rattle.mx_pay.specs.Log.{Entries, log_len, with_entry}
@@ -60,8 +61,8 @@ aborted p = record p { status = EaFrom; log = with_pending p.log (pending p.stat
 -- the next number and the line count are below 10^15 (own)
 abbrev pub start_worn : State → Option StartRefusal
 start_worn p =
-    if nat_le 16 (log_len (aborted p).log) then Some LogFull else
-    (if nat_le (10 ^ 15) p.next || nat_le (10 ^ 15) p.lines then Some Worn else None)
+    if nat_le most_entries (log_len (aborted p).log) then Some LogFull else
+    (if nat_le most_number p.next || nat_le most_number p.lines then Some Worn else None)
 
 -- the first guard of startFrom that fails: the peer isn't the purse, and the value is at most the balance
 abbrev pub start_from_refusal : State → List ℕ → ℕ → Option StartRefusal
@@ -102,7 +103,7 @@ expects_ack _ d = Bool.false
 -- within 10^15 (own)
 abbrev pub handled : State → Message → Handled
 handled p (Req d) = if expects_req p.status d then took.Req d else took.Ignored
-handled p (Val d) = if expects_val p.status d && nat_le (p.balance + d.value) (10 ^ 15) then took.Val d else took.Ignored
+handled p (Val d) = if expects_val p.status d && nat_le (p.balance + d.value) most_number then took.Val d else took.Ignored
 handled p (Ack d) = if expects_ack p.status d then took.Ack d else took.Ignored
 
 -- the purse after a message: the balance falls by the value of a req and rises by that of a val, and each is one
@@ -123,7 +124,7 @@ sent_for _ = None
 
 -- the first guard of load that fails: the line count is below 10^15, and the balance stays within 10^15
 abbrev pub load_refusal : State → ℕ → Option LoadRefusal
-load_refusal p amount = if nat_le (10 ^ 15) p.lines then Some load.Worn else (if nat_lt (10 ^ 15) (p.balance + amount) then Some load.OverCap else None)
+load_refusal p amount = if nat_le most_number p.lines then Some load.Worn else (if nat_lt most_number (p.balance + amount) then Some load.OverCap else None)
 
 -- the purse after a load: the balance rises, and there is one line more; it doesn't abort
 abbrev pub loaded : State → ℕ → State
@@ -131,7 +132,7 @@ loaded p amount = record p { balance = p.balance + amount; lines = p.lines + 1 }
 
 -- the first guard of redeem that fails: the amount is at most the balance, and the line count is below 10^15
 abbrev pub redeem_refusal : State → ℕ → Option RedeemRefusal
-redeem_refusal p amount = if nat_lt p.balance amount then Some redeem.NotEnough else (if nat_le (10 ^ 15) p.lines then Some redeem.Worn else None)
+redeem_refusal p amount = if nat_lt p.balance amount then Some redeem.NotEnough else (if nat_le most_number p.lines then Some redeem.Worn else None)
 
 -- the purse after an abort and a redemption: the balance falls, and there is one line more
 abbrev pub redeemed : State → ℕ → State

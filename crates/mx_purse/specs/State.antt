@@ -1,8 +1,10 @@
 -- A purse as a record (PRG-126: the schema ConPurse), and what always holds of one.
-use Rattle.std.specs.Prelude.{◌≡◌, ℕ, ◌+◌, ◌^◌, ◌<◌, ◌≤◌, ◌⊎◌, Bool, List, refl}
+use Rattle.std.specs.Prelude.{◌≡◌, ℕ, ◌+◌, ◌<◌, ◌≤◌, ◌⊎◌, Bool, List, Option, Some, None, IfSome, IsTrue, refl}
 use Rattle.std.specs.Coded.{Coded, code_by, coded×, coded_ℕ, coded_list}
-use Rattle.mx_pay.specs.Details.{Details}
-use Rattle.mx_pay.specs.Log.{Entries, coded_entries, log_len, has_logged, none_logged}
+use Rattle.mx_pay.specs.Limits.{most_number, most_entries}
+use Rattle.mx_pay.specs.Names.{is_name_text}
+use Rattle.mx_pay.specs.Details.{Details, IsDetails}
+use Rattle.mx_pay.specs.Log.{Entries, IsLogValue, coded_entries, log_len, has_logged, none_logged}
 use Rattle.mx_purse.specs.contracts.status.Status as status
 use Rattle.mx_purse.specs.declared.status.Status.{Status}
 use Rattle.mx_purse.specs.declared.status.Status.TheVariants.{EaFrom, EaTo, Epr, Epv, Epa}
@@ -24,6 +26,14 @@ pub record State : Type 0 where
 abbrev pub new_purse : List ℕ → State
 new_purse name = record { name = name; balance = 0; next = 0; status = EaFrom; log = none_logged; lines = 0 }
 
+-- the details of a status, if it has some
+abbrev pub details_of : Status → Option Details
+details_of EaFrom = None
+details_of EaTo = None
+details_of (Epr d) = Some d
+details_of (Epv d) = Some d
+details_of (Epa d) = Some d
+
 -- details name the purse, with the purse's own number in them below its next one
 abbrev pub IsOwnEntry : State → Details → Type 0
 IsOwnEntry p d = ((d.from ≡ p.name) × (d.from_seq < p.next)) ⊎ ((d.to ≡ p.name) × (d.to_seq < p.next))
@@ -32,21 +42,23 @@ IsOwnEntry p d = ((d.from ≡ p.name) × (d.from_seq < p.next)) ⊎ ((d.to ≡ p
 -- its side, with its own number below its next one, they aren't logged yet, the log has room for them, and the
 -- lines are few; in epr the balance covers the value
 abbrev pub IsInStatus : State → Status → Type 0
-IsInStatus p EaFrom = p.lines ≤ 10 ^ 15 + 2
-IsInStatus p EaTo = p.lines ≤ 10 ^ 15 + 2
+IsInStatus p EaFrom = p.lines ≤ most_number + 2
+IsInStatus p EaTo = p.lines ≤ most_number + 2
 IsInStatus p (Epr d) = (d.from ≡ p.name) × (d.value ≤ p.balance) × (d.from_seq < p.next)
-    × (has_logged p.log d ≡ Bool.false) × (log_len p.log ≤ 15) × (p.lines ≤ 10 ^ 15)
+    × (has_logged p.log d ≡ Bool.false) × (log_len p.log < most_entries) × (p.lines ≤ most_number)
 IsInStatus p (Epv d) = (d.to ≡ p.name) × (d.to_seq < p.next)
-    × (has_logged p.log d ≡ Bool.false) × (log_len p.log ≤ 15) × (p.lines ≤ 10 ^ 15)
+    × (has_logged p.log d ≡ Bool.false) × (log_len p.log < most_entries) × (p.lines ≤ most_number)
 IsInStatus p (Epa d) = (d.from ≡ p.name) × (d.from_seq < p.next)
-    × (has_logged p.log d ≡ Bool.false) × (log_len p.log ≤ 15) × (p.lines ≤ 10 ^ 15 + 1)
+    × (has_logged p.log d ≡ Bool.false) × (log_len p.log < most_entries) × (p.lines ≤ most_number + 1)
 
 -- what always holds of a purse: the conditions of ConPurse, and the limits and conditions of this office
 pub record IsPurse (p : State) : Type 0 where
-  pub balance : p.balance ≤ 10 ^ 15
-  pub next : p.next ≤ 10 ^ 15
+  pub name : IsTrue (is_name_text p.name)
+  pub balance : p.balance ≤ most_number
+  pub next : p.next ≤ most_number
   pub status : IsInStatus p p.status
-  pub room : log_len p.log ≤ 16
+  pub details : IfSome (details_of p.status) IsDetails
+  pub log : IsLogValue p.log
   pub entries : (d : Details) → has_logged p.log d ≡ Bool.true → IsOwnEntry p d
 
 -- a purse as the tuple of its parts, by which a proof tells two of them apart

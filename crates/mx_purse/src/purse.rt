@@ -1,5 +1,6 @@
 //! The purse: its parts, and what always holds of them.
 ghost use Rattle.std.specs.Prelude.{◌≡◌, ◌≤◌, ◌+◌, ◌^◌, ◌↔◌, IsNone, IfSome};
+ghost use Rattle.mx_pay.specs.Limits.{most_number};
 ghost use Rattle.mx_purse.specs.State.{new_purse, IsPurse};
 
 mod operations;
@@ -64,6 +65,8 @@ impl Purse {
         ensures value { result ≡ new_purse name }
         ensures whole { IsPurse result }
     {
+        // The reader says that the name is one.
+        let _text = name.as_str();
         Purse {
             name,
             balance: 0,
@@ -121,7 +124,8 @@ impl Purse {
 
     /// The name of the purse.
     pub fn name(&self) -> Name
-        ensures { result ≡ self.now.name }
+        ensures value { result ≡ self.now.name }
+        ensures whole { IsPurse self.now }
     {
         self.name
     }
@@ -129,7 +133,7 @@ impl Purse {
     /// How much the purse holds, from 0 to 10^15.
     pub fn balance(&self) -> u64
         ensures value { result ≡ self.now.balance }
-        ensures limit { result ≤ 10 ^ 15 }
+        ensures limit { result ≤ most_number }
     {
         self.balance
     }
@@ -158,7 +162,7 @@ impl Purse {
     /// How many statement lines the purse has, from 0 to 10^15 + 2.
     pub fn lines(&self) -> u64
         ensures value { result ≡ self.now.lines }
-        ensures limit { result ≤ 10 ^ 15 + 2 }
+        ensures limit { result ≤ most_number + 2 }
     {
         self.lines
     }

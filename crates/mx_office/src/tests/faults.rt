@@ -326,100 +326,80 @@ impl<B: Book> Book for Faulty<B> {
     ghost sound = { B.sound };
 }
 
-/// An office over a book that leaves one call out, after so many that it passes on.
-fn faulty_office(rt: &impl AllocGlobal, passed: u64) -> Result<Office<Faulty<PlainBook>>, Fail> {
-    Ok(Office::new(Faulty {
+/// Runs commands after those of `opening` over a book that leaves one call out, after so many that it passes on, and
+/// asserts that each gets its reply.
+fn tell_with_fault(
+    rt: &(impl Abort + AllocGlobal),
+    passed: u64,
+    opening: &[(&str, &str)],
+    script: &[(&str, &str)],
+) -> Result<(), Fail> {
+    let mut office = Office::new(Faulty {
         book: empty_book(rt)?,
         left: Some(passed),
-    }))
+    });
+    tell(rt, &mut office, opening)?;
+    tell(rt, &mut office, script)
 }
 
 /// A call of the book that fails leaves its command undone, and no other.
 #[test]
 fn fault_in_one_command(rt: HostRuntime) -> Result<(), Fail> {
-    // A new member takes 3 calls of the book, a new holder 4, a new purse 3 and a show 2. Of each command's calls
-    // the last is apply.
-    for (passed, added, shown) in [
-        (7, "unavailable", "no such purse"),
-        (9, "unavailable", "no such purse"),
-        (10, "added", "unavailable"),
-        (12, "added", "p1 0 0 eaFrom"),
-    ] {
-        tell(
-            &rt,
-            &mut faulty_office(&rt, passed)?,
-            &[
-                ("operator new-member m 2", "added"),
-                ("clerk new-holder ann a", "added"),
-                ("clerk new-purse p1 ann", added),
-                ("ann show p1", shown),
-            ],
-        )?;
-    }
-    Ok(())
+    // A new member takes 3 calls of the book and a new holder 4, so the 8th is the first of the new purse's 3. The
+    // show takes 2. Of each command's calls the last is apply.
+    let opening = [
+        ("operator new-member m 2", "added"),
+        ("clerk new-holder ann a", "added"),
+    ];
+    let script = [
+        ("clerk new-purse p1 ann", "unavailable"),
+        ("ann show p1", "no such purse"),
+    ];
+    tell_with_fault(&rt, 7, &opening, &script)?;
+    tell_with_fault(&rt, 9, &opening, &script)?;
+    let script = [
+        ("clerk new-purse p1 ann", "added"),
+        ("ann show p1", "unavailable"),
+        ("ann show p1", "p1 0 0 eaFrom"),
+    ];
+    tell_with_fault(&rt, 10, &opening, &script)
 }
 
 /// The same of commands that move money.
 #[test]
 fn fault_in_one_command_of_money(rt: HostRuntime) -> Result<(), Fail> {
-    // What is added takes 10 calls of the book, a grant to the only member 4, a load 4, a redemption 3, a collect 3
-    // and a show 2. Of each command's calls the last is apply.
-    for (passed, granted, loaded, redeemed, collected, shown) in [
-        (
-            13,
-            "unavailable",
-            "float too small",
-            "not enough",
-            "collected 0",
-            "p1 0 0 eaFrom",
-        ),
-        (
-            17,
-            "granted",
-            "unavailable",
-            "not enough",
-            "collected 0",
-            "p1 0 0 eaFrom",
-        ),
-        (
-            20,
-            "granted",
-            "loaded",
-            "unavailable",
-            "collected 0",
-            "p1 100 0 eaFrom",
-        ),
-        (
-            23,
-            "granted",
-            "loaded",
-            "redeemed",
-            "unavailable",
-            "p1 40 0 eaFrom",
-        ),
-        (
-            24,
-            "granted",
-            "loaded",
-            "redeemed",
-            "collected 60",
-            "unavailable",
-        ),
-    ] {
-        tell(
-            &rt,
-            &mut faulty_office(&rt, passed)?,
-            &[
-                ("operator new-member m 2", "added"),
-                ("clerk new-holder ann a", "added"),
-                ("clerk new-purse p1 ann", "added"),
-                ("operator grant m 100", granted),
-                ("clerk load p1 100 a1", loaded),
-                ("ann redeem p1 60 r1", redeemed),
-                ("clerk collect", collected),
-                ("ann show p1", shown),
-            ],
-        )?;
-    }
-    Ok(())
+    // What is added takes 10 calls of the book, a grant to the only member 4, a load 4, a redemption 3 and a collect
+    // 3. Of each command's calls the last is apply, and it is the one that fails: the 14th, 18th, 21st and 24th.
+    let opening = [
+        ("operator new-member m 2", "added"),
+        ("clerk new-holder ann a", "added"),
+        ("clerk new-purse p1 ann", "added"),
+    ];
+    let script = [
+        ("operator grant m 100", "unavailable"),
+        ("clerk load p1 100 a1", "float too small"),
+    ];
+    tell_with_fault(&rt, 13, &opening, &script)?;
+    let script = [
+        ("operator grant m 100", "granted"),
+        ("clerk load p1 100 a1", "unavailable"),
+        ("ann redeem p1 60 r1", "not enough"),
+    ];
+    tell_with_fault(&rt, 17, &opening, &script)?;
+    let script = [
+        ("operator grant m 100", "granted"),
+        ("clerk load p1 100 a1", "loaded"),
+        ("ann redeem p1 60 r1", "unavailable"),
+        ("clerk collect", "collected 0"),
+        ("ann show p1", "p1 100 0 eaFrom"),
+    ];
+    tell_with_fault(&rt, 20, &opening, &script)?;
+    let script = [
+        ("operator grant m 100", "granted"),
+        ("clerk load p1 100 a1", "loaded"),
+        ("ann redeem p1 60 r1", "redeemed"),
+        ("clerk collect", "unavailable"),
+        ("clerk collect", "collected 60"),
+    ];
+    tell_with_fault(&rt, 23, &opening, &script)
 }

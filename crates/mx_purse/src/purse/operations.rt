@@ -1,14 +1,15 @@
 //! The operations of a purse.
-ghost use Rattle.std.specs.Prelude.{◌≡◌, None};
+ghost use Rattle.std.specs.Prelude.{◌≡◌, ◌≤◌, None, IfOk, IfSome};
+ghost use Rattle.mx_pay.specs.Limits.{most_amount};
+ghost use Rattle.mx_pay.specs.Details.{IsDetails};
 ghost use Rattle.mx_purse.specs.State.{IsPurse};
 ghost use Rattle.mx_purse.specs.Operations.{or_refused, unless_refused, pending, aborted, start_worn, start_from_refusal, start_to_refusal, from_details, to_details, started, expects_req, expects_val, expects_ack, handled, after_message, load_refusal, loaded, redeem_refusal, redeemed};
 
-use crate::conditions::MOST;
 use crate::message::{Handled, Message};
 use crate::purse::Purse;
 use crate::refusals::{LoadRefusal, RedeemRefusal, StartRefusal};
 use crate::status::Status;
-use mx_pay::{Amount, Log, Name, PayDetails, Seq};
+use mx_pay::{Amount, Log, MOST_NUMBER, Name, PayDetails, Seq};
 
 impl Purse {
     /// What an abort would log now: the details of the payment under way where the purse expects its value or
@@ -29,6 +30,7 @@ impl Purse {
         ensures logged { result ≡ pending self.old.status }
         ensures new { self.new ≡ aborted self.old }
         ensures whole { IsPurse self.new }
+        ensures details { IfSome result IsDetails }
     {
         let pending = self.pending();
         let lines = self.lines_left();
@@ -53,6 +55,7 @@ impl Purse {
         ensures answer { result ≡ or_refused (start_from_refusal self.old peer value) (from_details self.old peer value seq) }
         ensures new { self.new ≡ unless_refused (start_from_refusal self.old peer value) self.old (started self.old (Status.Epr (from_details self.old peer value seq))) }
         ensures whole { IsPurse self.new }
+        ensures details { IfOk result IsDetails }
     {
         let Some(details) = PayDetails::new(self.name, peer, value, self.next, seq) else {
             return Err(StartRefusal::SamePurse);
@@ -81,6 +84,7 @@ impl Purse {
         ensures answer { result ≡ or_refused (start_to_refusal self.old peer) (to_details self.old peer value seq) }
         ensures new { self.new ≡ unless_refused (start_to_refusal self.old peer) self.old (started self.old (Status.Epv (to_details self.old peer value seq))) }
         ensures whole { IsPurse self.new }
+        ensures details { IfOk result IsDetails }
     {
         let Some(details) = PayDetails::new(peer, self.name, value, seq, self.next) else {
             return Err(StartRefusal::SamePurse);
@@ -117,12 +121,13 @@ impl Purse {
         ensures answer { result ≡ or_refused (load_refusal self.old amount) tt }
         ensures new { self.new ≡ unless_refused (load_refusal self.old amount) self.old (loaded self.old amount) }
         ensures whole { IsPurse self.new }
+        ensures amount { IfOk result (λ _. amount ≤ most_amount) }
     {
-        if self.lines >= MOST {
+        if self.lines >= MOST_NUMBER {
             return Err(LoadRefusal::Worn);
         }
         let balance = self.balance + amount.get();
-        if balance > MOST {
+        if balance > MOST_NUMBER {
             return Err(LoadRefusal::OverCap);
         }
         self.balance = balance;
@@ -137,11 +142,12 @@ impl Purse {
         ensures answer { result ≡ or_refused (redeem_refusal self.old amount) tt }
         ensures new { self.new ≡ unless_refused (redeem_refusal self.old amount) self.old (redeemed self.old amount) }
         ensures whole { IsPurse self.new }
+        ensures amount { IfOk result (λ _. amount ≤ most_amount) }
     {
         if self.balance < amount.get() {
             return Err(RedeemRefusal::NotEnough);
         }
-        if self.lines >= MOST {
+        if self.lines >= MOST_NUMBER {
             return Err(RedeemRefusal::Worn);
         }
         self.abort();
@@ -178,7 +184,7 @@ impl Purse {
         if self.log_left().is_full() {
             return Some(StartRefusal::LogFull);
         }
-        if self.next.get() >= MOST || self.lines >= MOST {
+        if self.next.get() >= MOST_NUMBER || self.lines >= MOST_NUMBER {
             return Some(StartRefusal::Worn);
         }
         None
@@ -221,7 +227,7 @@ impl Purse {
             return Handled::Ignored;
         }
         let balance = self.balance + details.value().get();
-        if balance > MOST {
+        if balance > MOST_NUMBER {
             return Handled::Ignored;
         }
         self.balance = balance;

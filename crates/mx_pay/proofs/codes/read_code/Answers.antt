@@ -1,6 +1,8 @@
 use Rattle.std.proofs.Common.{◌∙◌, sym, subst, ap, Some}
-use Rattle.mx_pay.specs.Codes.{code, entry_texts, IsLogValue}
-use Rattle.mx_pay.proofs.CodeLemmas.{found_in, valid_in, none_valid, only_in, none_only, none_is, empty_of, nonempty_of}
+use Rattle.mx_pay.specs.Codes.{code, entry_texts}
+use Rattle.mx_pay.specs.Log.{IsLogValue}
+use Rattle.mx_pay.proofs.CodeLemmas.{found_in, valid_in, only_in, none_only, none_is, empty_of, nonempty_of}
+use Rattle.mx_pay.proofs.SameLemmas.{none_valid}
 use Rattle.mx_pay.proofs.codes.read_code.Goals as goal
 
 pub returns-clause-found : goal.returns-clause-found

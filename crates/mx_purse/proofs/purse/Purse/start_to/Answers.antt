@@ -1,6 +1,6 @@
 use Rattle.std.proofs.Common.{◌≡◌, Ok, None, ap, subst, sym, ◌∙◌}
 use Rattle.std.specs.Prelude.{is_some, IsNone, ◌↔◌}
-use Rattle.mx_pay.specs.Details.{Details}
+use Rattle.mx_pay.specs.Details.{Details, IsDetails}
 use Rattle.mx_purse.specs.State.{State, IsPurse}
 use Rattle.mx_purse.specs.declared.status.Status.TheVariants.{Epv}
 use Rattle.mx_purse.specs.Operations.{started, start_to_refusal, to_details}
@@ -30,7 +30,7 @@ begin-requires-clause-whole c =
     let made : c.in-Some.details ≡ to_details c.args.self.now c.args.peer c.args.value c.args.seq = c.in-Some.ensures.new ∙ ap (λ (q : State). to_details q c.args.peer c.args.value c.args.seq) c.self.view_is in
     let free : start_to_refusal c.args.self.now c.args.peer ≡ None = to_rest c.args.self.now c.args.peer apart ∙ sym c.start_worn.ensures ∙ c.in_default-start_worn.is in
     subst (λ (d : Details). IsPurse (started c.args.self.now (Epv d))) (sym made)
-    (started_to_is c.args.self.now c.args.peer c.args.value c.args.seq (subst IsPurse c.self.view_is c.self.invariant) free)
+    (started_to_is c.args.self.now c.args.peer c.args.value c.args.seq (subst IsPurse c.self.view_is c.self.invariant) (subst IsDetails made c.in-Some.ensures.valid) free)
 
 pub returns-clause-answer : goal.returns-clause-answer
 returns-clause-answer c =
