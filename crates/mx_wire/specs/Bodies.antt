@@ -1,10 +1,11 @@
 -- What a body says: one JSON object with the keys that the route needs, each with a value of its kind and range.
 -- Other keys don't count, and of a key that stands twice the value that serde_json's map keeps does, the last.
-use Rattle.std.specs.Prelude.{ℕ, ◌^◌, List, Bool, true, false, if◌then◌else◌, nat_le, Option, Some, None, is_none, option_and_then, option_map, codes}
+use Rattle.std.specs.Prelude.{ℕ, List, Bool, true, false, if◌then◌else◌, nat_le, Option, Some, None, is_none, option_and_then, option_map, codes}
 use Rattle.std.specs.Str.{is_utf8}
 use Rattle.serde_json.specs.Data.{Data}
 use Rattle.serde_json.specs.Read.{read}
 use Rattle.serde_json.specs.Find.{get, as_str, as_number, as_u64}
+use Rattle.mx_pay.specs.Limits.{most_amount, most_number}
 use Rattle.mx_pay.specs.Tokens.{token_of}
 use Rattle.mx_office.specs.declared.values.Command.{Command}
 use Rattle.mx_office.specs.declared.values.Command.TheVariants as command
@@ -31,10 +32,10 @@ abbrev pub number_at : List ℕ → Data → Option ℕ
 number_at key d = option_and_then as_u64 (option_and_then as_number (get key d))
 
 abbrev pub amount_at : List ℕ → Data → Option ℕ
-amount_at key d = option_and_then (at_most (10 ^ 12)) (number_at key d)
+amount_at key d = option_and_then (at_most most_amount) (number_at key d)
 
 abbrev pub seq_at : List ℕ → Data → Option ℕ
-seq_at key d = option_and_then (at_most (10 ^ 15)) (number_at key d)
+seq_at key d = option_and_then (at_most most_number) (number_at key d)
 
 -- the command of a route that needs no body
 abbrev pub bare : Route → Option Command
