@@ -1,11 +1,2 @@
-pub mod Results
-pub mod FieldLemmas
-pub mod RequestLemmas
-pub mod FirstLemmas
-pub mod UniqueLemmas
-pub mod ReplyLemmas
-pub mod ServeLemmas
 pub mod CommandLemmas
 pub mod ProgramLemmas
-pub mod RouteLemmas
-pub mod BodyLemmas

@@ -1,8 +1,10 @@
--- What is known of the bytes that a reader gave.
-use Rattle.std.proofs.Common.{◌≡◌, ℕ, List, Option, Some, None, subst}
+-- A World in which a run ends.
+use Rattle.std.proofs.Common.{List, Option, Some, None}
 use Rattle.std.specs.Prelude.{IfSome}
+use Rattle.mx_book.specs.World.{World}
+use Rattle.mx_desk.specs.Steps.{Leads}
 
--- what holds of all that was read holds of what the reader had
-pub at_known : (o : Option (List ℕ)) (xs : List ℕ) (P : List ℕ → Type 0) → IfSome o (λ b. xs ≡ b) → P xs → IfSome o P
-at_known None xs P e p = tt
-at_known (Some b) xs P e p = subst P e p
+-- what holds of a World that stands holds of some World
+pub some_world : {X : Type 0} (Stands : World → Type 0) (P : X → World → Type 0) (i : Option X) → IfSome i (λ b. Leads Stands (P b)) → IfSome i (λ b. (now : World) × P b now)
+some_world Stands P None led = tt
+some_world Stands P (Some b) led = (led.end, led.holds)

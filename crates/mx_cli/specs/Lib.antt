@@ -1,16 +1,3 @@
-pub mod World
-pub mod Step
-pub mod Books
-pub mod Devices
-pub mod Requests
-pub mod Found
-pub mod Fields
-pub mod Replies
-pub mod Routes
-pub mod Bodies
-pub mod Respond
-pub mod Serve
-pub mod Answers
 pub mod Line
 pub mod Named
 pub mod Faults

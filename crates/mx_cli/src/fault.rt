@@ -1,17 +1,6 @@
-//! Why a run or a task ends early.
+//! Why the program's task isn't done.
 ghost use Rattle.std.specs.Prelude.{◌≡◌};
 ghost use Rattle.mx_cli.specs.Faults.{fault_text};
-
-/// Why a run ends early.
-#[derive(Clone, Copy, Debug, PartialEq, Eq)]
-pub enum DeskFault {
-    /// A read failed.
-    Read,
-    /// A write failed, or took nothing.
-    Write,
-    /// The reads were used up.
-    Turns,
-}
 
 /// Why the program's task isn't done. Each has its words on standard error, behind `fault: `.
 #[derive(Clone, Copy, Debug, PartialEq, Eq)]

@@ -2,38 +2,29 @@
 //! requests from standard input and writes their responses to standard output.
 #![tactic(auto)]
 
-pub mod bodies;
-pub mod counted;
 pub mod fault;
-pub mod fields;
-pub mod first;
-pub mod head;
-pub mod input;
 pub mod line;
-pub mod office;
-pub mod output;
 pub mod program;
-pub mod replies;
-pub mod routes;
-pub mod serve;
-#[cfg(test)]
-mod tests;
-pub mod values;
 
-use counted::Counted;
 use fault::CliFault;
 use line::{LineFault, Task, read_line};
+use mx_desk::Counted;
 use program::run_memory;
 use std::alloc::{AllocError, Global};
 use std::io;
+use std::io::BufWriter;
 use std::process::ExitCode;
 
-/// Does a task over standard input and output. Each read and each write is one call, unbuffered.
+/// Does a task over standard input and output. Each read is one call, unbuffered, since the desk has an array of its own;
+/// what is written stands in a buffer until the desk passes it on.
 fn perform(rt: &HostRuntime, task: Task) -> Result<(), CliFault> {
     match task {
         Task::RunMemory(operator) => {
             let mut reader = Counted::new(rt.stdin());
-            let mut writer = Counted::new(io::writer(rt));
+            let Ok(buffer) = BufWriter::new(rt.alloc(), io::writer(rt)) else {
+                return Err(CliFault::Memory);
+            };
+            let mut writer = Counted::new(buffer);
             run_memory(rt.alloc(), operator, &mut reader, &mut writer)?;
             Ok(())
         }

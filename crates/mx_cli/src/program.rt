@@ -1,43 +1,58 @@
 //! What the program does for a task.
-ghost use Rattle.std.specs.Prelude.{◌≡◌, ◌+◌, ℕ, List, Err, IfOk, IfSome};
+ghost use Rattle.std.specs.Prelude.{◌≡◌, ◌≤◌, ◌+◌, ◌⊎◌, ℕ, List, [], Err, IfOk, IfErr, IfSome};
 ghost use Rattle.std.specs.Io.KnownBytes.{Appends};
-ghost use Rattle.mx_cli.specs.World.{World, opening};
-ghost use Rattle.mx_cli.specs.Serve.{Served};
+ghost use Rattle.mx_book.specs.World.{World, opening};
+ghost use Rattle.mx_cli.specs.Faults.{fault_of};
+ghost use Rattle.mx_desk.specs.Devices.{capped};
+ghost use Rattle.mx_desk.specs.Serve.{ServedAll};
+ghost use Rattle.mx_desk.specs.Steps.{state, Faults};
+ghost use Rattle.mx_desk.specs.declared.fault.DeskFault.{DeskFault as Fault};
 
-use crate::counted::Counted;
 use crate::fault::CliFault;
-use crate::input::read_input;
-use crate::office::Office;
-use crate::routes::Routes;
-use crate::serve::run_whole;
+use mx_book::{Book, PlainBook};
+use mx_desk::desk::run;
+use mx_desk::{Counted, DeskFault};
+use mx_office::Office;
 use mx_pay::Token;
+use mx_wire::Routes;
 use std::alloc::Global;
 use std::io::{Read, Write};
 
-/// Reads requests to the end of the input and writes their responses, over books in memory that are given up
-/// at the end, for the operator with that token. Says how many responses were written. A fault is `Read`, `Turns` or
-/// `Memory` where the input couldn't be read to its end or the routes couldn't be made, and `Write` where a response
-/// couldn't be written or flushed.
+/// A fault of the desk as the program's.
+fn fault_of(fault: DeskFault) -> CliFault
+    ensures { result ≡ fault_of fault }
+{
+    match fault {
+        DeskFault::Read => CliFault::Read,
+        DeskFault::Write => CliFault::Write,
+        DeskFault::Turns => CliFault::Turns,
+    }
+}
+
+/// Answers the requests of the input over books in memory that are given up at the end, for the operator with that token,
+/// and says how many responses were written. A fault is `Memory` where there is none for the routes, and then nothing
+/// was read or written; or that of the desk: `Read` where a read failed, `Turns` where 1,000,000,000 reads didn't reach
+/// the end of the input, `Write` where a response couldn't be written or flushed.
 pub fn run_memory<R: Read, W: Write>(
     alloc: Global,
     operator: Token,
     reader: &mut Counted<R>,
     writer: &mut Counted<W>,
 ) -> Result<u64, CliFault>
-    ensures { IfOk result (λ n. IfSome (R.remaining reader.old.device) (λ b.
-        (out : List ℕ) × Appends (W.contents writer.old.device) (W.contents writer.new.device) out
-        × ((now : World) × Served (opening operator) b out now n))) }
+    ensures ok { IfOk result (λ n. IfSome (R.remaining reader.old.device) (λ b. (now : World)
+        × ((out : List ℕ) × Appends (W.contents writer.old.device) (W.contents writer.new.device) out
+        × ServedAll ⟦<PlainBook as Book>⟧.fails (opening operator) b out now n))) }
+    ensures fault { IfErr result (λ e. ((e ≡ CliFault.Memory) × (reader.new ≡ reader.old) × (writer.new ≡ writer.old))
+        ⊎ ((d : Fault) × (e ≡ fault_of d) × ((now : World) × Faults ⟦<PlainBook as Book>⟧.fails
+        (state [] (R.remaining reader.old.device) (W.contents writer.old.device) (opening operator)) d
+        (state [] (R.remaining reader.new.device) (W.contents writer.new.device) now)))) }
 {
     let Ok(routes) = Routes::new(alloc) else {
         return Err(CliFault::Memory);
     };
-    let input = read_input(alloc, reader)?;
-    let mut office = Office::new(alloc, operator);
-    let Ok(count) = run_whole(alloc, &input, writer, &routes, &mut office) else {
-        return Err(CliFault::Write);
-    };
-    if writer.flush().is_err() {
-        return Err(CliFault::Write);
+    let mut office = Office::new(PlainBook::new(alloc, operator));
+    match run(alloc, reader, writer, &routes, &mut office) {
+        Ok(count) => Ok(count),
+        Err(fault) => Err(fault_of(fault)),
     }
-    Ok(count)
 }

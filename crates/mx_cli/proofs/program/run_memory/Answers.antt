@@ -1,13 +1,17 @@
-use Rattle.mx_cli.specs.Books.{world_of}
-use Rattle.std.proofs.KnownBytes.{Appends-kept}
-use Rattle.mx_cli.proofs.ProgramLemmas.{at_known}
+use Rattle.std.proofs.Common.{◌≡◌, refl, sym, subst, inr}
+use Rattle.mx_book.specs.World.{opening}
+use Rattle.mx_book.specs.Spells.{Spells}
+use Rattle.mx_book.specs.Shelves.{rows_of}
+use Rattle.mx_cli.proofs.ProgramLemmas.{some_world}
 use Rattle.mx_cli.proofs.program.run_memory.Goals as goal
 
-pub returns : goal.returns
-returns g c =
-    let ok = c.in-Ok-run_whole.ensures.ok in
-    at_known _ c.in_ok-input.input.items _ c.in_ok-input.ensures.all (
-      ok.0,
-      Appends-kept _ _ _ ok.0 ok.1 c.flush.ensures.bytes,
-      (world_of c.run_whole.new.office, rw (c.new-office.ensures, c.deref.ensures.value) at ok.2),
-    )
+pub returns-in-Ok-run-clause-ok : goal.returns-in-Ok-run-clause-ok
+returns-in-Ok-run-clause-ok g c =
+    let spelled : Spells (rows_of c.new-office.result.book.shelves) (opening c.args.operator) = rw c.new-office.ensures c.new-2.ensures in
+    some_world _ _ _ (c.in-Ok-run.ensures.ok (opening c.args.operator) refl spelled)
+
+pub returns-clause-fault : goal.returns-clause-fault
+returns-clause-fault g c =
+    let spelled : Spells (rows_of c.new-office.result.book.shelves) (opening c.args.operator) = rw c.new-office.ensures c.new-2.ensures in
+    let led = c.in-Err.ensures.fault (opening c.args.operator) refl spelled in
+    inr (c.in-Err.fault, c.fault_of.ensures, (led.end, led.holds))
