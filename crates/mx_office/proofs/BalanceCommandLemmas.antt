@@ -307,7 +307,7 @@ run_accounted w (c ∷ cs) is = run_accounted (step w c.0 c.1).world cs (step_ac
 -- ---- Worlds that commands lead to
 
 pub reachable_accounted : (w : World) → IsReachable w → IsAccounted w
-reachable_accounted w r = subst IsAccounted r.2 (run_accounted (opening r.0) r.1 (opening_accounted r.0))
+reachable_accounted w r = subst IsAccounted r.leads (run_accounted (opening r.operator) r.commands (opening_accounted r.operator))
 
 pub reachable_balanced : (w : World) → IsReachable w → IsBalanced w
 reachable_balanced w r = is_balanced w (reachable_accounted w r)

@@ -2,6 +2,7 @@
 ghost use Rattle.mx_book.specs.World.{World};
 ghost use Rattle.mx_book.specs.declared.values.Caller.{Caller};
 ghost use Rattle.mx_office.specs.Balance.{IsBalanced};
+ghost use Rattle.mx_office.specs.Commands.{IsCaller, IsCommand};
 ghost use Rattle.mx_office.specs.Reachable.{IsReachable};
 ghost use Rattle.mx_office.specs.Step.{step};
 ghost use Rattle.mx_office.specs.declared.values.Command.{Command};
@@ -19,5 +20,5 @@ ghost use Rattle.mx_office.specs.declared.values.Command.{Command};
 /// The call does nothing.
 pub fn balance()
     ensures reachable { (w : World) → IsReachable w → IsBalanced w }
-    ensures goes_on { (w : World) (caller : Caller) (command : Command) → IsReachable w → IsReachable (step w caller command).world }
+    ensures goes_on { (w : World) (caller : Caller) (command : Command) → IsCaller caller → IsCommand command → IsReachable w → IsReachable (step w caller command).world }
 {}

@@ -4,6 +4,7 @@
 pub mod balance;
 mod decisions;
 pub mod isolation;
+mod limits;
 mod members;
 mod money;
 pub mod office;

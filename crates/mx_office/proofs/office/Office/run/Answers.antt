@@ -1,8 +1,10 @@
 use Rattle.std.proofs.Common.{◌≡◌, rules, subst}
 use Rattle.std.proofs.lemmas.List.{take_all}
+use Rattle.std.specs.List.{AllByRecursion}
+use Rattle.mx_office.specs.Commands.{IsAsked}
 use Rattle.mx_office.specs.Run.{Leads}
 use Rattle.mx_office.specs.Step.{step}
-use Rattle.mx_office.proofs.OutcomeLemmas.{run_replied_at, run_undone_at}
+use Rattle.mx_office.proofs.OutcomeLemmas.{asked_more, run_replied_at, run_undone_at}
 use Rattle.mx_office.proofs.BalanceCommandLemmas.{reachable_balanced}
 use Rattle.mx_office.proofs.ReachLemmas.{reachable_run}
 use Rattle.mx_office.proofs.office.Office.run.Goals as goal
@@ -12,6 +14,7 @@ pub loop-caller-init : goal.loop-caller-init
 loop-caller-init g c = record {
   count = search rules;
   room = search rules;
+  values = tt;
   later = search rules;
   run = λ w honest spelled. record { end = w; stands = spelled; run = search rules };
 }
@@ -20,6 +23,7 @@ pub loop-caller-preserved : goal.loop-caller-preserved
 loop-caller-preserved g c = record {
   count = search rules;
   room = search rules;
+  values = asked_more _ _ c.loop-caller-item.result c.loop-caller-test.true c.loop-caller-item.is c.loop-caller.invariant.values c.answer.ensures.asked;
   later = search rules;
   run = λ w honest spelled.
       let before : g.B.Book.doubt c.loop-caller.self.book ≡ 0 = search rules in
@@ -44,5 +48,6 @@ returns-clause-run g c = λ w honest spelled. subst (λ cs. Leads g.B.Book.fails
 pub returns-clause-reachable : goal.returns-clause-reachable
 returns-clause-reachable g c = λ w honest spelled reachable.
     let led = returns-clause-run g c w honest spelled in
-    let ends = reachable_run _ w led.end c.args.commands.now c.loop-caller.outcomes.items led.run reachable in
+    let values = subst (AllByRecursion IsAsked) (take_all c.loop-caller.caller-index c.args.commands.now (search rules)) c.loop-caller.invariant.values in
+    let ends = reachable_run _ w led.end c.args.commands.now c.loop-caller.outcomes.items values led.run reachable in
     record { end = led.end; stands = led.stands; reachable = ends; balanced = reachable_balanced led.end ends }
