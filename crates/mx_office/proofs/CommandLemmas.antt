@@ -140,7 +140,7 @@ message_follows p m is valid =
     record { name = after_message_name p x; whole = whole; numbered = (message_numbered p x).0; counted = (message_numbered p x).1; valid = message_line_valid (after_message p x) x whole.balance (taken_valid p m valid); logged = λ d there. ap (λ log. has_logged log d) (message_log p x) ∙ there }
 
 -- a purse that is found is whole
-whole : (w : World) (h p : Name) (q : State) → IsWorld w → IsOwn w h p q → IsPurse q
+pub whole : (w : World) (h p : Name) (q : State) → IsWorld w → IsOwn w h p q → IsPurse q
 whole w h p q is own = subst IsPurse own.purse (is.purses.each p own.row own.at).purse
 
 pub handle_decides : (w : World) (h p : Name) (n : ℕ) (q after : State) (m : Message) (x : Handled) (d : Decided) → IsWorld w → own_purse w h p ≡ Some q → message_of w p n ≡ Some m

@@ -2,6 +2,7 @@
 use Rattle.std.specs.Prelude.{◌≡◌, List}
 use Rattle.std.specs.List.{AllByRecursion}
 use Rattle.mx_pay.specs.Tokens.{IsToken}
+use Rattle.mx_book.specs.Conditions.{IsWorld}
 use Rattle.mx_book.specs.World.{World, Token, opening}
 use Rattle.mx_office.specs.Step.{Asked, steps}
 use Rattle.mx_office.specs.Balance.{IsBalanced}
@@ -15,9 +16,10 @@ pub record IsReachable (w : World) : Type 0 where
   pub values : AllByRecursion IsAsked commands
   pub leads : (steps (opening operator) commands).end ≡ w
 
--- a World stands that commands lead to, and it is balanced
+-- a World stands that commands lead to, which meets the conditions of a World, and it is balanced
 pub record StandsBalanced (Stands : World → Type 0) : Type 0 where
   pub end : World
   pub stands : Stands end
   pub reachable : IsReachable end
+  pub world : IsWorld end
   pub balanced : IsBalanced end

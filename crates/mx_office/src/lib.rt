@@ -9,6 +9,7 @@ mod members;
 mod money;
 pub mod office;
 mod purses;
+pub mod reachable;
 #[cfg(test)]
 mod tests;
 pub mod values;

@@ -15,6 +15,15 @@ fn is_name(name: Name)
     let _text = name.as_str();
 }
 
+/// Two names are names.
+fn are_names(first: Name, second: Name)
+    ensures first { IsNamed first }
+    ensures second { IsNamed second }
+{
+    is_name(first);
+    is_name(second);
+}
+
 /// A name is one, and a token has its bytes.
 fn is_new(name: Name, token: Token)
     ensures name { IsNamed name }
@@ -24,28 +33,41 @@ fn is_new(name: Name, token: Token)
     let _bytes = token.as_bytes();
 }
 
-/// A purse and a reference have names, and an amount is within its limit.
-fn is_money(purse: Name, amount: Amount, reference: Name)
-    ensures purse { IsNamed purse }
+/// A name is one, and an amount is within its limit.
+fn is_amount(name: Name, amount: Amount)
+    ensures name { IsNamed name }
     ensures amount { amount ≤ most_amount }
-    ensures reference { IsNamed reference }
 {
-    is_name(purse);
-    is_name(reference);
+    is_name(name);
     let _value = amount.get();
 }
 
-/// Two purses have names, and an amount and a sequence number are within their limits.
+/// A name is one, and a number is within its limit.
+fn is_number(name: Name, number: Seq)
+    ensures name { IsNamed name }
+    ensures number { number ≤ most_number }
+{
+    is_name(name);
+    let _value = number.get();
+}
+
+/// A purse and a reference have names, and an amount is within its limit.
+fn is_money(purse: Name, amount: Amount, reference: Name)
+    ensures names { IsNamed purse × IsNamed reference }
+    ensures amount { amount ≤ most_amount }
+{
+    is_amount(purse, amount);
+    is_name(reference);
+}
+
+/// Two purses have names, and an amount and a number are within their limits.
 fn is_payment(purse: Name, peer: Name, value: Amount, seq: Seq)
-    ensures purse { IsNamed purse }
-    ensures peer { IsNamed peer }
+    ensures names { IsNamed purse × IsNamed peer }
     ensures value { value ≤ most_amount }
     ensures seq { seq ≤ most_number }
 {
-    is_name(purse);
-    is_name(peer);
-    let _value = value.get();
-    let _number = seq.get();
+    is_amount(purse, value);
+    is_number(peer, seq);
 }
 
 /// The name of a caller is one.
@@ -68,14 +90,10 @@ pub(crate) fn is_command(command: &Command)
         }
         Command::NewMember { member, token } => is_new(member, token),
         Command::NewHolder { holder, token } => is_new(holder, token),
-        Command::NewPurse { purse, holder } => {
-            is_name(purse);
-            is_name(holder);
-        }
-        Command::Grant { member, amount } => {
-            is_name(member);
-            let _value = amount.get();
-        }
+        Command::NewPurse { purse, holder } => are_names(purse, holder),
+        Command::Grant { member, amount } => is_amount(member, amount),
+        Command::Handle { purse, number } => is_number(purse, number),
+        Command::Discard { purse, number } => is_number(purse, number),
         Command::Load {
             purse,
             amount,
@@ -98,9 +116,5 @@ pub(crate) fn is_command(command: &Command)
             value,
             seq,
         } => is_payment(purse, peer, value, seq),
-        Command::Handle { purse, number } | Command::Discard { purse, number } => {
-            is_name(purse);
-            let _number = number.get();
-        }
     }
 }
