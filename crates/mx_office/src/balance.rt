@@ -9,8 +9,8 @@ ghost use Rattle.mx_office.specs.Reachable.{IsReachable};
 /// What a member has is the float, the redemptions of the member's purses that aren't collected, and the loads that
 /// were issued to the member's purses. The same holds of any choice of members together, and so of the whole scheme.
 ///
-/// - `reachable`: a World is balanced where some commands, whoever asked, lead to it from one that has nothing but an
-///   operator's token.
+/// - `reachable`: a World is balanced where some commands that are values, whoever asked, lead to it from one that has
+///   nothing but an operator's token.
 ///
 /// The call does nothing.
 pub fn balance()

@@ -58,7 +58,8 @@ impl<B: Book> Office<B> {
     }
 
     /// What a command of a caller would do: its reply, and the edits that lead to its World. Nothing changes. A fault
-    /// is one of the book's reads, or `Memory` where the command reads a list: a grant, purses and inbox.
+    /// is one of the book's reads, or `Memory` where the command reads a list: a grant, purses and inbox. `asked` says
+    /// what the caller and the command keep by their types: names are names, and numbers and tokens are within limits.
     pub fn decide(
         &mut self,
         alloc: Global,
@@ -100,7 +101,7 @@ impl<B: Book> Office<B> {
 
     /// Answers a command of a caller: decides, and makes the edits. After a fault and after a refusal nothing is
     /// changed, whatever the book holds. A fault is one of the book's reads, or `Memory` where the command takes some: it
-    /// reads a list, or writes and isn't refused.
+    /// reads a list, or writes and isn't refused. `asked` says the same as at `decide`.
     pub fn answer(
         &mut self,
         alloc: Global,
@@ -125,8 +126,8 @@ impl<B: Book> Office<B> {
     }
 
     /// Answers commands in order: one outcome a command, its reply, or `Unavailable` where `answer` gives a fault. An
-    /// AllocError means that nothing was done. From a World that commands can lead to it ends in such a World, in
-    /// which each member's account is balanced.
+    /// AllocError means that nothing was done. From a World that commands can lead to it ends in such a World, which
+    /// meets all the conditions of a World, and in which each member's account is balanced.
     pub fn run(
         &mut self,
         alloc: Global,
