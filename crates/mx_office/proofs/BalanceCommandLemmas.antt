@@ -75,19 +75,26 @@ grant_accounted w m amount is = unless_accounted w (grant_refusal w m amount) _ 
 -- ---- a load
 
 -- what a load that isn't idle is of
-record IsLoad (w : World) (m p : Name) (amount : ℕ) (reference : Name) : Type 0 where
-  row : Row
-  at : fmap.get w.rows p ≡ Some row
-  member : MemberRow
-  there : fmap.get w.members m ≡ Some member
-  owned : is_of_member w m row ≡ true
-  fresh : fmap.get row.loads reference ≡ None
-  enough : amount ≤ member.float
+pub record IsLoad (w : World) (m p : Name) (amount : ℕ) (reference : Name) : Type 0 where
+  pub row : Row
+  pub at : fmap.get w.rows p ≡ Some row
+  pub member : MemberRow
+  pub there : fmap.get w.members m ≡ Some member
+  pub owned : is_of_member w m row ≡ true
+  pub fresh : fmap.get row.loads reference ≡ None
+  pub enough : amount ≤ member.float
+  pub free : load_refusal row.holding.purse amount ≡ None
 
 enough_case : (amount float : ℕ) (before : Option ℕ) (x : Refusal) (o : Option Refusal) (r : Reply) (b : Bool) → nat_lt float amount ≡ b → idle before amount r (cond b (Some x) o) ≡ None → amount ≤ float
 enough_case amount float None x o r true t e = cc
 enough_case amount float (Some n) x o r true t e = cc
 enough_case amount float before x o r false t e = grind arith
+
+free_case : {R : Type 0} (before : Option ℕ) (amount : ℕ) (b : Bool) (x : Refusal) (name : R → Refusal) (o : Option R) (r : Reply) → idle before amount r (cond b (Some x) (option_map name o)) ≡ None → o ≡ None
+free_case before amount b x name None r e = refl
+free_case None amount false x name (Some y) r e = cc
+free_case None amount true x name (Some y) r e = cc
+free_case (Some n) amount b x name (Some y) r e = cc
 
 module _ (w : World) (m p : Name) (amount : ℕ) (reference : Name) where
   owned_case : (r : Row) (member : MemberRow) (b : Bool) (x : Reply) → fmap.get w.rows p ≡ Some r → fmap.get w.members m ≡ Some member → is_of_member w m r ≡ b
@@ -101,6 +108,7 @@ module _ (w : World) (m p : Name) (amount : ℕ) (reference : Name) where
     owned = t;
     fresh = new_reference _ _ _ _ e;
     enough = enough_case amount member.float _ _ _ _ (nat_lt member.float amount) refl e;
+    free = free_case _ amount (nat_lt member.float amount) _ _ _ _ e;
   }
 
   load_case : (o : Option Row) (u : Option MemberRow) → fmap.get w.rows p ≡ o → fmap.get w.members m ≡ u → idle_load_at w m amount reference o u ≡ None → IsLoad w m p amount reference
@@ -109,7 +117,7 @@ module _ (w : World) (m p : Name) (amount : ℕ) (reference : Name) where
   load_case (Some r) None at there e = cc
   load_case (Some r) (Some member) at there e = owned_case r member (is_of_member w m r) _ at there refl e
 
-  is_load : idle_load w m p amount reference ≡ None → IsLoad w m p amount reference
+  pub is_load : idle_load w m p amount reference ≡ None → IsLoad w m p amount reference
   unfolding idle_load
   is_load e = load_case (fmap.get w.rows p) (fmap.get w.members m) refl refl e
 
@@ -307,7 +315,7 @@ run_accounted w (c ∷ cs) is = run_accounted (step w c.0 c.1).world cs (step_ac
 -- ---- Worlds that commands lead to
 
 pub reachable_accounted : (w : World) → IsReachable w → IsAccounted w
-reachable_accounted w r = subst IsAccounted r.2 (run_accounted (opening r.0) r.1 (opening_accounted r.0))
+reachable_accounted w r = subst IsAccounted r.leads (run_accounted (opening r.operator) r.commands (opening_accounted r.operator))
 
 pub reachable_balanced : (w : World) → IsReachable w → IsBalanced w
 reachable_balanced w r = is_balanced w (reachable_accounted w r)

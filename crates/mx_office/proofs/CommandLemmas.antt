@@ -1,5 +1,5 @@
 -- Each command of a holder on a purse: its decision is the step's.
-use Rattle.std.proofs.Common.{Bool, ◌≡◌, ℕ, ◌+◌, true, false, cond, List, [], ◌∷◌, ◌++◌, Option, Some, None, Ok, Err, refl, sym, ◌∙◌, ap, subst, arith, length, length-append, is_some, is_none, option_map, IsTrue, ◌≤◌, ◌^◌}
+use Rattle.std.proofs.Common.{Bool, ◌≡◌, ℕ, ◌+◌, true, false, cond, List, [], ◌∷◌, ◌++◌, Option, Some, None, Ok, Err, refl, sym, ◌∙◌, ap, subst, arith, length, length-append, is_some, is_none, option_map, IsTrue, ◌≤◌}
 use Rattle.std.specs.Prelude.{◌==◌}
 use Rattle.std.proofs.lemmas.Bool.{or_right}
 use Rattle.std.specs.FinMap as fmap
@@ -15,7 +15,7 @@ use Rattle.mx_purse.specs.declared.message.Handled.{Handled}
 use Rattle.mx_purse.specs.declared.message.Handled.TheVariants as took
 use Rattle.mx_purse.specs.declared.refusals.StartRefusal.{StartRefusal}
 use Rattle.mx_purse.specs.declared.refusals.RedeemRefusal.{RedeemRefusal}
-use Rattle.mx_purse.specs.Operations.{or_refused, unless_refused, pending, with_pending, lines_with, aborted, started, expects_req, expects_val, expects_ack, handled, after_message, sent_for, redeem_refusal, redeemed}
+use Rattle.mx_purse.specs.Operations.{or_refused, unless_refused, pending, with_pending, lines_with, aborted, started, expects_req, expects_ack, handled, after_message, sent_for, redeem_refusal, redeemed}
 use Rattle.mx_purse.proofs.OperationLemmas.{aborted_is, after_message_is, after_message_name, redeemed_is}
 use Rattle.mx_book.specs.declared.edits.Edit.TheVariants.{SetPurse, DropMessage, AddRedemption}
 use Rattle.mx_book.specs.declared.values.Line.{Line}
@@ -30,6 +30,7 @@ use Rattle.mx_purse.specs.Messages.{IsMessage}
 use Rattle.mx_purse.proofs.OperationLemmas.{pending_valid}
 use Rattle.mx_book.specs.Conditions.{IsWorld, AreNumbered, IsLine}
 use Rattle.mx_book.specs.Reads.{from_row, inbox_of, message_of, redemption_of}
+use Rattle.mx_book.proofs.LineLemmas.{all_append}
 use Rattle.mx_book.proofs.MoneyLemmas.{with_redemption, redemptions_stay, redemption_leads, redemption_suits}
 use Rattle.mx_book.proofs.PurseLemmas.{with_lines, line_edits, discard_leads, discard_suits, discard_stays}
 use Rattle.mx_office.specs.declared.values.Decided.{Decided}
@@ -139,7 +140,7 @@ message_follows p m is valid =
     record { name = after_message_name p x; whole = whole; numbered = (message_numbered p x).0; counted = (message_numbered p x).1; valid = message_line_valid (after_message p x) x whole.balance (taken_valid p m valid); logged = λ d there. ap (λ log. has_logged log d) (message_log p x) ∙ there }
 
 -- a purse that is found is whole
-whole : (w : World) (h p : Name) (q : State) → IsWorld w → IsOwn w h p q → IsPurse q
+pub whole : (w : World) (h p : Name) (q : State) → IsWorld w → IsOwn w h p q → IsPurse q
 whole w h p q is own = subst IsPurse own.purse (is.purses.each p own.row own.at).purse
 
 pub handle_decides : (w : World) (h p : Name) (n : ℕ) (q after : State) (m : Message) (x : Handled) (d : Decided) → IsWorld w → own_purse w h p ≡ Some q → message_of w p n ≡ Some m
@@ -233,11 +234,6 @@ module _ (w : World) (h p : Name) (q : State) (f : Holding → Deed Holding) (o 
 redemption_at : (w : World) (p reference : Name) (r : Row) (o : Option ℕ) → fmap.get w.rows p ≡ Some r → redemption_of w p reference ≡ o → fmap.get r.holding.redemptions reference ≡ o
 redemption_at w p reference r o at is = sym (ap (from_row None (λ (x : Row). fmap.get x.holding.redemptions reference)) at) ∙ is
 
--- lines that are each within their limits, end to end
-both_valid : (ls ms : List Line) → AllByRecursion IsLine ls → AllByRecursion IsLine ms → AllByRecursion IsLine (ls ++ ms)
-both_valid [] ms all more = more
-both_valid (l ∷ ls) ms all more = (all.0, both_valid ls ms all.1 more)
-
 redeem_follows : (p : State) (amount : ℕ) (reference : Name) → IsPurse p → IsTrue (is_name_text reference) → amount ≤ most_amount → redeem_refusal p amount ≡ None
     → Follows p (redeemed p amount) (listed (abort_line (aborted p) (pending p.status)) ++ money_line (redeemed p amount) kind.Redeemed amount reference ∷ [])
 redeem_follows p amount reference is text small free =
@@ -248,7 +244,7 @@ redeem_follows p amount reference is text small free =
     record {
       name = refl;
       whole = next;
-      valid = both_valid logged_lines _ rest.valid (record { amount = small; balance = next.balance; note = text }, tt);
+      valid = all_append IsLine logged_lines _ rest.valid (record { amount = small; balance = next.balance; note = text }, tt);
       numbered = numbered_after (p.lines + 1) ((aborted p).lines + 1) logged_lines _ (omega (arith, lines)) rest.numbered (refl, tt);
       counted = omega (arith, lines, length-append logged_lines (money_line (redeemed p amount) kind.Redeemed amount reference ∷ []));
       logged = rest.logged;

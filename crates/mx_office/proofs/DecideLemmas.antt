@@ -1,5 +1,5 @@
 -- A decision is the step's: its reply, and edits that fit and lead to its World.
-use Rattle.std.proofs.Common.{◌≡◌, ℕ, ◌<◌, ◌≤◌, ◌^◌, Bool, true, false, cond, List, [], ◌∷◌, Option, Some, None, refl, sym, ◌∙◌, ap, subst, arith, length, IsSome, IsTrue, is_some, is_none, not, option_map, option_and_then}
+use Rattle.std.proofs.Common.{◌≡◌, ℕ, ◌<◌, ◌≤◌, Bool, true, false, cond, List, [], ◌∷◌, Option, Some, None, refl, sym, ◌∙◌, ap, subst, arith, length, IsSome, IsTrue, is_some, is_none, not, option_map, option_and_then}
 use Rattle.mx_pay.specs.Limits.{most_number}
 use Rattle.mx_book.specs.Limits.{most_purses, most_messages}
 use Rattle.std.specs.Prelude.{nat_le, nat_lt, ◌&&◌}

@@ -34,7 +34,7 @@ use Rattle.mx_office.proofs.CommandLemmas.{nothing, is_refused, not_refused}
 
 -- ---- a member's row
 
-float_there : (w : World) (m : Name) (row : MemberRow) → fmap.get w.members m ≡ Some row → float_of w m ≡ row.float
+pub float_there : (w : World) (m : Name) (row : MemberRow) → fmap.get w.members m ≡ Some row → float_of w m ≡ row.float
 float_there w m row at = ap (λ o. unwrap_or (option_map (λ (x : MemberRow). x.float) o) 0) at
 
 -- ---- a grant, by the sum that a number can hold

@@ -1,13 +1,23 @@
 -- A run and one command more.
 use Rattle.std.proofs.Common.{◌≡◌, ℕ, ◌+◌, ◌<◌, List, [], ◌∷◌, ◌++◌, length, take, get_or, sym, ◌∙◌, ap, subst}
 use Rattle.std.proofs.lemmas.List.{take_more}
+use Rattle.std.specs.List.{AllByRecursion}
 use Rattle.mx_book.specs.World.{World}
+use Rattle.mx_book.proofs.LineLemmas.{all_append}
 use Rattle.mx_book.specs.declared.contract.StoreFault.{StoreFault}
 use Rattle.mx_office.specs.declared.values.Outcome.{Outcome}
 use Rattle.mx_office.specs.declared.values.Outcome.TheVariants.{Reply as Replied, Unavailable}
 use Rattle.mx_office.specs.declared.values.Reply.{Reply}
+use Rattle.mx_office.specs.Commands.{IsAsked}
 use Rattle.mx_office.specs.Step.{Asked, step}
 use Rattle.mx_office.specs.Run.{IsRun, MayBeUndone}
+
+one_more : (cs : List Asked) (i : ℕ) (c : Asked) → i < length cs → c ≡ get_or cs i c → take (i + 1) cs ≡ take i cs ++ c ∷ []
+one_more cs i c lt at = take_more cs i c lt ∙ ap (λ x. take i cs ++ x ∷ []) (sym at)
+
+-- commands that are values, and one more
+pub asked_more : (cs : List Asked) (i : ℕ) (c : Asked) → i < length cs → c ≡ get_or cs i c → AllByRecursion IsAsked (take i cs) → IsAsked c → AllByRecursion IsAsked (take (i + 1) cs)
+asked_more cs i c lt at before asked = rw (one_more cs i c lt at) (all_append IsAsked (take i cs) (c ∷ []) before (asked, tt))
 
 module _ (fails : StoreFault → Type 0) where
   -- one command more, which is answered
@@ -27,9 +37,6 @@ module _ (fails : StoreFault → Type 0) where
   run_undone w v (x ∷ cs) (Unavailable ∷ os) c is why = (is.0, run_undone w v cs os c is.1 why)
 
   -- ---- the command at a place, as a loop meets it
-
-  one_more : (cs : List Asked) (i : ℕ) (c : Asked) → i < length cs → c ≡ get_or cs i c → take (i + 1) cs ≡ take i cs ++ c ∷ []
-  one_more cs i c lt at = take_more cs i c lt ∙ ap (λ x. take i cs ++ x ∷ []) (sym at)
 
   pub run_replied_at : (w v : World) (cs : List Asked) (i : ℕ) (c : Asked) (os more : List Outcome) (o : Outcome) (r : Reply) → i < length cs → c ≡ get_or cs i c → IsRun fails w (take i cs) os v
       → r ≡ (step v c.0 c.1).reply → o ≡ Replied r → more ≡ os ++ o ∷ [] → IsRun fails w (take (i + 1) cs) more (step v c.0 c.1).world

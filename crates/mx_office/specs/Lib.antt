@@ -4,6 +4,7 @@ pub mod Texts
 pub mod Run
 pub mod Lends
 pub mod Decides
+pub mod Commands
 pub mod Balance
 pub mod Reachable
 pub mod Faults

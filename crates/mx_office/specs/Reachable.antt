@@ -1,16 +1,25 @@
 -- Worlds that commands lead to.
 use Rattle.std.specs.Prelude.{◌≡◌, List}
+use Rattle.std.specs.List.{AllByRecursion}
+use Rattle.mx_pay.specs.Tokens.{IsToken}
+use Rattle.mx_book.specs.Conditions.{IsWorld}
 use Rattle.mx_book.specs.World.{World, Token, opening}
 use Rattle.mx_office.specs.Step.{Asked, steps}
 use Rattle.mx_office.specs.Balance.{IsBalanced}
+use Rattle.mx_office.specs.Commands.{IsAsked}
 
--- some commands lead to the World from one that has nothing but an operator's token
-abbrev pub IsReachable : World → Type 0
-IsReachable w = (t : Token) × (list : List Asked) × ((steps (opening t) list).end ≡ w)
+-- some commands that are values lead to the World from one that has nothing but an operator's token
+pub record IsReachable (w : World) : Type 0 where
+  pub operator : Token
+  pub bytes : IsToken operator
+  pub commands : List Asked
+  pub values : AllByRecursion IsAsked commands
+  pub leads : (steps (opening operator) commands).end ≡ w
 
--- a World stands that commands lead to, and it is balanced
+-- a World stands that commands lead to, which meets the conditions of a World, and it is balanced
 pub record StandsBalanced (Stands : World → Type 0) : Type 0 where
   pub end : World
   pub stands : Stands end
   pub reachable : IsReachable end
+  pub world : IsWorld end
   pub balanced : IsBalanced end

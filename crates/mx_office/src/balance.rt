@@ -1,10 +1,7 @@
 //! The members' balance equation.
 ghost use Rattle.mx_book.specs.World.{World};
-ghost use Rattle.mx_book.specs.declared.values.Caller.{Caller};
 ghost use Rattle.mx_office.specs.Balance.{IsBalanced};
 ghost use Rattle.mx_office.specs.Reachable.{IsReachable};
-ghost use Rattle.mx_office.specs.Step.{step};
-ghost use Rattle.mx_office.specs.declared.values.Command.{Command};
 
 /// The members' balance equation: in every World that commands lead to, what a member has is what the member was
 /// granted and what the member's purses redeemed.
@@ -12,12 +9,10 @@ ghost use Rattle.mx_office.specs.declared.values.Command.{Command};
 /// What a member has is the float, the redemptions of the member's purses that aren't collected, and the loads that
 /// were issued to the member's purses. The same holds of any choice of members together, and so of the whole scheme.
 ///
-/// - `reachable`: a World is balanced where some commands, whoever asked, lead to it from one that has nothing but an
-///   operator's token.
-/// - `goes_on`: one command more leads to such a World again.
+/// - `reachable`: a World is balanced where some commands that are values, whoever asked, lead to it from one that has
+///   nothing but an operator's token.
 ///
 /// The call does nothing.
 pub fn balance()
     ensures reachable { (w : World) → IsReachable w → IsBalanced w }
-    ensures goes_on { (w : World) (caller : Caller) (command : Command) → IsReachable w → IsReachable (step w caller command).world }
 {}

@@ -1,6 +1,5 @@
 //! What decisions are made of.
-ghost use Rattle.mx_pay.specs.Names.{is_name_text};
-ghost use Rattle.std.specs.Prelude.{◌≡◌, ◌≤◌, ◌^◌, IsTrue, ◌==◌, ◌∷◌, [], if◌then◌else◌};
+ghost use Rattle.std.specs.Prelude.{◌≡◌, ◌==◌, ◌∷◌, [], if◌then◌else◌};
 ghost use Rattle.mx_purse.specs.Operations.{sent_for};
 ghost use Rattle.mx_office.specs.Step.{abort_line, message_line, money_line, payment_line, refusal_of_load, refusal_of_redeem, refusal_of_start};
 ghost use Rattle.mx_office.specs.Decides.{purse_edits, redeem_edits};
@@ -164,15 +163,6 @@ pub(crate) fn money_line(purse: &Purse, kind: LineKind, amount: Amount, referenc
         balance: purse.balance(),
         note: Note::Reference(reference),
     }
-}
-
-/// A reference is a name, and an amount is within its limit: what their types hold, said for what follows.
-pub(crate) fn are_within(reference: &Name, amount: Amount)
-    ensures text { IsTrue (is_name_text reference.now) }
-    ensures most { amount ≤ 10 ^ 12 }
-{
-    let _text = reference.as_str();
-    let _most = amount.get();
 }
 
 /// The answer where the reference was used with the amount `before`: the same reply again, or a refusal.

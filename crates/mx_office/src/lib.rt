@@ -4,10 +4,12 @@
 pub mod balance;
 mod decisions;
 pub mod isolation;
+mod limits;
 mod members;
 mod money;
 pub mod office;
 mod purses;
+pub mod reachable;
 #[cfg(test)]
 mod tests;
 pub mod values;

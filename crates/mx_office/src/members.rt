@@ -2,8 +2,10 @@
 ghost use Rattle.std.specs.Prelude.{◌≡◌, IfOk, IfErr};
 ghost use Rattle.mx_book.specs.Keeps.{Keeps};
 ghost use Rattle.mx_book.specs.World.{World};
+ghost use Rattle.mx_office.specs.Commands.{IsCommand};
 ghost use Rattle.mx_office.specs.Decides.{Decides, purse_count};
 ghost use Rattle.mx_office.specs.Step.{new_member, new_holder, new_purse};
+ghost use Rattle.mx_office.specs.declared.values.Command.{Command};
 
 use crate::decisions::{added, refuse};
 use crate::values::{Decided, Refusal};
@@ -22,7 +24,7 @@ pub(crate) fn new_member<B: Book>(
     token: Token,
 ) -> Result<Decided, StoreFault>
     ensures keeps { Keeps B.doubt B.rows book.old book.new }
-    ensures decides { (w : World) → B.doubt book.new ≡ 0 → B.spells (B.rows book.old) w → IfOk result (Decides w (new_member w member token)) }
+    ensures decides { (w : World) → IsCommand (Command.NewMember member token) → B.doubt book.new ≡ 0 → B.spells (B.rows book.old) w → IfOk result (Decides w (new_member w member token)) }
     ensures fault { IfErr result B.fails }
 {
     if book.member(alloc, member)?.is_some() {
@@ -31,8 +33,6 @@ pub(crate) fn new_member<B: Book>(
     if book.who(alloc, &token)?.is_some() {
         return Ok(refuse(Refusal::TokenTaken));
     }
-    let _text = member.as_str();
-    let _bytes = token.as_bytes();
     Ok(added(Edit::NewMember {
         member,
         clerk: token,
@@ -48,7 +48,7 @@ pub(crate) fn new_holder<B: Book>(
     token: Token,
 ) -> Result<Decided, StoreFault>
     ensures keeps { Keeps B.doubt B.rows book.old book.new }
-    ensures decides { (w : World) → B.doubt book.new ≡ 0 → B.spells (B.rows book.old) w → IfOk result (Decides w (new_holder w member holder token)) }
+    ensures decides { (w : World) → IsCommand (Command.NewHolder holder token) → B.doubt book.new ≡ 0 → B.spells (B.rows book.old) w → IfOk result (Decides w (new_holder w member holder token)) }
     ensures fault { IfErr result B.fails }
 {
     if book.member(alloc, member)?.is_none() {
@@ -60,8 +60,6 @@ pub(crate) fn new_holder<B: Book>(
     if book.who(alloc, &token)?.is_some() {
         return Ok(refuse(Refusal::TokenTaken));
     }
-    let _text = holder.as_str();
-    let _bytes = token.as_bytes();
     Ok(added(Edit::NewHolder {
         holder,
         member,
@@ -95,7 +93,7 @@ pub(crate) fn new_purse<B: Book>(
     holder: Name,
 ) -> Result<Decided, StoreFault>
     ensures keeps { Keeps B.doubt B.rows book.old book.new }
-    ensures decides { (w : World) → B.doubt book.new ≡ 0 → B.spells (B.rows book.old) w → IfOk result (Decides w (new_purse w member purse holder)) }
+    ensures decides { (w : World) → IsCommand (Command.NewPurse purse holder) → B.doubt book.new ≡ 0 → B.spells (B.rows book.old) w → IfOk result (Decides w (new_purse w member purse holder)) }
     ensures fault { IfErr result B.fails }
 {
     let Some(held) = purse_count(book, alloc, member, holder)? else {
@@ -107,6 +105,5 @@ pub(crate) fn new_purse<B: Book>(
     if held >= MOST_PURSES {
         return Ok(refuse(Refusal::TooManyPurses));
     }
-    let _text = purse.as_str();
     Ok(added(Edit::NewPurse { purse, holder }))
 }

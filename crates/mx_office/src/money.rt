@@ -4,10 +4,12 @@ ghost use Rattle.mx_book.specs.declared.contract.StoreFault.TheVariants.{Memory}
 ghost use Rattle.mx_book.specs.Conditions.{all_granted};
 ghost use Rattle.mx_book.specs.Keeps.{Keeps};
 ghost use Rattle.mx_book.specs.World.{World};
+ghost use Rattle.mx_office.specs.Commands.{IsCommand};
 ghost use Rattle.mx_office.specs.Decides.{Decides, granted_to, load_edits, member_purse};
 ghost use Rattle.mx_office.specs.Step.{collect, grant, load_purse};
+ghost use Rattle.mx_office.specs.declared.values.Command.{Command};
 
-use crate::decisions::{again, are_within, load_refusal, money_line, refuse};
+use crate::decisions::{again, load_refusal, money_line, refuse};
 use crate::values::{Decided, Refusal, Reply};
 use mx_book::contract::{Book, StoreFault};
 use mx_book::edits::{Edit, Edits};
@@ -111,7 +113,7 @@ pub(crate) fn load<B: Book>(
     reference: Name,
 ) -> Result<Decided, StoreFault>
     ensures keeps { Keeps B.doubt B.rows book.old book.new }
-    ensures decides { (w : World) → B.doubt book.new ≡ 0 → B.spells (B.rows book.old) w → IfOk result (Decides w (load_purse w member purse amount reference)) }
+    ensures decides { (w : World) → IsCommand (Command.Load purse amount reference) → B.doubt book.new ≡ 0 → B.spells (B.rows book.old) w → IfOk result (Decides w (load_purse w member purse amount reference)) }
     ensures fault { IfErr result B.fails }
 {
     let Some(mut after) = member_purse(book, alloc, member, purse)? else {
@@ -126,7 +128,6 @@ pub(crate) fn load<B: Book>(
     if row.float < amount.get() {
         return Ok(refuse(Refusal::FloatTooSmall));
     }
-    are_within(&reference, amount);
     match after.load(amount) {
         Err(refusal) => Ok(refuse(load_refusal(refusal))),
         Ok(()) => Ok(Decided {

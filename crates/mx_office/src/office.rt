@@ -7,6 +7,7 @@ ghost use Rattle.mx_book.specs.World.{World};
 ghost use Rattle.mx_book.specs.declared.contract.StoreFault.TheVariants.{Memory};
 ghost use Rattle.mx_office.specs.declared.values.Refusal.{Refusal};
 ghost use Rattle.mx_office.specs.declared.values.Reply.TheVariants.{Refused};
+ghost use Rattle.mx_office.specs.Commands.{IsAsked, IsCommand};
 ghost use Rattle.mx_office.specs.Decides.{Decides};
 ghost use Rattle.mx_office.specs.Faults.{MayFail, MayNotDecide, is_read};
 ghost use Rattle.mx_office.specs.Lends.{LendsBook};
@@ -15,6 +16,7 @@ ghost use Rattle.mx_office.specs.Run.{Leads};
 ghost use Rattle.mx_office.specs.Step.{base, step};
 
 use crate::decisions::refuse;
+use crate::limits::{is_caller, is_command};
 use crate::members::{new_holder, new_member, new_purse};
 use crate::money::{collect, grant, load};
 use crate::purses::{abort, discard, handle, inbox, purses, redeem, show, start_from, start_to};
@@ -56,7 +58,8 @@ impl<B: Book> Office<B> {
     }
 
     /// What a command of a caller would do: its reply, and the edits that lead to its World. Nothing changes. A fault
-    /// is one of the book's reads, or `Memory` where the command reads a list: a grant, purses and inbox.
+    /// is one of the book's reads, or `Memory` where the command reads a list: a grant, purses and inbox. `asked` says
+    /// what the caller and the command keep by their types: names are names, and numbers and tokens are within limits.
     pub fn decide(
         &mut self,
         alloc: Global,
@@ -67,7 +70,10 @@ impl<B: Book> Office<B> {
         ensures decides { (w : World) → B.doubt self.new.book ≡ 0 → B.spells (B.rows self.old.book) w → IfOk result (Decides w (base w caller command.now)) }
         ensures reads { IfOk result (λ d. IsTrue (is_read command.now) → d.edits ≡ []) }
         ensures fault { IfErr result (MayNotDecide B.fails command.now) }
+        ensures asked { IsAsked (caller, command.now) }
     {
+        is_caller(&caller);
+        is_command(command);
         match caller {
             Caller::Operator => decide_operator(&mut self.book, alloc, command),
             Caller::Clerk(member) => decide_clerk(&mut self.book, alloc, member, command),
@@ -95,7 +101,7 @@ impl<B: Book> Office<B> {
 
     /// Answers a command of a caller: decides, and makes the edits. After a fault and after a refusal nothing is
     /// changed, whatever the book holds. A fault is one of the book's reads, or `Memory` where the command takes some: it
-    /// reads a list, or writes and isn't refused.
+    /// reads a list, or writes and isn't refused. `asked` says the same as at `decide`.
     pub fn answer(
         &mut self,
         alloc: Global,
@@ -109,6 +115,7 @@ impl<B: Book> Office<B> {
         ensures err { B.doubt self.new.book ≡ 0 → OnErr result (B.rows self.new.book ≡ B.rows self.old.book) }
         ensures fault { IfErr result (λ e. (e ≡ Memory) ⊎ B.fails e) }
         ensures memory { (w : World) → B.doubt self.new.book ≡ 0 → B.spells (B.rows self.old.book) w → IfErr result (MayFail B.fails w caller command.now) }
+        ensures asked { IsAsked (caller, command.now) }
     {
         let decided = self.decide(alloc, caller, command)?;
         if let Reply::Refused(refusal) = decided.reply {
@@ -119,8 +126,8 @@ impl<B: Book> Office<B> {
     }
 
     /// Answers commands in order: one outcome a command, its reply, or `Unavailable` where `answer` gives a fault. An
-    /// AllocError means that nothing was done. From a World that commands can lead to it ends in such a World, in
-    /// which each member's account is balanced.
+    /// AllocError means that nothing was done. From a World that commands can lead to it ends in such a World, which
+    /// meets all the conditions of a World, and in which each member's account is balanced.
     pub fn run(
         &mut self,
         alloc: Global,
@@ -151,7 +158,7 @@ fn decide_operator<B: Book>(
     command: &Command,
 ) -> Result<Decided, StoreFault>
     ensures keeps { Keeps B.doubt B.rows book.old book.new }
-    ensures decides { (w : World) → B.doubt book.new ≡ 0 → B.spells (B.rows book.old) w → IfOk result (Decides w (base w Caller.Operator command.now)) }
+    ensures decides { (w : World) → IsCommand command.now → B.doubt book.new ≡ 0 → B.spells (B.rows book.old) w → IfOk result (Decides w (base w Caller.Operator command.now)) }
     ensures reads { IfOk result (λ d. IsTrue (is_read command.now) → d.edits ≡ []) }
     ensures fault { IfErr result (MayNotDecide B.fails command.now) }
 {
@@ -170,7 +177,7 @@ fn decide_clerk<B: Book>(
     command: &Command,
 ) -> Result<Decided, StoreFault>
     ensures keeps { Keeps B.doubt B.rows book.old book.new }
-    ensures decides { (w : World) → B.doubt book.new ≡ 0 → B.spells (B.rows book.old) w → IfOk result (Decides w (base w (Caller.Clerk member) command.now)) }
+    ensures decides { (w : World) → IsCommand command.now → B.doubt book.new ≡ 0 → B.spells (B.rows book.old) w → IfOk result (Decides w (base w (Caller.Clerk member) command.now)) }
     ensures reads { IfOk result (λ d. IsTrue (is_read command.now) → d.edits ≡ []) }
     ensures fault { IfErr result (MayNotDecide B.fails command.now) }
 {
@@ -195,7 +202,7 @@ fn decide_holder<B: Book>(
     command: &Command,
 ) -> Result<Decided, StoreFault>
     ensures keeps { Keeps B.doubt B.rows book.old book.new }
-    ensures decides { (w : World) → B.doubt book.new ≡ 0 → B.spells (B.rows book.old) w → IfOk result (Decides w (base w (Caller.Holder holder) command.now)) }
+    ensures decides { (w : World) → IsCommand command.now → B.doubt book.new ≡ 0 → B.spells (B.rows book.old) w → IfOk result (Decides w (base w (Caller.Holder holder) command.now)) }
     ensures reads { IfOk result (λ d. IsTrue (is_read command.now) → d.edits ≡ []) }
     ensures fault { IfErr result (MayNotDecide B.fails command.now) }
 {

@@ -4,12 +4,14 @@ ghost use Rattle.mx_book.specs.declared.contract.StoreFault.TheVariants.{Memory}
 ghost use Rattle.mx_book.specs.Keeps.{Keeps};
 ghost use Rattle.mx_book.specs.World.{World};
 ghost use Rattle.mx_book.specs.Reads.{purses_of};
+ghost use Rattle.mx_office.specs.Commands.{IsCommand};
 ghost use Rattle.mx_office.specs.Decides.{Decides, finds_place, own_purse, placed};
 ghost use Rattle.mx_office.specs.Step.{abort, discard, handle, inbox, on_own, redeem, show, start_from, start_to, tell};
+ghost use Rattle.mx_office.specs.declared.values.Command.{Command};
 
 use crate::decisions::{
-    abort_line, again, are_within, message_line, purse_edits, redeem_edits, redeem_refusal, refuse,
-    sent_for, start_refusal, tell,
+    abort_line, again, message_line, purse_edits, redeem_edits, redeem_refusal, refuse, sent_for,
+    start_refusal, tell,
 };
 use crate::values::{Decided, Messages, Names, Refusal, Reply};
 use mx_book::contract::{Book, StoreFault};
@@ -264,7 +266,7 @@ pub(crate) fn redeem<B: Book>(
     reference: Name,
 ) -> Result<Decided, StoreFault>
     ensures keeps { Keeps B.doubt B.rows book.old book.new }
-    ensures decides { (w : World) → B.doubt book.new ≡ 0 → B.spells (B.rows book.old) w → IfOk result (Decides w (on_own w holder purse (redeem amount reference))) }
+    ensures decides { (w : World) → IsCommand (Command.Redeem purse amount reference) → B.doubt book.new ≡ 0 → B.spells (B.rows book.old) w → IfOk result (Decides w (on_own w holder purse (redeem amount reference))) }
     ensures fault { IfErr result B.fails }
 {
     let Some(mut after) = own_purse(book, alloc, holder, purse)? else {
@@ -273,7 +275,6 @@ pub(crate) fn redeem<B: Book>(
     if let Some(before) = book.redemption_of(alloc, purse, reference)? {
         return Ok(again(before, amount, Reply::Redeemed));
     }
-    are_within(&reference, amount);
     let mut rested = after;
     let logged = rested.abort();
     match after.redeem(amount) {

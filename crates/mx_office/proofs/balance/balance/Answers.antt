@@ -1,6 +1,5 @@
 use Rattle.mx_office.proofs.BalanceCommandLemmas.{reachable_balanced}
-use Rattle.mx_office.proofs.ReachLemmas.{reachable_after}
 use Rattle.mx_office.proofs.balance.balance.Goals as goal
 
 pub returns : goal.returns
-returns c = record { reachable = reachable_balanced; goes_on = reachable_after }
+returns c = record { reachable = reachable_balanced }

@@ -1,5 +1,5 @@
 use Rattle.std.proofs.Common.{rules}
-use Rattle.std.specs.Prelude.{◌^◌, nat_lt}
+use Rattle.std.specs.Prelude.{nat_lt}
 use Rattle.mx_pay.specs.Limits.{most_number}
 use Rattle.mx_office.proofs.DecideLemmas.{given_room, few_held, many_messages}
 use Rattle.mx_office.proofs.purses.finds_place.Goals as goal

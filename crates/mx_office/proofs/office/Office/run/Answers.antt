@@ -1,10 +1,13 @@
 use Rattle.std.proofs.Common.{◌≡◌, rules, subst}
 use Rattle.std.proofs.lemmas.List.{take_all}
+use Rattle.std.specs.List.{AllByRecursion}
+use Rattle.mx_office.specs.Commands.{IsAsked}
 use Rattle.mx_office.specs.Run.{Leads}
 use Rattle.mx_office.specs.Step.{step}
-use Rattle.mx_office.proofs.OutcomeLemmas.{run_replied_at, run_undone_at}
+use Rattle.mx_office.proofs.OutcomeLemmas.{asked_more, run_replied_at, run_undone_at}
 use Rattle.mx_office.proofs.BalanceCommandLemmas.{reachable_balanced}
 use Rattle.mx_office.proofs.ReachLemmas.{reachable_run}
+use Rattle.mx_office.proofs.StepLemmas.{reachable_world}
 use Rattle.mx_office.proofs.office.Office.run.Goals as goal
 use Rattle.mx_office.proofs.office.Office.run.Goals.{in-Ok, in-Err}
 
@@ -12,6 +15,7 @@ pub loop-caller-init : goal.loop-caller-init
 loop-caller-init g c = record {
   count = search rules;
   room = search rules;
+  values = tt;
   later = search rules;
   run = λ w honest spelled. record { end = w; stands = spelled; run = search rules };
 }
@@ -20,6 +24,7 @@ pub loop-caller-preserved : goal.loop-caller-preserved
 loop-caller-preserved g c = record {
   count = search rules;
   room = search rules;
+  values = asked_more _ _ c.loop-caller-item.result c.loop-caller-test.true c.loop-caller-item.is c.loop-caller.invariant.values c.answer.ensures.asked;
   later = search rules;
   run = λ w honest spelled.
       let before : g.B.Book.doubt c.loop-caller.self.book ≡ 0 = search rules in
@@ -44,5 +49,6 @@ returns-clause-run g c = λ w honest spelled. subst (λ cs. Leads g.B.Book.fails
 pub returns-clause-reachable : goal.returns-clause-reachable
 returns-clause-reachable g c = λ w honest spelled reachable.
     let led = returns-clause-run g c w honest spelled in
-    let ends = reachable_run _ w led.end c.args.commands.now c.loop-caller.outcomes.items led.run reachable in
-    record { end = led.end; stands = led.stands; reachable = ends; balanced = reachable_balanced led.end ends }
+    let values = subst (AllByRecursion IsAsked) (take_all c.loop-caller.caller-index c.args.commands.now (search rules)) c.loop-caller.invariant.values in
+    let ends = reachable_run _ w led.end c.args.commands.now c.loop-caller.outcomes.items values led.run reachable in
+    record { end = led.end; stands = led.stands; reachable = ends; world = reachable_world led.end ends; balanced = reachable_balanced led.end ends }

@@ -1,6 +1,8 @@
 use Rattle.std.proofs.Common.{◌≡◌, ◌≤◌, length, take, vec_len}
 use Rattle.std.specs.Vec.{vec_capacity}
+use Rattle.std.specs.List.{AllByRecursion}
 use Rattle.mx_book.specs.World.{World}
+use Rattle.mx_office.specs.Commands.{IsAsked}
 use Rattle.mx_office.specs.Run.{Leads}
 use Rattle.mx_office.proofs.office.Office.run.Given as goal
 
@@ -8,6 +10,7 @@ abbrev pub invariant-loop-caller : goal.invariant-loop-caller
 invariant-loop-caller g l = let b = g.B.Book in record {
   count : vec_len l.outcomes ≡ l.caller-index;
   room : length l.commands ≤ vec_capacity l.outcomes;
+  values : AllByRecursion IsAsked (take l.caller-index l.commands);
   later : b.doubt l.fn.self.book ≤ b.doubt l.self.book;
   run : (w : World) → b.doubt l.self.book ≡ 0 → b.spells (b.rows l.fn.self.book) w → Leads b.fails (b.spells (b.rows l.self.book)) w (take l.caller-index l.commands) l.outcomes.items;
 }
