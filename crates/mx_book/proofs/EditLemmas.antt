@@ -1,5 +1,5 @@
 -- An edit of the rows is the edit of the World.
-use Rattle.std.proofs.Common.{◌≡◌, ℕ, ◌+◌, ◌<◌, Bool, true, false, cond, List, [], ◌∷◌, ◌++◌, map, refl, sym, ◌∙◌, ap, subst, Option, Some, None, IsSome, option_and_then}
+use Rattle.std.proofs.Common.{◌≡◌, ℕ, ◌+◌, ◌<◌, Bool, true, false, cond, List, [], ◌∷◌, ◌++◌, map, refl, sym, ◌∙◌, ap, subst, Option, Some, None, IsSome, option_and_then, arith}
 use Rattle.mx_book.proofs.FoundLemmas.{none_is, inside}
 use Rattle.std.specs.Prelude.{◌||◌, option_map, IsNone}
 use Rattle.std.specs.Ordering.{nat_cmp}
@@ -20,6 +20,7 @@ use Rattle.mx_book.proofs.NameLemmas.{names_total, names_exact}
 use Rattle.mx_book.proofs.NameLemmas.{get-inserted}
 use Rattle.mx_book.specs.declared.values.PurseRow.{PurseRow}
 use Rattle.mx_book.specs.declared.values.Redemption.{Redemption}
+use Rattle.mx_book.specs.declared.values.LineRow.{LineRow}
 use Rattle.mx_book.specs.declared.edits.Edit.{Edit}
 use Rattle.mx_book.specs.declared.edits.Edit.TheVariants.{NewMember, SetMember, NewHolder, NewPurse, SetPurse, AddMessage, DropMessage, AddLine, AddLoad, AddRedemption, Collect}
 use Rattle.mx_book.specs.Under.{pair_cmp, under, remake}
@@ -28,7 +29,7 @@ use Rattle.mx_book.specs.Edits.{edited, all_edited, AllSuit, Suits}
 use Rattle.mx_book.specs.RowEdits.{rewritten, all_rewritten, Able, AllAble, on_purse, member_at, marked}
 use Rattle.mx_book.proofs.UnderLemmas.{under-insert, under-insert_other, under-remove, under-remove_other, under-none, under-remake, get-remake, pair_exact, entries_empty}
 use Rattle.mx_book.proofs.LineLemmas.{lines-insert}
-use Rattle.mx_book.proofs.RowLemmas.{rows_put, get_rows, row_is, found, found_row, not_there, change_is, NoStray-insert, NoStray-remove, proper_purse}
+use Rattle.mx_book.proofs.RowLemmas.{rows_put, get_rows, found, found_row, not_there, change_is, NoStray-insert, NoStray-remove, proper_purse}
 
 -- another key after a write
 get-other : {X : Type 0} (m : fmap.FinMap name_cmp X) (p q : Name) (x : X) → is_name q p ≡ false → fmap.get (fmap.insert m p x) q ≡ fmap.get m q
@@ -43,15 +44,17 @@ new_purse_row : (r : Rows) (h : IsProper r) (p g : Name) → fmap.get r.purses p
 new_purse_row r h p g gone =
     let y : PurseRow = record { holder = g; purse = new_purse p; next_message = 0 } in
     let s : Rows = record r { purses = fmap.insert r.purses p y } in
-    let fresh : row_of s p y ≡ new_row g p =
-    ap (λ i. row_from y i (under name_cmp nat_cmp p r.lines) (under name_cmp name_cmp p r.loads) (under name_cmp name_cmp p r.redemptions)) (under-none names_total nat_cmp_total nat_cmp-IsAntisymmetric p r.inbox (λ k. h.inbox p k gone))
-    ∙ ap (λ i. row_from y fmap.empty i (under name_cmp name_cmp p r.loads) (under name_cmp name_cmp p r.redemptions)) (under-none names_total nat_cmp_total nat_cmp-IsAntisymmetric p r.lines (λ k. h.lines p k gone))
-    ∙ ap (λ i. row_from y fmap.empty fmap.empty i (under name_cmp name_cmp p r.redemptions)) (under-none names_total names_total names_exact p r.loads (λ k. h.loads p k gone))
-    ∙ ap (λ i. row_from y fmap.empty fmap.empty fmap.empty i) (under-none names_total names_total names_exact p r.redemptions (λ k. h.redemptions p k gone))
-    ∙ ap (λ es. record (new_row g p) { holding = record (new_row g p).holding { lines = map line_at es; redemptions = pick amount_of fmap.empty }; collected = pick mark_of fmap.empty }) (entries_empty nat_cmp)
-    ∙ (λ i. record (new_row g p) { holding = record (new_row g p).holding { redemptions = pick-empty amount_of i }; collected = pick-empty mark_of i }) in
+    let fresh : row_of s p y ≡ new_row g p = simp (
+      under-none names_total nat_cmp_total nat_cmp-IsAntisymmetric p r.inbox (λ k. h.inbox p k gone),
+      under-none names_total nat_cmp_total nat_cmp-IsAntisymmetric p r.lines (λ k. h.lines p k gone),
+      under-none names_total names_total names_exact p r.loads (λ k. h.loads p k gone),
+      under-none names_total names_total names_exact p r.redemptions (λ k. h.redemptions p k gone),
+      entries_empty {V = LineRow} nat_cmp,
+      pick-empty amount_of,
+      pick-empty mark_of,
+    ) in
     record {
-      world = ap (λ rows. record (world_of r) { rows = rows }) (sym (rows_put r s p (new_row g p) (row_is s p y (get-inserted r.purses p y) ∙ ap Some fresh) (λ n f. ap (option_map (row_of r n)) (get-other r.purses p n y f))));
+      world = ap (λ rows. record (world_of r) { rows = rows }) (sym (rows_put r s p (new_row g p) (ap (option_map (row_of s p)) (get-inserted r.purses p y) ∙ ap Some fresh) (λ n f. ap (option_map (row_of r n)) (get-other r.purses p n y f))));
       proper = proper_purse r p y h;
     }
 
@@ -140,41 +143,14 @@ add_redemption r h p ref amount x at new =
 abbrev collected_by : Bool → Name → Redemption → Redemption
 collected_by c ref y = record y { collected = y.collected || c }
 
-or_true : (b : Bool) → (b || true) ≡ true
-or_true true = refl
-or_true false = refl
-
-or_false : (b : Bool) → (b || false) ≡ b
-or_false true = refl
-or_false false = refl
-
-amount_case : (c : Bool) (ref : Name) (o : Option Redemption) → option_and_then amount_of (option_map (collected_by c ref) o) ≡ option_and_then amount_of o
-amount_case c ref None = refl
-amount_case c ref (Some y) = refl
-
 amounts_stay : (c : Bool) (m : fmap.FinMap name_cmp Redemption) → pick amount_of (remake (collected_by c) m) ≡ pick amount_of m
-amounts_stay c m = fmap.same_map names_total names_exact _ _ (λ q.
-    get-pick names_total amount_of (remake (collected_by c) m) q ∙ ap (option_and_then amount_of) (get-remake name_cmp (collected_by c) names_exact m q)
-    ∙ amount_case c q (fmap.get m q) ∙ sym (get-pick names_total amount_of m q))
+amounts_stay c m = fmap.same_map names_total names_exact _ _ (λ q. grind (arith, get-pick names_total amount_of, get-remake name_cmp (collected_by c) names_exact m q))
 
 abbrev each_mark : ℕ → Option (Unit {0})
 each_mark amount = Some tt
 
-all_case : (ref : Name) (o : Option Redemption) → option_and_then mark_of (option_map (collected_by true ref) o) ≡ option_and_then each_mark (option_and_then amount_of o)
-all_case ref None = refl
-all_case ref (Some y) = ap (λ b. cond b (Some tt) None) (or_true y.collected)
-
-same_case : (ref : Name) (o : Option Redemption) → option_and_then mark_of (option_map (collected_by false ref) o) ≡ option_and_then mark_of o
-same_case ref None = refl
-same_case ref (Some y) = ap (λ b. cond b (Some tt) None) (or_false y.collected)
-
 marks_are : (c : Bool) (m : fmap.FinMap name_cmp Redemption) → pick mark_of (remake (collected_by c) m) ≡ cond c (pick each_mark (pick amount_of m)) (pick mark_of m)
-marks_are true m = fmap.same_map names_total names_exact _ _ (λ q.
-    get-pick names_total mark_of (remake (collected_by true) m) q ∙ ap (option_and_then mark_of) (get-remake name_cmp (collected_by true) names_exact m q)
-    ∙ all_case q (fmap.get m q) ∙ ap (option_and_then each_mark) (sym (get-pick names_total amount_of m q)) ∙ sym (get-pick names_total each_mark (pick amount_of m) q))
-marks_are false m = fmap.same_map names_total names_exact _ _ (λ q.
-    get-pick names_total mark_of (remake (collected_by false) m) q ∙ ap (option_and_then mark_of) (get-remake name_cmp (collected_by false) names_exact m q)
-    ∙ same_case q (fmap.get m q) ∙ sym (get-pick names_total mark_of m q))
+marks_are c m = fmap.same_map names_total names_exact _ _ (λ q. grind (arith, get-pick names_total amount_of m q, get-pick names_total mark_of m q, get-pick names_total mark_of (remake (collected_by c) m) q, get-pick names_total each_mark (pick amount_of m) q, get-remake name_cmp (collected_by c) names_exact m q))
 
 -- a row's set of collected redemptions, by a test
 row_case : (c : Bool) (row : Row) → record row { collected = cond c (pick each_mark row.holding.redemptions) row.collected } ≡ cond c (with_collected row) row
@@ -201,9 +177,6 @@ module _ (r : Rows) (m : Name) where
   collected_case q None at = refl
   collected_case q (Some x) at = ap Some (sym (collected_at q x at))
 
-  gone_still : (f : Name × Name → Redemption → Redemption) (k : Name × Name) (o : Option Redemption) → o ≡ None → option_map (f k) o ≡ None
-  gone_still f k o e = ap (option_map (f k)) e
-
   collect : (h : IsProper r) → Spelled (rewritten r (Collect m)) (edited (world_of r) (Collect m))
   collect h =
       let s : Rows = rewritten r (Collect m) in
@@ -215,8 +188,7 @@ module _ (r : Rows) (m : Name) where
           inbox = h.inbox;
           lines = h.lines;
           loads = h.loads;
-          redemptions = λ p k gone. get-remake (pair_cmp name_cmp name_cmp) (marked r.purses r.holders m) (pair_exact names_exact names_exact) r.redemptions (p, k)
-              ∙ gone_still (marked r.purses r.holders m) (p, k) _ (h.redemptions p k gone);
+          redemptions = λ p k gone. get-remake (pair_cmp name_cmp name_cmp) (marked r.purses r.holders m) (pair_exact names_exact names_exact) r.redemptions (p, k) ∙ ap (option_map (marked r.purses r.holders m (p, k))) (h.redemptions p k gone);
         };
       }
 
@@ -246,19 +218,10 @@ edits_spelled r w (e ∷ es) h fits = edits_spelled (rewritten r e) (edited w e)
 -- ---- what a write needs
 
 able : (r : Rows) (e : Edit) → Suits (world_of r) e → Able r e
-able r (NewMember m t) fits = tt
-able r (SetMember m granted float) fits = tt
-able r (NewHolder g m t) fits = tt
-able r (NewPurse p g) fits = tt
-able r (SetPurse q) fits = tt
 able r (AddMessage p m) fits = λ x is.
     let z = found r p (λ row. (fmap.len row.holding.inbox < most_messages) × (row.holding.next_message < most_number)) fits in
     subst (λ (y : PurseRow). y.next_message < most_number) (inside z.0 x (sym z.1 ∙ is)) z.2.1
-able r (DropMessage p k) fits = tt
-able r (AddLine p l) fits = tt
-able r (AddLoad p ref amount) fits = tt
-able r (AddRedemption p ref amount) fits = tt
-able r (Collect m) fits = tt
+able r e fits = tt
 
 pub all_able : (r : Rows) (w : World) (es : List Edit) → Spelled r w → AllSuit w es → AllAble r es
 all_able r w [] h fits = tt
