@@ -23,7 +23,7 @@ use Rattle.mx_book.specs.Edits.{edited, Suits, Fits}
 use Rattle.mx_book.proofs.NameLemmas.{names_total, get-inserted, name_itself}
 use Rattle.mx_book.proofs.FoundLemmas.{some_of, none_some}
 use Rattle.mx_book.proofs.Opening.{opening_is, none_held}
-use Rattle.mx_book.proofs.KeepLemmas.{member_world, holder_world, purse_world, message_world}
+use Rattle.mx_book.proofs.KeepLemmas.{member_stays, holder_stays, new_purse_stays, message_stays}
 use Rattle.mx_book.proofs.PurseLemmas.{purse_leads, purse_suits, purse_stays}
 
 module _ (op s t : Token) (m h : Name) (clerk : is_token s op ≡ false) (holder : is_token t op ≡ false) (apart : is_token t s ≡ false) (member_text : IsTrue (is_name_text m)) (holder_text : IsTrue (is_name_text h)) (op_whole : IsToken op) (clerk_whole : IsToken s) (holder_whole : IsToken t) where
@@ -40,7 +40,7 @@ module _ (op s t : Token) (m h : Name) (clerk : is_token s op ≡ false) (holder
   with_both = edited with_member (NewHolder h m t)
 
   with_both_is : IsWorld with_both
-  with_both_is = holder_world with_member h m t holder_suits holder_text holder_whole (member_world (opening op) m s member_suits member_text clerk_whole (opening_is op op_whole))
+  with_both_is = holder_stays with_member h m t holder_suits holder_text holder_whole (member_stays (opening op) m s member_suits member_text clerk_whole (opening_is op op_whole))
 
   -- a member and a holder
   pub both_fit : Fits (opening op) (NewMember m s ∷ NewHolder h m t ∷ [])
@@ -54,7 +54,7 @@ module _ (op s t : Token) (m h : Name) (clerk : is_token s op ≡ false) (holder
     with_purse = edited with_both (NewPurse p h)
 
     with_purse_is : IsWorld with_purse
-    with_purse_is = let none = none_held op h in purse_world with_both p h new_suits purse_text (omega (arith, none)) with_both_is
+    with_purse_is = let none = none_held op h in new_purse_stays with_both p h new_suits purse_text (omega (arith, none)) with_both_is
 
     here : fmap.get with_purse.rows p ≡ Some (new_row h p)
     here = get-inserted fmap.empty p (new_row h p)
@@ -64,7 +64,7 @@ module _ (op s t : Token) (m h : Name) (clerk : is_token s op ≡ false) (holder
 
     -- and a purse with a message
     pub four_fit : (x : Message) → IsMessage x → Fits (opening op) (NewMember m s ∷ NewHolder h m t ∷ NewPurse p h ∷ AddMessage p x ∷ [])
-    four_fit x valid = record { each = (member_suits, (holder_suits, (new_suits, (message_suits x, tt)))); end = message_world with_purse p x (new_row h p) valid here (grind (arith, fmap.len-empty nat_cmp Message)) (omega arith) with_purse_is }
+    four_fit x valid = record { each = (member_suits, (holder_suits, (new_suits, (message_suits x, tt)))); end = message_stays with_purse p x (new_row h p) valid here (grind (arith, fmap.len-empty nat_cmp Message)) (omega arith) with_purse_is }
 
     -- and a purse that becomes another one, which has no lines either
     pub set_fit : (q : State) → q.name ≡ p → IsPurse q → q.lines ≡ 0 → Fits (opening op) (NewMember m s ∷ NewHolder h m t ∷ NewPurse p h ∷ SetPurse q ∷ [])
