@@ -33,10 +33,10 @@ use Rattle.mx_book.proofs.RowLemmas.{rows_put, get_rows, found, found_row, not_t
 
 -- another key after a write
 get-other : {X : Type 0} (m : fmap.FinMap name_cmp X) (p q : Name) (x : X) → is_name q p ≡ false → fmap.get (fmap.insert m p x) q ≡ fmap.get m q
-get-other m p q x f = fmap.get-insert names_total m p x q ∙ ap (λ b. cond b (Some x) (fmap.get m q)) f
+get-other m p q x f = grind (arith, fmap.gets, names_total)
 
 pick-empty : {X Y : Type 0} (f : X → Option Y) → pick f (fmap.empty {X = X} {R = name_cmp}) ≡ fmap.empty
-pick-empty f = fmap.same_map names_total names_exact _ _ (λ q. get-pick names_total f fmap.empty q ∙ ap (option_and_then f) (fmap.get-empty name_cmp q) ∙ sym (fmap.get-empty name_cmp q))
+pick-empty f = fmap.same_map names_total names_exact _ _ (λ q. grind (arith, fmap.gets, get-pick names_total f fmap.empty q))
 
 -- ---- a purse more
 
@@ -54,7 +54,7 @@ new_purse_row r h p g gone =
       pick-empty mark_of,
     ) in
     record {
-      world = ap (λ rows. record (world_of r) { rows = rows }) (sym (rows_put r s p (new_row g p) (ap (option_map (row_of s p)) (get-inserted r.purses p y) ∙ ap Some fresh) (λ n f. ap (option_map (row_of r n)) (get-other r.purses p n y f))));
+      world = ap (λ rows. record (world_of r) { rows = rows }) (sym (rows_put r s p (new_row g p) (grind (arith, get-inserted r.purses p y, fresh)) (λ n f. grind (arith, get-other r.purses p n y f))));
       proper = proper_purse r p y h;
     }
 
@@ -64,8 +64,8 @@ set_purse : (r : Rows) (h : IsProper r) (q : State) (x : PurseRow) → fmap.get 
 set_purse r h q x at =
     let y : PurseRow = record x { purse = q } in
     let s : Rows = record r { purses = fmap.insert r.purses q.name y } in
-    subst (λ (z : Rows). Spelled z (edited (world_of r) (SetPurse q))) (ap (λ o. on_purse o r (λ x. record r { purses = fmap.insert r.purses q.name (record x { purse = q }) })) (sym at)) (record {
-      world = change_is r s q.name (λ row. record row { holding = record row.holding { purse = q } }) x y at (get-inserted r.purses q.name y) refl (λ n f. ap (option_map (row_of r n)) (get-other r.purses q.name n y f));
+    rw at (record {
+      world = change_is r s q.name (λ row. record row { holding = record row.holding { purse = q } }) x y at (get-inserted r.purses q.name y) refl (λ n f. grind (arith, get-other r.purses q.name n y f));
       proper = proper_purse r q.name y h;
     })
 
@@ -75,11 +75,10 @@ add_message r h p m x at =
     let t : Rows = record r { inbox = fmap.insert r.inbox (p, x.next_message) m } in
     let s : Rows = record t { purses = fmap.insert r.purses p y } in
     let proper : IsProper t = record { inbox = NoStray-insert nat_cmp nat_cmp_total r.purses r.inbox h.inbox p x.next_message m x at; lines = h.lines; loads = h.loads; redemptions = h.redemptions } in
-    subst (λ (z : Rows). Spelled z (edited (world_of r) (AddMessage p m))) (ap (λ o. on_purse o r (λ x. record r { purses = fmap.insert r.purses p (record x { next_message = x.next_message + 1 }); inbox = fmap.insert r.inbox (p, x.next_message) m })) (sym at)) (record {
+    rw at (record {
       world = change_is r s p (λ row. record row { holding = delivered row.holding m }) x y at (get-inserted r.purses p y)
-          (ap (λ i. record (row_of r p y) { holding = record (row_of r p y).holding { inbox = i } }) (under-insert names_total nat_cmp_total nat_cmp-IsAntisymmetric p r.inbox x.next_message m))
-          (λ n f. ap (option_map (row_of s n)) (get-other r.purses p n y f)
-          ∙ ap (λ i. option_map (λ z. record (row_of r n z) { holding = record (row_of r n z).holding { inbox = i } }) (fmap.get r.purses n)) (under-insert_other names_total nat_cmp_total nat_cmp-IsAntisymmetric p n r.inbox x.next_message m f));
+          (simp (under-insert names_total nat_cmp_total nat_cmp-IsAntisymmetric p r.inbox x.next_message m))
+          (λ n f. grind (arith, get-other r.purses p n y f, under-insert_other names_total nat_cmp_total nat_cmp-IsAntisymmetric p n r.inbox x.next_message m f));
       proper = proper_purse t p y proper;
     })
 
@@ -90,8 +89,8 @@ drop_message r h p k x at =
     let s : Rows = record r { inbox = fmap.remove r.inbox (p, k) } in
     record {
       world = change_is r s p (λ row. record row { holding = record row.holding { inbox = fmap.remove row.holding.inbox k } }) x x at at
-          (ap (λ i. record (row_of r p x) { holding = record (row_of r p x).holding { inbox = i } }) (under-remove names_total nat_cmp_total nat_cmp-IsAntisymmetric p r.inbox k))
-          (λ n f. ap (λ i. option_map (λ z. record (row_of r n z) { holding = record (row_of r n z).holding { inbox = i } }) (fmap.get r.purses n)) (under-remove_other names_total nat_cmp_total nat_cmp-IsAntisymmetric p n r.inbox k f));
+          (simp (under-remove names_total nat_cmp_total nat_cmp-IsAntisymmetric p r.inbox k))
+          (λ n f. grind (arith, under-remove_other names_total nat_cmp_total nat_cmp-IsAntisymmetric p n r.inbox k f));
       proper = record { inbox = NoStray-remove nat_cmp nat_cmp_total r.purses r.inbox h.inbox p k; lines = h.lines; loads = h.loads; redemptions = h.redemptions };
     }
 
@@ -100,8 +99,8 @@ add_line r h p l x at next =
     let s : Rows = record r { lines = fmap.insert r.lines (p, l.number) (line_row l) } in
     record {
       world = change_is r s p (λ row. record row { holding = record row.holding { lines = row.holding.lines ++ l ∷ [] } }) x x at at
-          (ap (λ i. record (row_of r p x) { holding = record (row_of r p x).holding { lines = i } }) (ap lines_from (under-insert names_total nat_cmp_total nat_cmp-IsAntisymmetric p r.lines l.number (line_row l)) ∙ lines-insert (under name_cmp nat_cmp p r.lines) l next))
-          (λ n f. ap (λ i. option_map (λ z. record (row_of r n z) { holding = record (row_of r n z).holding { lines = lines_from i } }) (fmap.get r.purses n)) (under-insert_other names_total nat_cmp_total nat_cmp-IsAntisymmetric p n r.lines l.number (line_row l) f));
+          (simp (under-insert names_total nat_cmp_total nat_cmp-IsAntisymmetric p r.lines l.number (line_row l), lines-insert (under name_cmp nat_cmp p r.lines) l next))
+          (λ n f. grind (arith, under-insert_other names_total nat_cmp_total nat_cmp-IsAntisymmetric p n r.lines l.number (line_row l) f));
       proper = record { inbox = h.inbox; lines = NoStray-insert nat_cmp nat_cmp_total r.purses r.lines h.lines p l.number (line_row l) x at; loads = h.loads; redemptions = h.redemptions };
     }
 
@@ -112,14 +111,10 @@ add_load r h p ref amount x at =
     let s : Rows = record r { loads = fmap.insert r.loads (p, ref) amount } in
     record {
       world = change_is r s p (λ row. record row { loads = fmap.insert row.loads ref amount }) x x at at
-          (ap (λ i. record (row_of r p x) { loads = i }) (under-insert names_total names_total names_exact p r.loads ref amount))
-          (λ n f. ap (λ i. option_map (λ z. record (row_of r n z) { loads = i }) (fmap.get r.purses n)) (under-insert_other names_total names_total names_exact p n r.loads ref amount f));
+          (simp (under-insert names_total names_total names_exact p r.loads ref amount))
+          (λ n f. grind (arith, under-insert_other names_total names_total names_exact p n r.loads ref amount f));
       proper = record { inbox = h.inbox; lines = h.lines; loads = NoStray-insert name_cmp names_total r.purses r.loads h.loads p ref amount x at; redemptions = h.redemptions };
     }
-
-unpicked_case : (o : Option Redemption) → option_and_then amount_of o ≡ None → option_and_then mark_of o ≡ None
-unpicked_case None h = refl
-unpicked_case (Some x) h = cc
 
 add_redemption : (r : Rows) (h : IsProper r) (p ref : Name) (amount : ℕ) (x : PurseRow) → fmap.get r.purses p ≡ Some x → fmap.get (row_of r p x).holding.redemptions ref ≡ None
     → Spelled (rewritten r (AddRedemption p ref amount)) (edited (world_of r) (AddRedemption p ref amount))
@@ -128,12 +123,11 @@ add_redemption r h p ref amount x at new =
     let m = under name_cmp name_cmp p r.redemptions in
     let s : Rows = record r { redemptions = fmap.insert r.redemptions (p, ref) y } in
     let amounts = pick-insert names_total amount_of names_exact m ref y amount refl in
-    let marks = pick-skip names_total mark_of names_exact m ref y refl (unpicked_case (fmap.get m ref) (sym (get-pick names_total amount_of m ref) ∙ new)) in
+    let marks = pick-skip names_total mark_of names_exact m ref y refl (grind (arith, get-pick names_total amount_of m ref, new)) in
     record {
       world = change_is r s p (λ row. record row { holding = record row.holding { redemptions = fmap.insert row.holding.redemptions ref amount } }) x x at at
-          (ap (λ i. record (row_of r p x) { holding = record (row_of r p x).holding { redemptions = pick amount_of i }; collected = pick mark_of i }) (under-insert names_total names_total names_exact p r.redemptions ref y)
-          ∙ (λ i. record (row_of r p x) { holding = record (row_of r p x).holding { redemptions = amounts i }; collected = marks i }))
-          (λ n f. ap (λ i. option_map (λ z. record (row_of r n z) { holding = record (row_of r n z).holding { redemptions = pick amount_of i }; collected = pick mark_of i }) (fmap.get r.purses n)) (under-insert_other names_total names_total names_exact p n r.redemptions ref y f));
+          (simp (under-insert names_total names_total names_exact p r.redemptions ref y, amounts, marks))
+          (λ n f. grind (arith, under-insert_other names_total names_total names_exact p n r.redemptions ref y f));
       proper = record { inbox = h.inbox; lines = h.lines; loads = h.loads; redemptions = NoStray-insert name_cmp names_total r.purses r.redemptions h.redemptions p ref y x at };
     }
 
@@ -152,11 +146,6 @@ each_mark amount = Some tt
 marks_are : (c : Bool) (m : fmap.FinMap name_cmp Redemption) → pick mark_of (remake (collected_by c) m) ≡ cond c (pick each_mark (pick amount_of m)) (pick mark_of m)
 marks_are c m = fmap.same_map names_total names_exact _ _ (λ q. grind (arith, get-pick names_total amount_of m q, get-pick names_total mark_of m q, get-pick names_total mark_of (remake (collected_by c) m) q, get-pick names_total each_mark (pick amount_of m) q, get-remake name_cmp (collected_by c) names_exact m q))
 
--- a row's set of collected redemptions, by a test
-row_case : (c : Bool) (row : Row) → record row { collected = cond c (pick each_mark row.holding.redemptions) row.collected } ≡ cond c (with_collected row) row
-row_case true row = refl
-row_case false row = refl
-
 module _ (r : Rows) (m : Name) where
   abbrev collect_one : Name → Row → Row
   collect_one p row = cond (is_of_member (world_of r) m row) (with_collected row) row
@@ -167,15 +156,8 @@ module _ (r : Rows) (m : Name) where
       let u = under name_cmp name_cmp q r.redemptions in
       let amounts = amounts_stay c u in
       let marks = marks_are c u in
-      ap (λ i. record (row_of r q x) { holding = record (row_of r q x).holding { redemptions = pick amount_of i }; collected = pick mark_of i })
-      (under-remake names_total names_total names_exact names_exact (marked r.purses r.holders m) q r.redemptions)
-      ∙ (λ i. record (row_of r q x) { holding = record (row_of r q x).holding { redemptions = amounts i }; collected = marks i })
-      ∙ ap (λ b. record (row_of r q x) { collected = cond b (pick each_mark (pick amount_of u)) (pick mark_of u) }) (ap (λ o. is_of m (member_at r.holders o)) at)
-      ∙ row_case (is_of_member (world_of r) m (row_of r q x)) (row_of r q x)
-
-  collected_case : (q : Name) (o : Option PurseRow) → fmap.get r.purses q ≡ o → option_map (collect_one q) (option_map (row_of r q) o) ≡ option_map (row_of (rewritten r (Collect m)) q) o
-  collected_case q None at = refl
-  collected_case q (Some x) at = ap Some (sym (collected_at q x at))
+      let remade = under-remake names_total names_total names_exact names_exact (marked r.purses r.holders m) q r.redemptions in
+      grind (arith, at)
 
   collect : (h : IsProper r) → Spelled (rewritten r (Collect m)) (edited (world_of r) (Collect m))
   collect h =
@@ -183,7 +165,7 @@ module _ (r : Rows) (m : Name) where
       record {
         world = ap (λ rows. record (world_of r) { rows = rows }) (fmap.same_map names_total names_exact _ _ (λ q.
             get-remake name_cmp collect_one names_exact (world_of r).rows q
-            ∙ ap (option_map (collect_one q)) (get_rows r q) ∙ collected_case q (fmap.get r.purses q) refl ∙ sym (get_rows s q)));
+            ∙ grind (arith, get_rows r q, get_rows s q, collected_at q)));
         proper = record {
           inbox = h.inbox;
           lines = h.lines;
