@@ -1,7 +1,7 @@
 -- The laws of code texts, of all entries.
 use Rattle.std.proofs.Common.{◌≡◌, ◌≢◌, ℕ, ◌+◌, ◌-◌, ◌^◌, ◌<◌, ◌≤◌, suc, zero, Bool, true, false, cond, ◌||◌, ◌==◌, List, [], ◌∷◌, ◌++◌, refl, sym, ◌∙◌, ap, subst, Option, Some, None, T, map, length, arith, append_assoc, length-append}
 use Rattle.std.proofs.lemmas.Bool.{not_from_false, lt-leb, or_from, and_from}
-use Rattle.mx_pay.proofs.PutLemmas.{first_true, second_true}
+use Rattle.mx_pay.proofs.TestLemmas.{first_true, second_true}
 use Rattle.std.proofs.lemmas.List.{append-nil}
 use Rattle.std.specs.Prelude.{nat_le, decimal, not, slice_get, drop}
 use Rattle.std.proofs.lemmas.Bool.Decides.{nat_tests}
@@ -19,7 +19,7 @@ use Rattle.mx_pay.specs.Orders.{logged-log_of}
 use Rattle.std.specs.Int.{IsInRange}
 use Rattle.mx_pay.specs.Codes.{entry_text, entry_texts, code}
 use Rattle.mx_pay.specs.Reading.{lead, cut, entry_of, put_last, with_text, after_cut, entries_of}
-use Rattle.mx_pay.proofs.Texts.{left_true, right_true}
+use Rattle.std.specs.Cmp.{first_so, second_so}
 use Rattle.mx_pay.proofs.LogLemmas.{details_total, log_of_none}
 use Rattle.mx_pay.proofs.SameLemmas.{each_logged, logged_each}
 use Rattle.mx_pay.proofs.EntryLemmas.{NoByte, bind_some, cut_parts, cut_none, cut_at, entry_takes, entry_again, name_lacks, number_lacks_at}
@@ -40,9 +40,9 @@ keys_put : (d : Details) (es : List (Details × Unit {0})) → list_all (λ e. i
     → map (λ (e : Details × Unit {0}). e.0) (put details_cmp d tt es) ≡ map (λ (e : Details × Unit {0}). e.0) es ++ d ∷ []
 keys_put d [] h = refl
 keys_put d (e ∷ es) h =
-    let greater : details_cmp d e.0 ≡ o.Greater = behind (details_cmp e.0 d) (details_cmp d e.0) (left_true _ _ h) (details_total.antisymm e.0 d) in
+    let greater : details_cmp d e.0 ≡ o.Greater = behind (details_cmp e.0 d) (details_cmp d e.0) (first_so _ _ h) (details_total.antisymm e.0 d) in
     ap (λ r. map (λ (e : Details × Unit {0}). e.0) (by_order r ((d, tt) ∷ e ∷ es) ((e.0, tt) ∷ es) (e ∷ put details_cmp d tt es))) greater
-    ∙ ap (λ xs. e.0 ∷ xs) (keys_put d es (right_true (is_lt (details_cmp e.0 d)) _ h))
+    ∙ ap (λ xs. e.0 ∷ xs) (keys_put d es (second_so (is_lt (details_cmp e.0 d)) _ h))
 
 pub logged_last : (log : Entries) (d : Details) → is_below d log ≡ true → logged (with_entry log d) ≡ logged log ++ d ∷ []
 logged_last log d h = ap (map (λ (e : Details × Unit {0}). e.0)) (fmap.entries-insert details_total log d tt) ∙ keys_put d (fmap.entries log) h
@@ -134,8 +134,8 @@ sorted_below (x ∷ xs) d ys h = and_from _ _ (T_true _ (below_at x xs d ys (fir
 none_tied : (d : Details) (xs : List Details) → list_all (λ e. is_lt (details_cmp e d)) xs ≡ true → list_any (eq_by_cmp details_cmp d) xs ≡ false
 none_tied d [] h = refl
 none_tied d (e ∷ es) h =
-    let greater : details_cmp d e ≡ o.Greater = behind (details_cmp e d) (details_cmp d e) (left_true _ _ h) (details_total.antisymm e d) in
-    ap (λ r. is_eq r || list_any (eq_by_cmp details_cmp d) es) greater ∙ none_tied d es (right_true (is_lt (details_cmp e d)) _ h)
+    let greater : details_cmp d e ≡ o.Greater = behind (details_cmp e d) (details_cmp d e) (first_so _ _ h) (details_total.antisymm e d) in
+    ap (λ r. is_eq r || list_any (eq_by_cmp details_cmp d) es) greater ∙ none_tied d es (second_so (is_lt (details_cmp e d)) _ h)
 
 length_keys : (es : List (Details × Unit {0})) → length (map (λ (e : Details × Unit {0}). e.0) es) ≡ length es
 length_keys [] = refl

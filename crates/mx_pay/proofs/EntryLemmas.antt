@@ -20,7 +20,8 @@ use Rattle.std.proofs.lemmas.Str.Parse.{IsNumeralModel, numerals_by_value, tells
 use Rattle.mx_pay.specs.Details.{Details, IsDetails}
 use Rattle.mx_pay.specs.Codes.{entry_text}
 use Rattle.mx_pay.specs.Reading.{cut, onto, same_bytes, number_of, up_to, limited, name_of, apart, made_of, entry_of}
-use Rattle.mx_pay.proofs.Texts.{left_true, right_true, name_bytes}
+use Rattle.std.specs.Cmp.{first_so, second_so}
+use Rattle.mx_pay.proofs.Texts.{name_bytes}
 use Rattle.mx_pay.proofs.SameLemmas.{same_names, name_itself, names_unlike}
 
 some_of : {A : Type 0} (b : Bool) (x y : A) → cond b (Some x) None ≡ Some y → (b ≡ true) × (x ≡ y)
@@ -43,8 +44,8 @@ bytes_same [] [] h = refl
 bytes_same [] (y ∷ ys) h = cc
 bytes_same (x ∷ xs) [] h = cc
 bytes_same (x ∷ xs) (y ∷ ys) h =
-    let one : x ≡ y = same_number x y (left_true _ _ h) in
-    let rest : xs ≡ ys = bytes_same xs ys (right_true (x == y) _ h) in cc
+    let one : x ≡ y = same_number x y (first_so _ _ h) in
+    let rest : xs ≡ ys = bytes_same xs ys (second_so (x == y) _ h) in cc
 
 bytes_itself : (xs : List ℕ) → same_bytes xs xs ≡ true
 bytes_itself [] = refl
@@ -55,8 +56,8 @@ texts_same [] [] h = refl
 texts_same [] (y ∷ ys) h = cc
 texts_same (x ∷ xs) [] h = cc
 texts_same (x ∷ xs) (y ∷ ys) h =
-    let one : x ≡ y = eqb-true x y (left_true _ _ h) in
-    let rest : xs ≡ ys = texts_same xs ys (right_true (eqb x y) _ h) in cc
+    let one : x ≡ y = eqb-true x y (first_so _ _ h) in
+    let rest : xs ≡ ys = texts_same xs ys (second_so (eqb x y) _ h) in cc
 
 pub texts_itself : (xs : List ℕ) → pointwise eqb xs xs ≡ true
 texts_itself [] = refl
@@ -68,8 +69,8 @@ unfolding number_of
 number_takes t n h =
     let s = some_of _ _ _ h in
     let e : digits_value 10 t ≡ n = s.1 in
-    let low : nat_lt (digits_value 10 t) (2 ^ 64) ≡ true = left_true _ _ s.0 in
-    (bytes_same _ _ (right_true (nat_lt (digits_value 10 t) (2 ^ 64)) _ s.0) ∙ ap decimal e, subst (λ (k : ℕ). k < 2 ^ 64) e (ltb-true _ _ low))
+    let low : nat_lt (digits_value 10 t) (2 ^ 64) ≡ true = first_so _ _ s.0 in
+    (bytes_same _ _ (second_so (nat_lt (digits_value 10 t) (2 ^ 64)) _ s.0) ∙ ap decimal e, subst (λ (k : ℕ). k < 2 ^ 64) e (ltb-true _ _ low))
 
 pub number_again : (n : ℕ) → n < 2 ^ 64 → number_of (decimal n) ≡ Some n
 unfolding number_of
@@ -213,10 +214,10 @@ made_again x h =
 names_lack : (c : ℕ) → is_name_byte c ≡ false → (n : List ℕ) → list_all is_name_byte n ≡ true → NoByte c n
 names_lack c other [] h i l e = omega arith
 names_lack c other (b ∷ bs) h zero l e =
-    let yes : is_name_byte b ≡ true = left_true _ _ h in
+    let yes : is_name_byte b ≡ true = first_so _ _ h in
     let same : b ≡ c = e in
     let t : true ≡ false = sym yes ∙ ap is_name_byte same ∙ other in cc
-names_lack c other (b ∷ bs) h (suc i) l e = names_lack c other bs (right_true (is_name_byte b) _ h) i (omega arith) e
+names_lack c other (b ∷ bs) h (suc i) l e = names_lack c other bs (second_so (is_name_byte b) _ h) i (omega arith) e
 
 pub name_lacks : (c : ℕ) → is_name_byte c ≡ false → (n : List ℕ) → is_name_text n ≡ true → NoByte c n
 name_lacks c other n h = names_lack c other n (name_bytes n h)
