@@ -1,5 +1,5 @@
 -- An edit of the rows is the edit of the World.
-use Rattle.std.proofs.Common.{◌≡◌, ℕ, ◌+◌, ◌<◌, Bool, true, false, cond, List, [], ◌∷◌, ◌++◌, map, refl, sym, ◌∙◌, ap, subst, Option, Some, None, IsSome, option_and_then}
+use Rattle.std.proofs.Common.{◌≡◌, ℕ, ◌+◌, ◌<◌, Bool, true, false, cond, List, [], ◌∷◌, ◌++◌, map, refl, sym, ◌∙◌, ap, subst, Option, Some, None, IsSome, option_and_then, arith}
 use Rattle.mx_book.proofs.FoundLemmas.{none_is, inside}
 use Rattle.std.specs.Prelude.{◌||◌, option_map, IsNone}
 use Rattle.std.specs.Ordering.{nat_cmp}
@@ -20,6 +20,7 @@ use Rattle.mx_book.proofs.NameLemmas.{names_total, names_exact}
 use Rattle.mx_book.proofs.NameLemmas.{get-inserted}
 use Rattle.mx_book.specs.declared.values.PurseRow.{PurseRow}
 use Rattle.mx_book.specs.declared.values.Redemption.{Redemption}
+use Rattle.mx_book.specs.declared.values.LineRow.{LineRow}
 use Rattle.mx_book.specs.declared.edits.Edit.{Edit}
 use Rattle.mx_book.specs.declared.edits.Edit.TheVariants.{NewMember, SetMember, NewHolder, NewPurse, SetPurse, AddMessage, DropMessage, AddLine, AddLoad, AddRedemption, Collect}
 use Rattle.mx_book.specs.Under.{pair_cmp, under, remake}
@@ -28,14 +29,14 @@ use Rattle.mx_book.specs.Edits.{edited, all_edited, AllSuit, Suits}
 use Rattle.mx_book.specs.RowEdits.{rewritten, all_rewritten, Able, AllAble, on_purse, member_at, marked}
 use Rattle.mx_book.proofs.UnderLemmas.{under-insert, under-insert_other, under-remove, under-remove_other, under-none, under-remake, get-remake, pair_exact, entries_empty}
 use Rattle.mx_book.proofs.LineLemmas.{lines-insert}
-use Rattle.mx_book.proofs.RowLemmas.{rows_put, get_rows, row_is, found, found_row, not_there, change_is, NoStray-insert, NoStray-remove, proper_purse}
+use Rattle.mx_book.proofs.RowLemmas.{rows_put, get_rows, found, found_row, not_there, change_is, NoStray-insert, NoStray-remove, proper_purse}
 
 -- another key after a write
 get-other : {X : Type 0} (m : fmap.FinMap name_cmp X) (p q : Name) (x : X) → is_name q p ≡ false → fmap.get (fmap.insert m p x) q ≡ fmap.get m q
-get-other m p q x f = fmap.get-insert names_total m p x q ∙ ap (λ b. cond b (Some x) (fmap.get m q)) f
+get-other m p q x f = grind (arith, fmap.gets, names_total)
 
 pick-empty : {X Y : Type 0} (f : X → Option Y) → pick f (fmap.empty {X = X} {R = name_cmp}) ≡ fmap.empty
-pick-empty f = fmap.same_map names_total names_exact _ _ (λ q. get-pick names_total f fmap.empty q ∙ ap (option_and_then f) (fmap.get-empty name_cmp q) ∙ sym (fmap.get-empty name_cmp q))
+pick-empty f = fmap.same_map names_total names_exact _ _ (λ q. grind (arith, fmap.gets, get-pick names_total f fmap.empty q))
 
 -- ---- a purse more
 
@@ -43,15 +44,17 @@ new_purse_row : (r : Rows) (h : IsProper r) (p g : Name) → fmap.get r.purses p
 new_purse_row r h p g gone =
     let y : PurseRow = record { holder = g; purse = new_purse p; next_message = 0 } in
     let s : Rows = record r { purses = fmap.insert r.purses p y } in
-    let fresh : row_of s p y ≡ new_row g p =
-    ap (λ i. row_from y i (under name_cmp nat_cmp p r.lines) (under name_cmp name_cmp p r.loads) (under name_cmp name_cmp p r.redemptions)) (under-none names_total nat_cmp_total nat_cmp-IsAntisymmetric p r.inbox (λ k. h.inbox p k gone))
-    ∙ ap (λ i. row_from y fmap.empty i (under name_cmp name_cmp p r.loads) (under name_cmp name_cmp p r.redemptions)) (under-none names_total nat_cmp_total nat_cmp-IsAntisymmetric p r.lines (λ k. h.lines p k gone))
-    ∙ ap (λ i. row_from y fmap.empty fmap.empty i (under name_cmp name_cmp p r.redemptions)) (under-none names_total names_total names_exact p r.loads (λ k. h.loads p k gone))
-    ∙ ap (λ i. row_from y fmap.empty fmap.empty fmap.empty i) (under-none names_total names_total names_exact p r.redemptions (λ k. h.redemptions p k gone))
-    ∙ ap (λ es. record (new_row g p) { holding = record (new_row g p).holding { lines = map line_at es; redemptions = pick amount_of fmap.empty }; collected = pick mark_of fmap.empty }) (entries_empty nat_cmp)
-    ∙ (λ i. record (new_row g p) { holding = record (new_row g p).holding { redemptions = pick-empty amount_of i }; collected = pick-empty mark_of i }) in
+    let fresh : row_of s p y ≡ new_row g p = simp (
+      under-none names_total nat_cmp_total nat_cmp-IsAntisymmetric p r.inbox (λ k. h.inbox p k gone),
+      under-none names_total nat_cmp_total nat_cmp-IsAntisymmetric p r.lines (λ k. h.lines p k gone),
+      under-none names_total names_total names_exact p r.loads (λ k. h.loads p k gone),
+      under-none names_total names_total names_exact p r.redemptions (λ k. h.redemptions p k gone),
+      entries_empty {V = LineRow} nat_cmp,
+      pick-empty amount_of,
+      pick-empty mark_of,
+    ) in
     record {
-      world = ap (λ rows. record (world_of r) { rows = rows }) (sym (rows_put r s p (new_row g p) (row_is s p y (get-inserted r.purses p y) ∙ ap Some fresh) (λ n f. ap (option_map (row_of r n)) (get-other r.purses p n y f))));
+      world = ap (λ rows. record (world_of r) { rows = rows }) (sym (rows_put r s p (new_row g p) (grind (arith, get-inserted r.purses p y, fresh)) (λ n f. grind (arith, get-other r.purses p n y f))));
       proper = proper_purse r p y h;
     }
 
@@ -61,8 +64,8 @@ set_purse : (r : Rows) (h : IsProper r) (q : State) (x : PurseRow) → fmap.get 
 set_purse r h q x at =
     let y : PurseRow = record x { purse = q } in
     let s : Rows = record r { purses = fmap.insert r.purses q.name y } in
-    subst (λ (z : Rows). Spelled z (edited (world_of r) (SetPurse q))) (ap (λ o. on_purse o r (λ x. record r { purses = fmap.insert r.purses q.name (record x { purse = q }) })) (sym at)) (record {
-      world = change_is r s q.name (λ row. record row { holding = record row.holding { purse = q } }) x y at (get-inserted r.purses q.name y) refl (λ n f. ap (option_map (row_of r n)) (get-other r.purses q.name n y f));
+    rw at (record {
+      world = change_is r s q.name (λ row. record row { holding = record row.holding { purse = q } }) x y at (get-inserted r.purses q.name y) refl (λ n f. grind (arith, get-other r.purses q.name n y f));
       proper = proper_purse r q.name y h;
     })
 
@@ -72,11 +75,10 @@ add_message r h p m x at =
     let t : Rows = record r { inbox = fmap.insert r.inbox (p, x.next_message) m } in
     let s : Rows = record t { purses = fmap.insert r.purses p y } in
     let proper : IsProper t = record { inbox = NoStray-insert nat_cmp nat_cmp_total r.purses r.inbox h.inbox p x.next_message m x at; lines = h.lines; loads = h.loads; redemptions = h.redemptions } in
-    subst (λ (z : Rows). Spelled z (edited (world_of r) (AddMessage p m))) (ap (λ o. on_purse o r (λ x. record r { purses = fmap.insert r.purses p (record x { next_message = x.next_message + 1 }); inbox = fmap.insert r.inbox (p, x.next_message) m })) (sym at)) (record {
+    rw at (record {
       world = change_is r s p (λ row. record row { holding = delivered row.holding m }) x y at (get-inserted r.purses p y)
-          (ap (λ i. record (row_of r p y) { holding = record (row_of r p y).holding { inbox = i } }) (under-insert names_total nat_cmp_total nat_cmp-IsAntisymmetric p r.inbox x.next_message m))
-          (λ n f. ap (option_map (row_of s n)) (get-other r.purses p n y f)
-          ∙ ap (λ i. option_map (λ z. record (row_of r n z) { holding = record (row_of r n z).holding { inbox = i } }) (fmap.get r.purses n)) (under-insert_other names_total nat_cmp_total nat_cmp-IsAntisymmetric p n r.inbox x.next_message m f));
+          (simp (under-insert names_total nat_cmp_total nat_cmp-IsAntisymmetric p r.inbox x.next_message m))
+          (λ n f. grind (arith, get-other r.purses p n y f, under-insert_other names_total nat_cmp_total nat_cmp-IsAntisymmetric p n r.inbox x.next_message m f));
       proper = proper_purse t p y proper;
     })
 
@@ -87,8 +89,8 @@ drop_message r h p k x at =
     let s : Rows = record r { inbox = fmap.remove r.inbox (p, k) } in
     record {
       world = change_is r s p (λ row. record row { holding = record row.holding { inbox = fmap.remove row.holding.inbox k } }) x x at at
-          (ap (λ i. record (row_of r p x) { holding = record (row_of r p x).holding { inbox = i } }) (under-remove names_total nat_cmp_total nat_cmp-IsAntisymmetric p r.inbox k))
-          (λ n f. ap (λ i. option_map (λ z. record (row_of r n z) { holding = record (row_of r n z).holding { inbox = i } }) (fmap.get r.purses n)) (under-remove_other names_total nat_cmp_total nat_cmp-IsAntisymmetric p n r.inbox k f));
+          (simp (under-remove names_total nat_cmp_total nat_cmp-IsAntisymmetric p r.inbox k))
+          (λ n f. grind (arith, under-remove_other names_total nat_cmp_total nat_cmp-IsAntisymmetric p n r.inbox k f));
       proper = record { inbox = NoStray-remove nat_cmp nat_cmp_total r.purses r.inbox h.inbox p k; lines = h.lines; loads = h.loads; redemptions = h.redemptions };
     }
 
@@ -97,8 +99,8 @@ add_line r h p l x at next =
     let s : Rows = record r { lines = fmap.insert r.lines (p, l.number) (line_row l) } in
     record {
       world = change_is r s p (λ row. record row { holding = record row.holding { lines = row.holding.lines ++ l ∷ [] } }) x x at at
-          (ap (λ i. record (row_of r p x) { holding = record (row_of r p x).holding { lines = i } }) (ap lines_from (under-insert names_total nat_cmp_total nat_cmp-IsAntisymmetric p r.lines l.number (line_row l)) ∙ lines-insert (under name_cmp nat_cmp p r.lines) l next))
-          (λ n f. ap (λ i. option_map (λ z. record (row_of r n z) { holding = record (row_of r n z).holding { lines = lines_from i } }) (fmap.get r.purses n)) (under-insert_other names_total nat_cmp_total nat_cmp-IsAntisymmetric p n r.lines l.number (line_row l) f));
+          (simp (under-insert names_total nat_cmp_total nat_cmp-IsAntisymmetric p r.lines l.number (line_row l), lines-insert (under name_cmp nat_cmp p r.lines) l next))
+          (λ n f. grind (arith, under-insert_other names_total nat_cmp_total nat_cmp-IsAntisymmetric p n r.lines l.number (line_row l) f));
       proper = record { inbox = h.inbox; lines = NoStray-insert nat_cmp nat_cmp_total r.purses r.lines h.lines p l.number (line_row l) x at; loads = h.loads; redemptions = h.redemptions };
     }
 
@@ -109,14 +111,10 @@ add_load r h p ref amount x at =
     let s : Rows = record r { loads = fmap.insert r.loads (p, ref) amount } in
     record {
       world = change_is r s p (λ row. record row { loads = fmap.insert row.loads ref amount }) x x at at
-          (ap (λ i. record (row_of r p x) { loads = i }) (under-insert names_total names_total names_exact p r.loads ref amount))
-          (λ n f. ap (λ i. option_map (λ z. record (row_of r n z) { loads = i }) (fmap.get r.purses n)) (under-insert_other names_total names_total names_exact p n r.loads ref amount f));
+          (simp (under-insert names_total names_total names_exact p r.loads ref amount))
+          (λ n f. grind (arith, under-insert_other names_total names_total names_exact p n r.loads ref amount f));
       proper = record { inbox = h.inbox; lines = h.lines; loads = NoStray-insert name_cmp names_total r.purses r.loads h.loads p ref amount x at; redemptions = h.redemptions };
     }
-
-unpicked_case : (o : Option Redemption) → option_and_then amount_of o ≡ None → option_and_then mark_of o ≡ None
-unpicked_case None h = refl
-unpicked_case (Some x) h = cc
 
 add_redemption : (r : Rows) (h : IsProper r) (p ref : Name) (amount : ℕ) (x : PurseRow) → fmap.get r.purses p ≡ Some x → fmap.get (row_of r p x).holding.redemptions ref ≡ None
     → Spelled (rewritten r (AddRedemption p ref amount)) (edited (world_of r) (AddRedemption p ref amount))
@@ -125,12 +123,11 @@ add_redemption r h p ref amount x at new =
     let m = under name_cmp name_cmp p r.redemptions in
     let s : Rows = record r { redemptions = fmap.insert r.redemptions (p, ref) y } in
     let amounts = pick-insert names_total amount_of names_exact m ref y amount refl in
-    let marks = pick-skip names_total mark_of names_exact m ref y refl (unpicked_case (fmap.get m ref) (sym (get-pick names_total amount_of m ref) ∙ new)) in
+    let marks = pick-skip names_total mark_of names_exact m ref y refl (grind (arith, get-pick names_total amount_of m ref, new)) in
     record {
       world = change_is r s p (λ row. record row { holding = record row.holding { redemptions = fmap.insert row.holding.redemptions ref amount } }) x x at at
-          (ap (λ i. record (row_of r p x) { holding = record (row_of r p x).holding { redemptions = pick amount_of i }; collected = pick mark_of i }) (under-insert names_total names_total names_exact p r.redemptions ref y)
-          ∙ (λ i. record (row_of r p x) { holding = record (row_of r p x).holding { redemptions = amounts i }; collected = marks i }))
-          (λ n f. ap (λ i. option_map (λ z. record (row_of r n z) { holding = record (row_of r n z).holding { redemptions = pick amount_of i }; collected = pick mark_of i }) (fmap.get r.purses n)) (under-insert_other names_total names_total names_exact p n r.redemptions ref y f));
+          (simp (under-insert names_total names_total names_exact p r.redemptions ref y, amounts, marks))
+          (λ n f. grind (arith, under-insert_other names_total names_total names_exact p n r.redemptions ref y f));
       proper = record { inbox = h.inbox; lines = h.lines; loads = h.loads; redemptions = NoStray-insert name_cmp names_total r.purses r.redemptions h.redemptions p ref y x at };
     }
 
@@ -140,46 +137,14 @@ add_redemption r h p ref amount x at new =
 abbrev collected_by : Bool → Name → Redemption → Redemption
 collected_by c ref y = record y { collected = y.collected || c }
 
-or_true : (b : Bool) → (b || true) ≡ true
-or_true true = refl
-or_true false = refl
-
-or_false : (b : Bool) → (b || false) ≡ b
-or_false true = refl
-or_false false = refl
-
-amount_case : (c : Bool) (ref : Name) (o : Option Redemption) → option_and_then amount_of (option_map (collected_by c ref) o) ≡ option_and_then amount_of o
-amount_case c ref None = refl
-amount_case c ref (Some y) = refl
-
 amounts_stay : (c : Bool) (m : fmap.FinMap name_cmp Redemption) → pick amount_of (remake (collected_by c) m) ≡ pick amount_of m
-amounts_stay c m = fmap.same_map names_total names_exact _ _ (λ q.
-    get-pick names_total amount_of (remake (collected_by c) m) q ∙ ap (option_and_then amount_of) (get-remake name_cmp (collected_by c) names_exact m q)
-    ∙ amount_case c q (fmap.get m q) ∙ sym (get-pick names_total amount_of m q))
+amounts_stay c m = fmap.same_map names_total names_exact _ _ (λ q. grind (arith, get-pick names_total amount_of, get-remake name_cmp (collected_by c) names_exact m q))
 
 abbrev each_mark : ℕ → Option (Unit {0})
 each_mark amount = Some tt
 
-all_case : (ref : Name) (o : Option Redemption) → option_and_then mark_of (option_map (collected_by true ref) o) ≡ option_and_then each_mark (option_and_then amount_of o)
-all_case ref None = refl
-all_case ref (Some y) = ap (λ b. cond b (Some tt) None) (or_true y.collected)
-
-same_case : (ref : Name) (o : Option Redemption) → option_and_then mark_of (option_map (collected_by false ref) o) ≡ option_and_then mark_of o
-same_case ref None = refl
-same_case ref (Some y) = ap (λ b. cond b (Some tt) None) (or_false y.collected)
-
 marks_are : (c : Bool) (m : fmap.FinMap name_cmp Redemption) → pick mark_of (remake (collected_by c) m) ≡ cond c (pick each_mark (pick amount_of m)) (pick mark_of m)
-marks_are true m = fmap.same_map names_total names_exact _ _ (λ q.
-    get-pick names_total mark_of (remake (collected_by true) m) q ∙ ap (option_and_then mark_of) (get-remake name_cmp (collected_by true) names_exact m q)
-    ∙ all_case q (fmap.get m q) ∙ ap (option_and_then each_mark) (sym (get-pick names_total amount_of m q)) ∙ sym (get-pick names_total each_mark (pick amount_of m) q))
-marks_are false m = fmap.same_map names_total names_exact _ _ (λ q.
-    get-pick names_total mark_of (remake (collected_by false) m) q ∙ ap (option_and_then mark_of) (get-remake name_cmp (collected_by false) names_exact m q)
-    ∙ same_case q (fmap.get m q) ∙ sym (get-pick names_total mark_of m q))
-
--- a row's set of collected redemptions, by a test
-row_case : (c : Bool) (row : Row) → record row { collected = cond c (pick each_mark row.holding.redemptions) row.collected } ≡ cond c (with_collected row) row
-row_case true row = refl
-row_case false row = refl
+marks_are c m = fmap.same_map names_total names_exact _ _ (λ q. grind (arith, get-pick names_total amount_of m q, get-pick names_total mark_of m q, get-pick names_total mark_of (remake (collected_by c) m) q, get-pick names_total each_mark (pick amount_of m) q, get-remake name_cmp (collected_by c) names_exact m q))
 
 module _ (r : Rows) (m : Name) where
   abbrev collect_one : Name → Row → Row
@@ -191,18 +156,8 @@ module _ (r : Rows) (m : Name) where
       let u = under name_cmp name_cmp q r.redemptions in
       let amounts = amounts_stay c u in
       let marks = marks_are c u in
-      ap (λ i. record (row_of r q x) { holding = record (row_of r q x).holding { redemptions = pick amount_of i }; collected = pick mark_of i })
-      (under-remake names_total names_total names_exact names_exact (marked r.purses r.holders m) q r.redemptions)
-      ∙ (λ i. record (row_of r q x) { holding = record (row_of r q x).holding { redemptions = amounts i }; collected = marks i })
-      ∙ ap (λ b. record (row_of r q x) { collected = cond b (pick each_mark (pick amount_of u)) (pick mark_of u) }) (ap (λ o. is_of m (member_at r.holders o)) at)
-      ∙ row_case (is_of_member (world_of r) m (row_of r q x)) (row_of r q x)
-
-  collected_case : (q : Name) (o : Option PurseRow) → fmap.get r.purses q ≡ o → option_map (collect_one q) (option_map (row_of r q) o) ≡ option_map (row_of (rewritten r (Collect m)) q) o
-  collected_case q None at = refl
-  collected_case q (Some x) at = ap Some (sym (collected_at q x at))
-
-  gone_still : (f : Name × Name → Redemption → Redemption) (k : Name × Name) (o : Option Redemption) → o ≡ None → option_map (f k) o ≡ None
-  gone_still f k o e = ap (option_map (f k)) e
+      let remade = under-remake names_total names_total names_exact names_exact (marked r.purses r.holders m) q r.redemptions in
+      grind (arith, at)
 
   collect : (h : IsProper r) → Spelled (rewritten r (Collect m)) (edited (world_of r) (Collect m))
   collect h =
@@ -210,13 +165,12 @@ module _ (r : Rows) (m : Name) where
       record {
         world = ap (λ rows. record (world_of r) { rows = rows }) (fmap.same_map names_total names_exact _ _ (λ q.
             get-remake name_cmp collect_one names_exact (world_of r).rows q
-            ∙ ap (option_map (collect_one q)) (get_rows r q) ∙ collected_case q (fmap.get r.purses q) refl ∙ sym (get_rows s q)));
+            ∙ grind (arith, get_rows r q, get_rows s q, collected_at q)));
         proper = record {
           inbox = h.inbox;
           lines = h.lines;
           loads = h.loads;
-          redemptions = λ p k gone. get-remake (pair_cmp name_cmp name_cmp) (marked r.purses r.holders m) (pair_exact names_exact names_exact) r.redemptions (p, k)
-              ∙ gone_still (marked r.purses r.holders m) (p, k) _ (h.redemptions p k gone);
+          redemptions = λ p k gone. get-remake (pair_cmp name_cmp name_cmp) (marked r.purses r.holders m) (pair_exact names_exact names_exact) r.redemptions (p, k) ∙ ap (option_map (marked r.purses r.holders m (p, k))) (h.redemptions p k gone);
         };
       }
 
@@ -246,19 +200,10 @@ edits_spelled r w (e ∷ es) h fits = edits_spelled (rewritten r e) (edited w e)
 -- ---- what a write needs
 
 able : (r : Rows) (e : Edit) → Suits (world_of r) e → Able r e
-able r (NewMember m t) fits = tt
-able r (SetMember m granted float) fits = tt
-able r (NewHolder g m t) fits = tt
-able r (NewPurse p g) fits = tt
-able r (SetPurse q) fits = tt
 able r (AddMessage p m) fits = λ x is.
     let z = found r p (λ row. (fmap.len row.holding.inbox < most_messages) × (row.holding.next_message < most_number)) fits in
     subst (λ (y : PurseRow). y.next_message < most_number) (inside z.0 x (sym z.1 ∙ is)) z.2.1
-able r (DropMessage p k) fits = tt
-able r (AddLine p l) fits = tt
-able r (AddLoad p ref amount) fits = tt
-able r (AddRedemption p ref amount) fits = tt
-able r (Collect m) fits = tt
+able r e fits = tt
 
 pub all_able : (r : Rows) (w : World) (es : List Edit) → Spelled r w → AllSuit w es → AllAble r es
 all_able r w [] h fits = tt

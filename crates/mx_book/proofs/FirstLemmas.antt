@@ -20,37 +20,27 @@ use Rattle.mx_book.specs.Spells.{Spells, one_world}
 use Rattle.mx_book.specs.declared.edits.Edit.{Edit}
 use Rattle.mx_book.specs.declared.edits.Edit.TheVariants.{NewMember, NewHolder, NewPurse, SetPurse, AddMessage}
 use Rattle.mx_book.specs.Edits.{edited, Suits, Fits}
-use Rattle.mx_book.proofs.NameLemmas.{names_total, get-inserted}
-use Rattle.mx_book.proofs.FoundLemmas.{some_of}
-use Rattle.mx_book.proofs.Opening.{opening_is, none_held, not_some}
-use Rattle.mx_book.proofs.KeepLemmas.{member_world, holder_world, purse_world, message_world}
+use Rattle.mx_book.proofs.NameLemmas.{names_total, get-inserted, name_itself}
+use Rattle.mx_book.proofs.FoundLemmas.{some_of, none_some}
+use Rattle.mx_book.proofs.Opening.{opening_is, none_held}
+use Rattle.mx_book.proofs.KeepLemmas.{member_stays, holder_stays, new_purse_stays, message_stays}
 use Rattle.mx_book.proofs.PurseLemmas.{purse_leads, purse_suits, purse_stays}
-
-no_one : (b : Bool) (o : Option Caller) → b ≡ false → o ≡ None → IsNone (cond b (Some Operator) o)
-no_one b o f none = subst (λ x. IsNone (cond x (Some Operator) o)) (sym f) (subst IsNone (sym none) refl)
-
-is_none_of : {X : Type 0} (o : Option X) → o ≡ None → IsNone o
-is_none_of o e = subst IsNone (sym e) refl
 
 module _ (op s t : Token) (m h : Name) (clerk : is_token s op ≡ false) (holder : is_token t op ≡ false) (apart : is_token t s ≡ false) (member_text : IsTrue (is_name_text m)) (holder_text : IsTrue (is_name_text h)) (op_whole : IsToken op) (clerk_whole : IsToken s) (holder_whole : IsToken t) where
   member_suits : Suits (opening op) (NewMember m s)
-  member_suits = (is_none_of _ (fmap.get-empty name_cmp m), no_one (is_token s op) _ clerk (fmap.get-empty token_cmp s))
+  member_suits = grind (arith, clerk, fmap.gets)
 
   abbrev with_member : World
   with_member = edited (opening op) (NewMember m s)
 
   holder_suits : Suits with_member (NewHolder h m t)
-  holder_suits = (
-    is_none_of _ (fmap.get-empty name_cmp h),
-    some_of _ _ (get-inserted fmap.empty m (record { granted = 0; float = 0 })),
-    no_one (is_token t op) _ holder (fmap.get-insert names_total fmap.empty s (Clerk m) t ∙ ap (λ b. cond b (Some (Clerk m)) (fmap.get {R = token_cmp} fmap.empty t)) apart ∙ fmap.get-empty token_cmp t),
-  )
+  holder_suits = grind (arith, holder, apart, fmap.gets, names_total, name_itself m)
 
   abbrev with_both : World
   with_both = edited with_member (NewHolder h m t)
 
   with_both_is : IsWorld with_both
-  with_both_is = holder_world with_member h m t holder_suits holder_text holder_whole (member_world (opening op) m s member_suits member_text clerk_whole (opening_is op op_whole))
+  with_both_is = holder_stays with_member h m t holder_suits holder_text holder_whole (member_stays (opening op) m s member_suits member_text clerk_whole (opening_is op op_whole))
 
   -- a member and a holder
   pub both_fit : Fits (opening op) (NewMember m s ∷ NewHolder h m t ∷ [])
@@ -64,29 +54,23 @@ module _ (op s t : Token) (m h : Name) (clerk : is_token s op ≡ false) (holder
     with_purse = edited with_both (NewPurse p h)
 
     with_purse_is : IsWorld with_purse
-    with_purse_is = let none = none_held op h in purse_world with_both p h new_suits purse_text (omega (arith, none)) with_both_is
+    with_purse_is = let none = none_held op h in new_purse_stays with_both p h new_suits purse_text (omega (arith, none)) with_both_is
 
     here : fmap.get with_purse.rows p ≡ Some (new_row h p)
     here = get-inserted fmap.empty p (new_row h p)
 
-    room : fmap.len (fmap.empty {X = Message} {R = nat_cmp}) < most_messages
-    room = let none = fmap.len-empty nat_cmp Message in omega (arith, none)
-
-    next : 0 < most_number
-    next = omega arith
-
     message_suits : (x : Message) → Suits with_purse (AddMessage p x)
-    message_suits x = subst (λ (o : Option Row). IsSomeAnd o (λ r. (fmap.len r.holding.inbox < most_messages) × (r.holding.next_message < most_number))) (sym here) (room, next)
+    message_suits x = grind (arith, here, fmap.len-empty nat_cmp Message)
 
     -- and a purse with a message
     pub four_fit : (x : Message) → IsMessage x → Fits (opening op) (NewMember m s ∷ NewHolder h m t ∷ NewPurse p h ∷ AddMessage p x ∷ [])
-    four_fit x valid = record { each = (member_suits, (holder_suits, (new_suits, (message_suits x, tt)))); end = message_world with_purse p x (new_row h p) valid here room next with_purse_is }
+    four_fit x valid = record { each = (member_suits, (holder_suits, (new_suits, (message_suits x, tt)))); end = message_stays with_purse p x (new_row h p) valid here (grind (arith, fmap.len-empty nat_cmp Message)) (omega arith) with_purse_is }
 
     -- and a purse that becomes another one, which has no lines either
     pub set_fit : (q : State) → q.name ≡ p → IsPurse q → q.lines ≡ 0 → Fits (opening op) (NewMember m s ∷ NewHolder h m t ∷ NewPurse p h ∷ SetPurse q ∷ [])
     set_fit q named purse none = record {
       each = (member_suits, (holder_suits, (new_suits, purse_suits with_purse p (new_row h p) q [] here named tt)));
-      end = subst IsWorld (sym (purse_leads with_purse p (new_row h p) q [] here named)) (purse_stays with_purse p (new_row h p) q [] here named purse tt (sym none) tt (λ d. not_some _ (fmap.get-empty details_cmp d)) with_purse_is);
+      end = subst IsWorld (sym (purse_leads with_purse p (new_row h p) q [] here named)) (purse_stays with_purse p (new_row h p) q [] here named purse tt (sym none) tt (λ d. none_some _ (fmap.get-empty details_cmp d)) with_purse_is);
     }
 
 -- at rows that spell the opening World

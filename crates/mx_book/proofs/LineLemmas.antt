@@ -5,6 +5,7 @@ use Rattle.std.specs.declared.cmp.Ordering.TheVariants.{Less, Equal, Greater}
 use Rattle.std.specs.Ordering.{nat_cmp, MatchOrdering}
 use Rattle.std.specs.Cmp.{ranks, nat_cmp_total}
 use Rattle.std.specs.List.{AllByRecursion}
+use Rattle.std.proofs.lemmas.Bool.Decides.{nat_tests}
 use Rattle.std.specs.FinMap.{FinMap, insert, entries, entries-insert}
 use Rattle.std.specs.FinMap.Entries.{put, by_order}
 use Rattle.mx_book.specs.declared.values.Line.{Line}
@@ -12,22 +13,13 @@ use Rattle.mx_book.specs.Conditions.{AreNumbered}
 use Rattle.mx_book.specs.declared.values.LineRow.{LineRow}
 use Rattle.mx_book.specs.Rows.{line_at, line_row, lines_from}
 
-is_greater : (x y : ℕ) (r : Ordering) → MatchOrdering r (x < y) (x ≡ y) (y < x) → y < x → r ≡ Greater
-is_greater x y Less m h = absurd (omega arith)
-is_greater x y Equal m h = absurd (omega arith)
-is_greater x y Greater m h = refl
-
-pub last_number : (j : ℕ) (ls : List Line) (l : Line) → AreNumbered j (ls ++ l ∷ []) → j ≤ l.number
+last_number : (j : ℕ) (ls : List Line) (l : Line) → AreNumbered j (ls ++ l ∷ []) → j ≤ l.number
 last_number j [] l h = omega (arith, h.0)
 last_number j (x ∷ ls) l h = omega (arith, last_number (j + 1) ls l h.1)
 
 put_last : (j : ℕ) (es : List (ℕ × LineRow)) (l : Line) → AreNumbered j (map line_at es ++ l ∷ []) → put nat_cmp l.number (line_row l) es ≡ es ++ (l.number, line_row l) ∷ []
 put_last j [] l h = refl
-put_last j (e ∷ es) l h =
-    let least : j + 1 ≤ l.number = last_number (j + 1) (map line_at es) l h.1 in
-    let above : e.0 < l.number = omega (arith, h.0) in
-    ap (λ r. by_order r ((l.number, line_row l) ∷ e ∷ es) ((e.0, line_row l) ∷ es) (e ∷ put nat_cmp l.number (line_row l) es)) (is_greater l.number e.0 (nat_cmp l.number e.0) (ranks l.number e.0) above)
-    ∙ ap (λ xs. e ∷ xs) (put_last (j + 1) es l h.1)
+put_last j (e ∷ es) l h = grind (arith, nat_tests, last_number (j + 1) (map line_at es) l, put_last (j + 1) es l)
 
 map_last : (es : List (ℕ × LineRow)) (l : Line) → map line_at (es ++ (l.number, line_row l) ∷ []) ≡ map line_at es ++ l ∷ []
 map_last [] l = refl

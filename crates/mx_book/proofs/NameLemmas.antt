@@ -1,5 +1,5 @@
 -- Names that are the same, and maps by name.
-use Rattle.std.proofs.Common.{◌≡◌, ℕ, true, cond, refl, ◌∙◌, ap, Some}
+use Rattle.std.proofs.Common.{◌≡◌, ℕ, true, cond, refl, ◌∙◌, ap, Some, arith}
 use Rattle.std.specs.declared.cmp.Ordering.{Ordering}
 use Rattle.std.specs.declared.cmp.Ordering.TheVariants.{Less, Equal, Greater}
 use Rattle.std.specs.Ordering.{nat_cmp, is_eq, eq_by_cmp}
@@ -9,17 +9,13 @@ use Rattle.std.specs.FinMap as fmap
 use Rattle.std.specs.FinMap.{IsAntisymmetric, nat_cmp-IsAntisymmetric, slice_cmp-IsAntisymmetric}
 use Rattle.mx_pay.specs.Names.{name_cmp, is_name}
 use Rattle.mx_book.specs.World.{Name}
+use Rattle.mx_pay.proofs.TestLemmas.{is_equal}
 
 pub names_total : IsTotalOrder name_cmp
 names_total = nat_list_cmp_total
 
 pub names_exact : IsAntisymmetric name_cmp
 names_exact = slice_cmp-IsAntisymmetric nat_cmp-IsAntisymmetric
-
-is_equal : (o : Ordering) → is_eq o ≡ true → o ≡ Equal
-is_equal Less p = cc
-is_equal Equal p = refl
-is_equal Greater p = cc
 
 pub same_name : (g h : Name) → is_name g h ≡ true → g ≡ h
 same_name g h t = names_exact g h (is_equal _ t)
@@ -31,4 +27,4 @@ pub name_itself : (h : Name) → is_name h h ≡ true
 name_itself h = ap is_eq (tied_itself names_total h)
 
 pub get-inserted : {X : Type 0} (m : fmap.FinMap name_cmp X) (p : Name) (x : X) → fmap.get (fmap.insert m p x) p ≡ Some x
-get-inserted m p x = fmap.get-insert names_total m p x p ∙ ap (λ b. cond b (Some x) (fmap.get m p)) (name_itself p)
+get-inserted m p x = grind (arith, fmap.gets, names_total, name_itself p)

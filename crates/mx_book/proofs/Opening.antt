@@ -13,15 +13,9 @@ use Rattle.mx_book.specs.World.{World, Row, Name, Token, opening, result_cmp}
 use Rattle.mx_book.specs.Conditions.{IsWorld, all_granted}
 use Rattle.mx_book.specs.Rows.{Rows, world_of, row_of}
 use Rattle.mx_book.specs.Spells.{Spells, opening_rows}
+use Rattle.mx_book.proofs.FoundLemmas.{none_found, none_some}
 use Rattle.mx_book.proofs.NameLemmas.{names_total, names_exact}
 use Rattle.mx_book.proofs.UnderLemmas.{get-remake, entries_empty}
-
--- nothing is found in an empty map, so anything holds of what is found there
-not_found : {V : Type 0} {X : Type 0} (o : Option V) (v : V) → o ≡ None → o ≡ Some v → X
-not_found o v none some = absurd (let e : None ≡ Some v = sym none ∙ some in cc)
-
-pub not_some : {V : Type 0} {X : Type 0} (o : Option V) → o ≡ None → IsSome o → X
-not_some o none some = absurd (let e : Bool.false ≡ Bool.true = subst IsSome none some in cc)
 
 remake-empty : {X Y : Type 0} (f : Name → X → Y) → remake f (fmap.empty {X = X} {R = name_cmp}) ≡ fmap.empty
 remake-empty f = fmap.same_map names_total names_exact _ _ (λ q. get-remake name_cmp f names_exact fmap.empty q ∙ ap (option_map (f q)) (fmap.get-empty name_cmp q) ∙ sym (fmap.get-empty name_cmp q))
@@ -37,32 +31,32 @@ pub opening_is : (t : Token) → IsToken t → IsWorld (opening t)
 opening_is t whole = record {
   tokens = record {
     operator_bytes = whole;
-    bytes = λ q c. not_found _ c (fmap.get-empty token_cmp q);
+    bytes = λ q c. none_found _ c (fmap.get-empty token_cmp q);
     operator = fmap.get-empty token_cmp t;
-    owners = λ q c. not_found _ c (fmap.get-empty token_cmp q);
-    clerks = λ m. not_some _ (fmap.get-empty name_cmp m);
-    holders = λ h. not_some _ (fmap.get-empty name_cmp h);
-    single = λ p q c at. not_found _ c (fmap.get-empty token_cmp p) at;
+    owners = λ q c. none_found _ c (fmap.get-empty token_cmp q);
+    clerks = λ m. none_some _ (fmap.get-empty name_cmp m);
+    holders = λ h. none_some _ (fmap.get-empty name_cmp h);
+    single = λ p q c at. none_found _ c (fmap.get-empty token_cmp p) at;
   };
   members = record {
-    named = λ m. not_some _ (fmap.get-empty name_cmp m);
+    named = λ m. none_some _ (fmap.get-empty name_cmp m);
     granted = omega (arith, none_granted t);
-    floats = λ m row. not_found _ row (fmap.get-empty name_cmp m);
-    holders = λ h m. not_found _ m (fmap.get-empty name_cmp h);
+    floats = λ m row. none_found _ row (fmap.get-empty name_cmp m);
+    holders = λ h m. none_found _ m (fmap.get-empty name_cmp h);
   };
   purses = record {
-    each = λ p r. not_found _ r (fmap.get-empty name_cmp p);
+    each = λ p r. none_found _ r (fmap.get-empty name_cmp p);
     few = λ h. omega (arith, none_held t h);
   };
-  inboxes = record { each = λ p r. not_found _ r (fmap.get-empty name_cmp p) };
-  lines = record { each = λ p r. not_found _ r (fmap.get-empty name_cmp p) };
+  inboxes = record { each = λ p r. none_found _ r (fmap.get-empty name_cmp p) };
+  lines = record { each = λ p r. none_found _ r (fmap.get-empty name_cmp p) };
   results = record {
-    archived = λ p d. not_some _ (fmap.get-empty result_cmp (p, d));
-    details = λ p d. not_some _ (fmap.get-empty result_cmp (p, d));
-    logged = λ p d. not_some _ (fmap.get-empty result_cmp (p, d));
-    apart = λ p d. not_some _ (fmap.get-empty result_cmp (p, d));
+    archived = λ p d. none_some _ (fmap.get-empty result_cmp (p, d));
+    details = λ p d. none_some _ (fmap.get-empty result_cmp (p, d));
+    logged = λ p d. none_some _ (fmap.get-empty result_cmp (p, d));
+    apart = λ p d. none_some _ (fmap.get-empty result_cmp (p, d));
   };
-  payments = record { each = λ p r. not_found _ r (fmap.get-empty name_cmp p) };
+  payments = record { each = λ p r. none_found _ r (fmap.get-empty name_cmp p) };
 }
 
 pub opening_spelled : (t : Token) → IsToken t → Spells (opening_rows t) (opening t)

@@ -1,10 +1,10 @@
 -- What an operation of a purse, a message and a discard make of the World.
-use Rattle.std.proofs.Common.{◌≡◌, ℕ, ◌+◌, ◌<◌, Bool, true, false, cond, List, [], ◌∷◌, ◌++◌, length, append_assoc, refl, sym, ◌∙◌, ap, subst, Option, Some, None, IsSome}
+use Rattle.std.proofs.Common.{◌≡◌, ℕ, ◌+◌, ◌<◌, Bool, true, false, cond, List, [], ◌∷◌, ◌++◌, length, append_assoc, refl, sym, ◌∙◌, ap, subst, Option, Some, None, IsSome, arith}
 use Rattle.std.proofs.lemmas.List.{append-nil}
 use Rattle.std.specs.Prelude.{nat_lt, IsSomeAnd, IsTrue}
 use Rattle.std.specs.List.{AllByRecursion}
 use Rattle.std.specs.FinMap as fmap
-use Rattle.std.proofs.lemmas.Bool.{ltb-true, and_parts}
+use Rattle.std.proofs.lemmas.Bool.Decides.{nat_tests}
 use Rattle.mx_book.specs.Limits.{most_messages, most_purses}
 use Rattle.mx_pay.specs.Limits.{most_number}
 use Rattle.mx_pay.specs.Names.{name_cmp, is_name, is_name_text}
@@ -17,35 +17,25 @@ use Rattle.mx_purse.specs.Messages.{IsMessage}
 use Rattle.mx_book.specs.declared.values.Line.{Line}
 use Rattle.mx_book.specs.World.{World, Row, Holding, Name, Token, set_row, change_row, changed_row, has_room, delivered, with_message, put}
 use Rattle.mx_book.specs.Reads.{purses_of}
-use Rattle.mx_book.specs.Conditions.{IsWorld, IsPurseRow, IsLine, AreNumbered}
+use Rattle.mx_book.specs.Conditions.{IsWorld, IsLine, AreNumbered, IsPaid}
 use Rattle.mx_book.specs.declared.edits.Edit.{Edit}
 use Rattle.mx_book.specs.declared.edits.Edit.TheVariants.{NewMember, NewHolder, NewPurse, SetPurse, AddMessage, DropMessage, AddLine}
 use Rattle.mx_book.specs.Edits.{edited, all_edited, Suits, AllSuit}
 use Rattle.mx_book.proofs.NameLemmas.{names_total, names_exact, same_name, get-inserted}
 use Rattle.mx_book.proofs.FoundLemmas.{some_of}
 use Rattle.mx_book.proofs.LineLemmas.{numbered-append, all_append}
-use Rattle.mx_book.proofs.KeepLemmas.{set_world, entry_here, member_world, holder_world, purse_world, message_world, dropped_world}
+use Rattle.mx_book.proofs.KeepLemmas.{is_row, set_stays, message_stays, dropped_stays}
 
 -- ---- two writes at one key
 
-twice_case : {X : Type 0} (b : Bool) (x y : X) (o : Option X) → cond b (Some y) (cond b (Some x) o) ≡ cond b (Some y) o
-twice_case true x y o = refl
-twice_case false x y o = refl
-
 insert_twice : {X : Type 0} (m : fmap.FinMap name_cmp X) (p : Name) (x y : X) → fmap.insert (fmap.insert m p x) p y ≡ fmap.insert m p y
-insert_twice m p x y = fmap.same_map names_total names_exact _ _ (λ q.
-    fmap.get-insert names_total (fmap.insert m p x) p y q ∙ ap (cond (is_name q p) (Some y)) (fmap.get-insert names_total m p x q)
-    ∙ twice_case (is_name q p) x y (fmap.get m q) ∙ sym (fmap.get-insert names_total m p y q))
+insert_twice m p x y = fmap.same_map names_total names_exact _ _ (λ q. grind (arith, fmap.gets, names_total))
 
 -- a write of the value that is there
-same_case : {X : Type 0} (m : fmap.FinMap name_cmp X) (p q : Name) (x : X) (b : Bool) → is_name q p ≡ b → fmap.get m p ≡ Some x → cond b (Some x) (fmap.get m q) ≡ fmap.get m q
-same_case m p q x true t at = sym (ap (fmap.get m) (same_name q p t) ∙ at)
-same_case m p q x false t at = refl
-
 insert_same : {X : Type 0} (m : fmap.FinMap name_cmp X) (p : Name) (x : X) → fmap.get m p ≡ Some x → fmap.insert m p x ≡ m
-insert_same m p x at = fmap.same_map names_total names_exact _ _ (λ q. fmap.get-insert names_total m p x q ∙ same_case m p q x (is_name q p) refl at)
+insert_same m p x at = fmap.same_map names_total names_exact _ _ (λ q. grind (arith, fmap.gets, names_total, same_name q p))
 
-pub set_twice : (w : World) (p : Name) (r s : Row) → set_row (set_row w p r) p s ≡ set_row w p s
+set_twice : (w : World) (p : Name) (r s : Row) → set_row (set_row w p r) p s ≡ set_row w p s
 set_twice w p r s = ap (λ rows. record w { rows = rows }) (insert_twice w.rows p r s)
 
 pub set_same : (w : World) (p : Name) (r : Row) → fmap.get w.rows p ≡ Some r → set_row w p r ≡ w
@@ -120,30 +110,31 @@ purse_suits w p r q ls at name numbered = (
   subst (λ (z : World). AllSuit z (line_edits p ls)) (sym (purse_leads_one w p r q at name)) (lines_suit w p (record r { holding = record r.holding { purse = q } }) ls numbered),
 )
 
+-- a purse with new lines and other payments
+pub paid_stays : (w : World) (p : Name) (r : Row) (q : State) (ls : List Line) (loads redemptions : fmap.FinMap name_cmp ℕ) → fmap.get w.rows p ≡ Some r → q.name ≡ p → IsPurse q → AreNumbered 1 (r.holding.lines ++ ls) → length (r.holding.lines ++ ls) ≡ q.lines → AllByRecursion IsLine ls
+    → ((d : Details) → has_logged r.holding.purse.log d ≡ true → has_logged q.log d ≡ true)
+    → (IsPaid r → IsPaid (record r { holding = record r.holding { redemptions = redemptions }; loads = loads }))
+    → IsWorld w → IsWorld (set_row w p (record r { holding = record r.holding { purse = q; lines = r.holding.lines ++ ls; redemptions = redemptions }; loads = loads }))
+paid_stays w p r q ls loads redemptions at name purse numbered counted valid logged pays h =
+    let x = is_row w p r at h in
+    let paid = pays x.paid in
+    set_stays w p r at h (record r { holding = record r.holding { purse = q; lines = r.holding.lines ++ ls; redemptions = redemptions }; loads = loads }) refl (record {
+      purse = record { text = x.purse.text; named = name; holder = x.purse.holder; purse = purse };
+      inbox = record { few = x.inbox.few; below = x.inbox.below; next = x.inbox.next; messages = x.inbox.messages };
+      lines = record { numbered = numbered; counted = counted; each = all_append IsLine r.holding.lines ls x.lines.each valid };
+      paid = record { loads = paid.loads; redemptions = paid.redemptions; collected = paid.collected };
+    }) logged
+
 pub purse_stays : (w : World) (p : Name) (r : Row) (q : State) (ls : List Line) → fmap.get w.rows p ≡ Some r → q.name ≡ p → IsPurse q → AreNumbered 1 (r.holding.lines ++ ls) → length (r.holding.lines ++ ls) ≡ q.lines → AllByRecursion IsLine ls
     → ((d : Details) → has_logged r.holding.purse.log d ≡ true → has_logged q.log d ≡ true) → IsWorld w → IsWorld (set_row w p (with_lines r q ls))
-purse_stays w p r q ls at name purse numbered counted valid logged h =
-    let old : IsPurseRow w p r = h.purses.each p r at in
-    let inbox = h.inboxes.each p r at in
-    let lines = h.lines.each p r at in
-    let paid = h.payments.each p r at in
-    set_world w p r (with_lines r q ls) at refl
-    (record { text = old.text; named = name; holder = old.holder; purse = purse })
-    (record { few = inbox.few; below = inbox.below; next = inbox.next; messages = inbox.messages })
-    (record { numbered = numbered; counted = counted; each = all_append IsLine r.holding.lines ls lines.each valid })
-    (record { loads = paid.loads; redemptions = paid.redemptions; collected = paid.collected })
-    (λ d there. logged d (entry_here w p r (with_lines r q ls) at h d there))
-    h
-
-pub numbered_more : (n : ℕ) (ls : List Line) (l : Line) → AreNumbered n ls → l.number ≡ n + length ls → AreNumbered n (ls ++ l ∷ [])
-numbered_more = numbered-append
+purse_stays w p r q ls at name purse numbered counted valid logged h = paid_stays w p r q ls r.loads r.holding.redemptions at name purse numbered counted valid logged (λ paid. paid) h
 
 -- ---- a message
 
 -- where there is room, the inbox is below its limit and so is the next number
 room_is : (a : Holding) → has_room a ≡ true → (fmap.len a.inbox < most_messages) × (a.next_message < most_number)
 unfolding has_room
-room_is a room = let x = and_parts (nat_lt (fmap.len a.inbox) most_messages) (nat_lt a.next_message most_number) room in (ltb-true _ _ x.0, ltb-true _ _ x.1)
+room_is a room = grind (arith, nat_tests)
 
 put_there : (w : World) (p : Name) (m : Message) (r : Row) (b : Bool) → fmap.get w.rows p ≡ Some r → has_room r.holding ≡ b → put w p m ≡ set_row w p (record r { holding = cond b (delivered r.holding m) r.holding })
 put_there w p m r b at room = change_there w p (λ x. record x { holding = with_message x.holding m }) r at ∙ ap (λ c. set_row w p (record r { holding = cond c (delivered r.holding m) r.holding })) room
@@ -162,16 +153,16 @@ put_vanishes w p m r at room = put_there w p m r false at room ∙ set_same w p 
 pub put_nowhere : (w : World) (p : Name) (m : Message) → fmap.get w.rows p ≡ None → put w p m ≡ w
 put_nowhere w p m gone = ap (changed_row w p (λ x. record x { holding = with_message x.holding m })) gone
 
-stays_in : (w : World) (p : Name) (m : Message) (r : Row) → IsMessage m → fmap.get w.rows p ≡ Some r → (b : Bool) → has_room r.holding ≡ b → IsWorld w → IsWorld (put w p m)
-stays_in w p m r valid at true room h = let few = room_is r.holding room in subst IsWorld (put_leads w p m r at room) (message_world w p m r valid at few.0 few.1 h)
-stays_in w p m r valid at false room h = subst IsWorld (sym (put_vanishes w p m r at room)) h
-
-stays_at : (w : World) (p : Name) (m : Message) (o : Option Row) → IsMessage m → fmap.get w.rows p ≡ o → IsWorld w → IsWorld (put w p m)
-stays_at w p m None valid at h = subst IsWorld (sym (put_nowhere w p m at)) h
-stays_at w p m (Some r) valid at h = stays_in w p m r valid at (has_room r.holding) refl h
-
 pub put_stays : (w : World) (p : Name) (m : Message) → IsMessage m → IsWorld w → IsWorld (put w p m)
-put_stays w p m valid h = stays_at w p m (fmap.get w.rows p) valid refl h
+put_stays w p m valid h = by_row (fmap.get w.rows p) refl
+  where
+    by_room : (r : Row) → fmap.get w.rows p ≡ Some r → (b : Bool) → has_room r.holding ≡ b → IsWorld (put w p m)
+    by_room r at true room = let few = room_is r.holding room in subst IsWorld (put_leads w p m r at room) (message_stays w p m r valid at few.0 few.1 h)
+    by_room r at false room = subst IsWorld (sym (put_vanishes w p m r at room)) h
+
+    by_row : (o : Option Row) → fmap.get w.rows p ≡ o → IsWorld (put w p m)
+    by_row None at = subst IsWorld (sym (put_nowhere w p m at)) h
+    by_row (Some r) at = by_room r at (has_room r.holding) refl
 
 -- ---- a discard
 
@@ -186,15 +177,4 @@ pub discard_suits : (w : World) (p : Name) (n : ℕ) (r : Row) → fmap.get w.ro
 discard_suits w p n r at there = subst (λ (o : Option Row). IsSomeAnd o (λ x. IsSome (fmap.get x.holding.inbox n))) (sym at) there
 
 pub discard_stays : (w : World) (p : Name) (n : ℕ) (r : Row) → fmap.get w.rows p ≡ Some r → IsWorld w → IsWorld (set_row w p (without_message r n))
-discard_stays w p n r at h = subst IsWorld (discard_leads w p n r at) (dropped_world w p n r at h)
-
--- ---- what is new
-
-pub member_stays : (w : World) (m : Name) (t : Token) → Suits w (NewMember m t) → IsTrue (is_name_text m) → IsToken t → IsWorld w → IsWorld (edited w (NewMember m t))
-member_stays w m t suits text whole h = member_world w m t suits text whole h
-
-pub holder_stays : (w : World) (g m : Name) (t : Token) → Suits w (NewHolder g m t) → IsTrue (is_name_text g) → IsToken t → IsWorld w → IsWorld (edited w (NewHolder g m t))
-holder_stays w g m t suits text whole h = holder_world w g m t suits text whole h
-
-pub new_purse_stays : (w : World) (p g : Name) → Suits w (NewPurse p g) → IsTrue (is_name_text p) → length (purses_of w g) < most_purses → IsWorld w → IsWorld (edited w (NewPurse p g))
-new_purse_stays w p g suits text room h = purse_world w p g suits text room h
+discard_stays w p n r at h = dropped_stays w p n r at h

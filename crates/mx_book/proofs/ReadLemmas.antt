@@ -8,6 +8,7 @@ use Rattle.std.specs.FinMap as fmap
 use Rattle.mx_pay.specs.Names.{name_cmp, is_name}
 use Rattle.mx_book.specs.World.{Row, Name}
 use Rattle.mx_book.specs.declared.values.Line.{Line}
+use Rattle.std.proofs.lemmas.List.{length-map}
 use Rattle.mx_book.proofs.NameLemmas.{names_total}
 use Rattle.mx_book.proofs.MapLemmas.{get-pick}
 use Rattle.mx_book.specs.declared.values.PurseRow.{PurseRow}
@@ -22,63 +23,36 @@ use Rattle.mx_book.proofs.RowLemmas.{get_rows}
 
 -- ---- the rows of a purse, as a filter
 
-those_step : {K V : Type 0} (b : Bool) (e : (Name × K) × V) (es : List ((Name × K) × V)) → with_second b e (map (λ (e : (Name × K) × V). (e.0.1, e.1)) es) ≡ map (λ (e : (Name × K) × V). (e.0.1, e.1)) (cond b (e ∷ es) es)
-those_step true e es = refl
-those_step false e es = refl
-
 pub those_are : {K V : Type 0} (p : Name) (es : List ((Name × K) × V)) → those name_cmp p es ≡ map (λ (e : (Name × K) × V). (e.0.1, e.1)) (of_name p es)
 those_are p [] = refl
-those_are p (e ∷ es) = ap (with_second (is_name p e.0.0) e) (those_are p es) ∙ those_step (is_name p e.0.0) e (of_name p es)
-
-length-map_lem : {X Y : Type 0} (f : X → Y) (xs : List X) → length (map f xs) ≡ length xs
-length-map_lem f [] = refl
-length-map_lem f (x ∷ xs) = omega (arith, length-map_lem f xs)
+those_are p (e ∷ es) = grind (arith, those_are p es)
 
 -- ---- the lines of a purse above a number
-
-lines_step : (p : Name) (after : ℕ) (b : Bool) (e : (Name × ℕ) × LineRow) (es : List ((Name × ℕ) × LineRow)) (fs : List Line)
-    → filter (λ (l : Line). nat_lt after l.number) (map line_at (map (λ (e : (Name × ℕ) × LineRow). (e.0.1, e.1)) es)) ≡ fs
-    → filter (λ (l : Line). nat_lt after l.number) (map line_at (map (λ (e : (Name × ℕ) × LineRow). (e.0.1, e.1)) (cond b (e ∷ es) es))) ≡ cond (b && nat_lt after e.0.1) (line_of_row e ∷ fs) fs
-lines_step p after true e es fs is = ap (λ xs. cond (nat_lt after e.0.1) (line_of_row e ∷ xs) xs) is
-lines_step p after false e es fs is = is
-
-map_step : (b : Bool) (e : (Name × ℕ) × LineRow) (es : List ((Name × ℕ) × LineRow)) → cond b (line_of_row e ∷ map line_of_row es) (map line_of_row es) ≡ map line_of_row (cond b (e ∷ es) es)
-map_step true e es = refl
-map_step false e es = refl
 
 lines_above : (p : Name) (after : ℕ) (es : List ((Name × ℕ) × LineRow))
     → filter (λ (l : Line). nat_lt after l.number) (map line_at (map (λ (e : (Name × ℕ) × LineRow). (e.0.1, e.1)) (of_name p es))) ≡ map line_of_row (filter (λ (e : (Name × ℕ) × LineRow). is_name p e.0.0 && nat_lt after e.0.1) es)
 lines_above p after [] = refl
-lines_above p after (e ∷ es) = lines_step p after (is_name p e.0.0) e (of_name p es) _ (lines_above p after es) ∙ map_step (is_name p e.0.0 && nat_lt after e.0.1) e _
+lines_above p after (e ∷ es) = grind (arith, lines_above p after es)
 
 -- ---- the purses of a holder
 
-names_step : (f : Name → PurseRow → Row) (b : Bool) (e : Name × PurseRow) (es : List (Name × PurseRow)) (rs : List (Name × Row)) → map (λ (e : Name × Row). e.0) rs ≡ map (λ (e : Name × PurseRow). e.0) es
-    → map (λ (e : Name × Row). e.0) (cond b ((e.0, f e.0 e.1) ∷ rs) rs) ≡ map (λ (e : Name × PurseRow). e.0) (cond b (e ∷ es) es)
-names_step f true e es rs is = ap (λ xs. e.0 ∷ xs) is
-names_step f false e es rs is = is
-
 held_names : (r : Rows) (h : Name) (es : List (Name × PurseRow)) → map (λ (e : Name × Row). e.0) (filter (λ (e : Name × Row). is_name h e.1.holder) (remade (row_of r) es)) ≡ map (λ (e : Name × PurseRow). e.0) (filter (λ (e : Name × PurseRow). is_name h e.1.holder) es)
 held_names r h [] = refl
-held_names r h (e ∷ es) = names_step (row_of r) (is_name h e.1.holder) e _ _ (held_names r h es)
+held_names r h (e ∷ es) = grind (arith, held_names r h es)
 
 pub purses_are : (r : Rows) (h : Name) → purses_of (world_of r) h ≡ row_purses_of r h
 purses_are r h = ap (λ es. map (λ (e : Name × Row). e.0) (filter (λ (e : Name × Row). is_name h e.1.holder) es)) (entries-remake name_cmp (row_of r) r.purses) ∙ held_names r h (fmap.entries r.purses)
 
 pub holder_is : (r : Rows) (h : Name) → holder_of (world_of r) h ≡ row_holder_of r h
-holder_is r h = ap (λ n. option_map (λ m. record { member = m; purses = n }) (fmap.get r.holders h)) (ap length (purses_are r h) ∙ length-map_lem _ (purse_rows_of h (fmap.entries r.purses)))
+holder_is r h = ap (λ n. option_map (λ m. record { member = m; purses = n }) (fmap.get r.holders h)) (ap length (purses_are r h) ∙ length-map (purse_rows_of h (fmap.entries r.purses)) _)
 
 -- ---- an account
 
 pub held_is : (r : Rows) (p : Name) → fmap.len (under name_cmp nat_cmp p r.inbox) ≡ length (of_name p (fmap.entries r.inbox))
-held_is r p = len-under name_cmp nat_cmp names_total p r.inbox ∙ ap length (those_are p (fmap.entries r.inbox)) ∙ length-map_lem _ (of_name p (fmap.entries r.inbox))
-
-account_case : (r : Rows) (p : Name) (o : Option PurseRow) → option_and_then (λ (x : Row). option_map (account_with x) (fmap.get r.holders x.holder)) (option_map (row_of r p) o) ≡ option_and_then (λ (x : PurseRow). option_map (row_account_with r p x) (fmap.get r.holders x.holder)) o
-account_case r p None = refl
-account_case r p (Some x) = ap (λ n. option_map (λ m. record { holder = x.holder; member = m; purse = x.purse; held = n; next_message = x.next_message }) (fmap.get r.holders x.holder)) (held_is r p)
+held_is r p = len-under name_cmp nat_cmp names_total p r.inbox ∙ ap length (those_are p (fmap.entries r.inbox)) ∙ length-map (of_name p (fmap.entries r.inbox)) _
 
 pub account_is : (r : Rows) (p : Name) → account_of (world_of r) p ≡ row_account_of r p
-account_is r p = ap (option_and_then (λ (x : Row). option_map (account_with x) (fmap.get r.holders x.holder))) (get_rows r p) ∙ account_case r p (fmap.get r.purses p)
+account_is r p = grind (arith, get_rows r p, held_is r p)
 
 -- ---- what stands under a purse
 
@@ -116,15 +90,10 @@ module _ (r : Rows) (h : IsProper r) where
   pub load_is : (p ref : Name) → load_of (world_of r) p ref ≡ row_load_of r p ref
   load_is p ref = of_purse_is None _ p (row_load_of r p ref) (λ gone. sym (h.loads p ref gone)) (λ z at. get-under name_cmp name_cmp names_total p r.loads ref)
 
-  amount_step : (o : Option Redemption) → option_and_then amount_of o ≡ option_map (λ (x : Redemption). x.amount) o
-  amount_step None = refl
-  amount_step (Some x) = refl
-
   pub redemption_is : (p ref : Name) → redemption_of (world_of r) p ref ≡ row_redemption_of r p ref
   redemption_is p ref = of_purse_is None _ p (row_redemption_of r p ref)
-      (λ gone. sym (ap (option_map (λ (x : Redemption). x.amount)) (h.redemptions p ref gone)))
-      (λ z at. get-pick names_total amount_of (under name_cmp name_cmp p r.redemptions) ref
-      ∙ ap (option_and_then amount_of) (get-under name_cmp name_cmp names_total p r.redemptions ref) ∙ amount_step (fmap.get r.redemptions (p, ref)))
+      (λ gone. grind (arith, h.redemptions p ref gone))
+      (λ z at. grind (arith, get-pick names_total amount_of (under name_cmp name_cmp p r.redemptions) ref, get-under name_cmp name_cmp names_total p r.redemptions ref))
 
 -- ---- the members
 

@@ -69,17 +69,8 @@ able_of r w es h fits = all_able r w es h.spelled fits.each
 -- ---- a fact that has at most one proof
 
 Able-prop : (r : Rows) (e : Edit) → IsProp (Able r e)
-Able-prop r (NewMember m t) = hlevel props
-Able-prop r (SetMember m granted float) = hlevel props
-Able-prop r (NewHolder g m t) = hlevel props
-Able-prop r (NewPurse p g) = hlevel props
-Able-prop r (SetPurse q) = hlevel props
 Able-prop r (AddMessage p m) = hlevel props
-Able-prop r (DropMessage p k) = hlevel props
-Able-prop r (AddLine p l) = hlevel props
-Able-prop r (AddLoad p ref amount) = hlevel props
-Able-prop r (AddRedemption p ref amount) = hlevel props
-Able-prop r (Collect m) = hlevel props
+Able-prop r e = hlevel props
 
 AllAble-prop : (r : Rows) (es : List Edit) → IsProp (AllAble r es)
 AllAble-prop r [] = hlevel props

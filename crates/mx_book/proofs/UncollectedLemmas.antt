@@ -14,6 +14,7 @@ use Rattle.mx_book.specs.declared.values.Redemption.{Redemption}
 use Rattle.mx_book.specs.Maps.{pick, picked}
 use Rattle.mx_book.specs.Under.{pair_cmp, under, those, with_second, remade}
 use Rattle.mx_book.specs.Sums.{sum_values, sum_entries}
+use Rattle.mx_book.proofs.SumLemmas.{total, total_is}
 use Rattle.mx_book.specs.World.{Row, Name, is_of, is_of_member}
 use Rattle.mx_book.specs.Rows.{Rows, world_of, row_of, amount_of, mark_of, IsProper, NoStray}
 use Rattle.mx_book.specs.Reads.{uncollected_row, uncollected_of}
@@ -21,13 +22,9 @@ use Rattle.mx_book.specs.RowEdits.{member_at}
 use Rattle.mx_book.specs.RowReads.{uncollected_amount, row_uncollected_of}
 use Rattle.mx_book.proofs.NameLemmas.{names_total, same_name}
 use Rattle.mx_book.proofs.FoundLemmas.{none_found}
-use Rattle.mx_book.proofs.MapLemmas.{first_true, second_true, is_less, find_below, entries-pick, get-pick}
+use Rattle.mx_pay.proofs.TestLemmas.{first_true, second_true, is_less, is_equal}
+use Rattle.mx_book.proofs.MapLemmas.{find_below, entries-pick, get-pick}
 use Rattle.mx_book.proofs.UnderLemmas.{entries-under, entries-remake, pair_total}
-
-is_equal : (o : Ordering) → is_eq o ≡ true → o ≡ Equal
-is_equal Less p = cc
-is_equal Equal p = refl
-is_equal Greater p = cc
 
 -- ---- what is found of a map holds of each of its entries
 
@@ -36,36 +33,21 @@ AllEntries P [] = Unit {0}
 AllEntries P (e ∷ es) = P e.0 e.1 × AllEntries P es
 
 module _ {Q V : Type 0} {R : Q → Q → Ordering} (o : IsTotalOrder R) (P : Q → V → Type 0) where
-  rest_case : (e : Q × V) (es : List (Q × V)) (q : Q) (x : V) (b : Bool) → eq_by_cmp R q e.0 ≡ b → T (below_all R e.0 es) → (cond b (Some e.1) (find R q es) ≡ Some x → P q x) → find R q es ≡ Some x → P q x
-  rest_case e es q x true t below h at = none_found (find R q es) x (find_below o q e.0 es (is_equal _ t) below) at
-  rest_case e es q x false t below h at = h at
-
   all_listed : (es : List (Q × V)) → T (is_sorted R es) → ((q : Q) (x : V) → find R q es ≡ Some x → P q x) → AllEntries P es
   all_listed [] s h = tt
   all_listed (e ∷ es) s h = (
     h e.0 e.1 (ap (λ r. cond (is_eq r) (Some e.1) (find R e.0 es)) (tied_itself o e.0)),
-    all_listed es (second_true _ _ s) (λ q x at. rest_case e es q x (eq_by_cmp R q e.0) refl (first_true _ _ s) (h q x) at),
+    all_listed es (second_true _ _ s) (λ q x at. h q x (grind (arith, find_below o q e.0 es))),
   )
 
   all_entries : (m : fmap.FinMap R V) → ((q : Q) (x : V) → fmap.get m q ≡ Some x → P q x) → AllEntries P (fmap.entries m)
   all_entries m h = all_listed (fmap.entries m) (fmap.entries_sorted m) (λ q x at. h q x (fmap.get-entries m q ∙ at))
 
--- ---- sums, from the front
-
-abbrev total : {X : Type 0} → (X → ℕ) → List X → ℕ
-total f [] = 0
-total f (x ∷ xs) = f x + total f xs
-
-total_is : {X : Type 0} (f : X → ℕ) (xs : List X) → sum_by f xs ≡ total f xs
-total_is f [] = refl
-total_is f (x ∷ xs) = sum_by-cons f x xs ∙ ap (λ n. f x + n) (total_is f xs)
+-- ---- sums
 
 -- n for each purse of that name
 abbrev hits : List (Name × PurseRow) → Name → ℕ → ℕ
 hits ps q n = total (λ (p : Name × PurseRow). cond (is_name q p.0) n 0) ps
-
-regroup : (a b c d x y : ℕ) → x ≡ a + b → y ≡ c + d → x + y ≡ (a + c) + (b + d)
-regroup a b c d x y h k = omega arith
 
 module _ {K V : Type 0} (f : Name × K → V → ℕ) where
   -- over all rows
@@ -79,15 +61,12 @@ module _ {K V : Type 0} (f : Name × K → V → ℕ) where
   abbrev by_purse : List (Name × PurseRow) → List ((Name × K) × V) → ℕ
   by_purse ps es = total (λ (p : Name × PurseRow). of_one p.0 es) ps
 
-  one_case : (p : Name) (b : Bool) (e : (Name × K) × V) (es : List (K × V)) → is_name p e.0.0 ≡ b
-      → total (λ (x : K × V). f (p, x.0) x.1) (with_second b e es) ≡ cond b (f e.0 e.1) 0 + total (λ (x : K × V). f (p, x.0) x.1) es
-  one_case p true e es t = ap (λ q. f (q, e.0.1) e.1 + total (λ (x : K × V). f (p, x.0) x.1) es) (same_name p e.0.0 t)
-  one_case p false e es t = omega arith
+  one_case : (p : Name) (e : (Name × K) × V) (es : List ((Name × K) × V)) → of_one p (e ∷ es) ≡ cond (is_name e.0.0 p) (f e.0 e.1) 0 + of_one p es
+  one_case p e es = grind (arith, same_name p e.0.0, (eq_by_cmp_equiv names_total).symm p e.0.0)
 
   more : (ps : List (Name × PurseRow)) (e : (Name × K) × V) (es : List ((Name × K) × V)) → by_purse ps (e ∷ es) ≡ hits ps e.0.0 (f e.0 e.1) + by_purse ps es
   more [] e es = omega arith
-  more (p ∷ ps) e es = regroup (cond (is_name e.0.0 p.0) (f e.0 e.1) 0) (of_one p.0 es) (hits ps e.0.0 (f e.0 e.1)) (by_purse ps es) (of_one p.0 (e ∷ es)) (by_purse ps (e ∷ es))
-      (one_case p.0 (is_name p.0 e.0.0) e (those name_cmp p.0 es) refl ∙ ap (λ b. cond b (f e.0 e.1) 0 + of_one p.0 es) ((eq_by_cmp_equiv names_total).symm p.0 e.0.0)) (more ps e es)
+  more (p ∷ ps) e es = omega (arith, one_case p.0 e es, more ps e es)
 
   none_of : (ps : List (Name × PurseRow)) → by_purse ps [] ≡ 0
   none_of [] = refl
@@ -95,19 +74,12 @@ module _ {K V : Type 0} (f : Name × K → V → ℕ) where
 
 miss : (ps : List (Name × PurseRow)) (q x : Name) (n : ℕ) → name_cmp q x ≡ Equal → T (below_all name_cmp x ps) → hits ps q n ≡ 0
 miss [] q x n t h = refl
-miss (p ∷ ps) q x n t h =
-    let less : name_cmp q p.0 ≡ Less = names_total.congr q x p.0 t ∙ is_less (name_cmp x p.0) (first_true _ _ h) in
-    ap (λ r. cond (is_eq r) n 0 + hits ps q n) less ∙ omega (arith, miss ps q x n t (second_true _ _ h))
-
-hit_case : (p : Name × PurseRow) (ps : List (Name × PurseRow)) (q : Name) (n : ℕ) (x : PurseRow) (b : Bool) → is_name q p.0 ≡ b → T (below_all name_cmp p.0 ps)
-    → (find name_cmp q ps ≡ Some x → hits ps q n ≡ n) → cond b (Some p.1) (find name_cmp q ps) ≡ Some x → cond b n 0 + hits ps q n ≡ n
-hit_case p ps q n x true t h rest at = omega (arith, miss ps q p.0 n (is_equal _ t) h)
-hit_case p ps q n x false t h rest at = omega (arith, rest at)
+miss (p ∷ ps) q x n t h = grind (arith, miss ps q x n t, names_total.congr q x p.0 t)
 
 -- exactly one purse has the name
 hit : (ps : List (Name × PurseRow)) (q : Name) (n : ℕ) (x : PurseRow) → T (is_sorted name_cmp ps) → find name_cmp q ps ≡ Some x → hits ps q n ≡ n
 hit [] q n x h at = absurd (cc)
-hit (p ∷ ps) q n x h at = hit_case p ps q n x (is_name q p.0) refl (first_true _ _ h) (hit ps q n x (second_true _ _ h)) at
+hit (p ∷ ps) q n x h at = grind (arith, hit ps q n x, miss ps q p.0 n)
 
 abbrev HasPurse : {K V : Type 0} → List (Name × PurseRow) → Name × K → V → Type 0
 HasPurse ps k v = (x : PurseRow) × (find name_cmp k.0 ps ≡ Some x)
@@ -136,19 +108,12 @@ sum_under R t f purses m none = flat_is f (fmap.entries purses) (fmap.entries m)
 abbrev left_of : Name × Redemption → ℕ
 left_of e = cond (not e.1.collected) e.1.amount 0
 
-turned : (x : Redemption) (n : ℕ) → cond (is_some (mark_of x)) 0 n ≡ cond (not x.collected) n 0
-turned x n = by_case x.collected
-  where
-    by_case : (b : Bool) → cond (is_some (mark_of (record x { collected = b }))) 0 n ≡ cond (not b) n 0
-    by_case true = refl
-    by_case false = refl
-
 module _ (u : fmap.FinMap name_cmp Redemption) where
   abbrev left_at : Name × ℕ → ℕ
   left_at e = cond (fmap.contains_key (pick mark_of u) e.0) 0 e.1
 
   left_one : (e : Name × Redemption) → fmap.get u e.0 ≡ Some e.1 → left_at (e.0, e.1.amount) ≡ left_of e
-  left_one e at = ap (λ o. cond (is_some o) 0 e.1.amount) (get-pick names_total mark_of u e.0 ∙ ap (option_and_then mark_of) at) ∙ turned e.1 e.1.amount
+  left_one e at = grind (arith, get-pick names_total mark_of u e.0)
 
   left_all : (es : List (Name × Redemption)) → AllEntries (λ k x. fmap.get u k ≡ Some x) es → total left_at (picked amount_of es) ≡ total left_of es
   left_all [] h = refl
@@ -159,19 +124,9 @@ module _ (u : fmap.FinMap name_cmp Redemption) where
   left_is = total_is left_at (fmap.entries (pick amount_of u)) ∙ ap (total left_at) (entries-pick names_total amount_of u)
       ∙ left_all (fmap.entries u) (all_entries names_total (λ k x. fmap.get u k ≡ Some x) u (λ k x at. at))
 
-and_true : (b : Bool) → (b && true) ≡ b
-and_true true = refl
-and_true false = refl
-
-and_false : (b : Bool) → (b && false) ≡ false
-and_false true = refl
-and_false false = refl
-
 scaled : (c : Bool) (es : List (Name × Redemption)) → total (λ (e : Name × Redemption). cond (not e.1.collected && c) e.1.amount 0) es ≡ cond c (total left_of es) 0
-scaled true [] = refl
-scaled false [] = refl
-scaled true (e ∷ es) = λ i. cond (and_true (not e.1.collected) i) e.1.amount 0 + scaled true es i
-scaled false (e ∷ es) = λ i. cond (and_false (not e.1.collected) i) e.1.amount 0 + scaled false es i
+scaled c [] = grind arith
+scaled c (e ∷ es) = grind (arith, scaled c es)
 
 -- ---- and of all
 

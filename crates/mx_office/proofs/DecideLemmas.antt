@@ -18,7 +18,7 @@ use Rattle.mx_book.specs.Conditions.{IsWorld}
 use Rattle.mx_book.specs.Reads.{from_row, who_of, purses_of, holder_of, account_of, account_with}
 use Rattle.mx_book.specs.Edits.{Fits, Suits, AllSuit, edited, all_edited}
 use Rattle.mx_book.proofs.FoundLemmas.{inside}
-use Rattle.mx_book.proofs.PurseLemmas.{member_stays, holder_stays, new_purse_stays}
+use Rattle.mx_book.proofs.KeepLemmas.{member_stays, holder_stays, new_purse_stays}
 use Rattle.mx_office.specs.declared.values.Decided.{Decided}
 use Rattle.mx_office.specs.declared.values.Refusal.{Refusal}
 use Rattle.mx_office.specs.declared.values.Reply.{Reply}

@@ -1,8 +1,9 @@
 -- The laws of code texts, of all entries.
 use Rattle.std.proofs.Common.{◌≡◌, ◌≢◌, ℕ, ◌+◌, ◌-◌, ◌^◌, ◌<◌, ◌≤◌, suc, zero, Bool, true, false, cond, ◌||◌, ◌==◌, List, [], ◌∷◌, ◌++◌, refl, sym, ◌∙◌, ap, subst, Option, Some, None, T, map, length, arith, append_assoc, length-append}
 use Rattle.std.proofs.lemmas.Bool.{not_from_false, lt-leb, or_from, and_from}
-use Rattle.mx_pay.proofs.PutLemmas.{first_true, second_true}
-use Rattle.std.proofs.lemmas.List.{append-nil}
+use Rattle.mx_pay.proofs.TestLemmas.{first_true, second_true}
+use Rattle.std.proofs.lemmas.List.{append-nil, length-map, nil_from_length, drop_all}
+use Rattle.std.proofs.lemmas.Option.{slice_get_cases}
 use Rattle.std.specs.Prelude.{nat_le, decimal, not, slice_get, drop}
 use Rattle.std.proofs.lemmas.Bool.Decides.{nat_tests}
 use Rattle.std.specs.Option.{option_and_then, IfSome}
@@ -19,40 +20,21 @@ use Rattle.mx_pay.specs.Orders.{logged-log_of}
 use Rattle.std.specs.Int.{IsInRange}
 use Rattle.mx_pay.specs.Codes.{entry_text, entry_texts, code}
 use Rattle.mx_pay.specs.Reading.{lead, cut, entry_of, put_last, with_text, after_cut, entries_of}
-use Rattle.mx_pay.proofs.Texts.{left_true, right_true}
+use Rattle.std.specs.Cmp.{first_so, second_so}
 use Rattle.mx_pay.proofs.LogLemmas.{details_total, log_of_none}
 use Rattle.mx_pay.proofs.SameLemmas.{each_logged, logged_each}
 use Rattle.mx_pay.proofs.EntryLemmas.{NoByte, bind_some, cut_parts, cut_none, cut_at, entry_takes, entry_again, name_lacks, number_lacks_at}
 
-T_true : (b : Bool) → T b → b ≡ true
-T_true true p = refl
-T_true false p = absurd p
-
 -- the last entry
-behind : (r s : Ordering) → is_lt r ≡ true → r ≡ ordering_reverse s → s ≡ o.Greater
-behind o.Less o.Less h e = cc
-behind o.Less o.Equal h e = cc
-behind o.Less o.Greater h e = refl
-behind o.Equal s h e = cc
-behind o.Greater s h e = cc
-
 keys_put : (d : Details) (es : List (Details × Unit {0})) → list_all (λ e. is_lt (details_cmp e d)) (map (λ (e : Details × Unit {0}). e.0) es) ≡ true
     → map (λ (e : Details × Unit {0}). e.0) (put details_cmp d tt es) ≡ map (λ (e : Details × Unit {0}). e.0) es ++ d ∷ []
 keys_put d [] h = refl
-keys_put d (e ∷ es) h =
-    let greater : details_cmp d e.0 ≡ o.Greater = behind (details_cmp e.0 d) (details_cmp d e.0) (left_true _ _ h) (details_total.antisymm e.0 d) in
-    ap (λ r. map (λ (e : Details × Unit {0}). e.0) (by_order r ((d, tt) ∷ e ∷ es) ((e.0, tt) ∷ es) (e ∷ put details_cmp d tt es))) greater
-    ∙ ap (λ xs. e.0 ∷ xs) (keys_put d es (right_true (is_lt (details_cmp e.0 d)) _ h))
+keys_put d (e ∷ es) h = grind (arith, keys_put d es, details_total.antisymm e.0 d)
 
 pub logged_last : (log : Entries) (d : Details) → is_below d log ≡ true → logged (with_entry log d) ≡ logged log ++ d ∷ []
 logged_last log d h = ap (map (λ (e : Details × Unit {0}). e.0)) (fmap.entries-insert details_total log d tt) ∙ keys_put d (fmap.entries log) h
 
 -- what is read is spelled so
-put_case : (a b : Bool) (x y : Entries) → cond a (cond b (Some x) None) None ≡ Some y → (a ≡ true) × (x ≡ y)
-put_case true true x y h = (refl, cc)
-put_case true false x y h = cc
-put_case false b x y h = cc
-
 pub record IsOneMore (log s : Entries) (t : List ℕ) : Type 0 where
   pub entry : Details
   pub is : IsDetails entry
@@ -63,7 +45,7 @@ pub text_takes : (log : Entries) (t : List ℕ) (s : Entries) → with_text log 
 unfolding with_text
 text_takes log t s h =
     let b = bind_some (put_last log) (entry_of t) s h in
-    let p = put_case _ _ _ _ b.1.1 in
+    let p : (is_below b.0 log ≡ true) × (with_entry log b.0 ≡ s) = grind (arith, b.1.1) in
     let e = entry_takes t b.0 b.1.0 in
     record { entry = b.0; is = e.0; text = e.1; logs = ap logged (sym p.1) ∙ logged_last log b.0 p.0 }
 
@@ -106,12 +88,9 @@ lacks_join c x [] b apart ha hb (suc i) l e = hb i (omega arith) e
 lacks_join c x (y ∷ a) b apart ha hb zero l e = ha 0 (omega arith) e
 lacks_join c x (y ∷ a) b apart ha hb (suc i) l e = lacks_join c x a b apart (λ j m. ha (suc j) (omega arith)) hb i (omega arith) e
 
-comma_apart : ◌≡◌ {A = ℕ} 44 59 → ⊥
-comma_apart e = omega arith
-
 entry_lacks : (d : Details) → IsDetails d → NoByte 59 (entry_text d)
 entry_lacks d h =
-    let apart = comma_apart in
+    let apart : ◌≢◌ {A = ℕ} 44 59 = λ e. omega arith in
     let vs : d.value < 2 ^ 64 = (let k : d.value ≤ most_amount = h.value in omega arith) in
     let ms : d.from_seq < 2 ^ 64 = (let k : d.from_seq ≤ most_number = h.from_seq in omega arith) in
     let ns : d.to_seq < 2 ^ 64 = (let k : d.to_seq ≤ most_number = h.to_seq in omega arith) in
@@ -129,28 +108,18 @@ below_at x (y ∷ xs) d ys h = below_at x xs d ys (second_true (is_lt (details_c
 
 sorted_below : (xs : List Details) (d : Details) (ys : List Details) → T (is_sorted details_cmp (marks (xs ++ d ∷ ys))) → list_all (λ e. is_lt (details_cmp e d)) xs ≡ true
 sorted_below [] d ys h = refl
-sorted_below (x ∷ xs) d ys h = and_from _ _ (T_true _ (below_at x xs d ys (first_true _ _ h))) (sorted_below xs d ys (second_true (below_all details_cmp x (marks (xs ++ d ∷ ys))) _ h))
+sorted_below (x ∷ xs) d ys h = grind (arith, below_at x xs d ys, sorted_below xs d ys)
 
 none_tied : (d : Details) (xs : List Details) → list_all (λ e. is_lt (details_cmp e d)) xs ≡ true → list_any (eq_by_cmp details_cmp d) xs ≡ false
 none_tied d [] h = refl
-none_tied d (e ∷ es) h =
-    let greater : details_cmp d e ≡ o.Greater = behind (details_cmp e d) (details_cmp d e) (left_true _ _ h) (details_total.antisymm e d) in
-    ap (λ r. is_eq r || list_any (eq_by_cmp details_cmp d) es) greater ∙ none_tied d es (right_true (is_lt (details_cmp e d)) _ h)
-
-length_keys : (es : List (Details × Unit {0})) → length (map (λ (e : Details × Unit {0}). e.0) es) ≡ length es
-length_keys [] = refl
-length_keys (e ∷ es) = ap suc (length_keys es)
+none_tied d (e ∷ es) h = grind (arith, none_tied d es, details_total.antisymm e d)
 
 pub len_logged : (log : Entries) → log_len log ≡ length (logged log)
-len_logged log = fmap.len-entries log ∙ sym (length_keys (fmap.entries log))
+len_logged log = fmap.len-entries log ∙ sym (length-map (fmap.entries log) _)
 
 put_again : (log : Entries) (d : Details) → is_below d log ≡ true → length (logged log) < most_entries → put_last log d ≡ Some (with_entry log d)
 put_again log d below room =
-    let has : has_logged log d ≡ false = fmap.contains_key-keys log d ∙ none_tied d (logged log) below in
-    let e : log_len log ≡ length (logged log) = len_logged log in
-    let full : nat_le most_entries (log_len log) ≡ false = lt-leb most_entries (log_len log) (omega arith) in
-    ap (λ b. cond b (cond (not (nat_le most_entries (log_len log) || has_logged log d)) (Some (with_entry log d)) None) None) below
-    ∙ ap (λ b. cond b (Some (with_entry log d)) None) (not_from_false _ (or_from _ _ full has))
+    grind (arith, fmap.contains_key-keys log d, none_tied d (logged log) below, len_logged log, lt-leb most_entries (log_len log))
 
 text_again : (log : Entries) (d : Details) → IsDetails d → is_below d log ≡ true → length (logged log) < most_entries → with_text log (entry_text d) ≡ Some (with_entry log d)
 unfolding with_text
@@ -242,19 +211,11 @@ none_only t empty log is = by_list (logged log) refl
     by_list (d ∷ []) e = absurd (joined_some _ _ _ (sym (ap entry_texts e) ∙ sym is ∙ empty))
     by_list (d ∷ c ∷ ds) e = absurd (joined_some _ _ _ (sym (ap entry_texts e) ∙ sym is ∙ empty))
 
-zero_length : (n : ℕ) → (suc n == 0) ≡ true → ⊥
-zero_length n h = grind (arith, nat_tests)
-
 pub empty_of : (xs : List ℕ) → (length xs == 0) ≡ true → xs ≡ []
-empty_of [] h = refl
-empty_of (x ∷ xs) h = absurd (zero_length (length xs) h)
+empty_of xs h = nil_from_length xs (grind (arith, nat_tests))
 
 pub nonempty_of : (xs : List ℕ) → (length xs == 0) ≡ false → xs ≡ [] → ⊥
-nonempty_of [] h e = false_true h
-  where
-    false_true : (0 == 0) ≡ false → ⊥
-    false_true h = cc
-nonempty_of (x ∷ xs) h e = cc
+nonempty_of xs h e = grind (arith, nat_tests, ap length e)
 
 -- a turn of the reader's loop
 pub turn_more : (k : ℕ) (t : List ℕ) (log m : Entries) (p : List ℕ × List ℕ) → k < most_entries → cut 59 t ≡ Some p → with_text log p.0 ≡ Some m → entries_of (most_entries - (k + 1)) p.1 m ≡ entries_of (most_entries - k) t log
@@ -291,7 +252,7 @@ pushed t0 t1 t2 t3 t4 x {t5 = t5} {a = a} {b = b} {c = c} {d = d} {e = e} p q r 
 
 drop_get : (k : ℕ) (ds : List Details) (d : Details) → slice_get ds k ≡ Some d → drop k ds ≡ d ∷ drop (suc k) ds
 drop_get zero [] d h = cc
-drop_get zero (e ∷ es) d h = let same : e ≡ d = cc in ap (λ (x : Details). x ∷ es) same
+drop_get zero (e ∷ es) d h = cc
 drop_get (suc k) [] d h = cc
 drop_get (suc k) (e ∷ es) d h = drop_get k es d h
 
@@ -306,19 +267,8 @@ text_step k t u log d h p inv =
     ap (λ n. u ++ text_from n (drop n (logged log))) e ∙ ap (λ xs. xs ++ rest_text (drop (suc k) (logged log))) p
     ∙ sym (lead_step k t d (drop (suc k) (logged log))) ∙ ap (λ ds. t ++ text_from k ds) (sym (drop_get k (logged log) d h)) ∙ inv
 
-no_place : (ds : List Details) (k : ℕ) → k < length ds → slice_get ds k ≡ None → ⊥
-no_place [] k l h = omega arith
-no_place (d ∷ ds) zero l h = cc
-no_place (d ∷ ds) (suc k) l h = no_place ds k (omega arith) h
-
 pub no_gap : (log : Entries) (k : ℕ) → k < log_len log → slice_get (logged log) k ≡ None → ⊥
-no_gap log k l h = let e : log_len log ≡ length (logged log) = len_logged log in no_place (logged log) k (omega arith) h
-
-past : (k : ℕ) (ds : List Details) → length ds ≤ k → drop k ds ≡ []
-past zero [] l = refl
-past zero (d ∷ ds) l = absurd (omega arith)
-past (suc k) [] l = refl
-past (suc k) (d ∷ ds) l = past k ds (omega arith)
+no_gap log k l h = grind (arith, len_logged log, slice_get_cases (logged log) k)
 
 from_none : (k : ℕ) → text_from k [] ≡ []
 from_none zero = refl
@@ -327,4 +277,4 @@ from_none (suc k) = refl
 pub text_end : (t : List ℕ) (log : Entries) (k : ℕ) → log_len log ≤ k → t ++ text_from k (drop k (logged log)) ≡ code log → t ≡ code log
 text_end t log k l inv =
     let e : log_len log ≡ length (logged log) = len_logged log in
-    sym (append-nil t) ∙ ap (λ ys. t ++ ys) (sym (from_none k) ∙ ap (text_from k) (sym (past k (logged log) (omega arith)))) ∙ inv
+    sym (append-nil t) ∙ ap (λ ys. t ++ ys) (sym (from_none k) ∙ ap (text_from k) (sym (drop_all k (logged log) (omega arith)))) ∙ inv

@@ -7,6 +7,7 @@ use Rattle.std.proofs.Common.{Bor}
 use Rattle.std.specs.Str.Parse.{digits_value}
 use Rattle.std.proofs.lemmas.Fmt.{decimal_is_IsNumeral, digits_decimal}
 use Rattle.std.proofs.Common.{lit<}
+use Rattle.std.proofs.lemmas.Option.{cond_some}
 use Rattle.std.proofs.lemmas.Bool.Decides.{nat_tests}
 use Rattle.std.proofs.Math.Dec.{eqb}
 use Rattle.std.proofs.lemmas.Bool.{eqb-true, eq-eqb, leb-true, le-leb, ltb-true, lt-ltb, false_from_ne_true}
@@ -20,56 +21,43 @@ use Rattle.std.proofs.lemmas.Str.Parse.{IsNumeralModel, numerals_by_value, tells
 use Rattle.mx_pay.specs.Details.{Details, IsDetails}
 use Rattle.mx_pay.specs.Codes.{entry_text}
 use Rattle.mx_pay.specs.Reading.{cut, onto, same_bytes, number_of, up_to, limited, name_of, apart, made_of, entry_of}
-use Rattle.mx_pay.proofs.Texts.{left_true, right_true, name_bytes}
-use Rattle.mx_pay.proofs.SameLemmas.{same_names, name_itself, names_unlike}
-
-some_of : {A : Type 0} (b : Bool) (x y : A) → cond b (Some x) None ≡ Some y → (b ≡ true) × (x ≡ y)
-some_of true x y h = (refl, cc)
-some_of false x y h = cc
+use Rattle.std.specs.Cmp.{first_so, second_so}
+use Rattle.mx_pay.proofs.Texts.{name_bytes}
+use Rattle.mx_pay.proofs.SameLemmas.{same_names, names_alike, names_unlike}
 
 -- the steps of a reading that gave something
 pub bind_some : {A B : Type 0} (f : A → Option B) (o : Option A) (y : B) → option_and_then f o ≡ Some y → (x : A) × ((o ≡ Some x) × (f x ≡ Some y))
 bind_some f None y h = cc
 bind_some f (Some x) y h = (x, (refl, h))
 
-same_number : (a b : ℕ) → (a == b) ≡ true → a ≡ b
-same_number a b h = grind (arith, nat_tests)
-
-number_itself : (a : ℕ) → (a == a) ≡ true
-number_itself a = grind (arith, nat_tests)
-
 bytes_same : (xs ys : List ℕ) → same_bytes xs ys ≡ true → xs ≡ ys
 bytes_same [] [] h = refl
 bytes_same [] (y ∷ ys) h = cc
 bytes_same (x ∷ xs) [] h = cc
-bytes_same (x ∷ xs) (y ∷ ys) h =
-    let one : x ≡ y = same_number x y (left_true _ _ h) in
-    let rest : xs ≡ ys = bytes_same xs ys (right_true (x == y) _ h) in cc
+bytes_same (x ∷ xs) (y ∷ ys) h = grind (arith, nat_tests, bytes_same xs ys)
 
 bytes_itself : (xs : List ℕ) → same_bytes xs xs ≡ true
 bytes_itself [] = refl
-bytes_itself (x ∷ xs) = ap (λ b. b && same_bytes xs xs) (number_itself x) ∙ bytes_itself xs
+bytes_itself (x ∷ xs) = grind (arith, nat_tests, bytes_itself xs)
 
 pub texts_same : (xs ys : List ℕ) → pointwise eqb xs ys ≡ true → xs ≡ ys
 texts_same [] [] h = refl
 texts_same [] (y ∷ ys) h = cc
 texts_same (x ∷ xs) [] h = cc
-texts_same (x ∷ xs) (y ∷ ys) h =
-    let one : x ≡ y = eqb-true x y (left_true _ _ h) in
-    let rest : xs ≡ ys = texts_same xs ys (right_true (eqb x y) _ h) in cc
+texts_same (x ∷ xs) (y ∷ ys) h = grind (arith, nat_tests, texts_same xs ys)
 
 pub texts_itself : (xs : List ℕ) → pointwise eqb xs xs ≡ true
 texts_itself [] = refl
-texts_itself (x ∷ xs) = ap (λ b. b && pointwise eqb xs xs) (eq-eqb x x refl) ∙ texts_itself xs
+texts_itself (x ∷ xs) = grind (arith, nat_tests, texts_itself xs)
 
 -- numbers
 pub number_takes : (t : List ℕ) (n : ℕ) → number_of t ≡ Some n → (t ≡ decimal n) × (n < 2 ^ 64)
 unfolding number_of
 number_takes t n h =
-    let s = some_of _ _ _ h in
+    let s = cond_some _ _ _ h in
     let e : digits_value 10 t ≡ n = s.1 in
-    let low : nat_lt (digits_value 10 t) (2 ^ 64) ≡ true = left_true _ _ s.0 in
-    (bytes_same _ _ (right_true (nat_lt (digits_value 10 t) (2 ^ 64)) _ s.0) ∙ ap decimal e, subst (λ (k : ℕ). k < 2 ^ 64) e (ltb-true _ _ low))
+    let low : nat_lt (digits_value 10 t) (2 ^ 64) ≡ true = first_so _ _ s.0 in
+    (bytes_same _ _ (second_so (nat_lt (digits_value 10 t) (2 ^ 64)) _ s.0) ∙ ap decimal e, subst (λ (k : ℕ). k < 2 ^ 64) e (ltb-true _ _ low))
 
 pub number_again : (n : ℕ) → n < 2 ^ 64 → number_of (decimal n) ≡ Some n
 unfolding number_of
@@ -79,55 +67,34 @@ number_again n h =
     ∙ ap (λ b. cond (b && same_bytes (decimal n) (decimal n)) (Some n) None) (lt-ltb _ _ h)
     ∙ ap (λ b. cond b (Some n) None) (bytes_itself (decimal n))
 
-none_or : (o : Option ℕ) → ((n : ℕ) → o ≡ Some n → ⊥) → o ≡ None
-none_or None h = refl
-none_or (Some n) h = absurd (h n refl)
-
 pub number_none : (t : List ℕ) → ((n : ℕ) → n < 2 ^ 64 → t ≡ decimal n → ⊥) → number_of t ≡ None
-number_none t h = none_or _ (λ n e. let k = number_takes t n e in h n k.1 k.0)
+number_none t h = none_or (number_of t) (λ n e. let k = number_takes t n e in h n k.1 k.0)
+  where
+    none_or : (o : Option ℕ) → ((n : ℕ) → o ≡ Some n → ⊥) → o ≡ None
+    none_or None h = refl
+    none_or (Some n) h = absurd (h n refl)
 
 -- cuts
 pub cut_at : (c : ℕ) (xs ys : List ℕ) → ((i : ℕ) → i < length xs → get_or xs i 0 ≢ c) → cut c (xs ++ c ∷ ys) ≡ Some (xs, ys)
-cut_at c [] ys h = ap (λ b. cond b (Some ([], ys)) (onto c (cut c ys))) (number_itself c)
-cut_at c (x ∷ xs) ys h =
-    ap (λ b. cond b (Some ([], xs ++ c ∷ ys)) (onto x (cut c (xs ++ c ∷ ys)))) (differs x c (h 0 (omega arith)))
-    ∙ ap (onto x) (cut_at c xs ys (λ i l. h (suc i) (omega arith)))
-  where
-    differs : (x c : ℕ) → x ≢ c → (x == c) ≡ false
-    differs x c h = grind (arith, nat_tests)
+cut_at c [] ys h = grind (arith, nat_tests)
+cut_at c (x ∷ xs) ys h = grind (arith, nat_tests, h 0 (omega arith), cut_at c xs ys (λ i l. h (suc i) (omega arith)))
 
 pub cut_none : (c : ℕ) (bs : List ℕ) → ((i : ℕ) → i < length bs → get_or bs i 0 ≢ c) → cut c bs ≡ None
 cut_none c [] h = refl
-cut_none c (b ∷ bs) h =
-    ap (λ t. cond t (Some ([], bs)) (onto b (cut c bs))) (differs b c (h 0 (omega arith)))
-    ∙ ap (onto b) (cut_none c bs (λ i l. h (suc i) (omega arith)))
-  where
-    differs : (x c : ℕ) → x ≢ c → (x == c) ≡ false
-    differs x c h = grind (arith, nat_tests)
-
-cut_case : (c x : ℕ) (bs : List ℕ) (t : Bool) (r : Option (List ℕ × List ℕ)) (p : List ℕ × List ℕ) → (x == c) ≡ t → cond t (Some ([], bs)) (onto x r) ≡ Some p
-    → ((q : List ℕ × List ℕ) → r ≡ Some q → bs ≡ q.0 ++ c ∷ q.1) → x ∷ bs ≡ p.0 ++ c ∷ p.1
-cut_case c x bs true r p t h rest =
-    let one : x ≡ c = same_number x c t in
-    let e : p ≡ ([], bs) = cc in
-    ap (λ (k : ℕ). k ∷ bs) one ∙ ap (λ (q : List ℕ × List ℕ). q.0 ++ c ∷ q.1) (sym e)
-cut_case c x bs false None p t h rest = cc
-cut_case c x bs false (Some q) p t h rest =
-    let e : p ≡ (x ∷ q.0, q.1) = cc in
-    ap (λ ys. x ∷ ys) (rest q refl) ∙ ap (λ (q : List ℕ × List ℕ). q.0 ++ c ∷ q.1) (sym e)
+cut_none c (b ∷ bs) h = grind (arith, nat_tests, h 0 (omega arith), cut_none c bs (λ i l. h (suc i) (omega arith)))
 
 pub cut_parts : (c : ℕ) (bs : List ℕ) (p : List ℕ × List ℕ) → cut c bs ≡ Some p → bs ≡ p.0 ++ c ∷ p.1
 cut_parts c [] p h = cc
-cut_parts c (b ∷ bs) p h = cut_case c b bs (b == c) (cut c bs) p refl h (cut_parts c bs)
+cut_parts c (b ∷ bs) p h = grind (arith, nat_tests, cut_parts c bs)
 
 -- one entry
 name_takes : (t n : List ℕ) → name_of t ≡ Some n → (t ≡ n) × (is_name_text n ≡ true)
-name_takes t n h = let s = some_of _ _ _ h in (s.1, subst (λ k. is_name_text k ≡ true) s.1 s.0)
+name_takes t n h = let s = cond_some _ _ _ h in (s.1, subst (λ k. is_name_text k ≡ true) s.1 s.0)
 
 limited_takes : (most : ℕ) (t : List ℕ) (n : ℕ) → limited most t ≡ Some n → (t ≡ decimal n) × (n ≤ most)
 limited_takes most t n h =
     let b = bind_some (up_to most) (number_of t) n h in
-    let s = some_of _ _ _ b.1.1 in
+    let s = cond_some _ _ _ b.1.1 in
     let e : b.0 ≡ n = s.1 in
     (subst (λ (k : ℕ). t ≡ decimal k) e (number_takes t b.0 b.1.0).0, subst (λ (k : ℕ). k ≤ most) e (leb-true _ _ s.0))
 
@@ -139,18 +106,10 @@ cut_is c bs (Some x) h low =
     sym (ap (cut c) parts.0 ∙ cut_at c x.0.now x.1.now parts.1)
 
 pub new_apart : (r : Option Details) (d : Details) → (IsNone r → d.from ≡ d.to) × (d.from ≡ d.to → IsNone r) → IfSome r (λ x. x ≡ d) → r ≡ apart d
-new_apart None d none new = sym (ap (λ b. cond b None (Some d)) (ap (is_name d.from) (sym (none.0 refl)) ∙ name_itself d.from))
-new_apart (Some x) d none new = ap Some new ∙ sym (ap (λ b. cond b None (Some d)) (false_from_ne_true _ (λ e. some_none (none.1 (same_names _ _ e)))))
-  where
-    some_none : IsNone (Some x) → ⊥
-    some_none h = cc
+new_apart r d none new = grind (arith, same_names d.from d.to, names_alike d.from d.to)
 
 apart_takes : (d e : Details) → apart d ≡ Some e → (d ≡ e) × (d.from ≡ d.to → ⊥)
-apart_takes d e h = by_case (is_name d.from d.to) refl h
-  where
-    by_case : (b : Bool) → is_name d.from d.to ≡ b → cond b None (Some d) ≡ Some e → (d ≡ e) × (d.from ≡ d.to → ⊥)
-    by_case true is h = cc
-    by_case false is h = (cc, λ same. (let yes : is_name d.from d.to ≡ true = ap (is_name d.from) (sym same) ∙ name_itself d.from in let no : true ≡ false = sym yes ∙ is in cc))
+apart_takes d e h = grind (arith, names_alike d.from d.to)
 
 pub made_takes : (a b c d e : List ℕ) (x : Details) → made_of a b c d e ≡ Some x → IsDetails x × (a ++ 44 ∷ (b ++ 44 ∷ (c ++ 44 ∷ (d ++ 44 ∷ e))) ≡ entry_text x)
 unfolding made_of
@@ -213,10 +172,10 @@ made_again x h =
 names_lack : (c : ℕ) → is_name_byte c ≡ false → (n : List ℕ) → list_all is_name_byte n ≡ true → NoByte c n
 names_lack c other [] h i l e = omega arith
 names_lack c other (b ∷ bs) h zero l e =
-    let yes : is_name_byte b ≡ true = left_true _ _ h in
+    let yes : is_name_byte b ≡ true = first_so _ _ h in
     let same : b ≡ c = e in
     let t : true ≡ false = sym yes ∙ ap is_name_byte same ∙ other in cc
-names_lack c other (b ∷ bs) h (suc i) l e = names_lack c other bs (right_true (is_name_byte b) _ h) i (omega arith) e
+names_lack c other (b ∷ bs) h (suc i) l e = names_lack c other bs (second_so (is_name_byte b) _ h) i (omega arith) e
 
 pub name_lacks : (c : ℕ) → is_name_byte c ≡ false → (n : List ℕ) → is_name_text n ≡ true → NoByte c n
 name_lacks c other n h = names_lack c other n (name_bytes n h)

@@ -1,4 +1,5 @@
 pub mod LimitLemmas
+pub mod TestLemmas
 pub mod CodeLemmas
 pub mod EntryLemmas
 pub mod LogLemmas

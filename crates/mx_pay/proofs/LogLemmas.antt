@@ -4,7 +4,8 @@ use Rattle.std.proofs.lemmas.Bool.{leb-false}
 use Rattle.std.specs.Prelude.{is_some, nat_le, count_by, slice_get, filter}
 use Rattle.std.proofs.lemmas.List.Sums.{length-filter}
 use Rattle.mx_pay.specs.Limits.{most_entries}
-use Rattle.mx_pay.specs.Orders.{logged-log_of}
+use Rattle.mx_pay.specs.Orders.{logged-log_of, details_exact}
+use Rattle.std.proofs.lemmas.List.{length-map}
 use Rattle.std.specs.Option.{some_prefix}
 use Rattle.std.specs.List.{list_all, list_any, AllByRecursion}
 use Rattle.std.proofs.lemmas.Bool.Decides.{nat_tests}
@@ -17,24 +18,13 @@ use Rattle.std.specs.FinMap.{IsAntisymmetric, slice_cmp-IsAntisymmetric, nat_cmp
 use Rattle.std.specs.FinMap as fmap
 use Rattle.std.specs.FinMap.Entries.{put, find, is_sorted, is_sorted-put}
 use Rattle.mx_pay.specs.Details.{Details, IsDetails, details_cmp}
-use Rattle.mx_pay.specs.Log.{Entries, IsLog, marks, places, log_of, log_len, has_logged, with_entry, is_within, entry_at, is_below, owns, all_owned}
+use Rattle.mx_pay.specs.Log.{logged, Entries, IsLog, marks, places, log_of, log_len, has_logged, with_entry, is_within, entry_at, is_below, owns, all_owned}
 use Rattle.mx_pay.specs.Places.{put_in, holds_at, stands_in, option_join, is_behind, owns_place}
 use Rattle.mx_pay.proofs.PutLemmas.{put_list, put_in-places, put-marks, length-put_list, put_all}
 
--- a list of no entries
-nil_of : (es : List (Details × Unit {0})) → length es ≡ 0 → es ≡ []
-nil_of [] h = refl
-nil_of (e ∷ es) h = absurd (omega arith)
-
--- a log of length 0 has no entries
-no_entries : (log : Entries) → fmap.len log ≡ 0 → fmap.entries log ≡ []
-no_entries log h = nil_of (fmap.entries log) (sym (fmap.len-entries log) ∙ h)
-
 -- the log of no details is the empty log
 pub log_of_none : log_of [] ≡ fmap.empty
-log_of_none =
-    fmap.same_entries_map _ _
-    (fmap.entries-from_sorted details_cmp [] tt ∙ sym (no_entries fmap.empty (fmap.len-empty details_cmp (Unit {0}))))
+log_of_none = fmap.empty_of_len _ (fmap.len-entries _ ∙ ap length (fmap.entries-from_sorted details_cmp [] tt))
 
 -- the order of details is total
 pub details_total : IsTotalOrder details_cmp
@@ -42,51 +32,45 @@ details_total =
     then_total (on_total (λ (d : Details). d.from) nat_list_cmp_total) (then_total (on_total (λ (d : Details). d.to) nat_list_cmp_total)
     (then_total (on_total (λ (d : Details). d.value) nat_cmp_total) (then_total (on_total (λ (d : Details). d.from_seq) nat_cmp_total) (on_total (λ (d : Details). d.to_seq) nat_cmp_total))))
 
-length-marks : (ds : List Details) → length (marks ds) ≡ length ds
-length-marks [] = refl
-length-marks (d ∷ ds) = ap suc (length-marks ds)
-
 len-log_of : (ds : List Details) → T (is_sorted details_cmp (marks ds)) → log_len (log_of ds) ≡ length ds
-len-log_of ds h = fmap.len-entries (log_of ds) ∙ ap length (fmap.entries-from_sorted details_cmp (marks ds) h) ∙ length-marks ds
+len-log_of ds h = fmap.len-entries (log_of ds) ∙ ap length (fmap.entries-from_sorted details_cmp (marks ds) h) ∙ length-map ds _
 
 prefix_of : (ds : List Details) (n : ℕ) → some_prefix (map Some ds ++ replicate n None) ≡ ds
 prefix_of [] zero = refl
 prefix_of [] (suc n) = refl
 prefix_of (d ∷ ds) n = ap (λ xs. d ∷ xs) (prefix_of ds n)
 
-taken : (ds : List Details) (n : ℕ) → list_all is_some (map Some ds ++ replicate n None) ≡ nat_le n 0
-taken [] zero = refl
-taken [] (suc n) = grind (arith, nat_tests)
-taken (d ∷ ds) n = taken ds n
+-- what a test says of the places of details, with nothing behind them
+tested : (p : Option Details → Bool) (ds : List Details) (n : ℕ) → list_all p (map Some ds ++ replicate n None) ≡ (list_all (λ d. p (Some d)) ds && (nat_le n 0 || p None))
+tested p [] zero = refl
+tested p [] (suc n) = grind (arith, nat_tests, tested p [] n)
+tested p (d ∷ ds) n = grind (arith, tested p ds n)
+
+all_some : (ds : List Details) → list_all (λ d. is_some (Some d)) ds ≡ true
+all_some [] = refl
+all_some (d ∷ ds) = all_some ds
 
 any_none : (d : Details) (n : ℕ) → list_any (holds_at d) (replicate n None) ≡ false
 any_none d zero = refl
 any_none d (suc n) = any_none d n
 
-any_case : (b : Bool) (x : Bool) (o : Option (Unit {0})) → x ≡ is_some o → (b || x) ≡ is_some (cond b (Some tt) o)
-any_case true x o h = refl
-any_case false x o h = h
-
 any_place : (d : Details) (ds : List Details) (n : ℕ) → list_any (holds_at d) (map Some ds ++ replicate n None) ≡ is_some (find details_cmp d (marks ds))
 any_place d [] n = any_none d n
-any_place d (e ∷ es) n = any_case (eq_by_cmp details_cmp d e) _ (find details_cmp d (marks es)) (any_place d es n)
+any_place d (e ∷ es) n = grind (arith, any_place d es n)
 
 -- the three calls, of the fields
 pub full_is : (entries : List (Option Details)) → IsLog entries → list_all is_some entries ≡ nat_le most_entries (log_len (log_of (some_prefix entries)))
 full_is entries h =
     let ds : List Details = some_prefix entries in
     let room : length ds ≤ most_entries = h.room in
+    let taken : (list_all (λ d. is_some (Some d)) ds && (nat_le (most_entries - length ds) 0 || false)) ≡ nat_le (most_entries - length ds) 0 = grind (arith, all_some ds) in
     let last : nat_le (most_entries - length ds) 0 ≡ nat_le most_entries (length ds) = grind (arith, nat_tests) in
-    ap (list_all is_some) (sym h.exact) ∙ taken ds (most_entries - length ds) ∙ last ∙ ap (nat_le most_entries) (sym (len-log_of ds h.rises))
+    ap (list_all is_some) (sym h.exact) ∙ tested is_some ds (most_entries - length ds) ∙ taken ∙ last ∙ ap (nat_le most_entries) (sym (len-log_of ds h.rises))
 
 pub has_is : (entries : List (Option Details)) → IsLog entries → (d : Details) → list_any (holds_at d) entries ≡ has_logged (log_of (some_prefix entries)) d
 has_is entries h d =
     ap (list_any (holds_at d)) (sym h.exact) ∙ any_place d (some_prefix entries) (most_entries - length (some_prefix entries))
     ∙ ap is_some (sym (fmap.get-from_sorted details_cmp (marks (some_prefix entries)) d h.rises))
-
-none_of : (o : Option (Unit {0})) → is_some o ≡ false → o ≡ None
-none_of None e = refl
-none_of (Some u) e = cc
 
 -- the log after details that are new, where there is room
 pub record IsPut (entries : List (Option Details)) (d : Details) : Type 0 where
@@ -98,7 +82,7 @@ is_put entries h d valid full there =
     let ds : List Details = some_prefix entries in
     let short : nat_le most_entries (length ds) ≡ false = ap (nat_le most_entries) (sym (len-log_of ds h.rises)) ∙ full in
     let room : length ds < most_entries = leb-false most_entries (length ds) short in
-    let none : find details_cmp d (marks ds) ≡ None = none_of _ (ap is_some (sym (fmap.get-from_sorted details_cmp (marks ds) d h.rises)) ∙ there) in
+    let none : find details_cmp d (marks ds) ≡ None = grind (arith, fmap.get-from_sorted details_cmp (marks ds) d h.rises) in
     let k : ℕ = most_entries - suc (length ds) in
     let one_more : most_entries - length ds ≡ suc k = omega arith in
     let before : entries ≡ map Some ds ++ None ∷ replicate k None = sym h.exact ∙ ap (λ m. map Some ds ++ replicate m None) one_more in
@@ -117,18 +101,6 @@ is_put entries h d valid full there =
       view = ap log_of prefix ∙ fmap.same_entries_map _ _ (fmap.entries-from_sorted details_cmp (marks (put_list d ds)) rises ∙ sym (put-marks d ds none)
           ∙ ap (put details_cmp d tt) (sym (fmap.entries-from_sorted details_cmp (marks ds) h.rises)) ∙ sym (fmap.entries-insert details_total (log_of ds) d tt));
     }
-
--- details that compare alike are the same
-pub details_exact : IsAntisymmetric details_cmp
-details_exact a b h =
-    ap (λ (p : List ℕ × (List ℕ × (ℕ × (ℕ × ℕ)))). let d : Details = record { from = p.0; to = p.1.0; value = p.1.1.0; from_seq = p.1.1.1.0; to_seq = p.1.1.1.1 } in d)
-    (exact_pairs (slice_cmp nat_cmp) _ names_exact
-    (exact_pairs (slice_cmp nat_cmp) _ names_exact
-    (exact_pairs nat_cmp _ exact_unsigned (exact_pairs nat_cmp nat_cmp exact_unsigned exact_unsigned)))
-    (a.from, (a.to, (a.value, (a.from_seq, a.to_seq)))) (b.from, (b.to, (b.value, (b.from_seq, b.to_seq)))) h)
-  where
-    names_exact : IsAntisymmetric (slice_cmp nat_cmp)
-    names_exact = slice_cmp-IsAntisymmetric nat_cmp-IsAntisymmetric
 
 -- the other calls, of the fields
 filter_places : (ds : List Details) (n : ℕ) → length (filter is_some (map Some ds ++ replicate n None)) ≡ length ds
@@ -157,38 +129,21 @@ slot_place (d ∷ ds) n (suc i) = slot_place ds n i
 pub at_is : (entries : List (Option Details)) → IsLog entries → (i : ℕ) → option_join (slice_get entries i) ≡ entry_at (log_of (some_prefix entries)) i
 at_is entries h i = ap (λ es. option_join (slice_get es i)) (sym h.exact) ∙ slot_place (some_prefix entries) _ i ∙ ap (λ ds. slice_get ds i) (sym (logged-log_of _ h.rises))
 
-none_stand : (s : Entries) (n : ℕ) → list_all (stands_in s) (replicate n None) ≡ true
-none_stand s zero = refl
-none_stand s (suc n) = none_stand s n
-
-all_stand : (s : Entries) (ds : List Details) (n : ℕ) → list_all (stands_in s) (map Some ds ++ replicate n None) ≡ list_all (has_logged s) ds
-all_stand s [] n = none_stand s n
-all_stand s (d ∷ ds) n = ap (λ b. has_logged s d && b) (all_stand s ds n)
+-- a test that nothing passes holds of the places where it holds of the details
+places_all : (p : Option Details → Bool) → p None ≡ true → (entries : List (Option Details)) → IsLog entries → list_all p entries ≡ list_all (λ d. p (Some d)) (logged (log_of (some_prefix entries)))
+places_all p none entries h =
+    let ds : List Details = some_prefix entries in
+    let log : logged (log_of ds) ≡ ds = logged-log_of ds h.rises in
+    ap (list_all p) (sym h.exact) ∙ tested p ds _ ∙ grind arith
 
 pub within_is : (entries : List (Option Details)) → IsLog entries → (s : Entries) → list_all (stands_in s) entries ≡ is_within (log_of (some_prefix entries)) s
-within_is entries h s = ap (list_all (stands_in s)) (sym h.exact) ∙ all_stand s (some_prefix entries) _ ∙ ap (list_all (has_logged s)) (sym (logged-log_of _ h.rises))
-
-none_before : (x : Details) (n : ℕ) → list_all (is_behind x) (replicate n None) ≡ true
-none_before x zero = refl
-none_before x (suc n) = none_before x n
-
-all_before : (x : Details) (ds : List Details) (n : ℕ) → list_all (is_behind x) (map Some ds ++ replicate n None) ≡ list_all (λ e. is_lt (details_cmp e x)) ds
-all_before x [] n = none_before x n
-all_before x (d ∷ ds) n = ap (λ b. is_lt (details_cmp d x) && b) (all_before x ds n)
+within_is entries h s = places_all (stands_in s) refl entries h
 
 pub below_is : (entries : List (Option Details)) → IsLog entries → (x : Details) → list_all (is_behind x) entries ≡ is_below x (log_of (some_prefix entries))
-below_is entries h x = ap (list_all (is_behind x)) (sym h.exact) ∙ all_before x (some_prefix entries) _ ∙ ap (list_all (λ e. is_lt (details_cmp e x))) (sym (logged-log_of _ h.rises))
-
-none_owned : (x : List ℕ) (k : ℕ) (n : ℕ) → list_all (owns_place x k) (replicate n None) ≡ true
-none_owned x k zero = refl
-none_owned x k (suc n) = none_owned x k n
-
-owned_places : (x : List ℕ) (k : ℕ) (ds : List Details) (n : ℕ) → list_all (owns_place x k) (map Some ds ++ replicate n None) ≡ list_all (owns x k) ds
-owned_places x k [] n = none_owned x k n
-owned_places x k (d ∷ ds) n = ap (λ b. owns x k d && b) (owned_places x k ds n)
+below_is entries h x = places_all (is_behind x) refl entries h
 
 pub owned_is : (entries : List (Option Details)) → IsLog entries → (x : List ℕ) (k : ℕ) → list_all (owns_place x k) entries ≡ all_owned x k (log_of (some_prefix entries))
-owned_is entries h x k = ap (list_all (owns_place x k)) (sym h.exact) ∙ owned_places x k (some_prefix entries) _ ∙ ap (list_all (owns x k)) (sym (logged-log_of _ h.rises))
+owned_is entries h x k = places_all (owns_place x k) refl entries h
 
 pub room_is : (entries : List (Option Details)) → IsLog entries → log_len (log_of (some_prefix entries)) ≤ most_entries
 room_is entries h = subst (λ (n : ℕ). n ≤ most_entries) (sym (len-log_of _ h.rises)) h.room

@@ -7,22 +7,17 @@ use Rattle.std.specs.Option.{some_prefix}
 use Rattle.std.specs.declared.cmp.Ordering.{Ordering}
 use Rattle.std.specs.declared.cmp.Ordering.TheVariants.{Less, Equal, Greater}
 use Rattle.std.specs.Ordering.{is_eq}
-use Rattle.std.specs.Cmp.{tied_itself}
+use Rattle.std.specs.Cmp.{tied_itself, first_so, second_so}
 use Rattle.std.proofs.lemmas.Cmp.{nat_list_cmp_total}
 use Rattle.std.specs.FinMap.{slice_cmp-IsAntisymmetric, nat_cmp-IsAntisymmetric}
 use Rattle.std.specs.FinMap as fmap
 use Rattle.mx_pay.specs.Names.{is_name}
 use Rattle.mx_pay.specs.Details.{Details, IsDetails, details_cmp, is_details}
 use Rattle.mx_pay.specs.Limits.{most_entries}
-use Rattle.mx_pay.specs.Orders.{logged-log_of}
+use Rattle.mx_pay.specs.Orders.{logged-log_of, details_exact}
 use Rattle.mx_pay.specs.Log.{Entries, IsLog, IsLogValue, log_of, log_len, has_logged, with_entry, none_logged, is_same_log, is_within, logged}
-use Rattle.mx_pay.proofs.LogLemmas.{details_total, details_exact, room_is}
-use Rattle.mx_pay.proofs.Texts.{left_true, right_true}
-
-is_equal : (o : Ordering) → is_eq o ≡ true → o ≡ Equal
-is_equal Less p = cc
-is_equal Equal p = refl
-is_equal Greater p = cc
+use Rattle.mx_pay.proofs.LogLemmas.{details_total, room_is}
+use Rattle.mx_pay.proofs.TestLemmas.{is_equal}
 
 pub same_names : (a b : List ℕ) → is_name a b ≡ true → a ≡ b
 same_names a b h = slice_cmp-IsAntisymmetric nat_cmp-IsAntisymmetric a b (is_equal _ h)
@@ -39,15 +34,11 @@ name_itself a = ap is_eq (tied_itself nat_list_cmp_total a)
 pub names_alike : (a b : List ℕ) → a ≡ b → is_name a b ≡ true
 names_alike a b e = ap (is_name a) (sym e) ∙ name_itself a
 
-some_is : (b : Bool) (o : Option (Unit {0})) → is_some (cond b (Some tt) o) ≡ (b || is_some o)
-some_is true o = refl
-some_is false o = refl
-
 pub has-with_entry : (s : Entries) (d e : Details) → has_logged (with_entry s d) e ≡ (is_details e d || has_logged s e)
-has-with_entry s d e = ap is_some (fmap.get-insert details_total s d tt e) ∙ some_is _ _
+has-with_entry s d e = grind (arith, fmap.get-insert details_total s d tt e)
 
 pub len-with_entry : (s : Entries) (d : Details) → has_logged s d ≡ false → log_len (with_entry s d) ≡ log_len s + 1
-len-with_entry s d h = fmap.len-insert details_total s d tt ∙ ap (λ b. cond b (log_len s) (log_len s + 1)) h
+len-with_entry s d h = grind (arith, fmap.len-insert details_total s d tt)
 
 pub has-none_logged : (e : Details) → has_logged none_logged e ≡ false
 has-none_logged e = ap is_some (fmap.get-empty details_cmp e)
@@ -58,11 +49,7 @@ len-none_logged = fmap.len-empty details_cmp (Unit {0})
 -- what a test of all details that passed says of one that is among them
 pub one_of : (f : Details → Bool) (d : Details) (ds : List Details) → list_all f ds ≡ true → list_any (is_details d) ds ≡ true → f d ≡ true
 one_of f d [] all any = cc
-one_of f d (e ∷ es) all any =
-    elim (or_cases _ _ any) [
-      | inl same ↦ ap f (same_details d e same) ∙ left_true _ _ all
-      | inr there ↦ one_of f d es (right_true (f e) _ all) there
-    ]
+one_of f d (e ∷ es) all any = grind (arith, same_details d e, one_of f d es)
 
 -- a test that each of the details passes
 pub all_of : (f : Details → Bool) (ds : List Details) → ((d : Details) → list_any (is_details d) ds ≡ true → f d ≡ true) → list_all f ds ≡ true
@@ -79,17 +66,10 @@ within_itself : (a : Entries) → is_within a a ≡ true
 within_itself a = all_of (has_logged a) (logged a) (λ d there. fmap.contains_key-keys a d ∙ there)
 
 -- two marks that are there or not alike are the same
-marks_same : (x y : Option (Unit {0})) → (is_some x ≡ true → is_some y ≡ true) → (is_some y ≡ true → is_some x ≡ true) → x ≡ y
-marks_same None None there back = refl
-marks_same None (Some u) there back = let none : false ≡ true = back refl in cc
-marks_same (Some u) None there back = let none : false ≡ true = there refl in cc
-marks_same (Some u) (Some v) there back = refl
-
 -- two logs that have the same details are one
 pub same_logs : (a b : Entries) → is_same_log a b ≡ true → a ≡ b
 same_logs a b h =
-    fmap.same_map details_total details_exact a b
-    (λ d. marks_same _ _ (within_means a b (left_true _ _ h) d) (within_means b a (right_true (is_within a b) _ h) d))
+    fmap.same_map details_total details_exact a b (λ d. grind (arith, within_means a b (first_so _ _ h) d, within_means b a (second_so (is_within a b) _ h) d))
 
 -- a log has the same details as itself
 pub log_itself : (a : Entries) → is_same_log a a ≡ true
@@ -110,11 +90,7 @@ names_unlike a b apart = false_from_ne_true _ (λ same. apart (same_names a b sa
 -- what holds of each of some details, by recursion and of those that are among them
 pub each_of : (P : Details → Type 0) (ds : List Details) → AllByRecursion P ds → (d : Details) → list_any (is_details d) ds ≡ true → P d
 each_of P [] all d any = cc
-each_of P (e ∷ es) all d any =
-    elim (or_cases _ _ any) [
-      | inl same ↦ subst P (sym (same_details d e same)) all.0
-      | inr there ↦ each_of P es all.1 d there
-    ]
+each_of P (e ∷ es) all d any = grind (arith, same_details d e, each_of P es all.1 d)
 
 pub of_each : (P : Details → Type 0) (ds : List Details) → ((d : Details) → list_any (is_details d) ds ≡ true → P d) → AllByRecursion P ds
 of_each P [] h = tt
@@ -144,9 +120,5 @@ none_valid = record {
 pub with_entry_valid : (log : Entries) (d : Details) → IsLogValue log → IsDetails d → has_logged log d ≡ false → log_len log < most_entries → IsLogValue (with_entry log d)
 with_entry_valid log d h valid absent room = record {
   room = omega (arith, len-with_entry log d absent);
-  entries = λ e there.
-      elim (or_cases (is_details e d) (has_logged log e) (sym (has-with_entry log d e) ∙ there)) [
-        | inl same ↦ subst IsDetails (sym (same_details e d same)) valid
-        | inr before ↦ h.entries e before
-      ];
+  entries = λ e there. grind (arith, has-with_entry log d e, same_details e d, h.entries e);
 }

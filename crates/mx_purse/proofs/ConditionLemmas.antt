@@ -7,7 +7,7 @@ use Rattle.mx_pay.specs.Limits.{most_number, most_entries}
 use Rattle.mx_pay.specs.Names.{is_name, is_name_text}
 use Rattle.mx_pay.specs.Details.{Details, IsDetails}
 use Rattle.mx_pay.specs.Log.{IsLogValue, Entries, log_len, has_logged, logged, owns, all_owned}
-use Rattle.mx_pay.proofs.Texts.{left_true, right_true}
+use Rattle.std.specs.Cmp.{first_so, second_so}
 use Rattle.mx_pay.proofs.SameLemmas.{same_names, names_alike, one_of, all_of}
 use Rattle.mx_purse.specs.declared.status.Status.{Status}
 use Rattle.mx_purse.specs.declared.status.Status.TheVariants.{EaFrom, EaTo, Epr, Epv, Epa}
@@ -22,15 +22,15 @@ record Three (a b c : Bool) : Type 0 where
 
 three : (a b c : Bool) → (a && b && c) ≡ true → Three a b c
 three a b c h =
-    let front = left_true (a && b) c h in
-    record { first = left_true a b front; second = right_true a b front; third = right_true (a && b) c h }
+    let front = first_so (a && b) c h in
+    record { first = first_so a b front; second = second_so a b front; third = second_so (a && b) c h }
 
 of_three : (a b c : Bool) → a ≡ true → b ≡ true → c ≡ true → (a && b && c) ≡ true
 of_three a b c p q r = and_from (a && b) c (and_from a b p q) r
 
 -- what the test that details can be added to a log means
 log_means : (log : Entries) (d : Details) → can_log log d ≡ true → (has_logged log d ≡ false) × (log_len log < most_entries)
-log_means log d h = (not-true _ (left_true _ _ h), leb-false _ _ (not-true _ (right_true (not (has_logged log d)) _ h)))
+log_means log d h = (not-true _ (first_so _ _ h), leb-false _ _ (not-true _ (second_so (not (has_logged log d)) _ h)))
 
 log_tests : (log : Entries) (d : Details) → has_logged log d ≡ false → log_len log < most_entries → can_log log d ≡ true
 log_tests log d absent room = and_from _ _ (not_from_false _ absent) (not_from_false _ (lt-leb _ _ room))
@@ -47,11 +47,11 @@ status_means p (Epr d) h =
 status_means p (Epv d) h =
     let all = three (is_name d.to p.name && nat_lt d.to_seq p.next) _ _ h in
     let log = log_means p.log d all.second in
-    (same_names _ _ (left_true _ _ all.first), ltb-true _ _ (right_true (is_name d.to p.name) _ all.first), log.0, log.1, leb-true _ _ all.third)
+    (same_names _ _ (first_so _ _ all.first), ltb-true _ _ (second_so (is_name d.to p.name) _ all.first), log.0, log.1, leb-true _ _ all.third)
 status_means p (Epa d) h =
     let all = three (is_name d.from p.name && nat_lt d.from_seq p.next) _ _ h in
     let log = log_means p.log d all.second in
-    (same_names _ _ (left_true _ _ all.first), ltb-true _ _ (right_true (is_name d.from p.name) _ all.first), log.0, log.1, leb-true _ _ all.third)
+    (same_names _ _ (first_so _ _ all.first), ltb-true _ _ (second_so (is_name d.from p.name) _ all.first), log.0, log.1, leb-true _ _ all.third)
 
 -- a status that the purse meets passes its test
 status_tests : (p : State) (s : Status) → IsInStatus p s → in_status p s ≡ true
@@ -72,8 +72,8 @@ owns_means p d h =
     let low = nat_lt d.from_seq p.next in
     let few = nat_lt d.to_seq p.next in
     elim (or_cases (from && low) (to && few) h) [
-      | inl l ↦ inl (same_names _ _ (left_true from low l), ltb-true _ _ (right_true from low l))
-      | inr r ↦ inr (same_names _ _ (left_true to few r), ltb-true _ _ (right_true to few r))
+      | inl l ↦ inl (same_names _ _ (first_so from low l), ltb-true _ _ (second_so from low l))
+      | inr r ↦ inr (same_names _ _ (first_so to few r), ltb-true _ _ (second_so to few r))
     ]
 
 -- an entry of the purse passes its test

@@ -5,7 +5,7 @@ use Rattle.std.specs.Prelude.{nat_le, nat_lt, is_some, IsNone, IfSome, ◌↔◌
 use Rattle.mx_pay.specs.Limits.{most_number, most_entries}
 use Rattle.mx_pay.specs.Details.{Details, IsDetails, is_details}
 use Rattle.mx_pay.specs.Log.{IsLogValue, Entries, log_len, has_logged}
-use Rattle.mx_pay.proofs.Texts.{left_true, right_true}
+use Rattle.std.specs.Cmp.{first_so, second_so}
 use Rattle.mx_pay.proofs.SameLemmas.{same_details, names_alike, names_unlike, has-with_entry, with_entry_valid}
 use Rattle.mx_purse.specs.declared.status.Status.{Status}
 use Rattle.mx_purse.specs.declared.status.Status.TheVariants.{EaFrom, EaTo, Epr, Epv, Epa}
@@ -276,7 +276,7 @@ pub after_message_is : (p : State) (m : Message) → IsPurse p → IsPurse (afte
 after_message_is p (Req d) h = by_guard p (expects_req p.status d) (took.Req d) h (req_is p d h)
 after_message_is p (Val d) h =
     by_guard p (expects_val p.status d && nat_le (p.balance + d.value) most_number) (took.Val d) h
-    (λ both. val_is p d h (left_true _ _ both) (leb-true _ _ (right_true (expects_val p.status d) _ both)))
+    (λ both. val_is p d h (first_so _ _ both) (leb-true _ _ (second_so (expects_val p.status d) _ both)))
 after_message_is p (Ack d) h = by_guard p (expects_ack p.status d) (took.Ack d) h (ack_is p d h)
 
 -- what an accepted message sends is within its limits
@@ -288,7 +288,7 @@ pub sent_valid : (p : State) (m : Message) → IsPurse p → IfSome (sent_for (h
 sent_valid p (Req d) h = sent_by_guard (expects_req p.status d) (took.Req d) (λ expected. subst (λ s. IfSome (details_of s) IsDetails) (is_epr p.status d expected) h.details)
 sent_valid p (Val d) h =
     sent_by_guard (expects_val p.status d && nat_le (p.balance + d.value) most_number) (took.Val d)
-    (λ both. subst (λ s. IfSome (details_of s) IsDetails) (is_epv p.status d (left_true _ _ both)) h.details)
+    (λ both. subst (λ s. IfSome (details_of s) IsDetails) (is_epv p.status d (first_so _ _ both)) h.details)
 sent_valid p (Ack d) h = sent_by_guard (expects_ack p.status d) (took.Ack d) (λ expected. tt)
 
 -- ---- loads and redemptions
