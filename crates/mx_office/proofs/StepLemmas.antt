@@ -25,7 +25,7 @@ use Rattle.mx_book.specs.World.{World, Row, Holding, Name, Token, is_of_member, 
 use Rattle.mx_book.specs.Conditions.{IsWorld, all_granted}
 use Rattle.mx_book.specs.Reads.{from_row, uncollected_of, inbox_of, message_of, redemption_of}
 use Rattle.mx_book.proofs.Opening.{opening_is}
-use Rattle.mx_book.proofs.PurseLemmas.{member_stays, holder_stays, new_purse_stays}
+use Rattle.mx_book.proofs.KeepLemmas.{member_stays, holder_stays, new_purse_stays}
 use Rattle.mx_office.specs.declared.values.Command.{Command}
 use Rattle.mx_office.specs.declared.values.Command.TheVariants.{NewMember, Grant, NewHolder, NewPurse, Load, Collect, Show, StartFrom, StartTo, Handle, Discard, Abort, Redeem, Inbox}
 use Rattle.mx_office.specs.declared.values.Decided.{Decided}
