@@ -1,10 +1,11 @@
 -- An edit of the rows is the edit of the World.
 use Rattle.std.proofs.Common.{◌≡◌, ℕ, ◌+◌, ◌<◌, Bool, true, false, cond, List, [], ◌∷◌, ◌++◌, map, refl, sym, ◌∙◌, ap, subst, Option, Some, None, IsSome, option_and_then, arith}
 use Rattle.mx_book.proofs.FoundLemmas.{none_is, inside}
-use Rattle.std.specs.Prelude.{◌||◌, option_map, IsNone}
+use Rattle.std.specs.Prelude.{◌&&◌, ◌||◌, option_map, IsNone, IsTrue, nat_lt}
 use Rattle.std.specs.Ordering.{nat_cmp}
 use Rattle.std.specs.Cmp.{nat_cmp_total}
 use Rattle.std.specs.FinMap as fmap
+use Rattle.std.proofs.lemmas.Bool.Decides.{nat_tests}
 use Rattle.std.specs.FinMap.{nat_cmp-IsAntisymmetric}
 use Rattle.mx_book.specs.Limits.{most_messages}
 use Rattle.mx_pay.specs.Limits.{most_number}
@@ -26,7 +27,7 @@ use Rattle.mx_book.specs.declared.edits.Edit.TheVariants.{NewMember, SetMember, 
 use Rattle.mx_book.specs.Under.{pair_cmp, under, remake}
 use Rattle.mx_book.specs.Rows.{Rows, world_of, row_of, row_from, IsProper, Spelled, line_row, line_at, lines_from, amount_of, mark_of}
 use Rattle.mx_book.specs.Edits.{edited, all_edited, AllSuit, Suits}
-use Rattle.mx_book.specs.RowEdits.{rewritten, all_rewritten, Able, AllAble, on_purse, member_at, marked}
+use Rattle.mx_book.specs.RowEdits.{rewritten, all_rewritten, able, all_able, can_rise, on_purse, member_at, marked}
 use Rattle.mx_book.proofs.UnderLemmas.{under-insert, under-insert_other, under-remove, under-remove_other, under-none, under-remake, get-remake, pair_exact, entries_empty}
 use Rattle.mx_book.proofs.LineLemmas.{lines-insert}
 use Rattle.mx_book.proofs.RowLemmas.{rows_put, get_rows, found, found_row, not_there, change_is, NoStray-insert, NoStray-remove, proper_purse}
@@ -199,12 +200,15 @@ edits_spelled r w (e ∷ es) h fits = edits_spelled (rewritten r e) (edited w e)
 
 -- ---- what a write needs
 
-able : (r : Rows) (e : Edit) → Suits (world_of r) e → Able r e
-able r (AddMessage p m) fits = λ x is.
+able_there : (r : Rows) (e : Edit) → Suits (world_of r) e → IsTrue (able r e)
+able_there r (AddMessage p m) fits =
     let z = found r p (λ row. (fmap.len row.holding.inbox < most_messages) × (row.holding.next_message < most_number)) fits in
-    subst (λ (y : PurseRow). y.next_message < most_number) (inside z.0 x (sym z.1 ∙ is)) z.2.1
-able r e fits = tt
+    subst (λ o. IsTrue (can_rise o)) (sym z.1) (grind (arith, nat_tests, z.2.1))
+able_there r e fits = refl
 
-pub all_able : (r : Rows) (w : World) (es : List Edit) → Spelled r w → AllSuit w es → AllAble r es
-all_able r w [] h fits = tt
-all_able r w (e ∷ es) h fits = (able r e (subst (λ (z : World). Suits z e) h.world fits.0), all_able (rewritten r e) (edited w e) es (edit_spelled r w e h fits.0) fits.1)
+pub all_able_there : (r : Rows) (w : World) (es : List Edit) → Spelled r w → AllSuit w es → IsTrue (all_able r es)
+all_able_there r w [] h fits = refl
+all_able_there r w (e ∷ es) h fits =
+    let first = able_there r e (subst (λ (z : World). Suits z e) h.world fits.0) in
+    let rest = all_able_there (rewritten r e) (edited w e) es (edit_spelled r w e h fits.0) fits.1 in
+    grind (arith, first, rest)

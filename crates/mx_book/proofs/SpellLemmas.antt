@@ -1,5 +1,5 @@
 -- Reads and edits of rows that spell a World.
-use Rattle.std.proofs.Common.{◌≡◌, ℕ, List, [], ◌∷◌, ap, ◌∙◌, sym, subst, refl}
+use Rattle.std.proofs.Common.{◌≡◌, ℕ, IsTrue, List, [], ◌∷◌, ap, ◌∙◌, sym, subst, refl}
 use Rattle.std.specs.FinMap as fmap
 use Rattle.mx_book.specs.declared.edits.Edit.{Edit}
 use Rattle.mx_book.specs.World.{World, Name, Token}
@@ -7,13 +7,13 @@ use Rattle.mx_book.specs.Rows.{Rows, world_of}
 use Rattle.mx_book.specs.Reads.{who_of, member_of, holder_of, purses_of, account_of, message_of, inbox_of, lines_of, members_of, load_of, redemption_of, uncollected_of}
 use Rattle.mx_book.specs.RowReads.{row_who_of, row_holder_of, row_purses_of, row_account_of, row_inbox_of, row_lines_of, row_members_of, row_load_of, row_redemption_of, row_uncollected_of}
 use Rattle.mx_book.specs.Edits.{all_edited, Fits}
-use Rattle.mx_book.specs.RowEdits.{rewritten, all_rewritten, Able, AllAble}
+use Rattle.mx_book.specs.RowEdits.{rewritten, all_rewritten, all_able}
 use Rattle.mx_book.specs.declared.edits.Edit.TheVariants.{NewMember, SetMember, NewHolder, NewPurse, SetPurse, AddMessage, DropMessage, AddLine, AddLoad, AddRedemption, Collect}
 use Rattle.std.proofs.Props.{props}
 use mathlib.Core.Logic.{∥∥₁_elim, ∥∥₁_map}
 use Rattle.mx_book.proofs.ReadLemmas.{purses_are, holder_is, account_is, message_is, inbox_is, lines_are, members_are, load_is, redemption_is}
 use Rattle.mx_book.proofs.UncollectedLemmas.{uncollected_is}
-use Rattle.mx_book.proofs.EditLemmas.{edits_spelled, all_able}
+use Rattle.mx_book.proofs.EditLemmas.{edits_spelled, all_able_there}
 use Rattle.mx_book.specs.Spells.{Spells}
 
 -- a read of the World of the rows is one of each World that they spell
@@ -63,21 +63,13 @@ applied r s w es h fits is = subst (λ (z : Rows). Spells z (all_edited w es)) (
 pub own_world : (r : Rows) (w : World) → Spells r w → Spells r (world_of r)
 own_world r w h = subst (λ (z : World). Spells r z) h.spelled.world h
 
-pub able_of : (r : Rows) (w : World) (es : List Edit) → Spells r w → Fits w es → AllAble r es
-able_of r w es h fits = all_able r w es h.spelled fits.each
+pub able_of : (r : Rows) (w : World) (es : List Edit) → Spells r w → Fits w es → IsTrue (all_able r es)
+able_of r w es h fits = all_able_there r w es h.spelled fits.each
 
--- ---- a fact that has at most one proof
+-- ---- what a write needs, and what it leaves
 
-Able-prop : (r : Rows) (e : Edit) → IsProp (Able r e)
-Able-prop r (AddMessage p m) = hlevel props
-Able-prop r e = hlevel props
-
-AllAble-prop : (r : Rows) (es : List Edit) → IsProp (AllAble r es)
-AllAble-prop r [] = hlevel props
-AllAble-prop r (e ∷ es) = hlevel (props, Able-prop r e, AllAble-prop (rewritten r e) es)
-
-pub able_always : (r s : Rows) (es : List Edit) → ∥ Spells r (world_of r) ∥₁ → s ≡ r → ((w : World) → ◌≡◌ {A = ℕ} 0 0 → Spells r w → Fits w es) → AllAble s es
-able_always r s es h is fits = subst (λ (z : Rows). AllAble z es) (sym is) (∥∥₁_elim h (AllAble-prop r es) (λ one. able_of r (world_of r) es one (fits (world_of r) refl one)))
+pub able_always : (r s : Rows) (es : List Edit) → ∥ Spells r (world_of r) ∥₁ → s ≡ r → ((w : World) → ◌≡◌ {A = ℕ} 0 0 → Spells r w → Fits w es) → IsTrue (all_able s es)
+able_always r s es h is fits = subst (λ (z : Rows). IsTrue (all_able z es)) (sym is) (∥∥₁_elim h (hlevel props) (λ one. able_of r (world_of r) es one (fits (world_of r) refl one)))
 
 applied_own : (r s : Rows) (es : List Edit) → Spells r (world_of r) → Fits (world_of r) es → s ≡ all_rewritten r es → Spells s (world_of s)
 applied_own r s es h fits is = own_world s (all_edited (world_of r) es) (applied r s (world_of r) es h fits is)

@@ -1,6 +1,5 @@
 -- What edits make of rows.
-use Rattle.std.specs.Prelude.{Bool, ◌||◌, ◌+◌, ◌<◌, List, [], ◌∷◌, Option, Some, None}
-use Rattle.std.specs.Option.{ForSome}
+use Rattle.std.specs.Prelude.{Bool, true, ◌&&◌, ◌||◌, ◌+◌, nat_lt, List, [], ◌∷◌, Option, Some, None}
 use Rattle.std.specs.FinMap as fmap
 use Rattle.mx_pay.specs.Limits.{most_number}
 use Rattle.mx_pay.specs.Names.{name_cmp}
@@ -51,12 +50,17 @@ abbrev pub all_rewritten : Rows → List Edit → Rows
 all_rewritten r [] = r
 all_rewritten r (e ∷ es) = all_rewritten (rewritten r e) es
 
--- what a write of the rows needs: a next message number can rise
-abbrev pub Able : Rows → Edit → Type 0
-Able r (AddMessage p m) = ForSome (fmap.get r.purses p) (λ x. x.next_message < most_number)
-Able r e = Unit {0}
+-- whether the next message number of a purse can rise
+abbrev pub can_rise : Option PurseRow → Bool
+can_rise None = true
+can_rise (Some x) = nat_lt x.next_message most_number
+
+-- whether the rows have what a write of them needs
+abbrev pub able : Rows → Edit → Bool
+able r (AddMessage p m) = can_rise (fmap.get r.purses p)
+able r e = true
 
 -- and so for edits, in order
-abbrev pub AllAble : Rows → List Edit → Type 0
-AllAble r [] = Unit {0}
-AllAble r (e ∷ es) = Able r e × AllAble (rewritten r e) es
+abbrev pub all_able : Rows → List Edit → Bool
+all_able r [] = true
+all_able r (e ∷ es) = able r e && all_able (rewritten r e) es

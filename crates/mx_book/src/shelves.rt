@@ -1,12 +1,12 @@
 //! The tables of a book in memory, with no conditions on what they hold.
-ghost use Rattle.std.specs.Prelude.{◌≡◌, ◌+◌, ◌≤◌, ◌<◌, ℕ, List, length, OnOk, IfOk, map, filter, take, nat_lt};
+ghost use Rattle.std.specs.Prelude.{◌≡◌, ◌+◌, ◌≤◌, ◌<◌, IsTrue, ℕ, List, length, OnOk, IfOk, map, filter, take, nat_lt};
 ghost use Rattle.std.specs.FinMap.{get};
 ghost use Rattle.mx_pay.specs.Names.{is_name};
 ghost use Rattle.mx_purse.specs.declared.message.Message.{Message as Kept};
 ghost use Rattle.mx_book.specs.declared.values.LineRow.{LineRow as KeptLine};
 ghost use Rattle.mx_book.specs.declared.values.MemberRow.{MemberRow as KeptMember};
 ghost use Rattle.mx_book.specs.declared.values.PurseRow.{PurseRow as KeptPurse};
-ghost use Rattle.mx_book.specs.RowEdits.{rewritten, all_rewritten, Able, AllAble};
+ghost use Rattle.mx_book.specs.RowEdits.{rewritten, all_rewritten, able, all_able};
 ghost use Rattle.mx_book.specs.RowReads.{row_who_of, row_holder_of, row_purses_of, row_account_of, row_inbox_of, row_lines_of, row_members_of, row_load_of, row_redemption_of, row_uncollected_of, line_of_row};
 ghost use Rattle.mx_book.specs.Blocks.{first_of};
 ghost use Rattle.mx_book.specs.Left.{rows_left};
@@ -77,7 +77,7 @@ impl Shelves {
 
     /// Makes one edit, for which there is room.
     pub fn edit(&mut self, edit: Edit)
-        requires able { Able (rows_of self.old) edit }
+        requires able { IsTrue (able (rows_of self.old) edit) }
         requires room { HasRoom 1 self.old }
         ensures edited { rows_of self.new ≡ rewritten (rows_of self.old) edit }
         ensures room { SpendsOne self.old self.new }
@@ -118,7 +118,7 @@ impl Shelves {
 
     /// Makes edits in order, for which there is room.
     pub fn edit_all(&mut self, edits: &[Edit])
-        requires able { AllAble (rows_of self.old) edits.now }
+        requires able { IsTrue (all_able (rows_of self.old) edits.now) }
         requires room { HasRoom (length edits.now) self.old }
         ensures { rows_of self.new ≡ all_rewritten (rows_of self.old) edits.now }
     {

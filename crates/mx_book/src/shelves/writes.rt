@@ -1,6 +1,6 @@
 //! The writes of an edit that is more than one row or not its row alone.
-ghost use Rattle.std.specs.Prelude.{◌≡◌};
-ghost use Rattle.mx_book.specs.RowEdits.{rewritten, Able};
+ghost use Rattle.std.specs.Prelude.{◌≡◌, IsTrue};
+ghost use Rattle.mx_book.specs.RowEdits.{rewritten, able};
 ghost use Rattle.mx_book.specs.Shelves.{rows_of, HasRoom, SpendsOne};
 
 use crate::edits::Edit;
@@ -63,7 +63,7 @@ impl Shelves {
 
     /// Adds a message to the inbox of a purse that is there, under its next number.
     pub(super) fn add_message(&mut self, purse: Name, message: Message)
-        requires able { Able (rows_of self.old) (Edit.AddMessage purse message) }
+        requires able { IsTrue (able (rows_of self.old) (Edit.AddMessage purse message)) }
         requires room { HasRoom 1 self.old }
         ensures edited { rows_of self.new ≡ rewritten (rows_of self.old) (Edit.AddMessage purse message) }
         ensures room { SpendsOne self.old self.new }
