@@ -1,0 +1,47 @@
+"""The program, the samples of examples/ request by request, and the response that each has to get."""
+import os
+import re
+
+TOP = os.path.dirname(os.path.dirname(os.path.abspath(__file__)))
+PROGRAM = os.path.join(TOP, "crates", "mx_cli", "out", "mx_cli")
+TOKEN = "0" * 31 + "1"
+RUN = ["run", "--memory", "--token", TOKEN]
+
+UNAVAILABLE = b"HTTP/1.1 503 Service Unavailable\r\ncontent-length: 0\r\nconnection: close\r\n\r\n"
+
+
+def response(body, status="200 OK"):
+    head = f"HTTP/1.1 {status}\r\ncontent-type: application/json\r\n"
+    return f"{head}content-length: {len(body)}\r\nconnection: close\r\n\r\n{body}".encode()
+
+
+def done(word):
+    return response('{"done":"%s"}' % word)
+
+
+STARTED = response('{"details":"p1,q1,60,0,0","done":"started"}')
+
+FIRST_PATH = 3 * [done("added")] + [response('{"balance":0,"next":0,"purse":"p1","status":"eaFrom"}')]
+PAYMENT = (
+    [done("added"), done("granted")]
+    + 4 * [done("added")]
+    + [done("loaded"), STARTED, STARTED, done("value-sent"), done("received"), done("finished")]
+    + [response('{"balance":40,"next":1,"purse":"p1","status":"eaFrom"}')]
+    + [response('{"balance":60,"next":1,"purse":"q1","status":"eaTo"}')]
+)
+
+
+def requests(name):
+    """The requests of a sample: each begins with its method at the start of a line or behind a body."""
+    with open(os.path.join(TOP, "examples", name), "rb") as file:
+        text = file.read()
+    parts = re.split(rb"(?<=[}\n])(?=(?:GET|POST) /)", text)
+    assert b"".join(parts) == text
+    return parts
+
+
+def sample(name, responses):
+    """The requests of a sample with their responses."""
+    parts = requests(name)
+    assert len(parts) == len(responses), (len(parts), len(responses))
+    return list(zip(parts, responses))
