@@ -28,13 +28,3 @@ map_last (e ∷ es) l = ap (λ xs. line_at e ∷ xs) (map_last es l)
 -- a line under the next number joins the lines at their end
 pub lines-insert : (m : FinMap nat_cmp LineRow) (l : Line) → AreNumbered 1 (lines_from m ++ l ∷ []) → lines_from (insert m l.number (line_row l)) ≡ lines_from m ++ l ∷ []
 lines-insert m l h = ap (map line_at) (entries-insert nat_cmp_total m l.number (line_row l) ∙ put_last 1 (entries m) l h) ∙ map_last (entries m) l
-
--- ---- lines that an operation adds fit: their numbers go on from the count
-pub numbered-append : (j : ℕ) (ls : List Line) (l : Line) → AreNumbered j ls → l.number ≡ j + length ls → AreNumbered j (ls ++ l ∷ [])
-numbered-append j [] l h is = (omega arith, tt)
-numbered-append j (x ∷ ls) l h is = (h.0, numbered-append (j + 1) ls l h.1 (omega arith))
-
--- ---- what holds of each of two lists holds of each of both
-pub all_append : {X : Type 0} (P : X → Type 0) (xs ys : List X) → AllByRecursion P xs → AllByRecursion P ys → AllByRecursion P (xs ++ ys)
-all_append P [] ys h g = g
-all_append P (x ∷ xs) ys h g = (h.0, all_append P xs ys h.1 g)

@@ -23,7 +23,6 @@ use Rattle.mx_book.specs.Under.{remade}
 use Rattle.mx_book.proofs.MapLemmas.{get-pick}
 use Rattle.mx_book.proofs.SumLemmas.{sum_values-insert, value_of}
 use Rattle.mx_book.proofs.FoundLemmas.{inside, each_inserted, still_some}
-use Rattle.mx_book.proofs.LineLemmas.{all_append}
 use Rattle.mx_book.proofs.KeepLemmas.{owner_stays, heads_stay, IsRow, is_row, rows_stay}
 use Rattle.mx_book.proofs.PurseLemmas.{paid_stays, with_lines, line_edits, change_set, edits_append, suits_append, purse_leads, purse_suits}
 

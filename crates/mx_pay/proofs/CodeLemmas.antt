@@ -217,12 +217,6 @@ empty_of xs h = nil_from_length xs (grind (arith, nat_tests))
 pub nonempty_of : (xs : List ℕ) → (length xs == 0) ≡ false → xs ≡ [] → ⊥
 nonempty_of xs h e = grind (arith, nat_tests, ap length e)
 
--- a turn of the reader's loop
-pub turn_more : (k : ℕ) (t : List ℕ) (log m : Entries) (p : List ℕ × List ℕ) → k < most_entries → cut 59 t ≡ Some p → with_text log p.0 ≡ Some m → entries_of (most_entries - (k + 1)) p.1 m ≡ entries_of (most_entries - k) t log
-turn_more k t log m p low is text =
-    let e : most_entries - k ≡ suc (most_entries - (k + 1)) = omega arith in
-    sym (ap (λ n. entries_of n t log) e ∙ ap (after_cut (entries_of (most_entries - (k + 1))) t log) is ∙ ap (option_and_then (entries_of (most_entries - (k + 1)) p.1)) text)
-
 -- the rest of a text, behind a first entry or not
 abbrev pub rest_text : List Details → List ℕ
 rest_text [] = []

@@ -30,16 +30,6 @@ pub bind_some : {A B : Type 0} (f : A → Option B) (o : Option A) (y : B) → o
 bind_some f None y h = cc
 bind_some f (Some x) y h = (x, (refl, h))
 
-bytes_same : (xs ys : List ℕ) → same_bytes xs ys ≡ true → xs ≡ ys
-bytes_same [] [] h = refl
-bytes_same [] (y ∷ ys) h = cc
-bytes_same (x ∷ xs) [] h = cc
-bytes_same (x ∷ xs) (y ∷ ys) h = grind (arith, nat_tests, bytes_same xs ys)
-
-bytes_itself : (xs : List ℕ) → same_bytes xs xs ≡ true
-bytes_itself [] = refl
-bytes_itself (x ∷ xs) = grind (arith, nat_tests, bytes_itself xs)
-
 pub texts_same : (xs ys : List ℕ) → pointwise eqb xs ys ≡ true → xs ≡ ys
 texts_same [] [] h = refl
 texts_same [] (y ∷ ys) h = cc
@@ -57,7 +47,7 @@ number_takes t n h =
     let s = cond_some _ _ _ h in
     let e : digits_value 10 t ≡ n = s.1 in
     let low : nat_lt (digits_value 10 t) (2 ^ 64) ≡ true = first_so _ _ s.0 in
-    (bytes_same _ _ (second_so (nat_lt (digits_value 10 t) (2 ^ 64)) _ s.0) ∙ ap decimal e, subst (λ (k : ℕ). k < 2 ^ 64) e (ltb-true _ _ low))
+    (texts_same _ _ (second_so (nat_lt (digits_value 10 t) (2 ^ 64)) _ s.0) ∙ ap decimal e, subst (λ (k : ℕ). k < 2 ^ 64) e (ltb-true _ _ low))
 
 pub number_again : (n : ℕ) → n < 2 ^ 64 → number_of (decimal n) ≡ Some n
 unfolding number_of
@@ -65,7 +55,7 @@ number_again n h =
     let v : digits_value 10 (decimal n) ≡ n = (decimal_is_IsNumeral n h).1 in
     ap (λ (k : ℕ). cond (nat_lt k (2 ^ 64) && same_bytes (decimal n) (decimal k)) (Some k) None) v
     ∙ ap (λ b. cond (b && same_bytes (decimal n) (decimal n)) (Some n) None) (lt-ltb _ _ h)
-    ∙ ap (λ b. cond b (Some n) None) (bytes_itself (decimal n))
+    ∙ ap (λ b. cond b (Some n) None) (texts_itself (decimal n))
 
 pub number_none : (t : List ℕ) → ((n : ℕ) → n < 2 ^ 64 → t ≡ decimal n → ⊥) → number_of t ≡ None
 number_none t h = none_or (number_of t) (λ n e. let k = number_takes t n e in h n k.1 k.0)

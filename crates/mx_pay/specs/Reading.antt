@@ -6,6 +6,8 @@ use Rattle.mx_pay.specs.Limits.{most_amount, most_number, most_entries}
 use Rattle.mx_pay.specs.Names.{is_name_text, is_name}
 use Rattle.mx_pay.specs.Details.{Details}
 use Rattle.mx_pay.specs.Log.{Entries, log_len, with_entry, has_logged, is_below}
+use Rattle.std.specs.Cmp.Lexicographic.{pointwise}
+use Rattle.std.proofs.Math.Dec.{eqb}
 
 -- a byte put before the first of two texts
 abbrev pub onto : ℕ → Option (List ℕ × List ℕ) → Option (List ℕ × List ℕ)
@@ -19,10 +21,7 @@ cut c (b ∷ bs) = if b == c then Some ([], bs) else onto b (cut c bs)
 
 -- whether two texts have the same bytes
 abbrev pub same_bytes : List ℕ → List ℕ → Bool
-same_bytes [] [] = Bool.true
-same_bytes [] (b ∷ bs) = Bool.false
-same_bytes (a ∷ xs) [] = Bool.false
-same_bytes (a ∷ xs) (b ∷ bs) = (a == b) && same_bytes xs bs
+same_bytes = pointwise eqb
 
 -- the number, of 64 bits, whose decimal text this is
 unfoldable pub number_of : List ℕ → Option ℕ

@@ -2,6 +2,7 @@
 use Rattle.std.proofs.Common.{◌≡◌, ℕ, ◌+◌, ◌<◌, ◌≤◌, inl, inr, Bool, true, false, cond, ◌&&◌, List, refl, sym, ◌∙◌, ap, subst, Option, Some, None, Ok, Err, arith}
 use Rattle.std.proofs.lemmas.Bool.{leb-true, lt-ltb, ltb-false, leb-false, le-ltb, or_parts, or_cases, false_from_ne_true, cond-true, cond-false}
 use Rattle.std.specs.Prelude.{nat_le, nat_lt, is_some, IsNone, IfSome, ◌↔◌}
+use Rattle.std.proofs.lemmas.Bool.Decides.{nat_tests}
 use Rattle.mx_pay.specs.Limits.{most_number, most_entries}
 use Rattle.mx_pay.specs.Details.{Details, IsDetails, is_details}
 use Rattle.mx_pay.specs.Log.{IsLogValue, Entries, log_len, has_logged}
@@ -29,27 +30,18 @@ record CanLog (log : Entries) (d : Details) : Type 0 where
   room : log_len log < most_entries
 
 can_log_in : (p : State) (s : Status) → IsInStatus p s → IfSome (details_of s) IsDetails → (d : Details) → pending s ≡ Some d → CanLog p.log d
-can_log_in p EaFrom h valid d e = cc
-can_log_in p EaTo h valid d e = cc
-can_log_in p (Epr c) h valid d e = cc
-can_log_in p (Epv c) h valid d e = let same : c ≡ d = cc in subst (CanLog p.log) same (record { valid = valid; absent = h.2; room = h.3 })
-can_log_in p (Epa c) h valid d e = let same : c ≡ d = cc in subst (CanLog p.log) same (record { valid = valid; absent = h.2; room = h.3 })
+can_log_in p s h valid d e =
+    let can : IsDetails d × (has_logged p.log d ≡ false) × (log_len p.log < most_entries) = grind arith in record { valid = can.0; absent = can.1; room = can.2 }
 
 -- what is pending is within its limits
 pub pending_valid : (s : Status) → IfSome (details_of s) IsDetails → IfSome (pending s) IsDetails
-pending_valid EaFrom valid = tt
-pending_valid EaTo valid = tt
-pending_valid (Epr d) valid = tt
 pending_valid (Epv d) valid = valid
 pending_valid (Epa d) valid = valid
+pending_valid s valid = tt
 
 -- the lines that an abort leaves are few
 lines_in : (p : State) (s : Status) → IsInStatus p s → lines_with p.lines (pending s) ≤ most_number + 2
-lines_in p EaFrom h = h
-lines_in p EaTo h = h
-lines_in p (Epr d) h = omega arith
-lines_in p (Epv d) h = omega arith
-lines_in p (Epa d) h = omega arith
+lines_in p s h = grind arith
 
 -- the log that an abort leaves is within its limits
 log_of : (log : Entries) (o : Option Details) → ((d : Details) → o ≡ Some d → CanLog log d) → IsLogValue log → IsLogValue (with_pending log o)
@@ -58,20 +50,12 @@ log_of log (Some d) h valid = let can = h d refl in with_entry_valid log d valid
 
 -- what is pending is the purse's own
 own_pending : (p : State) (s : Status) → IsInStatus p s → (d : Details) → pending s ≡ Some d → IsOwnEntry p d
-own_pending p EaFrom h d e = cc
-own_pending p EaTo h d e = cc
-own_pending p (Epr c) h d e = cc
-own_pending p (Epv c) h d e = let same : c ≡ d = cc in subst (IsOwnEntry p) same (inr (h.0, h.1))
-own_pending p (Epa c) h d e = let same : c ≡ d = cc in subst (IsOwnEntry p) same (inl (h.0, h.1))
+own_pending p s h d e = grind arith
 
 own_after : (p : State) (o : Option Details) → ((d : Details) → o ≡ Some d → IsOwnEntry p d) → ((d : Details) → has_logged p.log d ≡ true → IsOwnEntry p d)
     → (e : Details) → has_logged (with_pending p.log o) e ≡ true → IsOwnEntry p e
 own_after p None own entries e h = entries e h
-own_after p (Some d) own entries e h =
-    elim (or_cases (is_details e d) (has_logged p.log e) (sym (has-with_entry p.log d e) ∙ h)) [
-      | inl same ↦ subst (IsOwnEntry p) (sym (same_details e d same)) (own d refl)
-      | inr there ↦ entries e there
-    ]
+own_after p (Some d) own entries e h = grind (arith, has-with_entry p.log d e, same_details e d, own d refl, entries e)
 
 -- the entries that an abort leaves are the purse's own
 own_aborted : (p : State) → IsPurse p → (e : Details) → has_logged (aborted p).log e ≡ true → IsOwnEntry p e
@@ -97,27 +81,19 @@ pub record IsFit (p : State) : Type 0 where
   pub next : p.next < most_number
   pub lines : p.lines < most_number
 
--- where no guard fails, the first passes and none of the others fails
-guard_passes : {R : Type 0} (b : Bool) (r : R) (o : Option R) → cond b (Some r) o ≡ None → (b ≡ false) × (o ≡ None)
-guard_passes true r o h = cc
-guard_passes false r o h = (refl, h)
-
 -- the guards of both starts passed
-pub is_fit : (p : State) → start_worn p ≡ None → IsFit p
+is_fit : (p : State) → start_worn p ≡ None → IsFit p
 is_fit p h =
-    let first = guard_passes _ _ _ h in
-    let numbers = or_parts _ _ (guard_passes _ _ _ first.1).0 in
-    record { room = leb-false _ _ first.0; next = leb-false _ _ numbers.0; lines = leb-false _ _ numbers.1 }
+    let fit : (log_len (aborted p).log < most_entries) × (p.next < most_number) × (p.lines < most_number) = grind (arith, nat_tests) in
+    record { room = fit.0; next = fit.1; lines = fit.2 }
 
 -- the lines after a start are few
 lines_started : (p : State) (o : Option Details) → p.lines < most_number → lines_with p.lines o ≤ most_number
-lines_started p None h = omega arith
-lines_started p (Some d) h = omega arith
+lines_started p o h = grind arith
 
 -- an entry of the purse is one after a start
 own_later : (p : State) (s : Status) (e : Details) → IsOwnEntry p e → IsOwnEntry (started p s) e
-own_later p s e (inl h) = inl (h.0, omega arith)
-own_later p s e (inr h) = inr (h.0, omega arith)
+own_later p s e h = grind arith
 
 -- a purse is one after a start into a status that fits it
 started_is : (p : State) (s : Status) → IsPurse p → IsFit p → IsInStatus (started p s) s → IfSome (details_of s) IsDetails → IsPurse (started p s)
@@ -133,59 +109,57 @@ started_is p s h fit status details = record {
 
 -- details with the purse's next number aren't among its own yet
 not_own : (p : State) (d : Details) → (d.from ≡ p.name → d.from_seq ≡ p.next) → (d.to ≡ p.name → d.to_seq ≡ p.next) → IsOwnEntry p d → ⊥
-not_own p d from to (inl h) = let next = from h.0 in let below : d.from_seq < p.next = h.1 in omega (arith, next)
-not_own p d from to (inr h) = let next = to h.0 in let below : d.to_seq < p.next = h.1 in omega (arith, next)
+not_own p d from to h = grind arith
 
 -- a purse is one after a start of a payment to the peer that isn't refused
 pub started_from_is : (p : State) (peer : List ℕ) (value seq : ℕ) → IsPurse p → IsDetails (from_details p peer value seq) → start_from_refusal p peer value ≡ None
     → IsPurse (started p (Epr (from_details p peer value seq)))
 started_from_is p peer value seq h valid free =
     let rises : p.next < p.next + 1 = omega arith in
-    let enough = guard_passes _ _ _ (guard_passes _ _ _ free).1 in
-    let fit : IsFit p = is_fit p enough.1 in
+    let fit : IsFit p = is_fit p (grind arith) in
     let new = not_own p (from_details p peer value seq) (λ _. refl) (λ same. absurd (valid.apart (sym same))) in
     started_is p _ h fit
-    (refl, ltb-false _ _ enough.0, rises, false_from_ne_true _ (λ there. new (own_aborted p h _ there)), fit.room, lines_started p (pending p.status) fit.lines) valid
+    (refl, grind (arith, nat_tests, free), rises, false_from_ne_true _ (λ there. new (own_aborted p h _ there)), fit.room, lines_started p (pending p.status) fit.lines) valid
 
 -- a purse is one after a start of a payment from the peer that isn't refused
 pub started_to_is : (p : State) (peer : List ℕ) (value seq : ℕ) → IsPurse p → IsDetails (to_details p peer value seq) → start_to_refusal p peer ≡ None
     → IsPurse (started p (Epv (to_details p peer value seq)))
 started_to_is p peer value seq h valid free =
     let rises : p.next < p.next + 1 = omega arith in
-    let fit : IsFit p = is_fit p (guard_passes _ _ _ free).1 in
+    let fit : IsFit p = is_fit p (grind arith) in
     let new = not_own p (to_details p peer value seq) (λ same. absurd (valid.apart same)) (λ _. refl) in
     started_is p _ h fit
     (refl, rises, false_from_ne_true _ (λ there. new (own_aborted p h _ there)), fit.room, lines_started p (pending p.status) fit.lines) valid
 
 -- the refusals of each start by the guards
 pub from_same : (p : State) (peer : List ℕ) (value : ℕ) → p.name ≡ peer → start_from_refusal p peer value ≡ Some SamePurse
-from_same p peer value same = cond-true _ _ _ (names_alike _ _ same)
+from_same p peer value same = grind (arith, names_alike p.name peer)
 
 pub from_little : (p : State) (peer : List ℕ) (value : ℕ) → (p.name ≡ peer → ⊥) → p.balance < value → start_from_refusal p peer value ≡ Some NotEnough
-from_little p peer value apart less = cond-false _ _ _ (names_unlike _ _ apart) ∙ cond-true _ _ _ (lt-ltb _ _ less)
+from_little p peer value apart less = grind (arith, nat_tests, names_unlike p.name peer apart)
 
 pub from_rest : (p : State) (peer : List ℕ) (value : ℕ) → (p.name ≡ peer → ⊥) → value ≤ p.balance → start_from_refusal p peer value ≡ start_worn p
-from_rest p peer value apart enough = cond-false _ _ _ (names_unlike _ _ apart) ∙ cond-false _ _ _ (le-ltb _ _ enough)
+from_rest p peer value apart enough = grind (arith, nat_tests, names_unlike p.name peer apart)
 
 pub to_same : (p : State) (peer : List ℕ) → p.name ≡ peer → start_to_refusal p peer ≡ Some SamePurse
-to_same p peer same = cond-true _ _ _ (names_alike _ _ same)
+to_same p peer same = grind (arith, names_alike p.name peer)
 
 pub to_rest : (p : State) (peer : List ℕ) → (p.name ≡ peer → ⊥) → start_to_refusal p peer ≡ start_worn p
-to_rest p peer apart = cond-false _ _ _ (names_unlike _ _ apart)
+to_rest p peer apart = grind (arith, names_unlike p.name peer apart)
 
 -- ---- the two clauses of a call, where it is refused and where it isn't
 
 pub refused : {A R : Type 0} (o : Option R) (r : R) (a : A) → o ≡ Some r → Err r ≡ or_refused o a
-refused o r a h = sym (ap (λ x. or_refused x a) h)
+refused o r a h = grind arith
 
 pub kept : {R : Type 0} (o : Option R) (r : R) (p q : State) → o ≡ Some r → p ≡ unless_refused o p q
-kept o r p q h = sym (ap (λ x. unless_refused x p q) h)
+kept o r p q h = grind arith
 
 pub accepted : {A R : Type 0} (o : Option R) (a : A) → o ≡ None → Ok a ≡ or_refused o a
-accepted o a h = sym (ap (λ x. or_refused x a) h)
+accepted o a h = grind arith
 
 pub moved : {R : Type 0} (o : Option R) (p q : State) → o ≡ None → q ≡ unless_refused o p q
-moved o p q h = sym (ap (λ x. unless_refused x p q) h)
+moved o p q h = grind arith
 
 -- details that are there: the two names differ
 pub names_apart : {A : Type 0} {D : Type 0} (o : Option D) (d : D) → (IsNone o ↔ A) → o ≡ Some d → A → ⊥
@@ -195,25 +169,16 @@ names_apart o d iff is e = let both : false ≡ true = sym (iff.1 e) ∙ ap is_s
 
 -- the status in which a message is expected
 is_epr : (s : Status) (d : Details) → expects_req s d ≡ true → s ≡ Epr d
-is_epr EaFrom d h = cc
-is_epr EaTo d h = cc
 is_epr (Epr e) d h = ap Epr (same_details e d h)
-is_epr (Epv e) d h = cc
-is_epr (Epa e) d h = cc
+is_epr s d h = cc
 
 is_epv : (s : Status) (d : Details) → expects_val s d ≡ true → s ≡ Epv d
-is_epv EaFrom d h = cc
-is_epv EaTo d h = cc
-is_epv (Epr e) d h = cc
 is_epv (Epv e) d h = ap Epv (same_details e d h)
-is_epv (Epa e) d h = cc
+is_epv s d h = cc
 
 is_epa : (s : Status) (d : Details) → expects_ack s d ≡ true → s ≡ Epa d
-is_epa EaFrom d h = cc
-is_epa EaTo d h = cc
-is_epa (Epr e) d h = cc
-is_epa (Epv e) d h = cc
 is_epa (Epa e) d h = ap Epa (same_details e d h)
+is_epa s d h = cc
 
 -- what holds of a purse that expects a message
 pub in_epr : (p : State) (d : Details) → IsPurse p → expects_req p.status d ≡ true → IsInStatus p (Epr d)
@@ -279,90 +244,39 @@ after_message_is p (Val d) h =
     (λ both. val_is p d h (first_so _ _ both) (leb-true _ _ (second_so (expects_val p.status d) _ both)))
 after_message_is p (Ack d) h = by_guard p (expects_ack p.status d) (took.Ack d) h (ack_is p d h)
 
--- what an accepted message sends is within its limits
-sent_by_guard : (b : Bool) (x : Handled) → (b ≡ true → IfSome (sent_for x) (λ s. IsMessage s.1)) → IfSome (sent_for (cond b x took.Ignored)) (λ s. IsMessage s.1)
-sent_by_guard true x h = h refl
-sent_by_guard false x h = tt
-
-pub sent_valid : (p : State) (m : Message) → IsPurse p → IfSome (sent_for (handled p m)) (λ s. IsMessage s.1)
-sent_valid p (Req d) h = sent_by_guard (expects_req p.status d) (took.Req d) (λ expected. subst (λ s. IfSome (details_of s) IsDetails) (is_epr p.status d expected) h.details)
-sent_valid p (Val d) h =
-    sent_by_guard (expects_val p.status d && nat_le (p.balance + d.value) most_number) (took.Val d)
-    (λ both. subst (λ s. IfSome (details_of s) IsDetails) (is_epv p.status d (first_so _ _ both)) h.details)
-sent_valid p (Ack d) h = sent_by_guard (expects_ack p.status d) (took.Ack d) (λ expected. tt)
-
 -- ---- loads and redemptions
 
--- what a load that isn't refused says: there are few lines, and the balance stays within its limit
-pub record LoadGuards (p : State) (amount : ℕ) : Type 0 where
-  pub lines : p.lines < most_number
-  pub balance : p.balance + amount ≤ most_number
-
-pub load_guards : (p : State) (amount : ℕ) → load_refusal p amount ≡ None → LoadGuards p amount
-load_guards p amount h =
-    let first = guard_passes (nat_le most_number p.lines) load.Worn _ h in
-    let second = guard_passes (nat_lt most_number (p.balance + amount)) load.OverCap None first.1 in
-    record { lines = leb-false _ _ first.0; balance = ltb-false _ _ second.0 }
-
 status_loaded : (p : State) (amount : ℕ) (s : Status) → p.lines < most_number → IsInStatus p s → IsInStatus (loaded p amount) s
-status_loaded p amount EaFrom low h = omega arith
-status_loaded p amount EaTo low h = omega arith
-status_loaded p amount (Epr d) low h = (h.0, omega arith, h.2, h.3, h.4, omega arith)
-status_loaded p amount (Epv d) low h = (h.0, h.1, h.2, h.3, omega arith)
-status_loaded p amount (Epa d) low h = (h.0, h.1, h.2, h.3, omega arith)
+status_loaded p amount s low h = grind arith
 
--- a purse is one after a load within its limits
-pub load_is : (p : State) (amount : ℕ) → IsPurse p → p.lines < most_number → p.balance + amount ≤ most_number → IsPurse (loaded p amount)
-load_is p amount h low below = record {
+-- a purse is one after a load that isn't refused
+pub loaded_is : (p : State) (amount : ℕ) → IsPurse p → load_refusal p amount ≡ None → IsPurse (loaded p amount)
+loaded_is p amount h free = record {
   name = h.name;
-  balance = below;
+  balance = grind (arith, nat_tests);
   next = h.next;
-  status = status_loaded p amount p.status low h.status;
+  status = status_loaded p amount p.status (grind (arith, nat_tests)) h.status;
   details = h.details;
   log = h.log;
   entries = h.entries;
 }
 
--- a purse is one after a load that isn't refused
-pub loaded_is : (p : State) (amount : ℕ) → IsPurse p → load_refusal p amount ≡ None → IsPurse (loaded p amount)
-loaded_is p amount h free =
-    let guards = load_guards p amount free in load_is p amount h guards.lines guards.balance
-
--- what a redemption that isn't refused says: the balance covers the amount, and there are few lines
-pub record RedeemGuards (p : State) (amount : ℕ) : Type 0 where
-  pub enough : amount ≤ p.balance
-  pub lines : p.lines < most_number
-
-pub redeem_guards : (p : State) (amount : ℕ) → redeem_refusal p amount ≡ None → RedeemGuards p amount
-redeem_guards p amount h =
-    let first = guard_passes (nat_lt p.balance amount) redeem.NotEnough _ h in
-    let second = guard_passes (nat_le most_number p.lines) redeem.Worn None first.1 in
-    record { enough = ltb-false _ _ first.0; lines = leb-false _ _ second.0 }
-
--- a purse is one after a redemption where its lines are few
-pub redeem_is : (p : State) (amount : ℕ) → IsPurse p → p.lines < most_number → IsPurse (redeemed p amount)
-redeem_is p amount h low =
-    let a : IsPurse (aborted p) = aborted_is p h in
+-- a purse is one after a redemption that isn't refused
+pub redeemed_is : (p : State) (amount : ℕ) → IsPurse p → redeem_refusal p amount ≡ None → IsPurse (redeemed p amount)
+redeemed_is p amount h free =
     let b : p.balance ≤ most_number = h.balance in
-    let k : lines_with p.lines (pending p.status) ≤ most_number = lines_started p (pending p.status) low in
+    let k : lines_with p.lines (pending p.status) ≤ most_number = lines_started p (pending p.status) (grind (arith, nat_tests)) in
     record {
       name = h.name;
       balance = omega arith;
       next = h.next;
       status = omega arith;
       details = tt;
-      log = a.log;
+      log = (aborted_is p h).log;
       entries = own_aborted p h;
     }
-
--- a purse is one after a redemption that isn't refused
-pub redeemed_is : (p : State) (amount : ℕ) → IsPurse p → redeem_refusal p amount ≡ None → IsPurse (redeemed p amount)
-redeemed_is p amount h free = redeem_is p amount h (redeem_guards p amount free).lines
 
 -- ---- the name stays
 
 pub after_message_name : (p : State) (x : Handled) → (after_message p x).name ≡ p.name
-after_message_name p (took.Req d) = refl
-after_message_name p (took.Val d) = refl
-after_message_name p (took.Ack d) = refl
-after_message_name p took.Ignored = refl
+after_message_name p x = grind arith
