@@ -30,7 +30,7 @@ use Rattle.mx_purse.specs.Messages.{IsMessage}
 use Rattle.mx_purse.proofs.OperationLemmas.{pending_valid}
 use Rattle.mx_book.specs.Conditions.{IsWorld, AreNumbered, IsLine}
 use Rattle.mx_book.specs.Reads.{from_row, inbox_of, message_of, redemption_of}
-use Rattle.mx_book.proofs.LineLemmas.{all_append}
+use Rattle.mx_book.proofs.PartLemmas.{all_append}
 use Rattle.mx_book.proofs.MoneyLemmas.{with_redemption, redemptions_stay, redemption_leads, redemption_suits}
 use Rattle.mx_book.proofs.PurseLemmas.{with_lines, line_edits, discard_leads, discard_suits, discard_stays}
 use Rattle.mx_office.specs.declared.values.Decided.{Decided}
