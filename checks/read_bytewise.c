@@ -1,6 +1,6 @@
 /* Makes standard input one that gives one byte at each read, at once, and asks the system for nothing: the text in
    the environment variable TEXT over and over, as many bytes as the number in BYTES, and then the end. Says on
-   standard error, as the program ends, how many reads of standard input there were. Preloaded by statuses; no part
+   standard error, as the program ends, how many reads of standard input there were. Preloaded by `program`; no part
    of the program. */
 #define _GNU_SOURCE
 #include <dlfcn.h>

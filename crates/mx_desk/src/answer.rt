@@ -95,7 +95,7 @@ fn answer_routed<B: Book>(
 
 /// Answers a request: the response, and the change that goes with it. After a fault nothing is changed, and the request
 /// is one that may be given up: it has a route, and its token is that of a caller of its class, unless a read of the
-/// book failed.
+/// book may fail.
 #[tactic(auto, unfolding(crate::specs::Respond::respond, crate::specs::Respond::after_route))]
 pub fn answer_request<B: Book>(
     alloc: Global,

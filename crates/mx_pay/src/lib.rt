@@ -1,7 +1,8 @@
 //! The values of payments: names, amounts, sequence numbers, payment details, logs, code texts and tokens.
 //!
 //! Each reader (`read`, `read_bytes`, `new`, `read_code`) accepts exactly the values that its type allows, and
-//! answers None for every other. All types are `Copy`, and no call but `code_text` takes memory.
+//! answers None for every other. All types are `Copy`, and no calls but `code_text` and `push_entry`
+//! take memory.
 #![tactic(auto)]
 
 pub mod codes;
