@@ -324,6 +324,8 @@ impl<B: Book> Book for Faulty<B> {
     }
 
     ghost sound = { B.sound };
+
+    ghost single = { B.single };
 }
 
 /// Runs commands after those of `opening` over a book that leaves one call out, after so many that it passes on, and
