@@ -4,6 +4,8 @@
 pub mod bodies;
 pub mod replies;
 pub mod routes;
+#[cfg(test)]
+mod tests;
 
 pub use bodies::WireFault;
 pub use replies::{Fixed, Response, fixed_text, render, unavailable_text};

@@ -1,0 +1,5 @@
+//! Routes, bodies and responses, worked out by hand.
+mod bodies;
+mod replies;
+mod routes;
+mod words;

@@ -1,0 +1,295 @@
+//! Requests with their bodies, and the commands that they say.
+use super::words::read_words;
+use crate::routes::Routes;
+use std::process::Abort;
+use std::test::Fail;
+
+/// Asserts that each request, a method, a path and a body, says the command in words that stands after it.
+fn assert_commands(
+    rt: &(impl Abort + AllocGlobal),
+    rows: &[(&str, &[u8], &str)],
+) -> Result<(), Fail> {
+    let routes = Routes::new(rt.alloc())?;
+    for (request, body, words) in rows {
+        let (method, path) = request.split_once(' ').unwrap_or((request, ""));
+        let read = routes.read_command(rt.alloc(), method.as_bytes(), path.as_bytes(), body);
+        let text = read_words(rt.alloc(), &read)?;
+        assert_eq!(rt; text.as_str(), *words, "{request}");
+    }
+    Ok(())
+}
+
+/// Asserts that none of these bodies says a command of this request.
+fn assert_bad(
+    rt: &(impl Abort + AllocGlobal),
+    request: &str,
+    bodies: &[&[u8]],
+) -> Result<(), Fail> {
+    for body in bodies {
+        assert_commands(rt, &[(request, body, "bad body")])?;
+    }
+    Ok(())
+}
+
+#[test]
+fn each_command_from_its_request(rt: HostRuntime) -> Result<(), Fail> {
+    assert_commands(
+        &rt,
+        &[
+            (
+                "POST /members",
+                b"{\"member\":\"m\",\"token\":\"00000000000000000000000000000002\"}",
+                "new-member m 00000000000000000000000000000002",
+            ),
+            (
+                "POST /members/m/grant",
+                b"{\"amount\":1000}",
+                "grant m 1000",
+            ),
+            (
+                "POST /holders",
+                b"{\"holder\":\"ann\",\"token\":\"0000000000000000000000000000000A\"}",
+                "new-holder ann 0000000000000000000000000000000a",
+            ),
+            (
+                "POST /purses",
+                b"{\"purse\":\"p1\",\"holder\":\"ann\"}",
+                "new-purse p1 ann",
+            ),
+            (
+                "POST /purses/p1/load",
+                b"{\"amount\":100,\"ref\":\"a1\"}",
+                "load p1 100 a1",
+            ),
+            ("POST /collect", b"", "collect"),
+            ("GET /purses", b"", "purses"),
+            ("GET /purses/p1", b"", "show p1"),
+            (
+                "POST /purses/p1/start-from",
+                b"{\"peer\":\"q1\",\"value\":60,\"seq\":3}",
+                "start-from p1 q1 60 3",
+            ),
+            (
+                "POST /purses/q1/start-to",
+                b"{\"seq\":3,\"value\":60,\"peer\":\"p1\"}",
+                "start-to q1 p1 60 3",
+            ),
+            ("POST /purses/p1/handle", b"{\"number\":7}", "handle p1 7"),
+            ("POST /purses/p1/discard", b"{\"number\":7}", "discard p1 7"),
+            ("POST /purses/p1/abort", b"", "abort p1"),
+            (
+                "POST /purses/p1/redeem",
+                b"{\"amount\":100,\"ref\":\"r1\"}",
+                "redeem p1 100 r1",
+            ),
+            ("GET /purses/p1/inbox", b"", "inbox p1"),
+            ("HEAD /purses/p1", b"", "show p1"),
+        ],
+    )
+}
+
+/// The body of a command that takes none isn't looked at, nor that of a request without a route.
+#[test]
+fn bodies_that_are_not_looked_at(rt: HostRuntime) -> Result<(), Fail> {
+    assert_commands(
+        &rt,
+        &[
+            ("POST /collect", b"\xff", "collect"),
+            ("GET /purses/p1", b"{", "show p1"),
+            ("POST /purses/p1/abort", b"[]", "abort p1"),
+            ("GET /collect", b"", "no route"),
+            ("POST /purses/P1/handle", b"{", "no route"),
+        ],
+    )
+}
+
+/// Other keys and spaces don't count; of a key that stands twice the last value does.
+#[test]
+fn objects_in_other_forms(rt: HostRuntime) -> Result<(), Fail> {
+    assert_commands(
+        &rt,
+        &[
+            (
+                "POST /members/m/grant",
+                b" {\r\n\t\"amount\" : 5 , \"Amount\" : null, \"x\" : [{}, \"\\u00e9\"] } ",
+                "grant m 5",
+            ),
+            (
+                "POST /members/m/grant",
+                b"{\"amount\":1,\"amount\":2}",
+                "grant m 2",
+            ),
+            (
+                "POST /members/m/grant",
+                b"{\"amount\":\"1\",\"amount\":2}",
+                "grant m 2",
+            ),
+            (
+                "POST /members/m/grant",
+                b"{\"amount\":1,\"amount\":\"2\"}",
+                "bad body",
+            ),
+            (
+                "POST /members/m/grant",
+                b"{\"\\u0061mount\":5}",
+                "grant m 5",
+            ),
+            (
+                "POST /purses",
+                b"{\"purse\":\"\\u0070\",\"holder\":\"ann\"}",
+                "new-purse p ann",
+            ),
+        ],
+    )
+}
+
+/// Each number has its limit.
+#[test]
+fn numbers_at_their_limits(rt: HostRuntime) -> Result<(), Fail> {
+    assert_commands(
+        &rt,
+        &[
+            ("POST /members/m/grant", b"{\"amount\":0}", "grant m 0"),
+            (
+                "POST /members/m/grant",
+                b"{\"amount\":1000000000000}",
+                "grant m 1000000000000",
+            ),
+            (
+                "POST /members/m/grant",
+                b"{\"amount\":1000000000001}",
+                "bad body",
+            ),
+            (
+                "POST /purses/p1/handle",
+                b"{\"number\":1000000000000000}",
+                "handle p1 1000000000000000",
+            ),
+            (
+                "POST /purses/p1/handle",
+                b"{\"number\":1000000000000001}",
+                "bad body",
+            ),
+            (
+                "POST /purses/p1/start-from",
+                b"{\"peer\":\"q1\",\"value\":1000000000000,\"seq\":1000000000000000}",
+                "start-from p1 q1 1000000000000 1000000000000000",
+            ),
+            (
+                "POST /purses/p1/start-to",
+                b"{\"peer\":\"q1\",\"value\":1000000000001,\"seq\":0}",
+                "bad body",
+            ),
+            (
+                "POST /purses/p1/start-to",
+                b"{\"peer\":\"q1\",\"value\":0,\"seq\":1000000000000001}",
+                "bad body",
+            ),
+        ],
+    )
+}
+
+/// A number is one that reads as a u64.
+#[test]
+fn amounts_that_are_bad(rt: HostRuntime) -> Result<(), Fail> {
+    assert_bad(
+        &rt,
+        "POST /members/m/grant",
+        &[
+            b"{\"amount\":-1}",
+            b"{\"amount\":1.0}",
+            b"{\"amount\":1e3}",
+            b"{\"amount\":\"5\"}",
+            b"{\"amount\":null}",
+            b"{\"amount\":true}",
+            b"{\"amount\":[5]}",
+            b"{\"amount\":05}",
+            b"{\"amount\":+5}",
+            b"{\"amount\":18446744073709551616}",
+        ],
+    )
+}
+
+/// A body is one object of JSON, in UTF-8, with the key that is asked for.
+#[test]
+fn bodies_that_are_bad(rt: HostRuntime) -> Result<(), Fail> {
+    assert_bad(
+        &rt,
+        "POST /members/m/grant",
+        &[
+            b"",
+            b" ",
+            b"5",
+            b"null",
+            b"\"amount\"",
+            b"[]",
+            b"[{\"amount\":5}]",
+            b"{}",
+            b"{\"Amount\":5}",
+            b"{\"value\":5}",
+            b"{\"amount\":5",
+            b"{\"amount\":5}}",
+            b"{\"amount\":5}{\"amount\":5}",
+            b"{\"amount\":5,}",
+            b"{amount:5}",
+            b"{'amount':5}",
+            b"{\"amount\":5,\"x\":\"\xff\"}",
+            b"\xef\xbb\xbf{\"amount\":5}",
+        ],
+    )
+}
+
+/// Names and tokens are texts of their kinds.
+#[test]
+fn names_and_tokens_that_are_bad(rt: HostRuntime) -> Result<(), Fail> {
+    assert_bad(
+        &rt,
+        "POST /purses",
+        &[
+            b"{\"purse\":\"\",\"holder\":\"ann\"}",
+            b"{\"purse\":\"P1\",\"holder\":\"ann\"}",
+            b"{\"purse\":\"1p\",\"holder\":\"ann\"}",
+            b"{\"purse\":\"p 1\",\"holder\":\"ann\"}",
+            b"{\"purse\":\"a23456789-123456789-12345\",\"holder\":\"ann\"}",
+            b"{\"purse\":1,\"holder\":\"ann\"}",
+            b"{\"purse\":\"p1\",\"holder\":null}",
+            b"{\"purse\":\"p1\"}",
+            b"{\"holder\":\"ann\"}",
+        ],
+    )?;
+    assert_bad(
+        &rt,
+        "POST /holders",
+        &[
+            b"{\"holder\":\"ann\",\"token\":\"000000000000000000000000000000a\"}",
+            b"{\"holder\":\"ann\",\"token\":\"0000000000000000000000000000000aa\"}",
+            b"{\"holder\":\"ann\",\"token\":\"0000000000000000000000000000000g\"}",
+            b"{\"holder\":\"ann\",\"token\":10}",
+            b"{\"holder\":\"ann\"}",
+            b"{\"token\":\"0000000000000000000000000000000a\"}",
+        ],
+    )
+}
+
+/// A command of several values needs them all.
+#[test]
+fn values_that_are_missing(rt: HostRuntime) -> Result<(), Fail> {
+    for request in ["POST /purses/p1/load", "POST /purses/p1/redeem"] {
+        assert_bad(&rt, request, &[b"{\"amount\":1}", b"{\"ref\":\"a1\"}"])?;
+    }
+    for request in ["POST /purses/p1/start-from", "POST /purses/p1/start-to"] {
+        assert_bad(
+            &rt,
+            request,
+            &[
+                b"{\"value\":1,\"seq\":0}",
+                b"{\"peer\":\"q1\",\"seq\":0}",
+                b"{\"peer\":\"q1\",\"value\":1}",
+            ],
+        )?;
+    }
+    for request in ["POST /purses/p1/handle", "POST /purses/p1/discard"] {
+        assert_bad(&rt, request, &[b"{}", b"{\"number\":\"0\"}"])?;
+    }
+    Ok(())
+}

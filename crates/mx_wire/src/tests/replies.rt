@@ -1,0 +1,321 @@
+//! The bytes of each response.
+use crate::replies::{Fixed, fixed_text, render, unavailable_text};
+use mx_office::{Messages, Names, Refusal, Reply};
+use mx_pay::{Amount, Log, Name, PayDetails, Seq};
+use mx_purse::{Handled, Message, Purse, Status};
+use std::process::Abort;
+use std::test::Fail;
+
+/// The head of a response with that status, and reason, and a body of so many bytes.
+fn head_of(rt: &impl AllocGlobal, status: &str, size: usize) -> Result<String, Fail> {
+    Ok(format!(in rt.alloc();
+        "HTTP/1.1 {status}\r\ncontent-type: application/json\r\ncontent-length: {size}\r\nconnection: close\r\n\r\n"
+    )?)
+}
+
+/// Asserts that bytes are the head of a response with that status and body, and that others are the head and the body.
+fn assert_bytes(
+    rt: &(impl Abort + AllocGlobal),
+    head: &[u8],
+    whole: &[u8],
+    status: &str,
+    body: &str,
+) -> Result<(), Fail> {
+    let mut text = head_of(rt, status, body.len())?;
+    assert_eq!(rt; head, text.as_bytes(), "{body}");
+    text.push_str(body)?;
+    assert_eq!(rt; whole, text.as_bytes(), "{body}");
+    Ok(())
+}
+
+/// Asserts that a reply has the response with that status and body.
+fn assert_reply(
+    rt: &(impl Abort + AllocGlobal),
+    reply: &Reply,
+    status: &str,
+    body: &str,
+) -> Result<(), Fail> {
+    let response = render(rt.alloc(), reply)?;
+    assert_bytes(rt, response.text(true), response.text(false), status, body)
+}
+
+fn name(word: &str) -> Result<Name, Fail> {
+    Ok(Name::read(word).ok_or("no name")?)
+}
+
+/// The payment of 60 by p1, whose own number is 4, to q1, whose own is 7.
+fn payment() -> Result<PayDetails, Fail> {
+    let value = Amount::new(60).ok_or("no amount")?;
+    let (from, to) = (
+        Seq::new(4).ok_or("no number")?,
+        Seq::new(7).ok_or("no number")?,
+    );
+    Ok(PayDetails::new(name("p1")?, name("q1")?, value, from, to).ok_or("no details")?)
+}
+
+/// A purse of that name and status, with the balance 100 and the next number 8.
+fn purse(word: &str, status: Status) -> Result<Purse, Fail> {
+    let next = Seq::new(8).ok_or("no number")?;
+    let purse = Purse::from_parts(name(word)?, 100, next, status, Log::new(), 1);
+    Ok(purse.ok_or("no purse")?)
+}
+
+#[test]
+fn fixed_replies(rt: HostRuntime) -> Result<(), Fail> {
+    let payment = payment()?;
+    for (reply, body) in [
+        (Reply::Added, "{\"done\":\"added\"}"),
+        (Reply::Granted, "{\"done\":\"granted\"}"),
+        (Reply::Loaded, "{\"done\":\"loaded\"}"),
+        (
+            Reply::Handled(Handled::Req(payment)),
+            "{\"done\":\"value-sent\"}",
+        ),
+        (
+            Reply::Handled(Handled::Val(payment)),
+            "{\"done\":\"received\"}",
+        ),
+        (
+            Reply::Handled(Handled::Ack(payment)),
+            "{\"done\":\"finished\"}",
+        ),
+        (Reply::Handled(Handled::Ignored), "{\"done\":\"ignored\"}"),
+        (Reply::Discarded, "{\"done\":\"discarded\"}"),
+        (
+            Reply::Aborted { logged: true },
+            "{\"done\":\"aborted\",\"logged\":true}",
+        ),
+        (
+            Reply::Aborted { logged: false },
+            "{\"done\":\"aborted\",\"logged\":false}",
+        ),
+        (Reply::Redeemed, "{\"done\":\"redeemed\"}"),
+    ] {
+        assert_reply(&rt, &reply, "200 OK", body)?;
+    }
+    Ok(())
+}
+
+#[test]
+fn refusals(rt: HostRuntime) -> Result<(), Fail> {
+    for (refusal, status, body) in [
+        (
+            Refusal::NotForCaller,
+            "403 Forbidden",
+            "{\"error\":\"not for this caller\"}",
+        ),
+        (
+            Refusal::NoSuchPurse,
+            "404 Not Found",
+            "{\"error\":\"no such purse\"}",
+        ),
+        (
+            Refusal::NoSuchHolder,
+            "404 Not Found",
+            "{\"error\":\"no such holder\"}",
+        ),
+        (
+            Refusal::NoSuchMember,
+            "404 Not Found",
+            "{\"error\":\"no such member\"}",
+        ),
+        (
+            Refusal::NoSuchMessage,
+            "404 Not Found",
+            "{\"error\":\"no such message\"}",
+        ),
+        (
+            Refusal::NameTaken,
+            "409 Conflict",
+            "{\"error\":\"name taken\"}",
+        ),
+        (
+            Refusal::TokenTaken,
+            "409 Conflict",
+            "{\"error\":\"token taken\"}",
+        ),
+        (
+            Refusal::TooManyPurses,
+            "409 Conflict",
+            "{\"error\":\"too many purses\"}",
+        ),
+        (
+            Refusal::SamePurse,
+            "409 Conflict",
+            "{\"error\":\"same purse\"}",
+        ),
+        (
+            Refusal::NotEnough,
+            "409 Conflict",
+            "{\"error\":\"not enough\"}",
+        ),
+        (Refusal::LogFull, "409 Conflict", "{\"error\":\"log full\"}"),
+        (Refusal::Worn, "409 Conflict", "{\"error\":\"purse worn\"}"),
+        (
+            Refusal::RefReused,
+            "409 Conflict",
+            "{\"error\":\"reference reused\"}",
+        ),
+        (
+            Refusal::FloatTooSmall,
+            "409 Conflict",
+            "{\"error\":\"float too small\"}",
+        ),
+        (
+            Refusal::FloatFull,
+            "409 Conflict",
+            "{\"error\":\"float full\"}",
+        ),
+        (
+            Refusal::GrantTooLarge,
+            "409 Conflict",
+            "{\"error\":\"grant too large\"}",
+        ),
+        (Refusal::OverCap, "409 Conflict", "{\"error\":\"over cap\"}"),
+    ] {
+        assert_reply(&rt, &Reply::Refused(refusal), status, body)?;
+    }
+    Ok(())
+}
+
+#[test]
+fn responses_of_the_desk(rt: HostRuntime) -> Result<(), Fail> {
+    for (fixed, status, body) in [
+        (
+            Fixed::BadHead,
+            "400 Bad Request",
+            "{\"error\":\"bad head\"}",
+        ),
+        (
+            Fixed::TransferCoding,
+            "501 Not Implemented",
+            "{\"error\":\"transfer coding\"}",
+        ),
+        (
+            Fixed::BadLength,
+            "400 Bad Request",
+            "{\"error\":\"bad content length\"}",
+        ),
+        (
+            Fixed::TooLarge,
+            "413 Content Too Large",
+            "{\"error\":\"body too large\"}",
+        ),
+        (
+            Fixed::BodyCut,
+            "400 Bad Request",
+            "{\"error\":\"body cut\"}",
+        ),
+        (Fixed::NoRoute, "404 Not Found", "{\"error\":\"no route\"}"),
+        (
+            Fixed::TokenUnknown,
+            "403 Forbidden",
+            "{\"error\":\"token not known\"}",
+        ),
+        (
+            Fixed::BadBody,
+            "400 Bad Request",
+            "{\"error\":\"bad body\"}",
+        ),
+    ] {
+        assert_bytes(
+            &rt,
+            fixed_text(fixed, true),
+            fixed_text(fixed, false),
+            status,
+            body,
+        )?;
+    }
+    assert_eq!(rt;
+        unavailable_text(),
+        b"HTTP/1.1 503 Service Unavailable\r\ncontent-length: 0\r\nconnection: close\r\n\r\n".as_slice()
+    );
+    Ok(())
+}
+
+#[test]
+fn sums_and_payments(rt: HostRuntime) -> Result<(), Fail> {
+    assert_reply(&rt, &Reply::Collected(0), "200 OK", "{\"collected\":\"0\"}")?;
+    assert_reply(
+        &rt,
+        &Reply::Collected(u128::MAX),
+        "200 OK",
+        "{\"collected\":\"340282366920938463463374607431768211455\"}",
+    )?;
+    assert_reply(
+        &rt,
+        &Reply::Started(payment()?),
+        "200 OK",
+        "{\"details\":\"p1,q1,60,4,7\",\"done\":\"started\"}",
+    )
+}
+
+#[test]
+fn purses_that_are_shown(rt: HostRuntime) -> Result<(), Fail> {
+    let payment = payment()?;
+    for (purse, body) in [
+        (
+            purse("p1", Status::EaFrom)?,
+            "{\"balance\":100,\"next\":8,\"purse\":\"p1\",\"status\":\"eaFrom\"}",
+        ),
+        (
+            purse("q1", Status::EaTo)?,
+            "{\"balance\":100,\"next\":8,\"purse\":\"q1\",\"status\":\"eaTo\"}",
+        ),
+        (
+            purse("p1", Status::Epr(payment))?,
+            "{\"balance\":100,\"next\":8,\"purse\":\"p1\",\"status\":\"epr\"}",
+        ),
+        (
+            purse("q1", Status::Epv(payment))?,
+            "{\"balance\":100,\"next\":8,\"purse\":\"q1\",\"status\":\"epv\"}",
+        ),
+        (
+            purse("p1", Status::Epa(payment))?,
+            "{\"balance\":100,\"next\":8,\"purse\":\"p1\",\"status\":\"epa\"}",
+        ),
+    ] {
+        assert_reply(&rt, &Reply::Shown(purse), "200 OK", body)?;
+    }
+    Ok(())
+}
+
+#[test]
+fn lists_of_purses(rt: HostRuntime) -> Result<(), Fail> {
+    let all = ["a", "p1", "z-9"];
+    for (count, body) in [
+        (0, "{\"purses\":[]}"),
+        (1, "{\"purses\":[\"a\"]}"),
+        (2, "{\"purses\":[\"a\",\"p1\"]}"),
+        (3, "{\"purses\":[\"a\",\"p1\",\"z-9\"]}"),
+    ] {
+        let mut list = Vec::new(rt.alloc());
+        for word in all.iter().take(count) {
+            list.push(name(word)?)?;
+        }
+        assert_reply(&rt, &Reply::Purses(Names::new(list)), "200 OK", body)?;
+    }
+    Ok(())
+}
+
+#[test]
+fn lists_of_messages(rt: HostRuntime) -> Result<(), Fail> {
+    let payment = payment()?;
+    let list = Vec::new(rt.alloc());
+    assert_reply(
+        &rt,
+        &Reply::Inbox(Messages::new(list)),
+        "200 OK",
+        "{\"messages\":[]}",
+    )?;
+    let mut list = Vec::new(rt.alloc());
+    list.push((0, Message::Req(payment)))?;
+    list.push((7, Message::Val(payment)))?;
+    list.push((999999999999999, Message::Ack(payment)))?;
+    assert_reply(
+        &rt,
+        &Reply::Inbox(Messages::new(list)),
+        "200 OK",
+        "{\"messages\":[{\"details\":\"p1,q1,60,4,7\",\"kind\":\"req\",\"number\":0},{\"details\":\"p1,q1,60,4,7\",\"kind\":\"val\",\"number\":7},{\"details\":\"p1,q1,60,4,7\",\"kind\":\"ack\",\"number\":999999999999999}]}",
+    )
+}
