@@ -1,7 +1,7 @@
 //! A worn purse. No commands lead to one in bearable time, so it comes into the book by an edit.
 ghost use Rattle.std.specs.Prelude.{◌≡◌, IsTrue, IfOk, false};
 ghost use Rattle.mx_pay.specs.Names.{is_name_text};
-ghost use Rattle.mx_pay.specs.Tokens.{is_token};
+ghost use Rattle.mx_pay.specs.Tokens.{is_token, IsToken};
 
 use super::scripts::{name, token};
 use super::tell;
@@ -22,6 +22,8 @@ struct Tokens {
     ghost clerk_apart: { is_token clerk operator ≡ false },
     ghost holder_apart: { is_token holder operator ≡ false },
     ghost two_apart: { is_token holder clerk ≡ false },
+    ghost clerk_bytes: { IsToken clerk },
+    ghost holder_bytes: { IsToken holder },
 }
 
 /// The names of a member, a holder and a purse.
