@@ -10,6 +10,8 @@ pub mod first;
 pub mod head;
 pub mod input;
 pub mod output;
+#[cfg(test)]
+mod tests;
 
 pub use counted::Counted;
 pub use fault::DeskFault;

@@ -1,0 +1,87 @@
+//! What holders see, and who may ask what.
+use super::scripts::ADDED;
+use super::{STANDING, empty_office, funded, standing, tell};
+use std::test::Fail;
+
+/// A purse of another holder is answered as one that isn't there.
+#[test]
+fn another_holders_purse(rt: HostRuntime) -> Result<(), Fail> {
+    tell(
+        &rt,
+        &mut standing(&rt)?,
+        &[
+            ("bob GET /purses/p1", "404 {\"error\":\"no such purse\"}"),
+            ("bob GET /purses/zz", "404 {\"error\":\"no such purse\"}"),
+        ],
+    )
+}
+
+/// The response to HEAD is the head of the one to GET.
+#[test]
+fn head_of_a_purse(rt: HostRuntime) -> Result<(), Fail> {
+    let shown = "200 {\"balance\":0,\"next\":0,\"purse\":\"p1\",\"status\":\"eaFrom\"}";
+    tell(
+        &rt,
+        &mut standing(&rt)?,
+        &[
+            ("ann HEAD /purses/p1", shown),
+            ("ann GET /purses/p1", shown),
+            ("bob HEAD /purses/p1", "404 {\"error\":\"no such purse\"}"),
+            ("- HEAD /nowhere", "404 {\"error\":\"no route\"}"),
+        ],
+    )
+}
+
+/// The route is looked at before the token, the token before the caller's class, and that before the body.
+#[test]
+fn what_is_looked_at_first(rt: HostRuntime) -> Result<(), Fail> {
+    tell(
+        &rt,
+        &mut funded(&rt)?,
+        &[
+            ("- GET /nowhere", "404 {\"error\":\"no route\"}"),
+            ("- GET /purses", "403 {\"error\":\"token not known\"}"),
+            (
+                "ann POST /members []",
+                "403 {\"error\":\"not for this caller\"}",
+            ),
+            ("operator POST /members []", "400 {\"error\":\"bad body\"}"),
+            ("ann GET /purses", "200 {\"purses\":[\"p1\"]}"),
+        ],
+    )
+}
+
+/// Names and tokens are taken once.
+#[test]
+fn names_and_tokens_taken(rt: HostRuntime) -> Result<(), Fail> {
+    tell(
+        &rt,
+        &mut standing(&rt)?,
+        &[
+            (
+                "operator POST /members {\"member\":\"m\",\"token\":\"0000000000000000000000000000000f\"}",
+                "409 {\"error\":\"name taken\"}",
+            ),
+            (
+                "clerk POST /holders {\"holder\":\"cy\",\"token\":\"00000000000000000000000000000001\"}",
+                "409 {\"error\":\"token taken\"}",
+            ),
+            (
+                "clerk POST /purses {\"purse\":\"p2\",\"holder\":\"cy\"}",
+                "404 {\"error\":\"no such holder\"}",
+            ),
+            (
+                "clerk POST /purses {\"purse\":\"p2\",\"holder\":\"ann\"}",
+                ADDED,
+            ),
+            ("ann GET /purses", "200 {\"purses\":[\"p1\",\"p2\"]}"),
+        ],
+    )
+}
+
+/// No input, no output.
+#[test]
+fn nothing_in_nothing_out(rt: HostRuntime) -> Result<(), Fail> {
+    tell(&rt, &mut empty_office(&rt)?, &[])?;
+    tell(&rt, &mut empty_office(&rt)?, STANDING)
+}

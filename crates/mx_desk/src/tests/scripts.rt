@@ -1,0 +1,139 @@
+//! Scripts: requests in words, each with its response in words, and the bytes of both.
+use mx_pay::Token;
+use std::alloc::{AllocError, Global};
+use std::test::Fail;
+
+/// The response to a member, a holder or a purse that is added.
+pub(super) const ADDED: &str = "200 {\"done\":\"added\"}";
+
+/// The response to a load.
+pub(super) const LOADED: &str = "200 {\"done\":\"loaded\"}";
+
+/// The token whose 32 digits are zeros but for the last, which is the word.
+pub(super) fn token(word: &str) -> Result<Token, Fail> {
+    let mut digits = [b'0'; 32];
+    digits[31] = *word.as_bytes().first().ok_or("no digit")?;
+    Ok(Token::read_bytes(&digits).ok_or("no token")?)
+}
+
+/// The last digit of the token of who asks. None for a request without a token.
+fn digit_of(who: &str) -> Option<&'static str> {
+    match who {
+        "operator" => Some("1"),
+        "clerk" => Some("2"),
+        "ann" => Some("a"),
+        "bob" => Some("b"),
+        _ => None,
+    }
+}
+
+fn reason_of(status: &str) -> &'static str {
+    match status {
+        "200" => "OK",
+        "400" => "Bad Request",
+        "403" => "Forbidden",
+        "404" => "Not Found",
+        "409" => "Conflict",
+        "413" => "Content Too Large",
+        "501" => "Not Implemented",
+        _ => "",
+    }
+}
+
+/// Requests, and the responses that they are to have.
+#[derive(Drop)]
+pub(super) struct Exchange {
+    alloc: Global,
+    input: String,
+    output: String,
+    count: u64,
+}
+
+impl Exchange {
+    pub(super) fn new(alloc: Global) -> Exchange {
+        Exchange {
+            alloc,
+            input: String::new(alloc),
+            output: String::new(alloc),
+            count: 0,
+        }
+    }
+
+    /// The requests of a script, which stand before their responses.
+    pub(super) fn of(alloc: Global, script: &[(&str, &str)]) -> Result<Exchange, AllocError> {
+        let mut exchange = Exchange::new(alloc);
+        for (request, response) in script {
+            exchange.add(request, response)?;
+        }
+        Ok(exchange)
+    }
+
+    /// A request more, `WHO METHOD PATH BODY`, and its response, `STATUS BODY`. A request without a body has no
+    /// Content-Length. A response to HEAD is its head alone.
+    pub(super) fn add(&mut self, request: &str, response: &str) -> Result<(), AllocError> {
+        let mut words = request.splitn(4, ' ');
+        let who = words.next().unwrap_or("");
+        let method = words.next().unwrap_or("");
+        let path = words.next().unwrap_or("");
+        let body = words.next().unwrap_or("");
+        let line = format!(in self.alloc; "{method} {path} HTTP/1.1\r\n")?;
+        self.input.push_str(line.as_str())?;
+        self.push_token(who)?;
+        self.push_body(body)?;
+        self.push_response(response, method == "HEAD")
+    }
+
+    /// Bytes that need not be a whole request, and the response to them, `STATUS BODY`.
+    pub(super) fn add_bytes(&mut self, bytes: &str, response: &str) -> Result<(), AllocError> {
+        self.input.push_str(bytes)?;
+        self.push_response(response, bytes.starts_with("HEAD "))
+    }
+
+    fn push_token(&mut self, who: &str) -> Result<(), AllocError> {
+        if let Some(digit) = digit_of(who) {
+            self.input
+                .push_str("purse-token: 0000000000000000000000000000000")?;
+            self.input.push_str(digit)?;
+            self.input.push_str("\r\n")?;
+        }
+        Ok(())
+    }
+
+    /// The end of the head, and the body.
+    fn push_body(&mut self, body: &str) -> Result<(), AllocError> {
+        if !body.is_empty() {
+            let field = format!(in self.alloc; "content-length: {}\r\n", body.len())?;
+            self.input.push_str(field.as_str())?;
+        }
+        self.input.push_str("\r\n")?;
+        self.input.push_str(body)
+    }
+
+    fn push_response(&mut self, response: &str, head_only: bool) -> Result<(), AllocError> {
+        let (status, body) = response.split_once(' ').unwrap_or((response, ""));
+        let head = format!(in self.alloc;
+            "HTTP/1.1 {status} {}\r\ncontent-type: application/json\r\ncontent-length: {}\r\nconnection: close\r\n\r\n",
+            reason_of(status),
+            body.len()
+        )?;
+        self.output.push_str(head.as_str())?;
+        if !head_only {
+            self.output.push_str(body)?;
+        }
+        self.count = self.count.saturating_add(1);
+        Ok(())
+    }
+
+    pub(super) fn input(&self) -> &str {
+        self.input.as_str()
+    }
+
+    pub(super) fn output(&self) -> &str {
+        self.output.as_str()
+    }
+
+    /// How many responses.
+    pub(super) fn count(&self) -> u64 {
+        self.count
+    }
+}
