@@ -1,5 +1,5 @@
 //! The changes of a book, and short lists of them.
-ghost use Rattle.std.specs.Prelude.{◌≡◌, ◌≤◌, [], length};
+ghost use Rattle.std.specs.Prelude.{◌≡◌, ◌≤◌, ◌<◌, ◌++◌, ◌∷◌, [], length};
 
 use crate::values::Line;
 use arrayvec::ArrayVec;
@@ -113,6 +113,14 @@ impl Default for Edit {
     }
 }
 
+/// Adds an item to a list of at most 4.
+fn push_to<T: Copy>(list: &mut ArrayVec<T, 4>, item: &T)
+    requires { length list.old.items < 4 }
+    ensures { list.new.items ≡ list.old.items ++ item.now ∷ [] }
+{
+    list.push(*item);
+}
+
 /// At most 4 edits, in order. A contract sees the list of them.
 #[derive(Drop)]
 pub struct Edits {
@@ -142,16 +150,19 @@ impl Edits {
         }
     }
 
-    /// These edits, which are at most 4.
-    pub fn of(edits: &[Edit]) -> Edits
-        requires { length edits.now ≤ 4 }
-        ensures { result ≡ edits.now }
+    /// Forgets the edits.
+    pub fn clear(&mut self)
+        ensures { self.new ≡ [] }
     {
-        let mut list = ArrayVec::new();
-        for edit in edits {
-            list.push(*edit);
-        }
-        Edits { list }
+        self.list.clear();
+    }
+
+    /// Adds an edit after those that are there, which are at most 3.
+    pub fn push(&mut self, edit: &Edit)
+        requires { length self.old < 4 }
+        ensures { self.new ≡ self.old ++ edit.now ∷ [] }
+    {
+        push_to(&mut self.list, edit);
     }
 
     /// The edits, in order.

@@ -76,42 +76,48 @@ impl Shelves {
     }
 
     /// Makes one edit, for which there is room.
-    pub fn edit(&mut self, edit: Edit)
-        requires able { IsTrue (able (rows_of self.old) edit) }
+    pub fn edit(&mut self, edit: &Edit)
+        requires able { IsTrue (able (rows_of self.old) edit.now) }
         requires room { HasRoom 1 self.old }
-        ensures edited { rows_of self.new ≡ rewritten (rows_of self.old) edit }
+        ensures edited { rows_of self.new ≡ rewritten (rows_of self.old) edit.now }
         ensures room { SpendsOne self.old self.new }
     {
         match edit {
-            Edit::NewMember { member, clerk } => self.add_member(member, clerk),
+            Edit::NewMember { member, clerk } => self.add_member(*member, *clerk),
             Edit::SetMember {
                 member,
                 granted,
                 float,
-            } => self.members.put(member, MemberRow { granted, float }),
+            } => {
+                let row = MemberRow {
+                    granted: *granted,
+                    float: *float,
+                };
+                self.members.put(*member, row);
+            }
             Edit::NewHolder {
                 holder,
                 member,
                 token,
-            } => self.add_holder(holder, member, token),
-            Edit::NewPurse { purse, holder } => self.add_purse(purse, holder),
+            } => self.add_holder(*holder, *member, *token),
+            Edit::NewPurse { purse, holder } => self.add_purse(*purse, *holder),
             Edit::SetPurse { purse } => self.set_purse(purse),
-            Edit::AddMessage { purse, message } => self.add_message(purse, message),
-            Edit::DropMessage { purse, number } => self.inbox.remove((purse, number)),
-            Edit::AddLine { purse, line } => self.add_line(purse, line),
+            Edit::AddMessage { purse, message } => self.add_message(*purse, *message),
+            Edit::DropMessage { purse, number } => self.inbox.remove((*purse, *number)),
+            Edit::AddLine { purse, line } => self.add_line(*purse, *line),
             Edit::AddLoad {
                 purse,
                 reference,
                 amount,
-            } => self.loads.put((purse, reference), amount),
+            } => self.loads.put((*purse, *reference), *amount),
             Edit::AddRedemption {
                 purse,
                 reference,
                 amount,
-            } => self.add_redemption(purse, reference, amount),
+            } => self.add_redemption(*purse, *reference, *amount),
             Edit::Collect { member } => {
                 self.redemptions
-                    .collect(&self.purses, &self.holders, member);
+                    .collect(&self.purses, &self.holders, *member);
             }
         }
     }
@@ -123,7 +129,7 @@ impl Shelves {
         ensures { rows_of self.new ≡ all_rewritten (rows_of self.old) edits.now }
     {
         for edit in edits {
-            self.edit(*edit);
+            self.edit(edit);
         }
     }
 

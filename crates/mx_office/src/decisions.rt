@@ -1,7 +1,8 @@
 //! What decisions are made of.
-ghost use Rattle.std.specs.Prelude.{◌≡◌, ◌==◌, ◌∷◌, [], if◌then◌else◌};
+ghost use Rattle.std.specs.Prelude.{◌≡◌, ◌<◌, ◌==◌, ◌∷◌, ◌++◌, [], length, map, if◌then◌else◌};
+ghost use Rattle.mx_book.specs.declared.edits.Edit.TheVariants.{AddLine};
 ghost use Rattle.mx_purse.specs.Operations.{sent_for};
-ghost use Rattle.mx_office.specs.Step.{abort_line, message_line, money_line, payment_line, refusal_of_load, refusal_of_redeem, refusal_of_start};
+ghost use Rattle.mx_office.specs.Step.{abort_line, listed, message_line, money_line, payment_line, refusal_of_load, refusal_of_redeem, refusal_of_start};
 ghost use Rattle.mx_office.specs.Decides.{purse_edits, redeem_edits};
 
 use crate::values::{Decided, Refusal, Reply};
@@ -11,33 +12,29 @@ use mx_pay::{Amount, Name, PayDetails};
 use mx_purse::{Handled, LoadRefusal, Message, Purse, RedeemRefusal, StartRefusal};
 
 /// The command is refused, and nothing is to change.
-pub(crate) fn refuse(refusal: Refusal) -> Decided
-    ensures reply { result.reply ≡ Reply.Refused refusal }
-    ensures edits { result.edits ≡ [] }
+pub(crate) fn refuse(decided: &mut Decided, refusal: Refusal)
+    ensures reply { decided.new.reply ≡ Reply.Refused refusal }
+    ensures edits { decided.new.edits ≡ [] }
 {
-    tell(Reply::Refused(refusal))
+    tell(decided, Reply::Refused(refusal));
 }
 
 /// The command is answered so, and nothing is to change.
-pub(crate) fn tell(reply: Reply) -> Decided
-    ensures reply { result.reply ≡ reply }
-    ensures edits { result.edits ≡ [] }
+pub(crate) fn tell(decided: &mut Decided, reply: Reply)
+    ensures reply { decided.new.reply ≡ reply }
+    ensures edits { decided.new.edits ≡ [] }
 {
-    Decided {
-        reply,
-        edits: Edits::new(),
-    }
+    decided.reply = reply;
+    decided.edits.clear();
 }
 
-/// Something is to be added, by this edit.
-pub(crate) fn added(edit: Edit) -> Decided
-    ensures reply { result.reply ≡ Reply.Added }
-    ensures edits { result.edits ≡ edit ∷ [] }
+/// The command is answered so, by this edit.
+pub(crate) fn make(decided: &mut Decided, reply: Reply, edit: &Edit)
+    ensures reply { decided.new.reply ≡ reply }
+    ensures edits { decided.new.edits ≡ edit.now ∷ [] }
 {
-    Decided {
-        reply: Reply::Added,
-        edits: Edits::of(&[edit]),
-    }
+    tell(decided, reply);
+    decided.edits.push(edit);
 }
 
 /// The refusal of a start, as the office names it.
@@ -97,38 +94,34 @@ pub(crate) fn sent_for(handled: &Handled) -> Option<(Name, Message)>
     }
 }
 
-/// The edits for a purse as it is now, its new line, and a message that finds a place.
-pub(crate) fn purse_edits(
+/// The command is answered so, by the edits for a purse as it is now, its new line, and a message that finds a place.
+pub(crate) fn make_purse(
+    decided: &mut Decided,
+    reply: Reply,
     purse: &Purse,
     line: Option<Line>,
     message: Option<(Name, Message)>,
-) -> Edits
-    ensures { result ≡ purse_edits purse.now line message }
+)
+    ensures reply { decided.new.reply ≡ reply }
+    ensures edits { decided.new.edits ≡ purse_edits purse.now line message }
 {
-    let name = purse.name();
-    let set = Edit::SetPurse { purse: *purse };
-    match line {
-        None => match message {
-            None => Edits::of(&[set]),
-            Some((peer, message)) => Edits::of(&[
-                set,
-                Edit::AddMessage {
-                    purse: peer,
-                    message,
-                },
-            ]),
-        },
-        Some(line) => match message {
-            None => Edits::of(&[set, Edit::AddLine { purse: name, line }]),
-            Some((peer, message)) => Edits::of(&[
-                set,
-                Edit::AddLine { purse: name, line },
-                Edit::AddMessage {
-                    purse: peer,
-                    message,
-                },
-            ]),
-        },
+    make(decided, reply, &Edit::SetPurse { purse: *purse });
+    add_line(&mut decided.edits, purse.name(), line);
+    if let Some((peer, message)) = message {
+        decided.edits.push(&Edit::AddMessage {
+            purse: peer,
+            message,
+        });
+    }
+}
+
+/// Adds the edit for a line, where there is one.
+fn add_line(edits: &mut Edits, purse: Name, line: Option<Line>)
+    requires { length edits.old < 4 }
+    ensures { edits.new ≡ edits.old ++ map (AddLine purse) (listed line) }
+{
+    if let Some(line) = line {
+        edits.push(&Edit::AddLine { purse, line });
     }
 }
 
@@ -166,39 +159,35 @@ pub(crate) fn money_line(purse: &Purse, kind: LineKind, amount: Amount, referenc
 }
 
 /// The answer where the reference was used with the amount `before`: the same reply again, or a refusal.
-pub(crate) fn again(before: Amount, amount: Amount, reply: Reply) -> Decided
-    ensures reply { result.reply ≡ (if before == amount then reply else Reply.Refused Refusal.RefReused) }
-    ensures edits { result.edits ≡ [] }
+pub(crate) fn again(decided: &mut Decided, before: Amount, amount: Amount, reply: Reply)
+    ensures reply { decided.new.reply ≡ (if before == amount then reply else Reply.Refused Refusal.RefReused) }
+    ensures edits { decided.new.edits ≡ [] }
 {
     if before.get() == amount.get() {
-        tell(reply)
+        tell(decided, reply);
     } else {
-        refuse(Refusal::RefReused)
+        refuse(decided, Refusal::RefReused);
     }
 }
 
-/// The edits of a redemption: the purse as it is now, its lines, and the redemption.
-pub(crate) fn redeem_edits(
+/// A redemption, by the edits for the purse as it is now, its lines, and the redemption.
+pub(crate) fn make_redemption(
+    decided: &mut Decided,
     purse: &Purse,
     logged: Option<Line>,
     amount: Amount,
     reference: Name,
-) -> Edits
-    ensures { result ≡ redeem_edits purse.now logged amount reference }
+)
+    ensures reply { decided.new.reply ≡ Reply.Redeemed }
+    ensures edits { decided.new.edits ≡ redeem_edits purse.now logged amount reference }
 {
     let name = purse.name();
-    let set = Edit::SetPurse { purse: *purse };
-    let own = Edit::AddLine {
-        purse: name,
-        line: money_line(purse, LineKind::Redeemed, amount, reference),
-    };
-    let redemption = Edit::AddRedemption {
+    let line = money_line(purse, LineKind::Redeemed, amount, reference);
+    make_purse(decided, Reply::Redeemed, purse, logged, None);
+    decided.edits.push(&Edit::AddLine { purse: name, line });
+    decided.edits.push(&Edit::AddRedemption {
         purse: name,
         reference,
         amount,
-    };
-    match logged {
-        None => Edits::of(&[set, own, redemption]),
-        Some(line) => Edits::of(&[set, Edit::AddLine { purse: name, line }, own, redemption]),
-    }
+    });
 }

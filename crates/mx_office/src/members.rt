@@ -1,5 +1,5 @@
 //! The commands of the operator and of clerks.
-ghost use Rattle.std.specs.Prelude.{◌≡◌, IfOk, IfErr};
+ghost use Rattle.std.specs.Prelude.{◌≡◌, IfOk, OnOk, IfErr};
 ghost use Rattle.mx_book.specs.Keeps.{Keeps};
 ghost use Rattle.mx_book.specs.World.{World};
 ghost use Rattle.mx_office.specs.Commands.{IsCommand};
@@ -7,8 +7,8 @@ ghost use Rattle.mx_office.specs.Decides.{Decides, purse_count};
 ghost use Rattle.mx_office.specs.Step.{new_member, new_holder, new_purse};
 ghost use Rattle.mx_office.specs.declared.values.Command.{Command};
 
-use crate::decisions::{added, refuse};
-use crate::values::{Decided, Refusal};
+use crate::decisions::{make, refuse};
+use crate::values::{Decided, Refusal, Reply};
 use mx_book::contract::{Book, StoreFault};
 use mx_book::edits::Edit;
 use mx_book::values::MOST_PURSES;
@@ -22,21 +22,26 @@ pub(crate) fn new_member<B: Book>(
     alloc: Global,
     member: Name,
     token: Token,
-) -> Result<Decided, StoreFault>
+    decided: &mut Decided,
+) -> Result<(), StoreFault>
     ensures keeps { Keeps B.doubt B.rows book.old book.new }
-    ensures decides { (w : World) → IsCommand (Command.NewMember member token) → B.doubt book.new ≡ 0 → B.spells (B.rows book.old) w → IfOk result (Decides w (new_member w member token)) }
+    ensures decides { (w : World) → IsCommand (Command.NewMember member token) → B.doubt book.new ≡ 0 → B.spells (B.rows book.old) w → OnOk result (Decides w (new_member w member token) decided.new) }
     ensures fault { IfErr result B.fails }
 {
     if book.member(alloc, member)?.is_some() {
-        return Ok(refuse(Refusal::NameTaken));
+        refuse(decided, Refusal::NameTaken);
+        return Ok(());
     }
     if book.who(alloc, &token)?.is_some() {
-        return Ok(refuse(Refusal::TokenTaken));
+        refuse(decided, Refusal::TokenTaken);
+        return Ok(());
     }
-    Ok(added(Edit::NewMember {
+    let edit = Edit::NewMember {
         member,
         clerk: token,
-    }))
+    };
+    make(decided, Reply::Added, &edit);
+    Ok(())
 }
 
 /// A new holder of a member with the holder's token.
@@ -46,25 +51,31 @@ pub(crate) fn new_holder<B: Book>(
     member: Name,
     holder: Name,
     token: Token,
-) -> Result<Decided, StoreFault>
+    decided: &mut Decided,
+) -> Result<(), StoreFault>
     ensures keeps { Keeps B.doubt B.rows book.old book.new }
-    ensures decides { (w : World) → IsCommand (Command.NewHolder holder token) → B.doubt book.new ≡ 0 → B.spells (B.rows book.old) w → IfOk result (Decides w (new_holder w member holder token)) }
+    ensures decides { (w : World) → IsCommand (Command.NewHolder holder token) → B.doubt book.new ≡ 0 → B.spells (B.rows book.old) w → OnOk result (Decides w (new_holder w member holder token) decided.new) }
     ensures fault { IfErr result B.fails }
 {
     if book.member(alloc, member)?.is_none() {
-        return Ok(refuse(Refusal::NoSuchMember));
+        refuse(decided, Refusal::NoSuchMember);
+        return Ok(());
     }
     if book.holder(alloc, holder)?.is_some() {
-        return Ok(refuse(Refusal::NameTaken));
+        refuse(decided, Refusal::NameTaken);
+        return Ok(());
     }
     if book.who(alloc, &token)?.is_some() {
-        return Ok(refuse(Refusal::TokenTaken));
+        refuse(decided, Refusal::TokenTaken);
+        return Ok(());
     }
-    Ok(added(Edit::NewHolder {
+    let edit = Edit::NewHolder {
         holder,
         member,
         token,
-    }))
+    };
+    make(decided, Reply::Added, &edit);
+    Ok(())
 }
 
 /// How many purses a holder of a member has. None where the member has no such holder.
@@ -91,19 +102,24 @@ pub(crate) fn new_purse<B: Book>(
     member: Name,
     purse: Name,
     holder: Name,
-) -> Result<Decided, StoreFault>
+    decided: &mut Decided,
+) -> Result<(), StoreFault>
     ensures keeps { Keeps B.doubt B.rows book.old book.new }
-    ensures decides { (w : World) → IsCommand (Command.NewPurse purse holder) → B.doubt book.new ≡ 0 → B.spells (B.rows book.old) w → IfOk result (Decides w (new_purse w member purse holder)) }
+    ensures decides { (w : World) → IsCommand (Command.NewPurse purse holder) → B.doubt book.new ≡ 0 → B.spells (B.rows book.old) w → OnOk result (Decides w (new_purse w member purse holder) decided.new) }
     ensures fault { IfErr result B.fails }
 {
     let Some(held) = purse_count(book, alloc, member, holder)? else {
-        return Ok(refuse(Refusal::NoSuchHolder));
+        refuse(decided, Refusal::NoSuchHolder);
+        return Ok(());
     };
     if book.purse(alloc, purse)?.is_some() {
-        return Ok(refuse(Refusal::NameTaken));
+        refuse(decided, Refusal::NameTaken);
+        return Ok(());
     }
     if held >= MOST_PURSES {
-        return Ok(refuse(Refusal::TooManyPurses));
+        refuse(decided, Refusal::TooManyPurses);
+        return Ok(());
     }
-    Ok(added(Edit::NewPurse { purse, holder }))
+    make(decided, Reply::Added, &Edit::NewPurse { purse, holder });
+    Ok(())
 }

@@ -1,5 +1,5 @@
 //! The commands that bring value into the office and settle what left it: grants, loads and collects.
-ghost use Rattle.std.specs.Prelude.{◌≡◌, ◌≤◌, ◌⊎◌, IfOk, IfErr};
+ghost use Rattle.std.specs.Prelude.{◌≡◌, ◌≤◌, ◌⊎◌, IfOk, OnOk, IfErr};
 ghost use Rattle.mx_book.specs.declared.contract.StoreFault.TheVariants.{Memory};
 ghost use Rattle.mx_book.specs.Conditions.{all_granted};
 ghost use Rattle.mx_book.specs.Keeps.{Keeps};
@@ -9,10 +9,10 @@ ghost use Rattle.mx_office.specs.Decides.{Decides, granted_to, load_edits, membe
 ghost use Rattle.mx_office.specs.Step.{collect, grant, load_purse};
 ghost use Rattle.mx_office.specs.declared.values.Command.{Command};
 
-use crate::decisions::{again, load_refusal, money_line, refuse};
+use crate::decisions::{again, load_refusal, make, make_purse, money_line, refuse};
 use crate::values::{Decided, Refusal, Reply};
 use mx_book::contract::{Book, StoreFault};
-use mx_book::edits::{Edit, Edits};
+use mx_book::edits::Edit;
 use mx_book::values::{LineKind, MemberRow};
 use mx_pay::names::same_name;
 use mx_pay::numbers::MOST_NUMBER;
@@ -55,52 +55,60 @@ pub(crate) fn grant<B: Book>(
     alloc: Global,
     member: Name,
     amount: Amount,
-) -> Result<Decided, StoreFault>
+    decided: &mut Decided,
+) -> Result<(), StoreFault>
     ensures keeps { Keeps B.doubt B.rows book.old book.new }
-    ensures decides { (w : World) → B.doubt book.new ≡ 0 → B.spells (B.rows book.old) w → IfOk result (Decides w (grant w member amount)) }
+    ensures decides { (w : World) → B.doubt book.new ≡ 0 → B.spells (B.rows book.old) w → OnOk result (Decides w (grant w member amount) decided.new) }
     ensures fault { IfErr result (λ e. (e ≡ Memory) ⊎ B.fails e) }
 {
     let Some(row) = book.member(alloc, member)? else {
-        return Ok(refuse(Refusal::NoSuchMember));
+        refuse(decided, Refusal::NoSuchMember);
+        return Ok(());
     };
     let more = amount.get();
     if all_granted(book, alloc)?.saturating_add(more as u128) > MOST {
-        return Ok(refuse(Refusal::GrantTooLarge));
+        refuse(decided, Refusal::GrantTooLarge);
+        return Ok(());
     }
     if row.float as u128 + more as u128 > MOST {
-        return Ok(refuse(Refusal::FloatFull));
+        refuse(decided, Refusal::FloatFull);
+        return Ok(());
     }
-    Ok(Decided {
-        reply: Reply::Granted,
-        edits: Edits::of(&[Edit::SetMember {
-            member,
-            granted: row.granted.saturating_add(more),
-            float: row.float + more,
-        }]),
-    })
+    let edit = Edit::SetMember {
+        member,
+        granted: row.granted.saturating_add(more),
+        float: row.float + more,
+    };
+    make(decided, Reply::Granted, &edit);
+    Ok(())
 }
 
-/// The edits of a load: the purse as it is now and its line, the load, and what is left of the member's float.
-fn load_edits(purse: &Purse, amount: Amount, reference: Name, member: Name, row: MemberRow) -> Edits
+/// A load, by the edits for the purse as it is now and its line, the load, and what is left of the member's float.
+fn make_load(
+    decided: &mut Decided,
+    purse: &Purse,
+    amount: Amount,
+    reference: Name,
+    member: Name,
+    row: MemberRow,
+)
     requires { amount ≤ row.float }
-    ensures { result ≡ load_edits purse.now amount reference member row }
+    ensures reply { decided.new.reply ≡ Reply.Loaded }
+    ensures edits { decided.new.edits ≡ load_edits purse.now amount reference member row }
 {
     let name = purse.name();
     let line = money_line(purse, LineKind::Loaded, amount, reference);
-    Edits::of(&[
-        Edit::SetPurse { purse: *purse },
-        Edit::AddLine { purse: name, line },
-        Edit::AddLoad {
-            purse: name,
-            reference,
-            amount,
-        },
-        Edit::SetMember {
-            member,
-            granted: row.granted,
-            float: row.float - amount.get(),
-        },
-    ])
+    make_purse(decided, Reply::Loaded, purse, Some(line), None);
+    decided.edits.push(&Edit::AddLoad {
+        purse: name,
+        reference,
+        amount,
+    });
+    decided.edits.push(&Edit::SetMember {
+        member,
+        granted: row.granted,
+        float: row.float - amount.get(),
+    });
 }
 
 /// A load of a purse of a holder of the member, from the member's float.
@@ -111,29 +119,37 @@ pub(crate) fn load<B: Book>(
     purse: Name,
     amount: Amount,
     reference: Name,
-) -> Result<Decided, StoreFault>
+    decided: &mut Decided,
+) -> Result<(), StoreFault>
     ensures keeps { Keeps B.doubt B.rows book.old book.new }
-    ensures decides { (w : World) → IsCommand (Command.Load purse amount reference) → B.doubt book.new ≡ 0 → B.spells (B.rows book.old) w → IfOk result (Decides w (load_purse w member purse amount reference)) }
+    ensures decides { (w : World) → IsCommand (Command.Load purse amount reference) → B.doubt book.new ≡ 0 → B.spells (B.rows book.old) w → OnOk result (Decides w (load_purse w member purse amount reference) decided.new) }
     ensures fault { IfErr result B.fails }
 {
     let Some(mut after) = member_purse(book, alloc, member, purse)? else {
-        return Ok(refuse(Refusal::NoSuchPurse));
+        refuse(decided, Refusal::NoSuchPurse);
+        return Ok(());
     };
     let Some(row) = book.member(alloc, member)? else {
-        return Ok(refuse(Refusal::NoSuchPurse));
+        refuse(decided, Refusal::NoSuchPurse);
+        return Ok(());
     };
     if let Some(before) = book.load_of(alloc, purse, reference)? {
-        return Ok(again(before, amount, Reply::Loaded));
+        again(decided, before, amount, Reply::Loaded);
+        return Ok(());
     }
     if row.float < amount.get() {
-        return Ok(refuse(Refusal::FloatTooSmall));
+        refuse(decided, Refusal::FloatTooSmall);
+        return Ok(());
     }
     match after.load(amount) {
-        Err(refusal) => Ok(refuse(load_refusal(refusal))),
-        Ok(()) => Ok(Decided {
-            reply: Reply::Loaded,
-            edits: load_edits(&after, amount, reference, member, row),
-        }),
+        Err(refusal) => {
+            refuse(decided, load_refusal(refusal));
+            Ok(())
+        }
+        Ok(()) => {
+            make_load(decided, &after, amount, reference, member, row);
+            Ok(())
+        }
     }
 }
 
@@ -159,28 +175,31 @@ pub(crate) fn collect<B: Book>(
     book: &mut B,
     alloc: Global,
     member: Name,
-) -> Result<Decided, StoreFault>
+    decided: &mut Decided,
+) -> Result<(), StoreFault>
     ensures keeps { Keeps B.doubt B.rows book.old book.new }
-    ensures decides { (w : World) → B.doubt book.new ≡ 0 → B.spells (B.rows book.old) w → IfOk result (Decides w (collect w member)) }
+    ensures decides { (w : World) → B.doubt book.new ≡ 0 → B.spells (B.rows book.old) w → OnOk result (Decides w (collect w member) decided.new) }
     ensures fault { IfErr result B.fails }
 {
     let Some(row) = book.member(alloc, member)? else {
-        return Ok(refuse(Refusal::NoSuchMember));
+        refuse(decided, Refusal::NoSuchMember);
+        return Ok(());
     };
     let uncollected = book.uncollected(alloc, member)?;
     let float = uncollected.saturating_add(row.float as u128);
     if float > MOST {
-        return Ok(refuse(Refusal::FloatFull));
+        refuse(decided, Refusal::FloatFull);
+        return Ok(());
     }
-    Ok(Decided {
-        reply: Reply::Collected(uncollected),
-        edits: Edits::of(&[
-            Edit::Collect { member },
-            Edit::SetMember {
-                member,
-                granted: row.granted,
-                float: float as u64,
-            },
-        ]),
-    })
+    make(
+        decided,
+        Reply::Collected(uncollected),
+        &Edit::Collect { member },
+    );
+    decided.edits.push(&Edit::SetMember {
+        member,
+        granted: row.granted,
+        float: float as u64,
+    });
+    Ok(())
 }

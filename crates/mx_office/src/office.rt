@@ -72,12 +72,34 @@ impl<B: Book> Office<B> {
         ensures fault { IfErr result (MayNotDecide B.fails command.now) }
         ensures asked { IsAsked (caller, command.now) }
     {
+        let mut decided = Decided::new();
+        self.decide_into(alloc, caller, command, &mut decided)?;
+        Ok(decided)
+    }
+
+    /// What a command of a caller would do, as `decide` says it, written over an earlier decision. A decision takes
+    /// some 8 KB, and who decides one command after another spares to make one each time. After a fault the decision is of
+    /// no use.
+    pub fn decide_into(
+        &mut self,
+        alloc: Global,
+        caller: Caller,
+        command: &Command,
+        decided: &mut Decided,
+    ) -> Result<(), StoreFault>
+        ensures keeps { Keeps B.doubt B.rows self.old.book self.new.book }
+        ensures decides { (w : World) → B.doubt self.new.book ≡ 0 → B.spells (B.rows self.old.book) w → OnOk result (Decides w (base w caller command.now) decided.new) }
+        ensures reads { OnOk result (IsTrue (is_read command.now) → decided.new.edits ≡ []) }
+        ensures fault { IfErr result (MayNotDecide B.fails command.now) }
+        ensures asked { IsAsked (caller, command.now) }
+    {
         is_caller(&caller);
         is_command(command);
+        let book = &mut self.book;
         match caller {
-            Caller::Operator => decide_operator(&mut self.book, alloc, command),
-            Caller::Clerk(member) => decide_clerk(&mut self.book, alloc, member, command),
-            Caller::Holder(holder) => decide_holder(&mut self.book, alloc, holder, command),
+            Caller::Operator => decide_operator(book, alloc, command, decided),
+            Caller::Clerk(member) => decide_clerk(book, alloc, member, command, decided),
+            Caller::Holder(holder) => decide_holder(book, alloc, holder, command, decided),
         }
     }
 
@@ -156,16 +178,20 @@ fn decide_operator<B: Book>(
     book: &mut B,
     alloc: Global,
     command: &Command,
-) -> Result<Decided, StoreFault>
+    decided: &mut Decided,
+) -> Result<(), StoreFault>
     ensures keeps { Keeps B.doubt B.rows book.old book.new }
-    ensures decides { (w : World) → IsCommand command.now → B.doubt book.new ≡ 0 → B.spells (B.rows book.old) w → IfOk result (Decides w (base w Caller.Operator command.now)) }
-    ensures reads { IfOk result (λ d. IsTrue (is_read command.now) → d.edits ≡ []) }
+    ensures decides { (w : World) → IsCommand command.now → B.doubt book.new ≡ 0 → B.spells (B.rows book.old) w → OnOk result (Decides w (base w Caller.Operator command.now) decided.new) }
+    ensures reads { OnOk result (IsTrue (is_read command.now) → decided.new.edits ≡ []) }
     ensures fault { IfErr result (MayNotDecide B.fails command.now) }
 {
     match *command {
-        Command::NewMember { member, token } => new_member(book, alloc, member, token),
-        Command::Grant { member, amount } => grant(book, alloc, member, amount),
-        _ => Ok(refuse(Refusal::NotForCaller)),
+        Command::NewMember { member, token } => new_member(book, alloc, member, token, decided),
+        Command::Grant { member, amount } => grant(book, alloc, member, amount, decided),
+        _ => {
+            refuse(decided, Refusal::NotForCaller);
+            Ok(())
+        }
     }
 }
 
@@ -175,22 +201,30 @@ fn decide_clerk<B: Book>(
     alloc: Global,
     member: Name,
     command: &Command,
-) -> Result<Decided, StoreFault>
+    decided: &mut Decided,
+) -> Result<(), StoreFault>
     ensures keeps { Keeps B.doubt B.rows book.old book.new }
-    ensures decides { (w : World) → IsCommand command.now → B.doubt book.new ≡ 0 → B.spells (B.rows book.old) w → IfOk result (Decides w (base w (Caller.Clerk member) command.now)) }
-    ensures reads { IfOk result (λ d. IsTrue (is_read command.now) → d.edits ≡ []) }
+    ensures decides { (w : World) → IsCommand command.now → B.doubt book.new ≡ 0 → B.spells (B.rows book.old) w → OnOk result (Decides w (base w (Caller.Clerk member) command.now) decided.new) }
+    ensures reads { OnOk result (IsTrue (is_read command.now) → decided.new.edits ≡ []) }
     ensures fault { IfErr result (MayNotDecide B.fails command.now) }
 {
     match *command {
-        Command::NewHolder { holder, token } => new_holder(book, alloc, member, holder, token),
-        Command::NewPurse { purse, holder } => new_purse(book, alloc, member, purse, holder),
+        Command::NewHolder { holder, token } => new_holder(
+            book, alloc, member, holder, token, decided,
+        ),
+        Command::NewPurse { purse, holder } => new_purse(
+            book, alloc, member, purse, holder, decided,
+        ),
         Command::Load {
             purse,
             amount,
             reference,
-        } => load(book, alloc, member, purse, amount, reference),
-        Command::Collect => collect(book, alloc, member),
-        _ => Ok(refuse(Refusal::NotForCaller)),
+        } => load(book, alloc, member, purse, amount, reference, decided),
+        Command::Collect => collect(book, alloc, member, decided),
+        _ => {
+            refuse(decided, Refusal::NotForCaller);
+            Ok(())
+        }
     }
 }
 
@@ -200,36 +234,40 @@ fn decide_holder<B: Book>(
     alloc: Global,
     holder: Name,
     command: &Command,
-) -> Result<Decided, StoreFault>
+    decided: &mut Decided,
+) -> Result<(), StoreFault>
     ensures keeps { Keeps B.doubt B.rows book.old book.new }
-    ensures decides { (w : World) → IsCommand command.now → B.doubt book.new ≡ 0 → B.spells (B.rows book.old) w → IfOk result (Decides w (base w (Caller.Holder holder) command.now)) }
-    ensures reads { IfOk result (λ d. IsTrue (is_read command.now) → d.edits ≡ []) }
+    ensures decides { (w : World) → IsCommand command.now → B.doubt book.new ≡ 0 → B.spells (B.rows book.old) w → OnOk result (Decides w (base w (Caller.Holder holder) command.now) decided.new) }
+    ensures reads { OnOk result (IsTrue (is_read command.now) → decided.new.edits ≡ []) }
     ensures fault { IfErr result (MayNotDecide B.fails command.now) }
 {
     match *command {
-        Command::Purses => purses(book, alloc, holder),
-        Command::Show { purse } => show(book, alloc, holder, purse),
+        Command::Purses => purses(book, alloc, holder, decided),
+        Command::Show { purse } => show(book, alloc, holder, purse, decided),
         Command::StartFrom {
             purse,
             peer,
             value,
             seq,
-        } => start_from(book, alloc, holder, purse, peer, value, seq),
+        } => start_from(book, alloc, holder, purse, peer, value, seq, decided),
         Command::StartTo {
             purse,
             peer,
             value,
             seq,
-        } => start_to(book, alloc, holder, purse, peer, value, seq),
-        Command::Handle { purse, number } => handle(book, alloc, holder, purse, number),
-        Command::Discard { purse, number } => discard(book, alloc, holder, purse, number),
-        Command::Abort { purse } => abort(book, alloc, holder, purse),
+        } => start_to(book, alloc, holder, purse, peer, value, seq, decided),
+        Command::Handle { purse, number } => handle(book, alloc, holder, purse, number, decided),
+        Command::Discard { purse, number } => discard(book, alloc, holder, purse, number, decided),
+        Command::Abort { purse } => abort(book, alloc, holder, purse, decided),
         Command::Redeem {
             purse,
             amount,
             reference,
-        } => redeem(book, alloc, holder, purse, amount, reference),
-        Command::Inbox { purse } => inbox(book, alloc, holder, purse),
-        _ => Ok(refuse(Refusal::NotForCaller)),
+        } => redeem(book, alloc, holder, purse, amount, reference, decided),
+        Command::Inbox { purse } => inbox(book, alloc, holder, purse, decided),
+        _ => {
+            refuse(decided, Refusal::NotForCaller);
+            Ok(())
+        }
     }
 }

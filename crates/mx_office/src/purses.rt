@@ -1,5 +1,5 @@
 //! The commands of holders.
-ghost use Rattle.std.specs.Prelude.{◌≡◌, ◌⊎◌, [], IfOk, IfErr};
+ghost use Rattle.std.specs.Prelude.{◌≡◌, ◌⊎◌, [], IfOk, OnOk, IfErr};
 ghost use Rattle.mx_book.specs.declared.contract.StoreFault.TheVariants.{Memory};
 ghost use Rattle.mx_book.specs.Keeps.{Keeps};
 ghost use Rattle.mx_book.specs.World.{World};
@@ -10,12 +10,12 @@ ghost use Rattle.mx_office.specs.Step.{abort, discard, handle, inbox, on_own, re
 ghost use Rattle.mx_office.specs.declared.values.Command.{Command};
 
 use crate::decisions::{
-    abort_line, again, message_line, purse_edits, redeem_edits, redeem_refusal, refuse, sent_for,
-    start_refusal, tell,
+    abort_line, again, make, make_purse, make_redemption, message_line, redeem_refusal, refuse,
+    sent_for, start_refusal, tell,
 };
 use crate::values::{Decided, Messages, Names, Refusal, Reply};
 use mx_book::contract::{Book, StoreFault};
-use mx_book::edits::{Edit, Edits};
+use mx_book::edits::Edit;
 use mx_book::values::MOST_MESSAGES;
 use mx_pay::names::same_name;
 use mx_pay::numbers::MOST_NUMBER;
@@ -77,14 +77,16 @@ pub(crate) fn purses<B: Book>(
     book: &mut B,
     alloc: Global,
     holder: Name,
-) -> Result<Decided, StoreFault>
+    decided: &mut Decided,
+) -> Result<(), StoreFault>
     ensures keeps { Keeps B.doubt B.rows book.old book.new }
-    ensures decides { (w : World) → B.doubt book.new ≡ 0 → B.spells (B.rows book.old) w → IfOk result (Decides w (tell w (Reply.Purses (purses_of w holder)))) }
-    ensures edits { IfOk result (λ d. d.edits ≡ []) }
+    ensures decides { (w : World) → B.doubt book.new ≡ 0 → B.spells (B.rows book.old) w → OnOk result (Decides w (tell w (Reply.Purses (purses_of w holder))) decided.new) }
+    ensures edits { OnOk result (decided.new.edits ≡ []) }
     ensures fault { IfErr result (λ e. (e ≡ Memory) ⊎ B.fails e) }
 {
     let names = book.purses_of(alloc, holder)?;
-    Ok(tell(Reply::Purses(Names::new(names))))
+    tell(decided, Reply::Purses(Names::new(names)));
+    Ok(())
 }
 
 /// The purse.
@@ -93,15 +95,22 @@ pub(crate) fn show<B: Book>(
     alloc: Global,
     holder: Name,
     purse: Name,
-) -> Result<Decided, StoreFault>
+    decided: &mut Decided,
+) -> Result<(), StoreFault>
     ensures keeps { Keeps B.doubt B.rows book.old book.new }
-    ensures decides { (w : World) → B.doubt book.new ≡ 0 → B.spells (B.rows book.old) w → IfOk result (Decides w (on_own w holder purse show)) }
-    ensures edits { IfOk result (λ d. d.edits ≡ []) }
+    ensures decides { (w : World) → B.doubt book.new ≡ 0 → B.spells (B.rows book.old) w → OnOk result (Decides w (on_own w holder purse show) decided.new) }
+    ensures edits { OnOk result (decided.new.edits ≡ []) }
     ensures fault { IfErr result B.fails }
 {
     match own_purse(book, alloc, holder, purse)? {
-        Some(purse) => Ok(tell(Reply::Shown(purse))),
-        None => Ok(refuse(Refusal::NoSuchPurse)),
+        Some(purse) => {
+            tell(decided, Reply::Shown(purse));
+            Ok(())
+        }
+        None => {
+            refuse(decided, Refusal::NoSuchPurse);
+            Ok(())
+        }
     }
 }
 
@@ -111,17 +120,20 @@ pub(crate) fn inbox<B: Book>(
     alloc: Global,
     holder: Name,
     purse: Name,
-) -> Result<Decided, StoreFault>
+    decided: &mut Decided,
+) -> Result<(), StoreFault>
     ensures keeps { Keeps B.doubt B.rows book.old book.new }
-    ensures decides { (w : World) → B.doubt book.new ≡ 0 → B.spells (B.rows book.old) w → IfOk result (Decides w (on_own w holder purse inbox)) }
-    ensures edits { IfOk result (λ d. d.edits ≡ []) }
+    ensures decides { (w : World) → B.doubt book.new ≡ 0 → B.spells (B.rows book.old) w → OnOk result (Decides w (on_own w holder purse inbox) decided.new) }
+    ensures edits { OnOk result (decided.new.edits ≡ []) }
     ensures fault { IfErr result (λ e. (e ≡ Memory) ⊎ B.fails e) }
 {
     if own_purse(book, alloc, holder, purse)?.is_none() {
-        return Ok(refuse(Refusal::NoSuchPurse));
+        refuse(decided, Refusal::NoSuchPurse);
+        return Ok(());
     }
     let messages = book.inbox(alloc, purse)?;
-    Ok(tell(Reply::Inbox(Messages::new(messages))))
+    tell(decided, Reply::Inbox(Messages::new(messages)));
+    Ok(())
 }
 
 /// A payment from the purse to a peer.
@@ -133,21 +145,27 @@ pub(crate) fn start_from<B: Book>(
     peer: Name,
     value: Amount,
     seq: Seq,
-) -> Result<Decided, StoreFault>
+    decided: &mut Decided,
+) -> Result<(), StoreFault>
     ensures keeps { Keeps B.doubt B.rows book.old book.new }
-    ensures decides { (w : World) → B.doubt book.new ≡ 0 → B.spells (B.rows book.old) w → IfOk result (Decides w (on_own w holder purse (start_from peer value seq))) }
+    ensures decides { (w : World) → B.doubt book.new ≡ 0 → B.spells (B.rows book.old) w → OnOk result (Decides w (on_own w holder purse (start_from peer value seq)) decided.new) }
     ensures fault { IfErr result B.fails }
 {
     let Some(mut after) = own_purse(book, alloc, holder, purse)? else {
-        return Ok(refuse(Refusal::NoSuchPurse));
+        refuse(decided, Refusal::NoSuchPurse);
+        return Ok(());
     };
     let logged = after.pending();
     match after.start_from(peer, value, seq) {
-        Err(refusal) => Ok(refuse(start_refusal(refusal))),
-        Ok(details) => Ok(Decided {
-            reply: Reply::Started(details),
-            edits: purse_edits(&after, abort_line(&after, logged), None),
-        }),
+        Err(refusal) => {
+            refuse(decided, start_refusal(refusal));
+            Ok(())
+        }
+        Ok(details) => {
+            let line = abort_line(&after, logged);
+            make_purse(decided, Reply::Started(details), &after, line, None);
+            Ok(())
+        }
     }
 }
 
@@ -160,23 +178,27 @@ pub(crate) fn start_to<B: Book>(
     peer: Name,
     value: Amount,
     seq: Seq,
-) -> Result<Decided, StoreFault>
+    decided: &mut Decided,
+) -> Result<(), StoreFault>
     ensures keeps { Keeps B.doubt B.rows book.old book.new }
-    ensures decides { (w : World) → B.doubt book.new ≡ 0 → B.spells (B.rows book.old) w → IfOk result (Decides w (on_own w holder purse (start_to peer value seq))) }
+    ensures decides { (w : World) → B.doubt book.new ≡ 0 → B.spells (B.rows book.old) w → OnOk result (Decides w (on_own w holder purse (start_to peer value seq)) decided.new) }
     ensures fault { IfErr result B.fails }
 {
     let Some(mut after) = own_purse(book, alloc, holder, purse)? else {
-        return Ok(refuse(Refusal::NoSuchPurse));
+        refuse(decided, Refusal::NoSuchPurse);
+        return Ok(());
     };
     let logged = after.pending();
     match after.start_to(peer, value, seq) {
-        Err(refusal) => Ok(refuse(start_refusal(refusal))),
+        Err(refusal) => {
+            refuse(decided, start_refusal(refusal));
+            Ok(())
+        }
         Ok(details) => {
             let request = placed(book, alloc, Some((peer, Message::Req(details))))?;
-            Ok(Decided {
-                reply: Reply::Started(details),
-                edits: purse_edits(&after, abort_line(&after, logged), request),
-            })
+            let line = abort_line(&after, logged);
+            make_purse(decided, Reply::Started(details), &after, line, request);
+            Ok(())
         }
     }
 }
@@ -188,24 +210,25 @@ pub(crate) fn handle<B: Book>(
     holder: Name,
     purse: Name,
     number: Seq,
-) -> Result<Decided, StoreFault>
+    decided: &mut Decided,
+) -> Result<(), StoreFault>
     ensures keeps { Keeps B.doubt B.rows book.old book.new }
-    ensures decides { (w : World) → B.doubt book.new ≡ 0 → B.spells (B.rows book.old) w → IfOk result (Decides w (on_own w holder purse (handle number))) }
+    ensures decides { (w : World) → B.doubt book.new ≡ 0 → B.spells (B.rows book.old) w → OnOk result (Decides w (on_own w holder purse (handle number)) decided.new) }
     ensures fault { IfErr result B.fails }
 {
     let Some(mut after) = own_purse(book, alloc, holder, purse)? else {
-        return Ok(refuse(Refusal::NoSuchPurse));
+        refuse(decided, Refusal::NoSuchPurse);
+        return Ok(());
     };
     let Some(message) = book.message(alloc, purse, number.get())? else {
-        return Ok(refuse(Refusal::NoSuchMessage));
+        refuse(decided, Refusal::NoSuchMessage);
+        return Ok(());
     };
     let handled = after.handle(&message);
     let answer = placed(book, alloc, sent_for(&handled))?;
-    let edits = purse_edits(&after, message_line(&after, &handled), answer);
-    Ok(Decided {
-        reply: Reply::Handled(handled),
-        edits,
-    })
+    let line = message_line(&after, &handled);
+    make_purse(decided, Reply::Handled(handled), &after, line, answer);
+    Ok(())
 }
 
 /// A message in the inbox of the purse is thrown away.
@@ -215,22 +238,27 @@ pub(crate) fn discard<B: Book>(
     holder: Name,
     purse: Name,
     number: Seq,
-) -> Result<Decided, StoreFault>
+    decided: &mut Decided,
+) -> Result<(), StoreFault>
     ensures keeps { Keeps B.doubt B.rows book.old book.new }
-    ensures decides { (w : World) → B.doubt book.new ≡ 0 → B.spells (B.rows book.old) w → IfOk result (Decides w (on_own w holder purse (discard number))) }
+    ensures decides { (w : World) → B.doubt book.new ≡ 0 → B.spells (B.rows book.old) w → OnOk result (Decides w (on_own w holder purse (discard number)) decided.new) }
     ensures fault { IfErr result B.fails }
 {
     if own_purse(book, alloc, holder, purse)?.is_none() {
-        return Ok(refuse(Refusal::NoSuchPurse));
+        refuse(decided, Refusal::NoSuchPurse);
+        return Ok(());
     }
     let number = number.get();
     if book.message(alloc, purse, number)?.is_none() {
-        return Ok(refuse(Refusal::NoSuchMessage));
+        refuse(decided, Refusal::NoSuchMessage);
+        return Ok(());
     }
-    Ok(Decided {
-        reply: Reply::Discarded,
-        edits: Edits::of(&[Edit::DropMessage { purse, number }]),
-    })
+    make(
+        decided,
+        Reply::Discarded,
+        &Edit::DropMessage { purse, number },
+    );
+    Ok(())
 }
 
 /// The payment of the purse is aborted.
@@ -239,21 +267,22 @@ pub(crate) fn abort<B: Book>(
     alloc: Global,
     holder: Name,
     purse: Name,
-) -> Result<Decided, StoreFault>
+    decided: &mut Decided,
+) -> Result<(), StoreFault>
     ensures keeps { Keeps B.doubt B.rows book.old book.new }
-    ensures decides { (w : World) → B.doubt book.new ≡ 0 → B.spells (B.rows book.old) w → IfOk result (Decides w (on_own w holder purse abort)) }
+    ensures decides { (w : World) → B.doubt book.new ≡ 0 → B.spells (B.rows book.old) w → OnOk result (Decides w (on_own w holder purse abort) decided.new) }
     ensures fault { IfErr result B.fails }
 {
     let Some(mut after) = own_purse(book, alloc, holder, purse)? else {
-        return Ok(refuse(Refusal::NoSuchPurse));
+        refuse(decided, Refusal::NoSuchPurse);
+        return Ok(());
     };
     let logged = after.abort();
-    Ok(Decided {
-        reply: Reply::Aborted {
-            logged: logged.is_some(),
-        },
-        edits: purse_edits(&after, abort_line(&after, logged), None),
-    })
+    let reply = Reply::Aborted {
+        logged: logged.is_some(),
+    };
+    make_purse(decided, reply, &after, abort_line(&after, logged), None);
+    Ok(())
 }
 
 /// An amount of the purse is redeemed.
@@ -264,24 +293,31 @@ pub(crate) fn redeem<B: Book>(
     purse: Name,
     amount: Amount,
     reference: Name,
-) -> Result<Decided, StoreFault>
+    decided: &mut Decided,
+) -> Result<(), StoreFault>
     ensures keeps { Keeps B.doubt B.rows book.old book.new }
-    ensures decides { (w : World) → IsCommand (Command.Redeem purse amount reference) → B.doubt book.new ≡ 0 → B.spells (B.rows book.old) w → IfOk result (Decides w (on_own w holder purse (redeem amount reference))) }
+    ensures decides { (w : World) → IsCommand (Command.Redeem purse amount reference) → B.doubt book.new ≡ 0 → B.spells (B.rows book.old) w → OnOk result (Decides w (on_own w holder purse (redeem amount reference)) decided.new) }
     ensures fault { IfErr result B.fails }
 {
     let Some(mut after) = own_purse(book, alloc, holder, purse)? else {
-        return Ok(refuse(Refusal::NoSuchPurse));
+        refuse(decided, Refusal::NoSuchPurse);
+        return Ok(());
     };
     if let Some(before) = book.redemption_of(alloc, purse, reference)? {
-        return Ok(again(before, amount, Reply::Redeemed));
+        again(decided, before, amount, Reply::Redeemed);
+        return Ok(());
     }
     let mut rested = after;
     let logged = rested.abort();
     match after.redeem(amount) {
-        Err(refusal) => Ok(refuse(redeem_refusal(refusal))),
-        Ok(()) => Ok(Decided {
-            reply: Reply::Redeemed,
-            edits: redeem_edits(&after, abort_line(&rested, logged), amount, reference),
-        }),
+        Err(refusal) => {
+            refuse(decided, redeem_refusal(refusal));
+            Ok(())
+        }
+        Ok(()) => {
+            let line = abort_line(&rested, logged);
+            make_redemption(decided, &after, line, amount, reference);
+            Ok(())
+        }
     }
 }

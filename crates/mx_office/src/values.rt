@@ -1,5 +1,5 @@
 //! Commands, replies and refusals.
-ghost use Rattle.std.specs.Prelude.{◌≡◌};
+ghost use Rattle.std.specs.Prelude.{◌≡◌, []};
 ghost use Rattle.mx_office.specs.Texts.{refusal_text};
 
 use mx_book::edits::Edits;
@@ -289,6 +289,19 @@ pub struct Decided {
     pub reply: Reply,
     /// The edits, in order.
     pub edits: Edits,
+}
+
+impl Decided {
+    /// A decision to begin with, which refuses and has no edits.
+    pub fn new() -> Decided
+        ensures reply { result.reply ≡ Reply.Refused Refusal.NotForCaller }
+        ensures edits { result.edits ≡ [] }
+    {
+        Decided {
+            reply: Reply::Refused(Refusal::NotForCaller),
+            edits: Edits::new(),
+        }
+    }
 }
 
 /// What came of one of several commands.

@@ -50,14 +50,20 @@ impl Shelves {
     }
 
     /// Sets a purse that is there.
-    pub(super) fn set_purse(&mut self, purse: Purse)
+    pub(super) fn set_purse(&mut self, purse: &Purse)
         requires { HasRoom 1 self.old }
-        ensures edited { rows_of self.new ≡ rewritten (rows_of self.old) (Edit.SetPurse purse) }
+        ensures edited { rows_of self.new ≡ rewritten (rows_of self.old) (Edit.SetPurse purse.now) }
         ensures room { SpendsOne self.old self.new }
     {
         let name = purse.name();
         if let Some(row) = self.purses.get(name) {
-            self.purses.put(name, PurseRow { purse, ..row });
+            self.purses.put(
+                name,
+                PurseRow {
+                    purse: *purse,
+                    ..row
+                },
+            );
         }
     }
 
