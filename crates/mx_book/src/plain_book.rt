@@ -49,7 +49,7 @@ impl Book for PlainBook {
     }
 
     fn member(&mut self, _alloc: Global, name: Name) -> Result<Option<MemberRow>, StoreFault> {
-        Ok(self.shelves.members.get(name))
+        Ok(self.shelves.members.get(name).copied())
     }
 
     fn holder(&mut self, _alloc: Global, name: Name) -> Result<Option<HolderRow>, StoreFault> {
@@ -80,7 +80,7 @@ impl Book for PlainBook {
         purse: Name,
         number: u64,
     ) -> Result<Option<Message>, StoreFault> {
-        Ok(self.shelves.inbox.get((purse, number)))
+        Ok(self.shelves.inbox.get((purse, number)).copied())
     }
 
     fn lines(

@@ -157,7 +157,7 @@ impl Shelves {
         if same_token(token, &self.operator) {
             Some(Caller::Operator)
         } else {
-            self.tokens.get(*token)
+            self.tokens.get(*token).copied()
         }
     }
 
@@ -165,7 +165,7 @@ impl Shelves {
     pub fn holder(&self, name: Name) -> Option<HolderRow>
         ensures { result ≡ row_holder_of (rows_of self.now) name }
     {
-        let member = self.holders.get(name)?;
+        let member = *self.holders.get(name)?;
         let purses = count_purses(self.purses.rows(), name);
         Some(HolderRow { member, purses })
     }
@@ -175,7 +175,7 @@ impl Shelves {
         ensures { result ≡ row_account_of (rows_of self.now) name }
     {
         let row = self.purses.get(name)?;
-        let member = self.holders.get(row.holder)?;
+        let member = *self.holders.get(row.holder)?;
         Some(Account {
             holder: row.holder,
             member,
@@ -229,7 +229,7 @@ impl Shelves {
     pub fn load_of(&self, purse: Name, reference: Name) -> Option<Amount>
         ensures { result ≡ row_load_of (rows_of self.now) purse reference }
     {
-        self.loads.get((purse, reference))
+        self.loads.get((purse, reference)).copied()
     }
 
     /// The amount of the redemption of a purse with that reference, or None where there is none.

@@ -57,13 +57,11 @@ impl Shelves {
     {
         let name = purse.name();
         if let Some(row) = self.purses.get(name) {
-            self.purses.put(
-                name,
-                PurseRow {
-                    purse: *purse,
-                    ..row
-                },
-            );
+            let row = PurseRow {
+                purse: *purse,
+                ..*row
+            };
+            self.purses.put(name, row);
         }
     }
 
@@ -76,14 +74,11 @@ impl Shelves {
     {
         if let Some(row) = self.purses.get(purse) {
             let number = row.next_message;
-            let next_message = number + 1;
-            self.purses.put(
-                purse,
-                PurseRow {
-                    next_message,
-                    ..row
-                },
-            );
+            let row = PurseRow {
+                next_message: number + 1,
+                ..*row
+            };
+            self.purses.put(purse, row);
             self.inbox.put((purse, number), message);
         }
     }

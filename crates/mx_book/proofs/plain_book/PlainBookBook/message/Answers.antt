@@ -4,4 +4,4 @@ use Rattle.mx_book.proofs.SpellLemmas.{message_at}
 use Rattle.mx_book.proofs.plain_book.PlainBookBook.message.Goals as goal
 
 pub returns-clause-value : goal.returns-clause-value
-returns-clause-value c w sure h = c.get.ensures ∙ message_at (rows_of c.args.self.now.shelves) w c.args.purse c.args.number h
+returns-clause-value c w sure h = c.copied.ensures ∙ c.get.ensures ∙ message_at (rows_of c.args.self.now.shelves) w c.args.purse c.args.number h
