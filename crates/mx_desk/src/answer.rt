@@ -8,6 +8,7 @@ ghost use Rattle.mx_desk.specs.Found.{request_view};
 ghost use Rattle.mx_desk.specs.Respond.{is_of_class, caller_of, is_callers, after_body, after_caller, respond, MayBeGivenUp};
 
 use crate::head::Received;
+use crate::workspace::Workspace;
 use mx_book::Book;
 use mx_book::contract::StoreFault;
 use mx_book::values::Caller;
@@ -49,6 +50,7 @@ fn caller_of<B: Book>(
 /// Decides a command, makes the response, and only then changes the books.
 fn answer_command<B: Book>(
     alloc: Global,
+    workspace: &mut Workspace,
     office: &mut Office<B>,
     caller: Caller,
     command: &Command,
@@ -57,11 +59,12 @@ fn answer_command<B: Book>(
     ensures answers { (w : World) → B.doubt office.new.book ≡ 0 → B.spells (B.rows office.old.book) w → IsAnswer (B.spells (B.rows office.new.book)) w (after_body w caller (Some command.now)) (Unit {0}) result }
     ensures err { B.doubt office.new.book ≡ 0 → OnErr result (B.rows office.new.book ≡ B.rows office.old.book) }
 {
-    let decided = office.decide(alloc, caller, command)?;
+    let decided = &mut workspace.decided;
+    office.decide_into(alloc, caller, command, decided)?;
     let Ok(response) = render(alloc, &decided.reply) else {
         return Err(StoreFault::Memory);
     };
-    office.commit(&decided)?;
+    office.commit(decided)?;
     Ok(response)
 }
 
@@ -69,6 +72,7 @@ fn answer_command<B: Book>(
 #[tactic(auto, unfolding(crate::specs::Respond::after_caller, crate::specs::Respond::after_body))]
 fn answer_routed<B: Book>(
     alloc: Global,
+    workspace: &mut Workspace,
     office: &mut Office<B>,
     route: &Route,
     request: &Received<'_>,
@@ -86,7 +90,7 @@ fn answer_routed<B: Book>(
         return Ok(Response::Always(Fixed::Refused(Refusal::NotForCaller)));
     }
     match read_body(alloc, route, request.body) {
-        Ok(command) => answer_command(alloc, office, caller, &command),
+        Ok(command) => answer_command(alloc, workspace, office, caller, &command),
         Err(WireFault::Memory) => Err(StoreFault::Memory),
         Err(WireFault::BadBody) => Ok(Response::Always(Fixed::BadBody)),
         Err(WireFault::NoRoute) => unreachable!(),
@@ -99,6 +103,7 @@ fn answer_routed<B: Book>(
 #[tactic(auto, unfolding(crate::specs::Respond::respond, crate::specs::Respond::after_route))]
 pub fn answer_request<B: Book>(
     alloc: Global,
+    workspace: &mut Workspace,
     routes: &Routes,
     office: &mut Office<B>,
     request: &Received<'_>,
@@ -109,7 +114,7 @@ pub fn answer_request<B: Book>(
     ensures err { B.doubt office.new.book ≡ 0 → OnErr result (B.rows office.new.book ≡ B.rows office.old.book) }
 {
     match routes.route(request.method, request.path) {
-        Some(route) => answer_routed(alloc, office, &route, request),
+        Some(route) => answer_routed(alloc, workspace, office, &route, request),
         None => Ok(Response::Always(Fixed::NoRoute)),
     }
 }

@@ -14,6 +14,7 @@ use crate::first::first;
 use crate::head::{Found, Reason, Received, Stop};
 use crate::input::Input;
 use crate::output::{flush_out, write_out};
+use crate::workspace::Workspace;
 use mx_book::Book;
 use mx_office::Office;
 use mx_wire::{Fixed, Routes, fixed_text, unavailable_text};
@@ -55,6 +56,7 @@ fn text_of_stop(stop: Stop) -> &'static [u8]
 /// Answers a request, and writes the response: 503 where the office could not do it.
 fn reply<W: Write, B: Book>(
     alloc: Global,
+    workspace: &mut Workspace,
     request: &Received<'_>,
     writer: &mut Counted<W>,
     routes: &Routes,
@@ -69,7 +71,7 @@ fn reply<W: Write, B: Book>(
     ensures whole { OnOk result (writer.new.failures ≡ writer.old.failures) }
 {
     let head_only = request.method == b"HEAD".as_slice();
-    match answer_request(alloc, routes, office, request) {
+    match answer_request(alloc, workspace, routes, office, request) {
         Ok(response) => write_out(writer, response.text(head_only)),
         Err(_) => write_out(writer, unavailable_text()),
     }
@@ -92,6 +94,7 @@ fn write_stop<W: Write>(writer: &mut Counted<W>, stop: Stop) -> Result<(), DeskF
 /// is passed on before each read.
 fn serve_next<R: Read, W: Write, B: Book>(
     alloc: Global,
+    workspace: &mut Workspace,
     input: &mut Input,
     turns: &mut u64,
     reader: &mut Counted<R>,
@@ -118,7 +121,7 @@ fn serve_next<R: Read, W: Write, B: Book>(
     'pieces: loop {
         match first(input.pending()) {
             Found::Whole(request, end) => {
-                reply(alloc, &request, writer, routes, office)?;
+                reply(alloc, workspace, &request, writer, routes, office)?;
                 input.forget(end);
                 return Ok(Served::Answered);
             }
@@ -165,10 +168,18 @@ pub fn serve_one<R: Read, W: Write, B: Book>(
     ensures read_failed { result ≡ Err DeskFault.Read → reader.new.failures ≡ capped (reader.old.failures + 1) }
     ensures write_failed { result ≡ Err DeskFault.Write → writer.new.failures ≡ capped (writer.old.failures + 1) }
 {
+    let mut workspace = Workspace::new();
     let mut input = Input::new();
     let mut turns = 12288;
     let served = serve_next(
-        alloc, &mut input, &mut turns, reader, writer, routes, office,
+        alloc,
+        &mut workspace,
+        &mut input,
+        &mut turns,
+        reader,
+        writer,
+        routes,
+        office,
     )?;
     if let Served::Answered = served {
         flush_out(writer)?;
@@ -205,12 +216,20 @@ pub fn run<R: Read, W: Write, B: Book>(
     ensures write_failed { result ≡ Err DeskFault.Write → writer.new.failures ≡ capped (writer.old.failures + 1) }
 {
     let _calls = reader.calls();
+    let mut workspace = Workspace::new();
     let mut input = Input::new();
     let mut turns = MOST_READS;
     let mut count = 0;
     'requests: loop {
         match serve_next(
-            alloc, &mut input, &mut turns, reader, writer, routes, office,
+            alloc,
+            &mut workspace,
+            &mut input,
+            &mut turns,
+            reader,
+            writer,
+            routes,
+            office,
         )? {
             Served::Nothing => return Ok(count),
             Served::Stopped => return Ok(count + 1),

@@ -12,6 +12,8 @@ pub mod input;
 pub mod output;
 #[cfg(test)]
 mod tests;
+pub mod workspace;
 
 pub use counted::Counted;
 pub use fault::DeskFault;
+pub use workspace::Workspace;

@@ -2,6 +2,7 @@ use Rattle.std.proofs.Common.{◌≡◌, List, [], refl, sym, ap, ◌∙◌, rul
 use Rattle.std.proofs.lemmas.Result.{err_from_is_err_and}
 use Rattle.mx_desk.proofs.RunLemmas.{flushed, unflushed}
 use Rattle.mx_desk.proofs.desk.serve_one.Goals as goal
+use Rattle.mx_desk.proofs.desk.serve_one.Goals.{in-Answered+in_ok-flush_out, in_default}
 
 pub returns-in_err-served-clause-steps : goal.returns-in_err-served-clause-steps
 returns-in_err-served-clause-steps g c = λ w honest spelled.
@@ -21,18 +22,15 @@ returns-in_err-flush_out-clause-steps g c = λ w honest spelled.
       holds = (c.serve_next.new.input, unflushed g.B.Book.fails _ _ _ (rw (c.new-input.ensures, c.in-Answered.is) at steps) c.in_err-flush_out.ensures.bytes);
     })
 
-pub returns-in_ok-flush_out-clause-steps : goal.returns-in_ok-flush_out-clause-steps
-returns-in_ok-flush_out-clause-steps g c = λ w honest spelled.
+pub returns-clause-steps : goal.returns-clause-steps
+returns-clause-steps g c = λ w honest spelled.
     let led = c.in_ok-served.ensures.steps w honest spelled in
     let steps = led.holds in
-    rw c.in-Answered.is (record {
-      end = led.end;
-      stands = led.stands;
-      holds = (c.serve_next.new.input, flushed g.B.Book.fails _ _ _ (rw (c.new-input.ensures, c.in-Answered.is) at steps) c.flush_out.ensures.bytes);
-    })
-
-pub returns-in_default-clause-steps : goal.returns-in_default-clause-steps
-returns-in_default-clause-steps g c = λ w honest spelled.
-    let led = c.in_ok-served.ensures.steps w honest spelled in
-    let steps = led.holds in
-    record { end = led.end; stands = led.stands; holds = (c.serve_next.new.input, rw c.new-input.ensures at steps) }
+    elim c.match-served.branch [
+      | in-Answered+in_ok-flush_out v ↦ rw (v.writer-is, v.in-Answered.is) (record {
+        end = led.end;
+        stands = led.stands;
+        holds = (c.serve_next.new.input, flushed g.B.Book.fails _ _ _ (rw (c.new-input.ensures, v.in-Answered.is) at steps) v.flush_out.ensures.bytes);
+      })
+      | in_default v ↦ rw v.writer-is (record { end = led.end; stands = led.stands; holds = (c.serve_next.new.input, rw c.new-input.ensures at steps) })
+    ]
