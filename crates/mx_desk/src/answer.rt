@@ -89,7 +89,7 @@ fn answer_routed<B: Book>(
     if !is_of_class(&caller, route.class()) {
         return Ok(Response::Always(Fixed::Refused(Refusal::NotForCaller)));
     }
-    match read_body(alloc, route, request.body) {
+    match read_body(alloc, route, request.body, &mut workspace.scratch) {
         Ok(command) => answer_command(alloc, workspace, office, caller, &command),
         Err(WireFault::Memory) => Err(StoreFault::Memory),
         Err(WireFault::BadBody) => Ok(Response::Always(Fixed::BadBody)),

@@ -168,7 +168,7 @@ pub fn serve_one<R: Read, W: Write, B: Book>(
     ensures read_failed { result ≡ Err DeskFault.Read → reader.new.failures ≡ capped (reader.old.failures + 1) }
     ensures write_failed { result ≡ Err DeskFault.Write → writer.new.failures ≡ capped (writer.old.failures + 1) }
 {
-    let mut workspace = Workspace::new();
+    let mut workspace = Workspace::new(alloc);
     let mut input = Input::new();
     let mut turns = 12288;
     let served = serve_next(
@@ -216,7 +216,7 @@ pub fn run<R: Read, W: Write, B: Book>(
     ensures write_failed { result ≡ Err DeskFault.Write → writer.new.failures ≡ capped (writer.old.failures + 1) }
 {
     let _calls = reader.calls();
-    let mut workspace = Workspace::new();
+    let mut workspace = Workspace::new(alloc);
     let mut input = Input::new();
     let mut turns = MOST_READS;
     let mut count = 0;

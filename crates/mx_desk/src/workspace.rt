@@ -1,17 +1,26 @@
 //! What requests are worked out in.
+ghost use Rattle.std.specs.Prelude.{◌≡◌, []};
+
 use mx_office::values::Decided;
+use mx_wire::Scratch;
+use std::alloc::Global;
 
 /// What a request is worked out in, kept from one request to the next, so that nothing large is made anew for each.
 #[derive(Drop)]
 pub struct Workspace {
+    /// What bodies are read in.
+    pub scratch: Scratch,
     /// The last decision.
     pub decided: Decided,
 }
 
 impl Workspace {
-    /// A workspace in which no request was worked out yet.
-    pub fn new() -> Workspace {
+    /// A workspace in which nothing was worked out yet.
+    pub fn new(alloc: Global) -> Workspace
+        ensures { result.decided.edits ≡ [] }
+    {
         Workspace {
+            scratch: Scratch::new(alloc),
             decided: Decided::new(),
         }
     }

@@ -1,4 +1,5 @@
 pub mod Routes
 pub mod Bodies
+pub mod Trees
 pub mod Replies
 pub mod Made

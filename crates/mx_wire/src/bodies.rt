@@ -1,13 +1,14 @@
 //! The bodies of requests: JSON in, commands out.
 ghost use Rattle.std.specs.Prelude.{◌≡◌, ◌≢◌, ◌↔◌, true, Some, None, Err, IsTrue, IfOk, option_map};
-ghost use Rattle.serde_json.specs.View.{view};
 ghost use Rattle.mx_wire.specs.Routes.{route_of};
-ghost use Rattle.mx_wire.specs.Bodies.{text_at, name_at, token_at, number_at, amount_at, seq_at, bare, said, value_of, has_body, command_of, request_command};
+ghost use Rattle.mx_wire.specs.Bodies.{name_at, token_at, amount_at, seq_at, bare, said, value_of, has_body, command_of, request_command};
+ghost use Rattle.mx_wire.specs.Trees.{data_of, IsData};
 
 use crate::routes::{Route, Routes};
+use crate::trees::{is_data, number_at, text_at};
+use json::{Error, Reader, Scratch, Value};
 use mx_office::Command;
 use mx_pay::{Amount, Name, Seq, Token};
-use serde_json::Value;
 use std::alloc::Global;
 
 /// Why a request gives no command.
@@ -21,66 +22,68 @@ pub enum WireFault {
     Memory,
 }
 
-/// The JSON value of a body.
-fn value_of(alloc: Global, body: &[u8]) -> Result<Value, WireFault>
-    ensures ok { IfOk result (λ value. value_of body.now ≡ Some (view value)) }
+/// How deep arrays and objects may nest in a body, its own object among them: as deep as in serde_json.
+const MAX_DEPTH: usize = 127;
+
+/// The JSON value of a body. Its texts are the body's own, or stand in the scratch where they have escapes.
+fn value_of<'b>(
+    alloc: Global,
+    body: &'b [u8],
+    scratch: &'b mut Scratch,
+) -> Result<Value<'b>, WireFault>
+    ensures ok { IfOk result (λ value. value_of body.now ≡ Some (data_of value)) }
+    ensures taken { IfOk result IsData }
     ensures bad { result ≡ Err WireFault.BadBody → value_of body.now ≡ None }
     ensures routed { result ≢ Err WireFault.NoRoute }
 {
-    match Value::from_slice(alloc, body) {
-        Ok(value) => Ok(value),
-        Err(error) => {
-            if error.is_memory() {
-                Err(WireFault::Memory)
-            } else {
-                Err(WireFault::BadBody)
-            }
-        }
+    let Ok(text) = std::str::from_utf8(body) else {
+        return Err(WireFault::BadBody);
+    };
+    let Ok(mut reader) = Reader::new(text, scratch) else {
+        return Err(WireFault::Memory);
+    };
+    let value = match Value::read(alloc, &mut reader, MAX_DEPTH) {
+        Ok(value) => value,
+        Err(Error::OutOfMemory) => return Err(WireFault::Memory),
+        Err(_) => return Err(WireFault::BadBody),
+    };
+    if reader.next().is_some() || !is_data(&value) {
+        return Err(WireFault::BadBody);
     }
-}
-
-/// The text of a key.
-fn text_at<'v>(value: &'v Value, key: &str) -> Option<&'v str>
-    ensures { option_map (λ text. text.now) result ≡ text_at key.now (view value.now) }
-{
-    let found = value.get(key)?;
-    found.as_str()
+    Ok(value)
 }
 
 /// The name of a key.
-fn name_at(value: &Value, key: &str) -> Option<Name>
-    ensures { result ≡ name_at key.now (view value.now) }
+fn name_at(value: &Value<'_>, key: &str) -> Option<Name>
+    requires { IsData value.now }
+    ensures { result ≡ name_at key.now (data_of value.now) }
 {
     let text = text_at(value, key)?;
     Name::read(text)
 }
 
 /// The token of a key.
-fn token_at(value: &Value, key: &str) -> Option<Token>
-    ensures { result ≡ token_at key.now (view value.now) }
+fn token_at(value: &Value<'_>, key: &str) -> Option<Token>
+    requires { IsData value.now }
+    ensures { result ≡ token_at key.now (data_of value.now) }
 {
     let text = text_at(value, key)?;
     Token::read(text)
 }
 
-/// The number of a key.
-fn number_at(value: &Value, key: &str) -> Option<u64>
-    ensures { result ≡ number_at key.now (view value.now) }
-{
-    value.get(key).and_then(Value::as_u64)
-}
-
 /// The amount of a key.
-fn amount_at(value: &Value, key: &str) -> Option<Amount>
-    ensures { result ≡ amount_at key.now (view value.now) }
+fn amount_at(value: &Value<'_>, key: &str) -> Option<Amount>
+    requires { IsData value.now }
+    ensures { result ≡ amount_at key.now (data_of value.now) }
 {
     let number = number_at(value, key)?;
     Amount::new(number)
 }
 
 /// The sequence number, or the number of a message, of a key.
-fn seq_at(value: &Value, key: &str) -> Option<Seq>
-    ensures { result ≡ seq_at key.now (view value.now) }
+fn seq_at(value: &Value<'_>, key: &str) -> Option<Seq>
+    requires { IsData value.now }
+    ensures { result ≡ seq_at key.now (data_of value.now) }
 {
     let number = number_at(value, key)?;
     Seq::new(number)
@@ -101,8 +104,9 @@ fn bare(route: &Route) -> Option<Command>
 }
 
 /// The command that a route and a JSON value say. None also where the route needs no body.
-fn said(route: &Route, value: &Value) -> Option<Command>
-    ensures { result ≡ said route.now (view value.now) }
+fn said(route: &Route, value: &Value<'_>) -> Option<Command>
+    requires { IsData value.now }
+    ensures { result ≡ said route.now (data_of value.now) }
 {
     match *route {
         Route::NewMember => Some(Command::NewMember {
@@ -157,7 +161,13 @@ fn said(route: &Route, value: &Value) -> Option<Command>
 
 /// The command of a route and a body. BadBody exactly where the body says none; Memory, which tells nothing of
 /// the body, only where the route needs a body; never NoRoute. A body that isn't needed isn't looked at.
-pub fn read_body(alloc: Global, route: &Route, body: &[u8]) -> Result<Command, WireFault>
+/// The scratch is only worked in, and may be kept from body to body.
+pub fn read_body(
+    alloc: Global,
+    route: &Route,
+    body: &[u8],
+    scratch: &mut Scratch,
+) -> Result<Command, WireFault>
     ensures ok { IfOk result (λ command. command_of route.now body.now ≡ Some command) }
     ensures bad { result ≡ Err WireFault.BadBody → command_of route.now body.now ≡ None }
     ensures routed { result ≢ Err WireFault.NoRoute }
@@ -166,7 +176,7 @@ pub fn read_body(alloc: Global, route: &Route, body: &[u8]) -> Result<Command, W
     if let Some(command) = bare(route) {
         return Ok(command);
     }
-    let value = value_of(alloc, body)?;
+    let value = value_of(alloc, body, scratch)?;
     said(route, &value).ok_or(WireFault::BadBody)
 }
 
@@ -186,7 +196,7 @@ impl Routes {
         ensures memory { result ≡ Err WireFault.Memory → option_map has_body (route_of method.now path.now) ≡ Some true }
     {
         match self.route(method, path) {
-            Some(route) => read_body(alloc, &route, body),
+            Some(route) => read_body(alloc, &route, body, &mut Scratch::new(alloc)),
             None => Err(WireFault::NoRoute),
         }
     }

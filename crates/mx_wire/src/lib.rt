@@ -6,7 +6,9 @@ pub mod replies;
 pub mod routes;
 #[cfg(test)]
 mod tests;
+mod trees;
 
 pub use bodies::WireFault;
+pub use json::Scratch;
 pub use replies::{Fixed, Response, fixed_text, render, unavailable_text};
 pub use routes::{Class, Route, Routes};

@@ -1,6 +1,10 @@
 //! Requests with their bodies, and the commands that they say.
 use super::words::read_words;
-use crate::routes::Routes;
+use crate::Scratch;
+use crate::bodies::read_body;
+use crate::routes::{Route, Routes};
+use mx_pay::Name;
+use std::alloc::Global;
 use std::process::Abort;
 use std::test::Fail;
 
@@ -139,6 +143,16 @@ fn objects_in_other_forms(rt: HostRuntime) -> Result<(), Fail> {
                 b"{\"purse\":\"\\u0070\",\"holder\":\"ann\"}",
                 "new-purse p ann",
             ),
+            (
+                "POST /purses",
+                b"{\"holder\":\"ann\",\"\\u0070urse\":\"p1\",\"purse\":\"p2\"}",
+                "new-purse p2 ann",
+            ),
+            (
+                "POST /purses",
+                b"{\"holder\":\"ann\",\"purse\":\"p2\",\"p\\u0075rse\":\"p1\"}",
+                "new-purse p1 ann",
+            ),
         ],
     )
 }
@@ -234,9 +248,118 @@ fn bodies_that_are_bad(rt: HostRuntime) -> Result<(), Fail> {
             b"{amount:5}",
             b"{'amount':5}",
             b"{\"amount\":5,\"x\":\"\xff\"}",
+            b"{\"amount\":5,\"x\":\"\xed\xa0\x80\"}",
+            b"{\"amount\":5,\"x\":\"\\ud83d\"}",
+            b"\xff{\"amount\":5}",
             b"\xef\xbb\xbf{\"amount\":5}",
         ],
     )
+}
+
+/// Under a key that doesn't count there may be any JSON, but no number that is too large for a float.
+#[test]
+fn values_of_other_keys(rt: HostRuntime) -> Result<(), Fail> {
+    assert_commands(
+        &rt,
+        &[
+            (
+                "POST /members/m/grant",
+                b"{\"x\":[[1],[{\"y\":[]},-0.5e-3]],\"amount\":5}",
+                "grant m 5",
+            ),
+            (
+                "POST /members/m/grant",
+                b"{\"amount\":5,\"x\":{\"amount\":6}}",
+                "grant m 5",
+            ),
+            (
+                "POST /members/m/grant",
+                b"{\"amount\":5,\"x\":1e308,\"y\":-1e308,\"z\":1e-999}",
+                "grant m 5",
+            ),
+            (
+                "POST /members/m/grant",
+                b"{\"amount\":5,\"x\":18446744073709551616,\"y\":-9223372036854775809}",
+                "grant m 5",
+            ),
+        ],
+    )?;
+    assert_bad(
+        &rt,
+        "POST /members/m/grant",
+        &[
+            b"{\"amount\":5,\"x\":1e999}",
+            b"{\"x\":-1e999,\"amount\":5}",
+            b"{\"x\":[0,1e309],\"amount\":5}",
+            b"{\"amount\":5,\"x\":[{\"y\":[1e999]}]}",
+            b"{\"amount\":1e999,\"amount\":5}",
+        ],
+    )
+}
+
+/// A body with so many arrays within each other under a key that doesn't count.
+fn nested(alloc: Global, depth: usize) -> Result<String, Fail> {
+    let mut text = String::from_str(alloc, "{\"amount\":5,\"x\":")?;
+    for _ in 0..depth {
+        text.push('[')?;
+    }
+    for _ in 0..depth {
+        text.push(']')?;
+    }
+    text.push('}')?;
+    Ok(text)
+}
+
+/// Arrays and objects nest 127 deep at most, of which the body's own object is one.
+#[test]
+fn arrays_within_arrays(rt: HostRuntime) -> Result<(), Fail> {
+    let deep = nested(rt.alloc(), 126)?;
+    assert_commands(
+        &rt,
+        &[("POST /members/m/grant", deep.as_bytes(), "grant m 5")],
+    )?;
+    for depth in [127, 128, 1000] {
+        let deeper = nested(rt.alloc(), depth)?;
+        assert_bad(&rt, "POST /members/m/grant", &[deeper.as_bytes()])?;
+    }
+    Ok(())
+}
+
+/// One scratch serves body after body, of any lengths and with any escapes.
+#[test]
+fn a_scratch_that_is_kept(rt: HostRuntime) -> Result<(), Fail> {
+    let member = Name::read("m").ok_or("no name")?;
+    let mut scratch = Scratch::new(rt.alloc());
+    let rows: [(Route, &[u8], &str); 6] = [
+        (
+            Route::NewPurse,
+            b"{\"\\u0070urse\":\"\\u0070\\u0031\",\"holder\":\"a\\u006en\"}",
+            "new-purse p1 ann",
+        ),
+        (Route::Grant(member), b"{\"amount\":1}", "grant m 1"),
+        (
+            Route::NewPurse,
+            b"{\"purse\":\"q\",\"holder\":\"\\u0062ob\"}",
+            "new-purse q bob",
+        ),
+        (
+            Route::Grant(member),
+            b"{\"amount\":\"\\u0031\"}",
+            "bad body",
+        ),
+        (Route::Grant(member), b"{\"\\u0061\\u006d", "bad body"),
+        (
+            Route::Grant(member),
+            b"{\"\\u0061mount\":2,\"x\":\"\\n\\\"\\u00e9\\ud83d\\ude00\"}",
+            "grant m 2",
+        ),
+    ];
+    for (route, body, words) in &rows {
+        let read = read_body(rt.alloc(), route, body, &mut scratch);
+        let text = read_words(rt.alloc(), &read)?;
+        assert_eq!(rt; text.as_str(), *words);
+    }
+    Ok(())
 }
 
 /// Names and tokens are texts of their kinds.

@@ -1,7 +1,6 @@
-use Rattle.std.proofs.Common.{◌≡◌, Err, None, sym, ap, ◌∙◌, rules}
+use Rattle.std.proofs.Common.{Err, sym, ap, ◌∙◌, rules}
 use Rattle.std.proofs.lemmas.Result.{err_from_is_err_and}
 use Rattle.mx_wire.proofs.BodyLemmas.{bare_says, body_says, says_nothing, same_fault, ok_or_ok, ok_or_bad}
-use Rattle.mx_wire.specs.Bodies.{bare}
 use Rattle.mx_wire.proofs.bodies.read_body.Goals as goal
 
 pub returns-in-Some-clause-ok : goal.returns-in-Some-clause-ok
