@@ -5,7 +5,7 @@ use Rattle.std.specs.Prelude.{ℕ, ◌+◌, ◌-◌, nat_lt, nat_le, ◌&&◌, �
 use Rattle.mx_pay.specs.Limits.{most_number, most_entries}
 use Rattle.mx_pay.specs.Names.{is_name}
 use Rattle.mx_pay.specs.Details.{Details, is_details}
-use Rattle.mx_pay.specs.Log.{Entries, log_len, with_entry}
+use Rattle.mx_pay.specs.Log.{Entries, entry_at, log_len, with_entry}
 use Rattle.mx_purse.specs.declared.status.Status.{Status}
 use Rattle.mx_purse.specs.declared.status.Status.TheVariants.{EaFrom, EaTo, Epr, Epv, Epa}
 use Rattle.mx_purse.specs.declared.message.Message.{Message}
@@ -119,6 +119,12 @@ abbrev pub sent_for : Handled → Option (List ℕ × Message)
 sent_for (took.Req d) = Some (d.to, Val d)
 sent_for (took.Val d) = Some (d.from, Ack d)
 sent_for _ = None
+
+-- ---- read log (ReadExceptionLogPurseOkay)
+
+-- what a purse reads after an abort: the details at a place of its log, counted from 0, in order (own)
+abbrev pub read_entry : State → ℕ → Option Details
+read_entry p place = entry_at (aborted p).log place
 
 -- ---- loads and redemptions (own)
 

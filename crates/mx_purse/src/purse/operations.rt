@@ -3,7 +3,7 @@ ghost use Rattle.std.specs.Prelude.{◌≡◌, ◌≤◌, None, IfOk, IfSome};
 ghost use Rattle.mx_pay.specs.Limits.{most_amount};
 ghost use Rattle.mx_pay.specs.Details.{IsDetails};
 ghost use Rattle.mx_purse.specs.State.{IsPurse};
-ghost use Rattle.mx_purse.specs.Operations.{or_refused, unless_refused, pending, aborted, start_worn, start_from_refusal, start_to_refusal, from_details, to_details, started, expects_req, expects_val, expects_ack, handled, after_message, load_refusal, loaded, redeem_refusal, redeemed};
+ghost use Rattle.mx_purse.specs.Operations.{or_refused, unless_refused, pending, aborted, start_worn, start_from_refusal, start_to_refusal, from_details, to_details, started, expects_req, expects_val, expects_ack, handled, after_message, read_entry, load_refusal, loaded, redeem_refusal, redeemed};
 
 use crate::message::{Handled, Message};
 use crate::purse::Purse;
@@ -112,6 +112,18 @@ impl Purse {
             Message::Val(details) => self.take_val(details),
             Message::Ack(details) => self.take_ack(details),
         }
+    }
+
+    /// Reads the log: aborts the payment under way as `abort` does, and answers the details at `place` of the log that is
+    /// left, counted from 0, in order. None exactly where it has no more than `place` details.
+    pub fn read_log(&mut self, place: u64) -> Option<PayDetails>
+        ensures answer { result ≡ read_entry self.old place }
+        ensures new { self.new ≡ aborted self.old }
+        ensures whole { IsPurse self.new }
+        ensures details { IfSome result IsDetails }
+    {
+        self.abort();
+        self.log.at(place as usize)
     }
 
     /// Adds `amount` to the balance: one statement line more. It doesn't abort, and the payment under way goes
