@@ -5,21 +5,20 @@ use Rattle.std.specs.Prelude.{nat_le, nat_lt, is_some, IsNone, IfSome, ◌↔◌
 use Rattle.std.proofs.lemmas.Bool.Decides.{nat_tests}
 use Rattle.mx_pay.specs.Limits.{most_number, most_entries}
 use Rattle.mx_pay.specs.Details.{Details, IsDetails, is_details}
-use Rattle.mx_pay.specs.Log.{IsLogValue, Entries, log_len, has_logged}
+use Rattle.mx_pay.specs.Log.{IsLogValue, Entries, log_len, has_logged, none_logged}
 use Rattle.std.specs.Cmp.{first_so, second_so}
-use Rattle.mx_pay.proofs.SameLemmas.{same_details, names_alike, names_unlike, has-with_entry, with_entry_valid}
+use Rattle.mx_pay.proofs.SameLemmas.{same_details, names_alike, names_unlike, has-with_entry, has-none_logged, none_valid, with_entry_valid}
 use Rattle.mx_purse.specs.declared.status.Status.{Status}
 use Rattle.mx_purse.specs.declared.status.Status.TheVariants.{EaFrom, EaTo, Epr, Epv, Epa}
 use Rattle.mx_purse.specs.declared.message.Message.{Message}
-use Rattle.mx_purse.specs.declared.message.Message.TheVariants.{Req, Val, Ack}
+use Rattle.mx_purse.specs.declared.message.Message.TheVariants.{Req, Val, Ack, Clear}
 use Rattle.mx_purse.specs.declared.message.Handled.{Handled}
 use Rattle.mx_purse.specs.declared.message.Handled.TheVariants as took
 use Rattle.mx_purse.specs.declared.refusals.StartRefusal.TheVariants.{SamePurse, NotEnough}
 use Rattle.mx_purse.specs.declared.refusals.LoadRefusal.TheVariants as load
 use Rattle.mx_purse.specs.declared.refusals.RedeemRefusal.TheVariants as redeem
 use Rattle.mx_purse.specs.State.{State, IsPurse, details_of, IsInStatus, IsOwnEntry}
-use Rattle.mx_purse.specs.Messages.{IsMessage}
-use Rattle.mx_purse.specs.Operations.{or_refused, unless_refused, pending, with_pending, lines_with, aborted, start_worn, start_from_refusal, start_to_refusal, from_details, to_details, started, expects_req, expects_val, expects_ack, handled, after_message, sent_for, load_refusal, loaded, redeem_refusal, redeemed}
+use Rattle.mx_purse.specs.Operations.{or_refused, unless_refused, pending, with_pending, lines_with, aborted, start_worn, start_from_refusal, start_to_refusal, from_details, to_details, started, expects_req, expects_val, expects_ack, expects_clear, handled, after_message, sent_for, load_refusal, loaded, redeem_refusal, redeemed}
 
 -- ---- abort
 
@@ -231,6 +230,19 @@ ack_is p d h expected =
       entries = h.entries;
     }
 
+pub clear_is : (p : State) → IsPurse p → IsPurse (after_message p took.Cleared)
+clear_is p h =
+    let aborted = aborted_is p h in
+    record {
+      name = h.name;
+      balance = h.balance;
+      next = h.next;
+      status = aborted.status;
+      details = tt;
+      log = none_valid;
+      entries = λ e there. let no : has_logged none_logged e ≡ false = has-none_logged e in cc;
+    }
+
 -- a purse after a message whose guard passes or not is one, if it is one where the guard passes
 by_guard : (p : State) (b : Bool) (x : Handled) → IsPurse p → (b ≡ true → IsPurse (after_message p x)) → IsPurse (after_message p (cond b x took.Ignored))
 by_guard p true x h is = is refl
@@ -243,6 +255,7 @@ after_message_is p (Val d) h =
     by_guard p (expects_val p.status d && nat_le (p.balance + d.value) most_number) (took.Val d) h
     (λ both. val_is p d h (first_so _ _ both) (leb-true _ _ (second_so (expects_val p.status d) _ both)))
 after_message_is p (Ack d) h = by_guard p (expects_ack p.status d) (took.Ack d) h (ack_is p d h)
+after_message_is p (Clear set) h = by_guard p (expects_clear p set) took.Cleared h (λ _. clear_is p h)
 
 -- ---- loads and redemptions
 

@@ -1,14 +1,12 @@
 -- Messages between purses.
-use Rattle.mx_pay.specs.Details.{Details, IsDetails}
+use Rattle.mx_pay.specs.Details.{IsDetails}
+use Rattle.mx_pay.specs.Log.{IsLogValue}
 use Rattle.mx_purse.specs.declared.message.Message.{Message}
-use Rattle.mx_purse.specs.declared.message.Message.TheVariants.{Req, Val, Ack}
+use Rattle.mx_purse.specs.declared.message.Message.TheVariants.{Req, Val, Ack, Clear}
 
--- the details of the payment that a message belongs to
-abbrev pub details_in : Message → Details
-details_in (Req d) = d
-details_in (Val d) = d
-details_in (Ack d) = d
-
--- the details of a message are within their limits
+-- the details of a message, or the set of them, are within their limits
 abbrev pub IsMessage : Message → Type 0
-IsMessage m = IsDetails (details_in m)
+IsMessage (Req d) = IsDetails d
+IsMessage (Val d) = IsDetails d
+IsMessage (Ack d) = IsDetails d
+IsMessage (Clear set) = IsLogValue set

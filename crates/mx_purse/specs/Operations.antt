@@ -5,11 +5,11 @@ use Rattle.std.specs.Prelude.{ℕ, ◌+◌, ◌-◌, nat_lt, nat_le, ◌&&◌, �
 use Rattle.mx_pay.specs.Limits.{most_number, most_entries}
 use Rattle.mx_pay.specs.Names.{is_name}
 use Rattle.mx_pay.specs.Details.{Details, is_details}
-use Rattle.mx_pay.specs.Log.{Entries, entry_at, log_len, with_entry}
+use Rattle.mx_pay.specs.Log.{Entries, entry_at, is_same_log, log_len, none_logged, with_entry}
 use Rattle.mx_purse.specs.declared.status.Status.{Status}
 use Rattle.mx_purse.specs.declared.status.Status.TheVariants.{EaFrom, EaTo, Epr, Epv, Epa}
 use Rattle.mx_purse.specs.declared.message.Message.{Message}
-use Rattle.mx_purse.specs.declared.message.Message.TheVariants.{Req, Val, Ack}
+use Rattle.mx_purse.specs.declared.message.Message.TheVariants.{Req, Val, Ack, Clear}
 use Rattle.mx_purse.specs.declared.message.Handled.{Handled}
 use Rattle.mx_purse.specs.declared.message.Handled.TheVariants as took
 use Rattle.mx_purse.specs.declared.refusals.StartRefusal.{StartRefusal}
@@ -84,7 +84,7 @@ to_details p peer value seq = record { from = peer; to = p.name; value = value; 
 abbrev pub started : State → Status → State
 started p status = record (aborted p) { next = p.next + 1; status = status }
 
--- ---- req, val and ack (ReqPurseOkay, ValPurseOkay, AckPurseOkay)
+-- ---- req, val, ack and clear (ReqPurseOkay, ValPurseOkay, AckPurseOkay, ClearExceptionLogPurseOkay)
 
 -- whether the purse is in epr with these details, and so for epv and epa
 abbrev pub expects_req : Status → Details → Bool
@@ -99,19 +99,25 @@ abbrev pub expects_ack : Status → Details → Bool
 expects_ack (Epa e) d = is_details e d
 expects_ack _ d = Bool.false
 
+-- whether a set of details isn't empty, and is the log that an abort leaves (own)
+abbrev pub expects_clear : State → Entries → Bool
+expects_clear p set = nat_lt 0 (log_len set) && is_same_log set (aborted p).log
+
 -- which message is accepted: one whose guard holds; another is ignored (own). A val has to leave the balance
 -- within 10^15 (own)
 abbrev pub handled : State → Message → Handled
 handled p (Req d) = if expects_req p.status d then took.Req d else took.Ignored
 handled p (Val d) = if expects_val p.status d && nat_le (p.balance + d.value) most_number then took.Val d else took.Ignored
 handled p (Ack d) = if expects_ack p.status d then took.Ack d else took.Ignored
+handled p (Clear set) = if expects_clear p set then took.Cleared else took.Ignored
 
 -- the purse after a message: the balance falls by the value of a req and rises by that of a val, and each is one
--- line (own); after a val it is in eaTo (own)
+-- line (own); after a val it is in eaTo (own); a clear aborts, and the log is empty
 abbrev pub after_message : State → Handled → State
 after_message p (took.Req d) = record p { balance = p.balance - d.value; status = Epa d; lines = p.lines + 1 }
 after_message p (took.Val d) = record p { balance = p.balance + d.value; status = EaTo; lines = p.lines + 1 }
 after_message p (took.Ack d) = record p { status = EaFrom }
+after_message p took.Cleared = record (aborted p) { log = none_logged }
 after_message p took.Ignored = p
 
 -- what an accepted message sends, and to which purse: a val for a req, and an ack for a val

@@ -1,7 +1,8 @@
 //! The messages between purses, and which of them a purse accepts.
-use mx_pay::PayDetails;
+use mx_pay::{Log, PayDetails};
 
-/// A message that one purse sends to another, with the details of the payment that it belongs to.
+/// A message to a purse: one that another purse sends, with the details of the payment that it belongs to, or the
+/// operator's leave to clear the log.
 #[derive(Clone, Copy, Debug)]
 pub enum Message {
     /// The purse that is to be paid requests the value of these details.
@@ -10,6 +11,8 @@ pub enum Message {
     Val(PayDetails),
     /// The purse that was paid acknowledges the value of these details.
     Ack(PayDetails),
+    /// The log may be cleared, where it has just these details.
+    Clear(Log),
 }
 
 /// Which message a purse accepted, with the details of the payment that it belongs to.
@@ -21,6 +24,8 @@ pub enum Handled {
     Val(PayDetails),
     /// The acknowledgement of these details: their payment is finished.
     Ack(PayDetails),
+    /// The leave to clear the log: the purse has aborted, and its log is empty.
+    Cleared,
     /// None: the message isn't the one that the purse expects, and nothing changed.
     Ignored,
 }

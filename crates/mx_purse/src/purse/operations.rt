@@ -3,7 +3,7 @@ ghost use Rattle.std.specs.Prelude.{◌≡◌, ◌≤◌, None, IfOk, IfSome};
 ghost use Rattle.mx_pay.specs.Limits.{most_amount};
 ghost use Rattle.mx_pay.specs.Details.{IsDetails};
 ghost use Rattle.mx_purse.specs.State.{IsPurse};
-ghost use Rattle.mx_purse.specs.Operations.{or_refused, unless_refused, pending, aborted, start_worn, start_from_refusal, start_to_refusal, from_details, to_details, started, expects_req, expects_val, expects_ack, handled, after_message, read_entry, load_refusal, loaded, redeem_refusal, redeemed};
+ghost use Rattle.mx_purse.specs.Operations.{or_refused, unless_refused, pending, aborted, start_worn, start_from_refusal, start_to_refusal, from_details, to_details, started, expects_req, expects_val, expects_ack, expects_clear, handled, after_message, read_entry, load_refusal, loaded, redeem_refusal, redeemed};
 
 use crate::message::{Handled, Message};
 use crate::purse::Purse;
@@ -101,7 +101,8 @@ impl Purse {
     /// A value is accepted where the purse expects the value of these details and holds at most 10^15 with it:
     /// the balance rises by it, and the purse comes to rest. An acknowledgement is accepted where the purse
     /// expects that of these details: it comes to rest. A request and a value that are accepted are one
-    /// statement line each. Every other message is ignored, and nothing changes.
+    /// statement line each. A leave to clear is accepted where its set isn't empty and is the log that an abort leaves:
+    /// the purse aborts as `abort` does, and its log is empty. Every other message is ignored, and nothing changes.
     pub fn handle(&mut self, message: &Message) -> Handled
         ensures answer { result ≡ handled self.old message.now }
         ensures new { self.new ≡ after_message self.old (handled self.old message.now) }
@@ -111,6 +112,7 @@ impl Purse {
             Message::Req(details) => self.take_req(details),
             Message::Val(details) => self.take_val(details),
             Message::Ack(details) => self.take_ack(details),
+            Message::Clear(set) => self.take_clear(set),
         }
     }
 
@@ -259,6 +261,29 @@ impl Purse {
         }
         self.status = Status::EaFrom;
         Handled::Ack(*details)
+    }
+
+    /// Whether a set of details isn't empty, and is the log that an abort leaves.
+    fn expects_clear(&self, set: &Log) -> bool
+        ensures { result ≡ expects_clear self.now set.now }
+    {
+        0 < set.len() && set.is_same(&self.log_left())
+    }
+
+    /// Aborts and clears the log, where the set is the log that the abort leaves.
+    fn take_clear(&mut self, set: &Log) -> Handled
+        ensures answer { result ≡ handled self.old (Message.Clear set.now) }
+        ensures new { self.new ≡ after_message self.old (handled self.old (Message.Clear set.now)) }
+        ensures whole { IsPurse self.new }
+    {
+        if !self.expects_clear(set) {
+            return Handled::Ignored;
+        }
+        let lines = self.lines_left();
+        self.log = Log::new();
+        self.lines = lines;
+        self.status = Status::EaFrom;
+        Handled::Cleared
     }
 }
 

@@ -1,0 +1,15 @@
+use Rattle.std.proofs.Common.{◌∙◌, sym, ap}
+use Rattle.mx_purse.specs.State.{State}
+use Rattle.mx_purse.specs.Operations.{aborted}
+use Rattle.mx_purse.proofs.OperationLemmas.{clear_is}
+use Rattle.mx_purse.proofs.purse.Purse.take_clear.Goals as goal
+
+pub invariant_of-self : goal.invariant_of-self
+invariant_of-self c =
+    rw (c.lines_left-lines.ensures ∙ ap (λ (q : State). (aborted q).lines) (sym c.self.view_is), c.new-self-inside.ensures)
+    (clear_is _ c.self.invariant)
+
+pub returns-clause-whole : goal.returns-clause-whole
+returns-clause-whole c =
+    rw (c.lines_left-lines.ensures ∙ ap (λ (q : State). (aborted q).lines) (sym c.self.view_is), c.new-self-inside.ensures)
+    (clear_is _ c.self.invariant)
