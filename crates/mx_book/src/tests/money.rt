@@ -122,7 +122,7 @@ fn collected(
 ) -> Result<(Option<Amount>, u128), AllocError> {
     let mut shelves = filled(alloc, first, paid)?;
     shelves.reserve(1)?;
-    shelves.edit(Edit::Collect { member });
+    shelves.edit(&Edit::Collect { member });
     let amount = shelves.redemption_of(first.names.purse, paid.early.reference);
     Ok((amount, shelves.uncollected_of(first.names.member)))
 }
@@ -150,12 +150,12 @@ fn granted(alloc: Global, first: &First) -> Result<Option<MemberRow>, AllocError
     let mut shelves = Shelves::new(alloc, first.tokens.operator);
     add_purse(&mut shelves, first)?;
     shelves.reserve(1)?;
-    shelves.edit(Edit::SetMember {
+    shelves.edit(&Edit::SetMember {
         member: first.names.member,
         granted: 1_000,
         float: 900,
     });
-    Ok(shelves.members.get(first.names.member))
+    Ok(shelves.members.get(first.names.member).copied())
 }
 
 #[test]
