@@ -7,10 +7,10 @@ use Rattle.mx_book.specs.Limits.{most_messages}
 use Rattle.mx_pay.specs.Limits.{most_number}
 use Rattle.mx_pay.specs.Names.{name_cmp, is_name_text}
 use Rattle.mx_pay.specs.Tokens.{token_cmp, is_token, IsToken}
-use Rattle.mx_pay.specs.Details.{details_cmp}
+use Rattle.mx_pay.specs.Details.{Details, IsDetails, details_cmp}
 use Rattle.mx_purse.specs.State.{State, IsPurse}
 use Rattle.mx_purse.specs.declared.message.Message.{Message}
-use Rattle.mx_purse.specs.Messages.{IsMessage}
+use Rattle.mx_purse.specs.declared.message.Message.TheVariants.{Req}
 use Rattle.mx_book.specs.declared.values.Caller.{Caller}
 use Rattle.mx_book.specs.declared.values.Caller.TheVariants.{Operator, Clerk}
 use Rattle.mx_book.specs.World.{World, Row, Name, Token, opening, new_row}
@@ -63,23 +63,23 @@ module _ (op s t : Token) (m h : Name) (clerk : is_token s op ≡ false) (holder
     message_suits x = grind (arith, here, fmap.len-empty nat_cmp Message)
 
     -- and a purse with a message
-    pub four_fit : (x : Message) → IsMessage x → Fits (opening op) (NewMember m s ∷ NewHolder h m t ∷ NewPurse p h ∷ AddMessage p x ∷ [])
-    four_fit x valid = record { each = (member_suits, (holder_suits, (new_suits, (message_suits x, tt)))); end = message_stays with_purse p x (new_row h p) valid here (grind (arith, fmap.len-empty nat_cmp Message)) (omega arith) with_purse_is }
+    pub four_fit : (d : Details) → IsDetails d → Fits (opening op) (NewMember m s ∷ NewHolder h m t ∷ NewPurse p h ∷ AddMessage p (Req d) ∷ [])
+    four_fit d valid = record { each = (member_suits, (holder_suits, (new_suits, (message_suits (Req d), tt)))); end = message_stays with_purse p (Req d) (new_row h p) valid tt here (grind (arith, fmap.len-empty nat_cmp Message)) (omega arith) with_purse_is }
 
     -- and a purse that becomes another one, which has no lines either
     pub set_fit : (q : State) → q.name ≡ p → IsPurse q → q.lines ≡ 0 → Fits (opening op) (NewMember m s ∷ NewHolder h m t ∷ NewPurse p h ∷ SetPurse q ∷ [])
     set_fit q named purse none = record {
       each = (member_suits, (holder_suits, (new_suits, purse_suits with_purse p (new_row h p) q [] here named tt)));
-      end = subst IsWorld (sym (purse_leads with_purse p (new_row h p) q [] here named)) (purse_stays with_purse p (new_row h p) q [] here named purse tt (sym none) tt (λ d. none_some _ (fmap.get-empty details_cmp d)) with_purse_is);
+      end = subst IsWorld (sym (purse_leads with_purse p (new_row h p) q [] here named)) (purse_stays with_purse p (new_row h p) q [] here named purse tt (sym none) tt (λ d there. none_some _ (fmap.get-empty details_cmp d)) with_purse_is);
     }
 
 -- at rows that spell the opening World
 pub both_fit_at : (r : Rows) (w : World) (op s t : Token) (m h : Name) → is_token s op ≡ false → is_token t op ≡ false → is_token t s ≡ false → IsTrue (is_name_text m) → IsTrue (is_name_text h) → IsToken s → IsToken t → Spells r (opening op) → Spells r w → Fits w (NewMember m s ∷ NewHolder h m t ∷ [])
 both_fit_at r w op s t m h clerk holder apart member_text holder_text clerk_whole holder_whole first spelled = subst (λ (z : World). Fits z (NewMember m s ∷ NewHolder h m t ∷ [])) (one_world r (opening op) w first spelled) (both_fit op s t m h clerk holder apart member_text holder_text first.sound.tokens.operator_bytes clerk_whole holder_whole)
 
-pub four_fit_at : (r : Rows) (w : World) (op s t : Token) (m h p : Name) (x : Message) → is_token s op ≡ false → is_token t op ≡ false → is_token t s ≡ false → IsTrue (is_name_text m) → IsTrue (is_name_text h) → IsTrue (is_name_text p) → IsToken s → IsToken t → IsMessage x → Spells r (opening op) → Spells r w → (es : List Edit) → es ≡ NewMember m s ∷ NewHolder h m t ∷ NewPurse p h ∷ AddMessage p x ∷ [] → Fits w es
-four_fit_at r w op s t m h p x clerk holder apart member_text holder_text purse_text clerk_whole holder_whole valid first spelled es is =
-    subst (λ (z : World). Fits z es) (one_world r (opening op) w first spelled) (subst (Fits (opening op)) (sym is) (four_fit op s t m h clerk holder apart member_text holder_text first.sound.tokens.operator_bytes clerk_whole holder_whole p purse_text x valid))
+pub four_fit_at : (r : Rows) (w : World) (op s t : Token) (m h p : Name) (d : Details) → is_token s op ≡ false → is_token t op ≡ false → is_token t s ≡ false → IsTrue (is_name_text m) → IsTrue (is_name_text h) → IsTrue (is_name_text p) → IsToken s → IsToken t → IsDetails d → Spells r (opening op) → Spells r w → (es : List Edit) → es ≡ NewMember m s ∷ NewHolder h m t ∷ NewPurse p h ∷ AddMessage p (Req d) ∷ [] → Fits w es
+four_fit_at r w op s t m h p d clerk holder apart member_text holder_text purse_text clerk_whole holder_whole valid first spelled es is =
+    subst (λ (z : World). Fits z es) (one_world r (opening op) w first spelled) (subst (Fits (opening op)) (sym is) (four_fit op s t m h clerk holder apart member_text holder_text first.sound.tokens.operator_bytes clerk_whole holder_whole p purse_text d valid))
 
 pub set_fit_at : (r : Rows) (w : World) (op s t : Token) (m h p : Name) (q : State) → is_token s op ≡ false → is_token t op ≡ false → is_token t s ≡ false → IsTrue (is_name_text m) → IsTrue (is_name_text h) → IsTrue (is_name_text p) → IsToken s → IsToken t → q.name ≡ p → IsPurse q → q.lines ≡ 0 → Spells r (opening op) → Spells r w → (es : List Edit) → es ≡ NewMember m s ∷ NewHolder h m t ∷ NewPurse p h ∷ SetPurse q ∷ [] → Fits w es
 set_fit_at r w op s t m h p q clerk holder apart member_text holder_text purse_text clerk_whole holder_whole named purse none first spelled es is =

@@ -13,6 +13,7 @@ use Rattle.mx_pay.specs.Details.{Details}
 use Rattle.mx_pay.specs.Log.{has_logged}
 use Rattle.mx_purse.proofs.Laws.{new_is}
 use Rattle.mx_purse.specs.declared.message.Message.{Message}
+use Rattle.mx_purse.specs.declared.message.Message.TheVariants.{Req, Val, Ack, Clear}
 use Rattle.mx_purse.specs.Messages.{IsMessage}
 use Rattle.mx_book.specs.declared.values.Caller.{Caller}
 use Rattle.mx_book.specs.declared.values.Caller.TheVariants.{Operator, Clerk, Holder}
@@ -20,12 +21,21 @@ use Rattle.mx_book.specs.declared.values.MemberRow.{MemberRow}
 use Rattle.mx_book.specs.Sums.{sum_values}
 use Rattle.mx_book.specs.World.{World, Row, Holding, Name, Token, set_row, changed_row, delivered, new_row}
 use Rattle.mx_book.specs.Reads.{who_of, purses_of}
-use Rattle.mx_book.specs.Conditions.{IsWorld, IsOwner, HasToken, TokensHold, MembersHold, PursesHold, InboxesHold, LinesHold, ResultsHold, PaymentsHold, IsPurseRow, IsInbox, AreLines, IsEntry, IsPaid}
+use Rattle.mx_book.specs.Conditions.{IsWorld, IsOwner, HasToken, TokensHold, MembersHold, PursesHold, InboxesHold, LinesHold, ResultsHold, PaymentsHold, ClearsHold, MayLie, IsPurseRow, IsInbox, AreLines, IsEntry, IsPaid}
 use Rattle.mx_book.specs.declared.edits.Edit.TheVariants.{NewMember, NewHolder, NewPurse, AddMessage, DropMessage}
 use Rattle.mx_book.specs.Edits.{edited, Suits}
 use Rattle.mx_book.proofs.NameLemmas.{names_total, same_name, same_number, get-inserted}
 use Rattle.mx_book.proofs.SumLemmas.{sum_values-insert, value_of, total, total_is}
 use Rattle.mx_book.proofs.FoundLemmas.{value_found, inside, none_is, some_of, none_found, none_some, each_inserted, some_inserted, still_some, kept_value}
+
+-- ---- what may lie in an inbox
+
+-- what may lie in an inbox may lie there as long as the archive stays
+pub may_lie : (w v : World) → v.archive ≡ w.archive → (p : Name) (m : Message) → MayLie w p m → MayLie v p m
+may_lie w v same p (Req d) h = tt
+may_lie w v same p (Val d) h = tt
+may_lie w v same p (Ack d) h = tt
+may_lie w v same p (Clear set) h = record { some = h.some; archived = rw same h.archived }
 
 -- ---- where the rows of the purses stay
 
@@ -42,6 +52,7 @@ module _ (w : World) (tokens : fmap.FinMap token_cmp Caller) (members : fmap.Fin
     inboxes = record { each = h.inboxes.each };
     lines = record { each = h.lines.each };
     results = record { archived = h.results.archived; details = h.results.details; logged = h.results.logged; apart = h.results.apart };
+    clears = record { each = λ p r n m at there. may_lie w with_heads refl p m (h.clears.each p r n m at there) };
     payments = record { each = h.payments.each };
   }
 
@@ -52,10 +63,11 @@ pub record IsRow (w : World) (p : Name) (r : Row) : Type 0 where
   pub purse : IsPurseRow w p r
   pub inbox : IsInbox r
   pub lines : AreLines r
+  pub clears : (n : ℕ) (m : Message) → fmap.get r.holding.inbox n ≡ Some m → MayLie w p m
   pub paid : IsPaid r
 
 pub is_row : (w : World) (p : Name) (r : Row) → fmap.get w.rows p ≡ Some r → IsWorld w → IsRow w p r
-is_row w p r at h = record { purse = h.purses.each p r at; inbox = h.inboxes.each p r at; lines = h.lines.each p r at; paid = h.payments.each p r at }
+is_row w p r at h = record { purse = h.purses.each p r at; inbox = h.inboxes.each p r at; lines = h.lines.each p r at; clears = λ n m. h.clears.each p r n m at; paid = h.payments.each p r at }
 
 module _ (w : World) (rows : fmap.FinMap name_cmp Row) where
   abbrev with_rows : World
@@ -79,6 +91,7 @@ module _ (w : World) (rows : fmap.FinMap name_cmp Row) where
       logged = λ p d there. let r = h.results.logged p d there in let s = stays p r.0 r.1 in (s.0, s.1, s.2 d there r.2);
       apart = h.results.apart;
     };
+    clears = record { each = λ p r n m at there. may_lie w with_rows refl p m ((each p r at).clears n m there) };
     payments = record { each = λ p r at. (each p r at).paid };
   }
 
@@ -193,6 +206,7 @@ new_row_is w p g there text = record {
     messages = λ n m at. none_found _ m (fmap.get-empty nat_cmp n) at;
   };
   lines = record { numbered = tt; counted = refl; each = tt };
+  clears = λ n m at. none_found _ m (fmap.get-empty nat_cmp n) at;
   paid = record {
     loads = λ ref amount at. none_found _ amount (fmap.get-empty name_cmp ref) at;
     redemptions = λ ref amount at. none_found _ amount (fmap.get-empty name_cmp ref) at;
@@ -210,7 +224,7 @@ new_purse_stays w p g suits text room h = rows_stay w (fmap.insert w.rows p (new
 -- ---- another row of a purse that is there
 
 module _ (w : World) (p : Name) (r : Row) (at : fmap.get w.rows p ≡ Some r) (h : IsWorld w) where
-  pub set_stays : (s : Row) → s.holder ≡ r.holder → IsRow w p s → ((d : Details) → has_logged r.holding.purse.log d ≡ true → has_logged s.holding.purse.log d ≡ true) → IsWorld (set_row w p s)
+  pub set_stays : (s : Row) → s.holder ≡ r.holder → IsRow w p s → ((d : Details) → fmap.contains_key w.tray (p, d) ≡ true → has_logged r.holding.purse.log d ≡ true → has_logged s.holding.purse.log d ≡ true) → IsWorld (set_row w p s)
   set_stays s same one still = rows_stay w (fmap.insert w.rows p s)
       (λ x. grind (arith, held_set w p s x, at, same, h.purses.few x))
       (each_inserted w.rows p s (λ q x. IsRow w q x) one (λ q x here. is_row w q x here h))
@@ -218,15 +232,16 @@ module _ (w : World) (p : Name) (r : Row) (at : fmap.get w.rows p ≡ Some r) (h
       h
 
   -- only the inbox and the next message number are others
-  pub inbox_stays : (inbox : fmap.FinMap nat_cmp Message) (next : ℕ) → IsInbox (record r { holding = record r.holding { inbox = inbox; next_message = next } }) → IsWorld (set_row w p (record r { holding = record r.holding { inbox = inbox; next_message = next } }))
-  inbox_stays inbox next one =
+  pub inbox_stays : (inbox : fmap.FinMap nat_cmp Message) (next : ℕ) → IsInbox (record r { holding = record r.holding { inbox = inbox; next_message = next } }) → ((n : ℕ) (m : Message) → fmap.get inbox n ≡ Some m → MayLie w p m) → IsWorld (set_row w p (record r { holding = record r.holding { inbox = inbox; next_message = next } }))
+  inbox_stays inbox next one lie =
       let x = is_row w p r at h in
       set_stays (record r { holding = record r.holding { inbox = inbox; next_message = next } }) refl (record {
         purse = record { text = x.purse.text; named = x.purse.named; holder = x.purse.holder; purse = x.purse.purse };
         inbox = one;
         lines = record { numbered = x.lines.numbered; counted = x.lines.counted; each = x.lines.each };
+        clears = lie;
         paid = record { loads = x.paid.loads; redemptions = x.paid.redemptions; collected = x.paid.collected };
-      }) (λ d logged. logged)
+      }) (λ d there logged. logged)
 
 -- ---- a message more or less
 
@@ -246,9 +261,14 @@ dropped_inbox r n h = record {
   messages = λ k x is. grind (arith, fmap.get-remove nat_cmp_total r.holding.inbox n k, h.messages k x);
 }
 
-pub message_stays : (w : World) (p : Name) (m : Message) (r : Row) → IsMessage m → fmap.get w.rows p ≡ Some r → fmap.len r.holding.inbox < most_messages → r.holding.next_message < most_number → IsWorld w → IsWorld (edited w (AddMessage p m))
-message_stays w p m r valid at room next h =
-    subst IsWorld (ap (changed_row w p (λ x. record x { holding = delivered x.holding m })) (sym at)) (inbox_stays w p r at h (fmap.insert r.holding.inbox r.holding.next_message m) (r.holding.next_message + 1) (delivered_inbox r m valid (h.inboxes.each p r at) room next))
+-- what holds of each message holds of each where one came that it holds of
+each_delivered : (r : Row) (m : Message) (P : Message → Type 0) → P m → ((k : ℕ) (x : Message) → fmap.get r.holding.inbox k ≡ Some x → P x) → (k : ℕ) (x : Message) → fmap.get (fmap.insert r.holding.inbox r.holding.next_message m) k ≡ Some x → P x
+each_delivered r m P new old k x is = grind (arith, fmap.get-insert nat_cmp_total r.holding.inbox r.holding.next_message m k, new, old k x)
+
+pub message_stays : (w : World) (p : Name) (m : Message) (r : Row) → IsMessage m → MayLie w p m → fmap.get w.rows p ≡ Some r → fmap.len r.holding.inbox < most_messages → r.holding.next_message < most_number → IsWorld w → IsWorld (edited w (AddMessage p m))
+message_stays w p m r valid lies at room next h =
+    subst IsWorld (ap (changed_row w p (λ x. record x { holding = delivered x.holding m })) (sym at)) (inbox_stays w p r at h (fmap.insert r.holding.inbox r.holding.next_message m) (r.holding.next_message + 1) (delivered_inbox r m valid (h.inboxes.each p r at) room next)
+    (each_delivered r m (MayLie w p) lies (λ k x. h.clears.each p r k x at)))
 
 pub dropped_stays : (w : World) (p : Name) (n : ℕ) (r : Row) → fmap.get w.rows p ≡ Some r → IsWorld w → IsWorld (set_row w p (record r { holding = record r.holding { inbox = fmap.remove r.holding.inbox n } }))
-dropped_stays w p n r at h = inbox_stays w p r at h (fmap.remove r.holding.inbox n) r.holding.next_message (dropped_inbox r n (h.inboxes.each p r at))
+dropped_stays w p n r at h = inbox_stays w p r at h (fmap.remove r.holding.inbox n) r.holding.next_message (dropped_inbox r n (h.inboxes.each p r at)) (λ k x is. grind (arith, fmap.get-remove nat_cmp_total r.holding.inbox n k, h.clears.each p r k x at))

@@ -84,7 +84,7 @@ pub loads_stay : (w : World) (p : Name) (r : Row) (q : State) (ls : List Line) (
     → ((d : Details) → has_logged r.holding.purse.log d ≡ true → has_logged q.log d ≡ true) → IsTrue (is_name_text reference) → amount ≤ most_amount
     → IsWorld w → IsWorld (set_row w p (with_load (with_lines r q ls) reference amount))
 loads_stay w p r q ls reference amount at name purse numbered counted valid logged text small h =
-    paid_stays w p r q ls (fmap.insert r.loads reference amount) r.holding.redemptions at name purse numbered counted valid logged
+    paid_stays w p r q ls (fmap.insert r.loads reference amount) r.holding.redemptions at name purse numbered counted valid (λ d there. logged d)
     (λ paid. record { loads = each_inserted r.loads reference amount (λ k n. IsTrue (is_name_text k) × (n ≤ most_amount)) (text, small) paid.loads; redemptions = paid.redemptions; collected = paid.collected })
     h
 
@@ -93,7 +93,7 @@ pub redemptions_stay : (w : World) (p : Name) (r : Row) (q : State) (ls : List L
     → ((d : Details) → has_logged r.holding.purse.log d ≡ true → has_logged q.log d ≡ true) → IsTrue (is_name_text reference) → amount ≤ most_amount
     → IsWorld w → IsWorld (set_row w p (with_redemption (with_lines r q ls) reference amount))
 redemptions_stay w p r q ls reference amount at name purse numbered counted valid logged text small h =
-    paid_stays w p r q ls r.loads (fmap.insert r.holding.redemptions reference amount) at name purse numbered counted valid logged
+    paid_stays w p r q ls r.loads (fmap.insert r.holding.redemptions reference amount) at name purse numbered counted valid (λ d there. logged d)
     (λ paid. record {
       loads = paid.loads;
       redemptions = each_inserted r.holding.redemptions reference amount (λ k n. IsTrue (is_name_text k) × (n ≤ most_amount)) (text, small) paid.redemptions;
@@ -148,6 +148,7 @@ collected_is w m p r x = by_case (is_of_member w m r)
       purse = record { text = x.purse.text; named = x.purse.named; holder = x.purse.holder; purse = x.purse.purse };
       inbox = record { few = x.inbox.few; below = x.inbox.below; next = x.inbox.next; messages = x.inbox.messages };
       lines = record { numbered = x.lines.numbered; counted = x.lines.counted; each = x.lines.each };
+      clears = x.clears;
       paid = record {
         loads = x.paid.loads;
         redemptions = x.paid.redemptions;

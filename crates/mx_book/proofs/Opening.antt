@@ -56,6 +56,7 @@ opening_is t whole = record {
     logged = λ p d. none_some _ (fmap.get-empty result_cmp (p, d));
     apart = λ p d. none_some _ (fmap.get-empty result_cmp (p, d));
   };
+  clears = record { each = λ p r n m. none_found _ r (fmap.get-empty name_cmp p) };
   payments = record { each = λ p r. none_found _ r (fmap.get-empty name_cmp p) };
 }
 

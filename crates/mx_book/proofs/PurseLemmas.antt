@@ -17,7 +17,7 @@ use Rattle.mx_purse.specs.Messages.{IsMessage}
 use Rattle.mx_book.specs.declared.values.Line.{Line}
 use Rattle.mx_book.specs.World.{World, Row, Holding, Name, Token, set_row, change_row, changed_row, has_room, delivered, with_message, put}
 use Rattle.mx_book.specs.Reads.{purses_of}
-use Rattle.mx_book.specs.Conditions.{IsWorld, IsLine, AreNumbered, IsPaid}
+use Rattle.mx_book.specs.Conditions.{IsWorld, IsLine, AreNumbered, IsPaid, MayLie}
 use Rattle.mx_book.specs.declared.edits.Edit.{Edit}
 use Rattle.mx_book.specs.declared.edits.Edit.TheVariants.{NewMember, NewHolder, NewPurse, SetPurse, AddMessage, DropMessage, AddLine}
 use Rattle.mx_book.specs.Edits.{edited, all_edited, Suits, AllSuit}
@@ -112,7 +112,7 @@ purse_suits w p r q ls at name numbered = (
 
 -- a purse with new lines and other payments
 pub paid_stays : (w : World) (p : Name) (r : Row) (q : State) (ls : List Line) (loads redemptions : fmap.FinMap name_cmp ℕ) → fmap.get w.rows p ≡ Some r → q.name ≡ p → IsPurse q → AreNumbered 1 (r.holding.lines ++ ls) → length (r.holding.lines ++ ls) ≡ q.lines → AllByRecursion IsLine ls
-    → ((d : Details) → has_logged r.holding.purse.log d ≡ true → has_logged q.log d ≡ true)
+    → ((d : Details) → fmap.contains_key w.tray (p, d) ≡ true → has_logged r.holding.purse.log d ≡ true → has_logged q.log d ≡ true)
     → (IsPaid r → IsPaid (record r { holding = record r.holding { redemptions = redemptions }; loads = loads }))
     → IsWorld w → IsWorld (set_row w p (record r { holding = record r.holding { purse = q; lines = r.holding.lines ++ ls; redemptions = redemptions }; loads = loads }))
 paid_stays w p r q ls loads redemptions at name purse numbered counted valid logged pays h =
@@ -122,11 +122,12 @@ paid_stays w p r q ls loads redemptions at name purse numbered counted valid log
       purse = record { text = x.purse.text; named = name; holder = x.purse.holder; purse = purse };
       inbox = record { few = x.inbox.few; below = x.inbox.below; next = x.inbox.next; messages = x.inbox.messages };
       lines = record { numbered = numbered; counted = counted; each = all_append IsLine r.holding.lines ls x.lines.each valid };
+      clears = x.clears;
       paid = record { loads = paid.loads; redemptions = paid.redemptions; collected = paid.collected };
     }) logged
 
 pub purse_stays : (w : World) (p : Name) (r : Row) (q : State) (ls : List Line) → fmap.get w.rows p ≡ Some r → q.name ≡ p → IsPurse q → AreNumbered 1 (r.holding.lines ++ ls) → length (r.holding.lines ++ ls) ≡ q.lines → AllByRecursion IsLine ls
-    → ((d : Details) → has_logged r.holding.purse.log d ≡ true → has_logged q.log d ≡ true) → IsWorld w → IsWorld (set_row w p (with_lines r q ls))
+    → ((d : Details) → fmap.contains_key w.tray (p, d) ≡ true → has_logged r.holding.purse.log d ≡ true → has_logged q.log d ≡ true) → IsWorld w → IsWorld (set_row w p (with_lines r q ls))
 purse_stays w p r q ls at name purse numbered counted valid logged h = paid_stays w p r q ls r.loads r.holding.redemptions at name purse numbered counted valid logged (λ paid. paid) h
 
 -- ---- a message
@@ -153,11 +154,11 @@ put_vanishes w p m r at room = put_there w p m r false at room ∙ set_same w p 
 pub put_nowhere : (w : World) (p : Name) (m : Message) → fmap.get w.rows p ≡ None → put w p m ≡ w
 put_nowhere w p m gone = ap (changed_row w p (λ x. record x { holding = with_message x.holding m })) gone
 
-pub put_stays : (w : World) (p : Name) (m : Message) → IsMessage m → IsWorld w → IsWorld (put w p m)
-put_stays w p m valid h = by_row (fmap.get w.rows p) refl
+pub put_stays : (w : World) (p : Name) (m : Message) → IsMessage m → MayLie w p m → IsWorld w → IsWorld (put w p m)
+put_stays w p m valid lies h = by_row (fmap.get w.rows p) refl
   where
     by_room : (r : Row) → fmap.get w.rows p ≡ Some r → (b : Bool) → has_room r.holding ≡ b → IsWorld (put w p m)
-    by_room r at true room = let few = room_is r.holding room in subst IsWorld (put_leads w p m r at room) (message_stays w p m r valid at few.0 few.1 h)
+    by_room r at true room = let few = room_is r.holding room in subst IsWorld (put_leads w p m r at room) (message_stays w p m r valid lies at few.0 few.1 h)
     by_room r at false room = subst IsWorld (sym (put_vanishes w p m r at room)) h
 
     by_row : (o : Option Row) → fmap.get w.rows p ≡ o → IsWorld (put w p m)

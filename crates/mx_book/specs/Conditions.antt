@@ -7,9 +7,10 @@ use Rattle.mx_pay.specs.Limits.{most_amount, most_number}
 use Rattle.mx_pay.specs.Names.{is_name_text}
 use Rattle.mx_pay.specs.Tokens.{IsToken}
 use Rattle.mx_pay.specs.Details.{Details, IsDetails}
-use Rattle.mx_pay.specs.Log.{has_logged}
+use Rattle.mx_pay.specs.Log.{Entries, log_len, has_logged}
 use Rattle.mx_purse.specs.State.{IsPurse}
 use Rattle.mx_purse.specs.declared.message.Message.{Message}
+use Rattle.mx_purse.specs.declared.message.Message.TheVariants.{Clear}
 use Rattle.mx_purse.specs.Messages.{IsMessage}
 use Rattle.mx_book.specs.declared.values.Caller.{Caller}
 use Rattle.mx_book.specs.declared.values.Caller.TheVariants.{Operator, Clerk, Holder}
@@ -114,6 +115,20 @@ pub record ResultsHold (w : World) : Type 0 where
   pub logged : (p : Name) (d : Details) → fmap.contains_key w.tray (p, d) ≡ Bool.true → IsEntry w p d
   pub apart : (p : Name) (d : Details) → fmap.contains_key w.tray (p, d) ≡ Bool.true → fmap.contains_key w.archive (p, d) ≡ Bool.false
 
+-- a set of details may be cleared from a purse's log: it isn't empty, and is archived for the purse in full
+pub record MayClear (w : World) (p : Name) (set : Entries) : Type 0 where
+  pub some : 0 < log_len set
+  pub archived : (d : Details) → has_logged set d ≡ Bool.true → fmap.contains_key w.archive (p, d) ≡ Bool.true
+
+-- a message may lie in the inbox of a purse: a clear only where its set may be cleared
+abbrev pub MayLie : World → Name → Message → Type 0
+MayLie w p (Clear set) = MayClear w p set
+MayLie w p message = Unit {0}
+
+-- each message in each inbox may lie there
+pub record ClearsHold (w : World) : Type 0 where
+  pub each : (p : Name) (r : Row) (n : ℕ) (m : Message) → fmap.get w.rows p ≡ Some r → fmap.get r.holding.inbox n ≡ Some m → MayLie w p m
+
 -- references are names and amounts are within their limit, and what is collected is a redemption
 pub record IsPaid (r : Row) : Type 0 where
   pub loads : (ref : Name) (amount : ℕ) → fmap.get r.loads ref ≡ Some amount → IsTrue (is_name_text ref) × (amount ≤ most_amount)
@@ -132,4 +147,5 @@ pub record IsWorld (w : World) : Type 0 where
   pub inboxes : InboxesHold w
   pub lines : LinesHold w
   pub results : ResultsHold w
+  pub clears : ClearsHold w
   pub payments : PaymentsHold w
