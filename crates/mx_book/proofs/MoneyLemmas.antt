@@ -81,19 +81,19 @@ granted_after w m granted float old at =
 
 -- what is kept of loads
 pub loads_stay : (w : World) (p : Name) (r : Row) (q : State) (ls : List Line) (reference : Name) (amount : ℕ) → fmap.get w.rows p ≡ Some r → q.name ≡ p → IsPurse q → AreNumbered 1 (r.holding.lines ++ ls) → length (r.holding.lines ++ ls) ≡ q.lines → AllByRecursion IsLine ls
-    → ((d : Details) → has_logged r.holding.purse.log d ≡ true → has_logged q.log d ≡ true) → IsTrue (is_name_text reference) → amount ≤ most_amount
+    → ((d : Details) → fmap.contains_key w.tray (p, d) ≡ true → has_logged r.holding.purse.log d ≡ true → has_logged q.log d ≡ true) → IsTrue (is_name_text reference) → amount ≤ most_amount
     → IsWorld w → IsWorld (set_row w p (with_load (with_lines r q ls) reference amount))
 loads_stay w p r q ls reference amount at name purse numbered counted valid logged text small h =
-    paid_stays w p r q ls (fmap.insert r.loads reference amount) r.holding.redemptions at name purse numbered counted valid (λ d there. logged d)
+    paid_stays w p r q ls (fmap.insert r.loads reference amount) r.holding.redemptions at name purse numbered counted valid logged
     (λ paid. record { loads = each_inserted r.loads reference amount (λ k n. IsTrue (is_name_text k) × (n ≤ most_amount)) (text, small) paid.loads; redemptions = paid.redemptions; collected = paid.collected })
     h
 
 -- what is kept of redemptions
 pub redemptions_stay : (w : World) (p : Name) (r : Row) (q : State) (ls : List Line) (reference : Name) (amount : ℕ) → fmap.get w.rows p ≡ Some r → q.name ≡ p → IsPurse q → AreNumbered 1 (r.holding.lines ++ ls) → length (r.holding.lines ++ ls) ≡ q.lines → AllByRecursion IsLine ls
-    → ((d : Details) → has_logged r.holding.purse.log d ≡ true → has_logged q.log d ≡ true) → IsTrue (is_name_text reference) → amount ≤ most_amount
+    → ((d : Details) → fmap.contains_key w.tray (p, d) ≡ true → has_logged r.holding.purse.log d ≡ true → has_logged q.log d ≡ true) → IsTrue (is_name_text reference) → amount ≤ most_amount
     → IsWorld w → IsWorld (set_row w p (with_redemption (with_lines r q ls) reference amount))
 redemptions_stay w p r q ls reference amount at name purse numbered counted valid logged text small h =
-    paid_stays w p r q ls r.loads (fmap.insert r.holding.redemptions reference amount) at name purse numbered counted valid (λ d there. logged d)
+    paid_stays w p r q ls r.loads (fmap.insert r.holding.redemptions reference amount) at name purse numbered counted valid logged
     (λ paid. record {
       loads = paid.loads;
       redemptions = each_inserted r.holding.redemptions reference amount (λ k n. IsTrue (is_name_text k) × (n ≤ most_amount)) (text, small) paid.redemptions;

@@ -13,7 +13,7 @@ use Rattle.mx_book.specs.declared.values.Line.{Line}
 use Rattle.mx_book.specs.World.{World, Row, Holding, Name, has_room, set_row, change_holding}
 use Rattle.std.specs.List.{AllByRecursion}
 use Rattle.mx_purse.specs.Messages.{IsMessage}
-use Rattle.mx_book.specs.Conditions.{IsWorld, AreNumbered, IsLine}
+use Rattle.mx_book.specs.Conditions.{IsWorld, AreNumbered, IsLine, MayLie}
 use Rattle.mx_book.specs.Reads.{from_row}
 use Rattle.mx_book.specs.Edits.{AllSuit, all_edited}
 use Rattle.mx_book.proofs.NameLemmas.{names_total, same_name}
@@ -91,26 +91,30 @@ puts : (w : World) (sent : Option (Name × Message)) → Puts w sent (put_edits 
 puts w None = record { suits = tt; leads = refl }
 puts w (Some m) = put_case w m.0 m.1 (fmap.get w.rows m.0) refl
 
--- a message that is sent is within its limits
+-- a message that is sent is within its limits, and may lie in the inbox whatever is archived
 abbrev pub IsSent : Option (Name × Message) → Type 0
 IsSent None = Unit {0}
-IsSent (Some m) = IsMessage m.1
+IsSent (Some m) = IsMessage m.1 × ((w : World) → MayLie w m.0 m.1)
 
 sent_stays : (w : World) (sent : Option (Name × Message)) → IsSent sent → IsWorld w → IsWorld (put_sent w sent)
 sent_stays w None valid h = h
-sent_stays w (Some m) valid h = put_stays w m.0 m.1 valid h
+sent_stays w (Some m) valid h = put_stays w m.0 m.1 valid.0 (valid.1 w) h
 
 -- ---- a purse that changes
 
+-- what the tray has of a purse
+abbrev pub in_tray : World → Name → Details → Bool
+in_tray w p d = fmap.contains_key w.tray (p, d)
+
 -- the purse after an operation, with its lines, is one that the World can have: the lines are numbered on, counted and
--- within their limits, and what was logged is still
-pub record Follows (p q : State) (ls : List Line) : Type 0 where
+-- within their limits, and what was logged is still, where it has to be kept
+pub record Follows (kept : Details → Bool) (p q : State) (ls : List Line) : Type 0 where
   pub name : q.name ≡ p.name
   pub whole : IsPurse q
   pub numbered : AreNumbered (p.lines + 1) ls
   pub counted : q.lines ≡ p.lines + length ls
   pub valid : AllByRecursion IsLine ls
-  pub logged : (d : Details) → has_logged p.log d ≡ true → has_logged q.log d ≡ true
+  pub logged : (d : Details) → kept d ≡ true → has_logged p.log d ≡ true → has_logged q.log d ≡ true
 
 pub numbered_after : (j k : ℕ) (ls ms : List Line) → k ≡ j + length ls → AreNumbered j ls → AreNumbered k ms → AreNumbered j (ls ++ ms)
 numbered_after j k [] ms is h g = let same : k ≡ j = omega (arith, is) in subst (λ n. AreNumbered n ms) same g
@@ -121,14 +125,14 @@ lines_same p [] = refl
 lines_same p (l ∷ ls) = ap (λ es. AddLine p l ∷ es) (lines_same p ls)
 
 -- the row with that purse and these lines is one that the World can have
-pub record IsNext (p : Name) (r : Row) (q : State) (ls : List Line) : Type 0 where
+pub record IsNext (w : World) (p : Name) (r : Row) (q : State) (ls : List Line) : Type 0 where
   pub named : q.name ≡ p
   pub numbered : AreNumbered 1 (r.holding.lines ++ ls)
   pub counted : length (r.holding.lines ++ ls) ≡ q.lines
-  pub logged : (d : Details) → has_logged r.holding.purse.log d ≡ true → has_logged q.log d ≡ true
+  pub logged : (d : Details) → in_tray w p d ≡ true → has_logged r.holding.purse.log d ≡ true → has_logged q.log d ≡ true
   pub edits : purse_and_lines q ls ≡ SetPurse q ∷ line_edits p ls
 
-pub is_next : (w : World) (p : Name) (test : Row → Bool) (before : State) (found : IsFound w p test before) (q : State) (ls : List Line) → IsWorld w → Follows before q ls → IsNext p found.row q ls
+pub is_next : (w : World) (p : Name) (test : Row → Bool) (before : State) (found : IsFound w p test before) (q : State) (ls : List Line) → IsWorld w → Follows (in_tray w p) before q ls → IsNext w p found.row q ls
 is_next w p test before found q ls is follows =
     let r = found.row in
     let old = is.lines.each p r found.at in
@@ -140,12 +144,12 @@ is_next w p test before found q ls is follows =
       named = name;
       numbered = numbered_after 1 (before.lines + 1) r.holding.lines ls (omega (arith, old_count, lines)) old.numbered follows.numbered;
       counted = omega (arith, length-append r.holding.lines ls, old_count, lines, more);
-      logged = λ d there. follows.logged d (ap (λ x. has_logged x.log d) (sym found.purse) ∙ there);
+      logged = λ d kept there. follows.logged d kept (ap (λ x. has_logged x.log d) (sym found.purse) ∙ there);
       edits = ap (λ es. SetPurse q ∷ es) (lines_same q.name ls) ∙ ap (λ n. SetPurse q ∷ line_edits n ls) name;
     }
 
 -- a rule that changes the purse, adds its line and sends a message
-module _ (w : World) (g p : Name) (before : State) (own : IsOwn w g p before) (q : State) (line : Option Line) (h : IsWorld w) (follows : Follows before q (listed line)) where
+module _ (w : World) (g p : Name) (before : State) (own : IsOwn w g p before) (q : State) (line : Option Line) (h : IsWorld w) (follows : Follows (in_tray w p) before q (listed line)) where
   abbrev ls : List Line
   ls = listed line
 

@@ -6,16 +6,17 @@ use Rattle.std.specs.FinMap as fmap
 use Rattle.mx_pay.specs.Names.{is_name, is_name_text}
 use Rattle.mx_pay.specs.Details.{Details, is_details}
 use Rattle.mx_pay.specs.Log.{Entries, has_logged}
-use Rattle.mx_pay.proofs.SameLemmas.{has-with_entry}
+use Rattle.mx_pay.proofs.SameLemmas.{has-with_entry, same_logs}
+use Rattle.std.specs.Cmp.{second_so}
 use Rattle.mx_purse.specs.State.{State, IsPurse, details_of}
 use Rattle.mx_purse.specs.declared.status.Status.{Status}
 use Rattle.mx_purse.specs.declared.message.Message.{Message}
-use Rattle.mx_purse.specs.declared.message.Message.TheVariants.{Req, Val, Ack}
+use Rattle.mx_purse.specs.declared.message.Message.TheVariants.{Req, Val, Ack, Clear}
 use Rattle.mx_purse.specs.declared.message.Handled.{Handled}
 use Rattle.mx_purse.specs.declared.message.Handled.TheVariants as took
 use Rattle.mx_purse.specs.declared.refusals.StartRefusal.{StartRefusal}
 use Rattle.mx_purse.specs.declared.refusals.RedeemRefusal.{RedeemRefusal}
-use Rattle.mx_purse.specs.Operations.{or_refused, unless_refused, pending, with_pending, lines_with, aborted, started, expects_req, expects_ack, handled, after_message, sent_for, redeem_refusal, redeemed}
+use Rattle.mx_purse.specs.Operations.{or_refused, unless_refused, pending, with_pending, lines_with, aborted, started, expects_req, expects_ack, expects_clear, handled, after_message, sent_for, redeem_refusal, redeemed}
 use Rattle.mx_purse.proofs.OperationLemmas.{aborted_is, after_message_is, after_message_name, redeemed_is}
 use Rattle.mx_book.specs.declared.edits.Edit.TheVariants.{SetPurse, DropMessage, AddRedemption}
 use Rattle.mx_book.specs.declared.values.Line.{Line}
@@ -28,7 +29,7 @@ use Rattle.mx_pay.specs.Limits.{most_amount, most_number}
 use Rattle.mx_pay.specs.Details.{IsDetails}
 use Rattle.mx_purse.specs.Messages.{IsMessage}
 use Rattle.mx_purse.proofs.OperationLemmas.{pending_valid}
-use Rattle.mx_book.specs.Conditions.{IsWorld, AreNumbered, IsLine}
+use Rattle.mx_book.specs.Conditions.{IsWorld, AreNumbered, IsLine, MayLie}
 use Rattle.mx_book.specs.Reads.{from_row, inbox_of, message_of, redemption_of}
 use Rattle.mx_book.proofs.PartLemmas.{all_append}
 use Rattle.mx_book.proofs.MoneyLemmas.{with_redemption, redemptions_stay, redemption_leads, redemption_suits}
@@ -40,7 +41,7 @@ use Rattle.mx_office.specs.declared.values.Refusal.TheVariants.{NoSuchMessage, R
 use Rattle.mx_office.specs.Step.{Deed, tell, unless, on_found, in_place, refusal_of_start, refusal_of_redeem, abort_line, payment_line, message_line, money_line, listed, with_aborted, inbox, discard, abort, handle, handle_message, redeem, on_own}
 use Rattle.mx_office.specs.Decides.{Decides, own_purse, placed, purse_edits, redeem_edits}
 use Rattle.mx_office.proofs.DecideLemmas.{edits_decide, edit_decides}
-use Rattle.mx_office.proofs.AccountLemmas.{IsOwn, IsSent, Follows, is_own, own_there, own_told, numbered_after, is_next, changed_decides}
+use Rattle.mx_office.proofs.AccountLemmas.{IsOwn, IsSent, Follows, in_tray, is_own, own_there, own_told, numbered_after, is_next, changed_decides}
 use Rattle.mx_office.proofs.OwnLemmas.{gone, present}
 
 -- ---- what is read
@@ -90,74 +91,10 @@ pub nothing_handled_decides : (w : World) (h p : Name) (n : ℕ) (q : State) (d 
 unfolding handle
 nothing_handled_decides w h p n q d is e none = no_message w h p n q handle_message d is e none
 
-message_numbered : (p : State) (x : Handled) → AreNumbered (p.lines + 1) (listed (message_line (after_message p x) x)) × ((after_message p x).lines ≡ p.lines + length (listed (message_line (after_message p x) x)))
-message_numbered p (took.Req d) = ((refl, tt), omega arith)
-message_numbered p (took.Val d) = ((refl, tt), omega arith)
-message_numbered p (took.Ack d) = (tt, omega arith)
-message_numbered p took.Ignored = (tt, omega arith)
-
-message_log : (p : State) (x : Handled) → (after_message p x).log ≡ p.log
-message_log p (took.Req d) = refl
-message_log p (took.Val d) = refl
-message_log p (took.Ack d) = refl
-message_log p took.Ignored = refl
-
--- what is handled has the details of its message
-abbrev IsTaken : Handled → Type 0
-IsTaken (took.Req d) = IsDetails d
-IsTaken (took.Val d) = IsDetails d
-IsTaken (took.Ack d) = IsDetails d
-IsTaken took.Ignored = Unit {0}
-
-taken_case : (b : Bool) (x : Handled) → IsTaken x → IsTaken (cond b x took.Ignored)
-taken_case true x valid = valid
-taken_case false x valid = tt
-
-taken_valid : (p : State) (m : Message) → IsMessage m → IsTaken (handled p m)
-taken_valid p (Req d) valid = taken_case (expects_req p.status d) (took.Req d) valid
-taken_valid p (Val d) valid = taken_case _ (took.Val d) valid
-taken_valid p (Ack d) valid = taken_case (expects_ack p.status d) (took.Ack d) valid
+-- ---- the lines of payments
 
 payment_valid : (q : State) (k : LineKind) (d : Details) → q.balance ≤ most_number → IsDetails d → IsLine (payment_line q k d)
 payment_valid q k d balance valid = record { amount = valid.value; balance = balance; note = valid }
-
-message_line_valid : (q : State) (x : Handled) → q.balance ≤ most_number → IsTaken x → AllByRecursion IsLine (listed (message_line q x))
-message_line_valid q (took.Req d) balance valid = (payment_valid q _ d balance valid, tt)
-message_line_valid q (took.Val d) balance valid = (payment_valid q _ d balance valid, tt)
-message_line_valid q (took.Ack d) balance valid = tt
-message_line_valid q took.Ignored balance valid = tt
-
-sent_valid : (x : Handled) → IsTaken x → IsSent (sent_for x)
-sent_valid (took.Req d) valid = valid
-sent_valid (took.Val d) valid = valid
-sent_valid (took.Ack d) valid = tt
-sent_valid took.Ignored valid = tt
-
-message_follows : (p : State) (m : Message) → IsPurse p → IsMessage m → Follows p (after_message p (handled p m)) (listed (message_line (after_message p (handled p m)) (handled p m)))
-message_follows p m is valid =
-    let x = handled p m in
-    let whole = after_message_is p m is in
-    record { name = after_message_name p x; whole = whole; numbered = (message_numbered p x).0; counted = (message_numbered p x).1; valid = message_line_valid (after_message p x) x whole.balance (taken_valid p m valid); logged = λ d there. ap (λ log. has_logged log d) (message_log p x) ∙ there }
-
--- a purse that is found is whole
-pub whole : (w : World) (h p : Name) (q : State) → IsWorld w → IsOwn w h p q → IsPurse q
-whole w h p q is own = subst IsPurse own.purse (is.purses.each p own.row own.at).purse
-
-pub handle_decides : (w : World) (h p : Name) (n : ℕ) (q after : State) (m : Message) (x : Handled) (d : Decided) → IsWorld w → own_purse w h p ≡ Some q → message_of w p n ≡ Some m
-    → x ≡ handled q m → after ≡ after_message q (handled q m)
-    → d.reply ≡ reply.Handled x → d.edits ≡ purse_edits after (message_line after x) (placed w (sent_for x)) → Decides w (on_own w h p (handle n)) d
-unfolding handle
-handle_decides w h p n q after m x d is e message x_is after_is reply_is edits_is =
-    let own = is_own w h p q e in
-    let y = handled q m in
-    let now = after_message q y in
-    let there : fmap.get own.row.holding.inbox n ≡ Some m = message_at w p n own.row (Some m) own.at message in
-    let valid : IsMessage m = (is.inboxes.each p own.row own.at).messages n m there in
-    changed_decides w h p q own now (message_line now y) is (message_follows q m (whole w h p q is own) valid) (handle n) (reply.Handled y) (sent_for y) d (sent_valid y (taken_valid q m valid))
-    (ap (λ o. on_found own.row.holding NoSuchMessage o (handle_message own.row.holding)) there ∙ rw own.purse refl)
-    (reply_is ∙ ap reply.Handled x_is) (edits_is ∙ (λ i. purse_edits (after_is i) (message_line (after_is i) (x_is i)) (placed w (sent_for (x_is i)))))
-
--- ---- aborts and starts
 
 logged_case : (log : Entries) (o : Option Details) (d : Details) → has_logged log d ≡ true → has_logged (with_pending log o) d ≡ true
 logged_case log None d there = there
@@ -171,11 +108,112 @@ abort_line_valid : (q : State) (o : Option Details) → q.balance ≤ most_numbe
 abort_line_valid q None balance valid = tt
 abort_line_valid q (Some d) balance valid = (payment_valid q _ d balance valid, tt)
 
+-- ---- messages that are handled
+
+message_numbered : (p : State) (x : Handled) → AreNumbered (p.lines + 1) (listed (message_line (after_message p x) (pending p.status) x)) × ((after_message p x).lines ≡ p.lines + length (listed (message_line (after_message p x) (pending p.status) x)))
+message_numbered p (took.Req d) = ((refl, tt), omega arith)
+message_numbered p (took.Val d) = ((refl, tt), omega arith)
+message_numbered p (took.Ack d) = (tt, omega arith)
+message_numbered p took.Cleared = abort_numbered p (after_message p took.Cleared) (pending p.status) refl
+message_numbered p took.Ignored = (tt, omega arith)
+
+-- what is logged stays so after a message that leaves the log, where it's accepted
+kept_case : (p : State) (b : Bool) (x : Handled) → (after_message p x).log ≡ p.log → (d : Details) → has_logged p.log d ≡ true → has_logged (after_message p (cond b x took.Ignored)).log d ≡ true
+kept_case p true x same d there = ap (λ log. has_logged log d) same ∙ there
+kept_case p false x same d there = there
+
+-- and after a clear of a set that has none of it
+cleared_case : (p : State) (set : Entries) (b : Bool) → expects_clear p set ≡ b → (d : Details) → (has_logged set d ≡ true → ⊥) → has_logged p.log d ≡ true → has_logged (after_message p (cond b took.Cleared took.Ignored)).log d ≡ true
+cleared_case p set true expected d none there =
+    let same : set ≡ (aborted p).log = same_logs set (aborted p).log (second_so _ _ expected) in
+    absurd (none (ap (λ log. has_logged log d) same ∙ logged_case p.log (pending p.status) d there))
+cleared_case p set false expected d none there = there
+
+message_logged : (p : State) (m : Message) (d : Details) → ((set : Entries) → m ≡ Clear set → has_logged set d ≡ true → ⊥) → has_logged p.log d ≡ true → has_logged (after_message p (handled p m)).log d ≡ true
+message_logged p (Req e) d none there = kept_case p (expects_req p.status e) (took.Req e) refl d there
+message_logged p (Val e) d none there = kept_case p _ (took.Val e) refl d there
+message_logged p (Ack e) d none there = kept_case p (expects_ack p.status e) (took.Ack e) refl d there
+message_logged p (Clear set) d none there = cleared_case p set (expects_clear p set) refl d (none set refl) there
+
+-- what is handled has the details of its message
+abbrev IsTaken : Handled → Type 0
+IsTaken (took.Req d) = IsDetails d
+IsTaken (took.Val d) = IsDetails d
+IsTaken (took.Ack d) = IsDetails d
+IsTaken took.Cleared = Unit {0}
+IsTaken took.Ignored = Unit {0}
+
+taken_case : (b : Bool) (x : Handled) → IsTaken x → IsTaken (cond b x took.Ignored)
+taken_case true x valid = valid
+taken_case false x valid = tt
+
+taken_valid : (p : State) (m : Message) → IsMessage m → IsTaken (handled p m)
+taken_valid p (Req d) valid = taken_case (expects_req p.status d) (took.Req d) valid
+taken_valid p (Val d) valid = taken_case _ (took.Val d) valid
+taken_valid p (Ack d) valid = taken_case (expects_ack p.status d) (took.Ack d) valid
+taken_valid p (Clear set) valid = taken_case (expects_clear p set) took.Cleared tt
+
+message_line_valid : (q : State) (o : Option Details) (x : Handled) → q.balance ≤ most_number → IfSome o IsDetails → IsTaken x → AllByRecursion IsLine (listed (message_line q o x))
+message_line_valid q o (took.Req d) balance logged valid = (payment_valid q _ d balance valid, tt)
+message_line_valid q o (took.Val d) balance logged valid = (payment_valid q _ d balance valid, tt)
+message_line_valid q o (took.Ack d) balance logged valid = tt
+message_line_valid q o took.Cleared balance logged valid = abort_line_valid q o balance logged
+message_line_valid q o took.Ignored balance logged valid = tt
+
+sent_valid : (x : Handled) → IsTaken x → IsSent (sent_for x)
+sent_valid (took.Req d) valid = (valid, λ _. tt)
+sent_valid (took.Val d) valid = (valid, λ _. tt)
+sent_valid (took.Ack d) valid = tt
+sent_valid took.Cleared valid = tt
+sent_valid took.Ignored valid = tt
+
+message_follows : (kept : Details → Bool) (p : State) (m : Message) → IsPurse p → IsMessage m → ((d : Details) → kept d ≡ true → (set : Entries) → m ≡ Clear set → has_logged set d ≡ true → ⊥)
+    → Follows kept p (after_message p (handled p m)) (listed (message_line (after_message p (handled p m)) (pending p.status) (handled p m)))
+message_follows kept p m is valid apart =
+    let x = handled p m in
+    let whole = after_message_is p m is in
+    record {
+      name = after_message_name p x;
+      whole = whole;
+      numbered = (message_numbered p x).0;
+      counted = (message_numbered p x).1;
+      valid = message_line_valid (after_message p x) (pending p.status) x whole.balance (pending_valid p.status is.details) (taken_valid p m valid);
+      logged = λ d stays there. message_logged p m d (apart d stays) there;
+    }
+
+-- what the tray has of a purse is in no set that may be cleared
+pub tray_apart : (w : World) (p : Name) (m : Message) → IsWorld w → MayLie w p m → (d : Details) → in_tray w p d ≡ true → (set : Entries) → m ≡ Clear set → has_logged set d ≡ true → ⊥
+tray_apart w p m is lies d stays set m_is there =
+    let archived : fmap.contains_key w.archive (p, d) ≡ true = (subst (MayLie w p) m_is lies).archived d there in
+    let apart : fmap.contains_key w.archive (p, d) ≡ false = is.results.apart p d stays in
+    absurd (cc)
+
+-- a purse that is found is whole
+pub whole : (w : World) (h p : Name) (q : State) → IsWorld w → IsOwn w h p q → IsPurse q
+whole w h p q is own = subst IsPurse own.purse (is.purses.each p own.row own.at).purse
+
+pub handle_decides : (w : World) (h p : Name) (n : ℕ) (q after : State) (m : Message) (x : Handled) (d : Decided) → IsWorld w → own_purse w h p ≡ Some q → message_of w p n ≡ Some m
+    → x ≡ handled q m → after ≡ after_message q (handled q m)
+    → d.reply ≡ reply.Handled x → d.edits ≡ purse_edits after (message_line after (pending q.status) x) (placed w (sent_for x)) → Decides w (on_own w h p (handle n)) d
+unfolding handle
+handle_decides w h p n q after m x d is e message x_is after_is reply_is edits_is =
+    let own = is_own w h p q e in
+    let y = handled q m in
+    let now = after_message q y in
+    let there : fmap.get own.row.holding.inbox n ≡ Some m = message_at w p n own.row (Some m) own.at message in
+    let valid : IsMessage m = (is.inboxes.each p own.row own.at).messages n m there in
+    let lies = is.clears.each p own.row n m own.at there in
+    changed_decides w h p q own now (message_line now (pending q.status) y) is (message_follows (in_tray w p) q m (whole w h p q is own) valid (tray_apart w p m is lies)) (handle n) (reply.Handled y) (sent_for y) d (sent_valid y (taken_valid q m valid))
+    (ap (λ o. on_found own.row.holding NoSuchMessage o (handle_message own.row.holding)) there ∙ rw own.purse refl)
+    (reply_is ∙ ap reply.Handled x_is) (edits_is ∙ (λ i. purse_edits (after_is i) (message_line (after_is i) (pending q.status) (x_is i)) (placed w (sent_for (x_is i)))))
+
+-- ---- aborts and starts
+
 -- what an abort leaves follows the purse, and so does what a start makes of it
-abort_follows : (p q : State) → IsPurse p → q.name ≡ p.name → q.lines ≡ (aborted p).lines → q.log ≡ (aborted p).log → IsPurse q → Follows p q (listed (abort_line q (pending p.status)))
-abort_follows p q old name lines log is =
+abort_follows : (kept : Details → Bool) (p q : State) → IsPurse p → q.name ≡ p.name → q.lines ≡ (aborted p).lines → q.log ≡ (aborted p).log → IsPurse q → Follows kept p q (listed (abort_line q (pending p.status)))
+abort_follows kept p q old name lines log is =
     let next = abort_numbered p q (pending p.status) lines in
-    record { name = name; whole = is; numbered = next.0; counted = next.1; valid = abort_line_valid q (pending p.status) is.balance (pending_valid p.status old.details); logged = λ d there. ap (λ l. has_logged l d) log ∙ logged_case p.log (pending p.status) d there }
+    record { name = name; whole = is; numbered = next.0; counted = next.1; valid = abort_line_valid q (pending p.status) is.balance (pending_valid p.status old.details); logged = λ d stays there. ap (λ l. has_logged l d) log ∙ logged_case p.log (pending p.status) d there }
 
 pub abort_decides : (w : World) (h p : Name) (q after : State) (d : Decided) → IsWorld w → own_purse w h p ≡ Some q → after ≡ aborted q
     → d.reply ≡ reply.Aborted (is_some (pending q.status)) → d.edits ≡ purse_edits after (abort_line after (pending q.status)) None → Decides w (on_own w h p abort) d
@@ -183,7 +221,7 @@ unfolding abort
 abort_decides w h p q after d is e after_is reply_is edits_is =
     let own = is_own w h p q e in
     let now = aborted q in
-    changed_decides w h p q own now (abort_line now (pending q.status)) is (abort_follows q now (whole w h p q is own) refl refl refl (aborted_is q (whole w h p q is own)))
+    changed_decides w h p q own now (abort_line now (pending q.status)) is (abort_follows (in_tray w p) q now (whole w h p q is own) refl refl refl (aborted_is q (whole w h p q is own)))
     abort (reply.Aborted (is_some (pending q.status))) None d tt (rw own.purse refl) reply_is (edits_is ∙ ap (λ x. purse_edits x (abort_line x (pending q.status)) None) after_is)
 
 -- what an operation with no output answers
@@ -225,7 +263,7 @@ module _ (w : World) (h p : Name) (q : State) (f : Holding → Deed Holding) (o 
       let x_is : x ≡ details = sym (same_answer o details x accepted) in
       let purse = whole w h p q is own in
       let next = subst IsPurse now_is stays in
-      changed_decides w h p q own now (abort_line now (pending q.status)) is (abort_follows q now purse refl refl refl next) f (reply.Started details) (sent details) d (sent_is next.details)
+      changed_decides w h p q own now (abort_line now (pending q.status)) is (abort_follows (in_tray w p) q now purse refl refl refl next) f (reply.Started details) (sent details) d (sent_is next.details)
       (f_is own.row.holding own.purse ∙ ap (λ y. unless own.row.holding (option_map refusal_of_start y) (done own.row.holding)) free ∙ rw own.purse refl)
       (reply_is ∙ ap reply.Started x_is) (edits_is ∙ (λ i. purse_edits (now_is i) (abort_line (now_is i) (pending q.status)) (placed w (sent (x_is i)))))
 
@@ -234,11 +272,11 @@ module _ (w : World) (h p : Name) (q : State) (f : Holding → Deed Holding) (o 
 redemption_at : (w : World) (p reference : Name) (r : Row) (o : Option ℕ) → fmap.get w.rows p ≡ Some r → redemption_of w p reference ≡ o → fmap.get r.holding.redemptions reference ≡ o
 redemption_at w p reference r o at is = sym (ap (from_row None (λ (x : Row). fmap.get x.holding.redemptions reference)) at) ∙ is
 
-redeem_follows : (p : State) (amount : ℕ) (reference : Name) → IsPurse p → IsTrue (is_name_text reference) → amount ≤ most_amount → redeem_refusal p amount ≡ None
-    → Follows p (redeemed p amount) (listed (abort_line (aborted p) (pending p.status)) ++ money_line (redeemed p amount) kind.Redeemed amount reference ∷ [])
-redeem_follows p amount reference is text small free =
+redeem_follows : (kept : Details → Bool) (p : State) (amount : ℕ) (reference : Name) → IsPurse p → IsTrue (is_name_text reference) → amount ≤ most_amount → redeem_refusal p amount ≡ None
+    → Follows kept p (redeemed p amount) (listed (abort_line (aborted p) (pending p.status)) ++ money_line (redeemed p amount) kind.Redeemed amount reference ∷ [])
+redeem_follows kept p amount reference is text small free =
     let logged_lines = listed (abort_line (aborted p) (pending p.status)) in
-    let rest = abort_follows p (aborted p) is refl refl refl (aborted_is p is) in
+    let rest = abort_follows kept p (aborted p) is refl refl refl (aborted_is p is) in
     let next = redeemed_is p amount is free in
     let lines = rest.counted in
     record {
@@ -275,7 +313,7 @@ module _ (w : World) (h p : Name) (amount : ℕ) (reference : Name) (q : State) 
       let now : State = redeemed q amount in
       let now_is : after ≡ now = after_is ∙ ap (λ o. unless_refused o q now) free in
       let ls : List Line = listed (abort_line (aborted q) (pending q.status)) ++ money_line now kind.Redeemed amount reference ∷ [] in
-      let follows = redeem_follows q amount reference (whole w h p q is own) text small free in
+      let follows = redeem_follows (in_tray w p) q amount reference (whole w h p q is own) text small free in
       let next = is_next w p (λ r. is_name h r.holder) q own now ls is follows in
       let fresh = redemption_at w p reference own.row None own.at new in
       let v : World = set_row w p (with_redemption (with_lines own.row now ls) reference amount) in

@@ -29,7 +29,7 @@ use Rattle.mx_office.specs.Step.{tell, unless, unless_told, idle, money_line, re
 use Rattle.mx_office.specs.Decides.{Decides, member_purse, load_edits}
 use Rattle.mx_office.proofs.DecideLemmas.{edits_decide, told_decides, edit_decides}
 use Rattle.mx_office.proofs.OwnLemmas.{first, next, none_left, change_to}
-use Rattle.mx_office.proofs.AccountLemmas.{IsFound, Follows, is_found, is_next}
+use Rattle.mx_office.proofs.AccountLemmas.{IsFound, Follows, in_tray, is_found, is_next}
 use Rattle.mx_office.proofs.CommandLemmas.{nothing, is_refused, not_refused}
 
 -- ---- a member's row
@@ -153,7 +153,7 @@ module _ (w : World) (m p : Name) (amount : ℕ) (reference : Name) (q : State) 
         let ls : List Line = money_line now kind.Loaded amount reference ∷ [] in
         let whole = subst IsPurse own.purse (is.purses.each p r own.at).purse in
         let next = loaded_is q amount whole free in
-        let follows : Follows q now ls = record { name = refl; whole = next; numbered = (refl, tt); counted = omega arith; valid = (record { amount = small; balance = next.balance; note = text }, tt); logged = λ x there. there } in
+        let follows : Follows (in_tray w p) q now ls = record { name = refl; whole = next; numbered = (refl, tt); counted = omega arith; valid = (record { amount = small; balance = next.balance; note = text }, tt); logged = λ x kept there. there } in
         let next_row = is_next w p (is_of_member w m) q own now ls is follows in
         let s : Row = with_load (with_lines r now ls) reference amount in
         let v : World = set_row w p s in

@@ -147,7 +147,7 @@ unfolding start_to
 to_stays w h p q peer value seq named small numbered is e =
     let d : Details = to_details q peer value seq in
     let old = whole w h p q is (is_own w h p q e) in
-    start_case w h p q (start_to peer value seq) (start_to_refusal q peer) (Epv d) d (λ x. Some (peer, Req x)) (λ a at. rw at refl) (λ valid. valid) is e
+    start_case w h p q (start_to peer value seq) (start_to_refusal q peer) (Epv d) d (λ x. Some (peer, Req x)) (λ a at. rw at refl) (λ valid. (valid, λ _. tt)) is e
     (λ free. started_to_is q peer value seq old
     (record { from = named; to = old.name; value = small; from_seq = numbered; to_seq = old.next; apart = λ same. let refused : Some SamePurse ≡ None = sym (to_same q peer (sym same)) ∙ free in cc }) free)
 
@@ -156,7 +156,7 @@ handle_case w h p n q None at is e = decided w (on_own w h p (handle n)) (record
 handle_case w h p n q (Some m) at is e =
     let x = handled q m in
     let after : State = after_message q x in
-    decided w (on_own w h p (handle n)) (record { reply = reply.Handled x; edits = purse_edits after (message_line after x) (placed w (sent_for x)) }) (handle_decides w h p n q after m x _ is e at refl refl refl refl)
+    decided w (on_own w h p (handle n)) (record { reply = reply.Handled x; edits = purse_edits after (message_line after (pending q.status) x) (placed w (sent_for x)) }) (handle_decides w h p n q after m x _ is e at refl refl refl refl)
 
 discard_case : (w : World) (h p : Name) (n : ℕ) (q : State) (o : Option Message) → message_of w p n ≡ o → IsWorld w → own_purse w h p ≡ Some q → Stays (on_own w h p (discard n))
 discard_case w h p n q None at is e = decided w (on_own w h p (discard n)) (record { reply = reply.Refused NoSuchMessage; edits = [] }) (no_message_decides w h p n _ is (ap is_none e) (ap is_none at) refl refl)

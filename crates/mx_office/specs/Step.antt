@@ -93,11 +93,12 @@ abbrev pub abort_line : State → Option Details → Option Line
 abort_line q None = None
 abort_line q (Some d) = Some (payment_line q kind.Logged d)
 
--- the line of an accepted message: a req is sent, and a val is received
-abbrev pub message_line : State → Handled → Option Line
-message_line q (took.Req d) = Some (payment_line q kind.Sent d)
-message_line q (took.Val d) = Some (payment_line q kind.Received d)
-message_line q _ = None
+-- the line of an accepted message: a req is sent, and a val is received; a clear has the line of its abort
+abbrev pub message_line : State → Option Details → Handled → Option Line
+message_line q logged (took.Req d) = Some (payment_line q kind.Sent d)
+message_line q logged (took.Val d) = Some (payment_line q kind.Received d)
+message_line q logged took.Cleared = abort_line q logged
+message_line q logged _ = None
 
 -- a value that may be there, as a list
 abbrev pub listed : {X : Type 0} → Option X → List X
@@ -151,7 +152,7 @@ abbrev pub handle_message : Holding → Message → Deed Holding
 handle_message a m =
     let h = handled a.purse m in
     let q = after_message a.purse h in
-    record { state = with_purse a q (message_line q h); reply = reply.Handled h; sent = sent_for h }
+    record { state = with_purse a q (message_line q (pending a.purse.status) h); reply = reply.Handled h; sent = sent_for h }
 
 unfoldable pub handle : ℕ → Holding → Deed Holding
 handle number a = on_found a NoSuchMessage (fmap.get a.inbox number) (handle_message a)

@@ -72,13 +72,18 @@ pub(crate) fn abort_line(purse: &Purse, logged: Option<PayDetails>) -> Option<Li
     }
 }
 
-/// The line of a message that was handled so.
-pub(crate) fn message_line(purse: &Purse, handled: &Handled) -> Option<Line>
-    ensures { result ≡ message_line purse.now handled.now }
+/// The line of a message that was handled so, and of an abort with it that logged these details, where it logged any.
+pub(crate) fn message_line(
+    purse: &Purse,
+    logged: Option<PayDetails>,
+    handled: &Handled,
+) -> Option<Line>
+    ensures { result ≡ message_line purse.now logged handled.now }
 {
     match handled {
         Handled::Req(details) => Some(payment_line(purse, LineKind::Sent, *details)),
         Handled::Val(details) => Some(payment_line(purse, LineKind::Received, *details)),
+        Handled::Cleared => abort_line(purse, logged),
         Handled::Ack(_) | Handled::Ignored => None,
     }
 }
@@ -90,7 +95,7 @@ pub(crate) fn sent_for(handled: &Handled) -> Option<(Name, Message)>
     match handled {
         Handled::Req(details) => Some((details.to(), Message::Val(*details))),
         Handled::Val(details) => Some((details.from(), Message::Ack(*details))),
-        Handled::Ack(_) | Handled::Ignored => None,
+        Handled::Ack(_) | Handled::Cleared | Handled::Ignored => None,
     }
 }
 

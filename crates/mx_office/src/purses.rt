@@ -224,9 +224,10 @@ pub(crate) fn handle<B: Book>(
         refuse(decided, Refusal::NoSuchMessage);
         return Ok(());
     };
+    let logged = after.pending();
     let handled = after.handle(&message);
     let answer = placed(book, alloc, sent_for(&handled))?;
-    let line = message_line(&after, &handled);
+    let line = message_line(&after, logged, &handled);
     make_purse(decided, Reply::Handled(handled), &after, line, answer);
     Ok(())
 }
