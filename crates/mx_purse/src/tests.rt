@@ -1,4 +1,5 @@
 //! A new purse and a purse of given parts, read part by part, and each condition of a purse broken once.
+mod logs;
 mod money;
 mod operations;
 

@@ -124,7 +124,7 @@ impl Purse {
         ensures whole { IsPurse self.new }
         ensures details { IfSome result IsDetails }
     {
-        self.abort();
+        let _logged = self.abort();
         self.log.at(place as usize)
     }
 

@@ -43,6 +43,7 @@ fn taken(purse: &mut Purse, message: Message) -> (&'static str, Option<PayDetail
         Handled::Req(details) => ("req", Some(details)),
         Handled::Val(details) => ("val", Some(details)),
         Handled::Ack(details) => ("ack", Some(details)),
+        Handled::Cleared => ("cleared", None),
         Handled::Ignored => ("ignored", None),
     }
 }
