@@ -23,7 +23,7 @@ use Rattle.mx_book.specs.declared.values.PurseRow.{PurseRow}
 use Rattle.mx_book.specs.declared.values.Redemption.{Redemption}
 use Rattle.mx_book.specs.declared.values.LineRow.{LineRow}
 use Rattle.mx_book.specs.declared.edits.Edit.{Edit}
-use Rattle.mx_book.specs.declared.edits.Edit.TheVariants.{NewMember, SetMember, NewHolder, NewPurse, SetPurse, AddMessage, DropMessage, AddLine, AddLoad, AddRedemption, Collect}
+use Rattle.mx_book.specs.declared.edits.Edit.TheVariants.{NewMember, SetMember, NewHolder, NewPurse, SetPurse, AddMessage, DropMessage, AddLine, AddLoad, AddRedemption, AddTray, Collect}
 use Rattle.mx_book.specs.Under.{pair_cmp, under, remake}
 use Rattle.mx_book.specs.Rows.{Rows, world_of, row_of, row_from, IsProper, Spelled, line_row, line_at, lines_from, amount_of, mark_of}
 use Rattle.mx_book.specs.Edits.{edited, all_edited, AllSuit, Suits}
@@ -188,6 +188,7 @@ edit_is r (DropMessage p k) h fits = let x = found r p (λ row. IsSome (fmap.get
 edit_is r (AddLine p l) h fits = let x = found r p (λ row. AreNumbered 1 (row.holding.lines ++ l ∷ [])) fits in add_line r h p l x.0 x.1 x.2
 edit_is r (AddLoad p ref amount) h fits = let x = found r p (λ row. IsNone (fmap.get row.loads ref)) fits in add_load r h p ref amount x.0 x.1
 edit_is r (AddRedemption p ref amount) h fits = let x = found r p (λ row. IsNone (fmap.get row.holding.redemptions ref)) fits in add_redemption r h p ref amount x.0 x.1 (none_is _ x.2)
+edit_is r (AddTray p d) h fits = record { world = refl; proper = h }
 edit_is r (Collect m) h fits = collect r m h
 
 -- and so of a list of edits

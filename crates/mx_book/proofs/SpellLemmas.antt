@@ -1,11 +1,12 @@
 -- Reads and edits of rows that spell a World.
 use Rattle.std.proofs.Common.{◌≡◌, ℕ, IsTrue, List, [], ◌∷◌, ap, ◌∙◌, sym, subst, refl}
 use Rattle.std.specs.FinMap as fmap
+use Rattle.mx_pay.specs.Details.{Details}
 use Rattle.mx_book.specs.declared.edits.Edit.{Edit}
 use Rattle.mx_book.specs.World.{World, Name, Token}
 use Rattle.mx_book.specs.Rows.{Rows, world_of}
-use Rattle.mx_book.specs.Reads.{who_of, member_of, holder_of, purses_of, account_of, message_of, inbox_of, lines_of, members_of, load_of, redemption_of, uncollected_of}
-use Rattle.mx_book.specs.RowReads.{row_who_of, row_holder_of, row_purses_of, row_account_of, row_inbox_of, row_lines_of, row_members_of, row_load_of, row_redemption_of, row_uncollected_of}
+use Rattle.mx_book.specs.Reads.{who_of, member_of, holder_of, purses_of, account_of, message_of, inbox_of, lines_of, members_of, load_of, redemption_of, is_archived, uncollected_of}
+use Rattle.mx_book.specs.RowReads.{row_who_of, row_holder_of, row_purses_of, row_account_of, row_inbox_of, row_lines_of, row_members_of, row_load_of, row_redemption_of, row_is_archived, row_uncollected_of}
 use Rattle.mx_book.specs.Edits.{all_edited, Fits}
 use Rattle.mx_book.specs.RowEdits.{rewritten, all_rewritten, all_able}
 use Rattle.mx_book.specs.declared.edits.Edit.TheVariants.{NewMember, SetMember, NewHolder, NewPurse, SetPurse, AddMessage, DropMessage, AddLine, AddLoad, AddRedemption, Collect}
@@ -52,6 +53,9 @@ load_at r w p ref h = read_at (λ z. load_of z p ref) r w _ h (load_is r h.spell
 
 pub redemption_at : (r : Rows) (w : World) (p ref : Name) → Spells r w → row_redemption_of r p ref ≡ redemption_of w p ref
 redemption_at r w p ref h = read_at (λ z. redemption_of z p ref) r w _ h (redemption_is r h.spelled.proper p ref)
+
+pub archived_at : (r : Rows) (w : World) (p : Name) (d : Details) → Spells r w → row_is_archived r p d ≡ is_archived w p d
+archived_at r w p d h = read_at (λ z. is_archived z p d) r w _ h refl
 
 pub uncollected_at : (r : Rows) (w : World) (m : Name) → Spells r w → row_uncollected_of r m ≡ uncollected_of w m
 uncollected_at r w m h = read_at (λ z. uncollected_of z m) r w _ h (uncollected_is r m h.spelled.proper)

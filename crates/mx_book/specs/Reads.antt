@@ -1,7 +1,8 @@
 -- What the reads of a book give of a World.
-use Rattle.std.specs.Prelude.{ℕ, List, [], map, filter, take, length, Option, Some, None, option_map, option_and_then, nat_lt, if◌then◌else◌}
+use Rattle.std.specs.Prelude.{ℕ, Bool, List, [], map, filter, take, length, Option, Some, None, option_map, option_and_then, nat_lt, if◌then◌else◌}
 use Rattle.std.specs.FinMap as fmap
 use Rattle.mx_pay.specs.Names.{is_name}
+use Rattle.mx_pay.specs.Details.{Details}
 use Rattle.mx_pay.specs.Tokens.{is_token}
 use Rattle.mx_purse.specs.declared.message.Message.{Message}
 use Rattle.mx_book.specs.declared.values.Caller.{Caller}
@@ -65,6 +66,10 @@ load_of w p reference = of_purse None (λ r. fmap.get r.loads reference) w p
 -- the amount of the redemption of a purse with that reference
 abbrev pub redemption_of : World → Name → Name → Option ℕ
 redemption_of w p reference = of_purse None (λ r. fmap.get r.holding.redemptions reference) w p
+
+-- whether details are archived for a purse
+abbrev pub is_archived : World → Name → Details → Bool
+is_archived w p d = fmap.contains_key w.archive (p, d)
 
 -- the names of the members, in order
 abbrev pub members_of : World → List Name

@@ -7,7 +7,7 @@ use Rattle.mx_purse.specs.State.{new_purse}
 use Rattle.mx_book.specs.declared.values.Caller.TheVariants.{Clerk, Holder}
 use Rattle.mx_book.specs.declared.values.PurseRow.{PurseRow}
 use Rattle.mx_book.specs.declared.edits.Edit.{Edit}
-use Rattle.mx_book.specs.declared.edits.Edit.TheVariants.{NewMember, SetMember, NewHolder, NewPurse, SetPurse, AddMessage, DropMessage, AddLine, AddLoad, AddRedemption, Collect}
+use Rattle.mx_book.specs.declared.edits.Edit.TheVariants.{NewMember, SetMember, NewHolder, NewPurse, SetPurse, AddMessage, DropMessage, AddLine, AddLoad, AddRedemption, AddTray, Collect}
 use Rattle.mx_book.specs.declared.values.Redemption.{Redemption}
 use Rattle.mx_book.specs.Under.{remake}
 use Rattle.mx_book.specs.World.{Name, is_of}
@@ -43,6 +43,7 @@ rewritten r (DropMessage p n) = record r { inbox = fmap.remove r.inbox (p, n) }
 rewritten r (AddLine p l) = record r { lines = fmap.insert r.lines (p, l.number) (line_row l) }
 rewritten r (AddLoad p reference amount) = record r { loads = fmap.insert r.loads (p, reference) amount }
 rewritten r (AddRedemption p reference amount) = record r { redemptions = fmap.insert r.redemptions (p, reference) (record { amount = amount; collected = Bool.false }) }
+rewritten r (AddTray p d) = record r { tray = fmap.insert r.tray (p, d) tt }
 rewritten r (Collect m) = record r { redemptions = remake (marked r.purses r.holders m) r.redemptions }
 
 -- the rows after edits, in order

@@ -1,7 +1,8 @@
 -- What the reads of a book give, from its rows.
-use Rattle.std.specs.Prelude.{ℕ, ◌&&◌, List, map, filter, take, length, Option, Some, option_map, option_and_then, nat_lt, not, if◌then◌else◌}
+use Rattle.std.specs.Prelude.{ℕ, Bool, ◌&&◌, List, map, filter, take, length, Option, Some, option_map, option_and_then, nat_lt, not, if◌then◌else◌}
 use Rattle.std.specs.FinMap as fmap
 use Rattle.mx_pay.specs.Names.{name_cmp, is_name}
+use Rattle.mx_pay.specs.Details.{Details}
 use Rattle.mx_pay.specs.Tokens.{is_token}
 use Rattle.mx_purse.specs.declared.message.Message.{Message}
 use Rattle.mx_book.specs.declared.values.Caller.{Caller}
@@ -68,6 +69,10 @@ row_load_of r p reference = fmap.get r.loads (p, reference)
 -- the amount of the redemption of a purse with that reference
 abbrev pub row_redemption_of : Rows → Name → Name → Option ℕ
 row_redemption_of r p reference = option_map (λ (x : Redemption). x.amount) (fmap.get r.redemptions (p, reference))
+
+-- whether details are archived for a purse
+abbrev pub row_is_archived : Rows → Name → Details → Bool
+row_is_archived r p d = fmap.contains_key r.archive (p, d)
 
 -- what a redemption adds to the sum of those that aren't collected
 abbrev pub uncollected_amount : fmap.FinMap name_cmp PurseRow → fmap.FinMap name_cmp Name → Name → Name × Name → Redemption → ℕ

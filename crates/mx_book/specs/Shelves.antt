@@ -33,6 +33,7 @@ pub record HasRoom (n : ℕ) (s : Shelves) : Type 0 where
   pub purses : n ≤ s.purses.room
   pub inbox : n ≤ s.inbox.room
   pub lines : n ≤ s.lines.room
+  pub tray : n ≤ s.tray.room
   pub loads : n ≤ s.loads.room
   pub redemptions : n ≤ s.redemptions.room
 
@@ -44,5 +45,6 @@ pub record SpendsOne (old new : Shelves) : Type 0 where
   pub purses : old.purses.room ≤ new.purses.room + 1
   pub inbox : old.inbox.room ≤ new.inbox.room + 1
   pub lines : old.lines.room ≤ new.lines.room + 1
+  pub tray : old.tray.room ≤ new.tray.room + 1
   pub loads : old.loads.room ≤ new.loads.room + 1
   pub redemptions : old.redemptions.room ≤ new.redemptions.room + 1

@@ -3,7 +3,7 @@ ghost use Rattle.std.specs.Prelude.{◌≡◌, ◌≤◌, ◌<◌, ◌++◌, ◌
 
 use crate::values::Line;
 use arrayvec::ArrayVec;
-use mx_pay::{Amount, Name, Token};
+use mx_pay::{Amount, Name, PayDetails, Token};
 use mx_purse::Purse;
 use mx_purse::message::Message;
 use std::marker::Model;
@@ -86,6 +86,13 @@ pub enum Edit {
         reference: Name,
         /// How much was redeemed.
         amount: Amount,
+    },
+    /// A result of read log that was sent, which is in neither the tray nor the archive.
+    AddTray {
+        /// The purse whose log it is.
+        purse: Name,
+        /// The details that were read.
+        details: PayDetails,
     },
     /// All redemptions of the purses of a member's holders are collected.
     Collect {

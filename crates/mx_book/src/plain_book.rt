@@ -8,7 +8,7 @@ use crate::contract::{Book, StoreFault};
 use crate::edits::Edit;
 use crate::shelves::Shelves;
 use crate::values::{Account, Caller, HolderRow, Line, MemberRow};
-use mx_pay::{Amount, Name, Token};
+use mx_pay::{Amount, Name, PayDetails, Token};
 use mx_purse::message::Message;
 use std::alloc::Global;
 
@@ -119,6 +119,15 @@ impl Book for PlainBook {
         reference: Name,
     ) -> Result<Option<Amount>, StoreFault> {
         Ok(self.shelves.redemption_of(purse, reference))
+    }
+
+    fn archived(
+        &mut self,
+        _alloc: Global,
+        purse: Name,
+        details: &PayDetails,
+    ) -> Result<bool, StoreFault> {
+        Ok(self.shelves.is_archived(purse, details))
     }
 
     fn uncollected(&mut self, _alloc: Global, member: Name) -> Result<u128, StoreFault> {

@@ -7,7 +7,7 @@ ghost use Rattle.mx_book.specs.declared.values.LineRow.{LineRow as KeptLine};
 ghost use Rattle.mx_book.specs.declared.values.MemberRow.{MemberRow as KeptMember};
 ghost use Rattle.mx_book.specs.declared.values.PurseRow.{PurseRow as KeptPurse};
 ghost use Rattle.mx_book.specs.RowEdits.{rewritten, all_rewritten, able, all_able};
-ghost use Rattle.mx_book.specs.RowReads.{row_who_of, row_holder_of, row_purses_of, row_account_of, row_inbox_of, row_lines_of, row_members_of, row_load_of, row_redemption_of, row_uncollected_of, line_of_row};
+ghost use Rattle.mx_book.specs.RowReads.{row_who_of, row_holder_of, row_purses_of, row_account_of, row_inbox_of, row_lines_of, row_members_of, row_load_of, row_redemption_of, row_is_archived, row_uncollected_of, line_of_row};
 ghost use Rattle.mx_book.specs.Blocks.{first_of};
 ghost use Rattle.mx_book.specs.Left.{rows_left};
 ghost use Rattle.mx_book.specs.Shelves.{rows_of, HasRoom, SpendsOne};
@@ -115,6 +115,7 @@ impl Shelves {
                 reference,
                 amount,
             } => self.add_redemption(*purse, *reference, *amount),
+            Edit::AddTray { purse, details } => self.tray.put((*purse, *details), ()),
             Edit::Collect { member } => {
                 self.redemptions
                     .collect(&self.purses, &self.holders, *member);
@@ -145,6 +146,7 @@ impl Shelves {
         self.purses.reserve(more)?;
         self.inbox.reserve(more)?;
         self.lines.reserve(more)?;
+        self.tray.reserve(more)?;
         self.loads.reserve(more)?;
         self.redemptions.reserve(more)?;
         Ok(())
@@ -238,6 +240,13 @@ impl Shelves {
     {
         let redemption = self.redemptions.get((purse, reference))?;
         Some(redemption.amount)
+    }
+
+    /// Whether details are archived for a purse.
+    pub fn is_archived(&self, purse: Name, details: &PayDetails) -> bool
+        ensures { result ≡ row_is_archived (rows_of self.now) purse details.now }
+    {
+        self.archive.get((purse, *details)).is_some()
     }
 
     /// What the redemptions of the member's purses come to that aren't collected.

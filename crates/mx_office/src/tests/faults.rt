@@ -6,7 +6,7 @@ use super::words::outcome_words;
 use super::{empty_book, tell};
 use crate::{Command, Office, Outcome};
 use mx_book::{Account, Book, Caller, Edit, HolderRow, Line, MemberRow, PlainBook, StoreFault};
-use mx_pay::{Amount, Name, Token};
+use mx_pay::{Amount, Name, PayDetails, Token};
 use mx_purse::Message;
 use std::alloc::{AllocError, Global};
 use std::process::Abort;
@@ -283,6 +283,18 @@ impl<B: Book> Book for Faulty<B> {
             return Err(StoreFault::Store);
         }
         self.book.members(alloc)
+    }
+
+    fn archived(
+        &mut self,
+        alloc: Global,
+        purse: Name,
+        details: &PayDetails,
+    ) -> Result<bool, StoreFault> {
+        if self.is_left_out() {
+            return Err(StoreFault::Store);
+        }
+        self.book.archived(alloc, purse, details)
     }
 
     fn load_of(
