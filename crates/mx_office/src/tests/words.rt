@@ -4,11 +4,16 @@ use mx_pay::{Log, PayDetails, code_text};
 use mx_purse::{Handled, Message, Purse, Status};
 use std::alloc::{AllocError, Global};
 
+/// The set of these details alone.
+fn alone(details: &PayDetails) -> Log {
+    let mut set = Log::new();
+    set.add(*details);
+    set
+}
+
 /// The code text of these details alone.
 fn details_words(alloc: Global, details: &PayDetails) -> Result<String, AllocError> {
-    let mut log = Log::new();
-    log.add(*details);
-    Ok(code_text(alloc, &log)?)
+    Ok(code_text(alloc, &alone(details))?)
 }
 
 fn status_word(status: Status) -> &'static str {
@@ -34,6 +39,7 @@ fn handled_words(handled: &Handled) -> &'static str {
         Handled::Req(_) => "value-sent",
         Handled::Val(_) => "received",
         Handled::Ack(_) => "finished",
+        Handled::Cleared => "cleared",
         Handled::Ignored => "ignored",
     }
 }
@@ -50,12 +56,13 @@ fn names_words(alloc: Global, names: &Names) -> Result<String, AllocError> {
 
 /// A message with its number, and a space before it.
 fn message_words(alloc: Global, number: u64, message: &Message) -> Result<String, AllocError> {
-    let (kind, details) = match message {
-        Message::Req(details) => ("req", details),
-        Message::Val(details) => ("val", details),
-        Message::Ack(details) => ("ack", details),
+    let (kind, set) = match message {
+        Message::Req(details) => ("req", alone(details)),
+        Message::Val(details) => ("val", alone(details)),
+        Message::Ack(details) => ("ack", alone(details)),
+        Message::Clear(set) => ("clear", *set),
     };
-    let details = details_words(alloc, details)?;
+    let details = code_text(alloc, &set)?;
     Ok(format!(in alloc; " {number} {kind} {}", details.as_str())?)
 }
 
