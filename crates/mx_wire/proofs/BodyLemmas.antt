@@ -1,6 +1,6 @@
 -- What a body says, from its JSON value.
 use Rattle.std.proofs.Common.{◌≡◌, ℕ, List, Bool, true, false, refl, ap}
-use Rattle.std.specs.Prelude.{Option, Some, None, Result, Err, IfOk, if◌then◌else◌, IsTrue, option_and_then}
+use Rattle.std.specs.Prelude.{Option, Some, None, Result, Err, IfOk, if◌then◌else◌, option_and_then}
 use Rattle.std.specs.Str.{is_utf8, IsUtf8}
 use Rattle.std.proofs.lemmas.Str.{IsUtf8-from_is_utf8, is_utf8-from_IsUtf8}
 use Rattle.std.specs.Option.{ok_or}
@@ -10,7 +10,7 @@ use Rattle.mx_office.specs.declared.values.Command.{Command}
 use Rattle.mx_wire.specs.declared.bodies.WireFault.{WireFault}
 use Rattle.mx_wire.specs.declared.bodies.WireFault.TheVariants.{BadBody}
 use Rattle.mx_wire.specs.declared.routes.Route.{Route}
-use Rattle.mx_wire.specs.Bodies.{value_of, has_body, bare, bare_or, said, command_of}
+use Rattle.mx_wire.specs.Bodies.{value_of, bare, bare_or, said, command_of}
 
 pub value_of_text : (body : List ℕ) (d : Data) → IsUtf8 body → read body ≡ Some d → value_of body ≡ Some d
 value_of_text body d text reads =

@@ -1,12 +1,10 @@
 -- Texts of responses.
-use Rattle.std.proofs.Common.{◌≡◌, ℕ, List, [], ◌++◌, length, take, drop, refl, ◌∙◌, append_assoc, codes}
+use Rattle.std.proofs.Common.{◌≡◌, ℕ, List, [], ◌++◌, length, take, drop, refl, append_assoc, codes}
 use Rattle.std.proofs.Math.Seq.{take-append_seam, drop-append_seam}
 use Rattle.std.specs.Fmt.{digits}
 use Rattle.std.specs.Fmt.{decimal}
-use Rattle.mx_pay.specs.Codes.{entry_text}
-use Rattle.mx_pay.specs.Details.{Details}
 use Rattle.mx_purse.specs.declared.message.Message.{Message}
-use Rattle.mx_wire.specs.Replies.{Parts, head_text, error_body, done_body, aborted_body, kind_text, message_details, message_text}
+use Rattle.mx_wire.specs.Replies.{Parts, head_text, error_body, done_body, aborted_body, kind_text, details_text, message_text}
 
 -- what an answer unfolds to compute a response whose texts are known
 unfoldable pub reply_texts : Unit {0}
@@ -24,11 +22,11 @@ pub parts-joined : (text head body : List ℕ) (n : ℕ) → text ≡ head ++ bo
 parts-joined text head body n whole size = rw (whole, size, take-append_seam head body, drop-append_seam head body) refl
 
 -- a text to which a message was added, piece by piece
-pub message_added : (t a b c d e f g : List ℕ) (details : Details) (kind number : List ℕ) (n : ℕ) (m : Message) → details ≡ message_details m → kind ≡ kind_text m → number ≡ decimal n
-    → a ≡ t ++ codes "{\"details\":\"" → b ≡ a ++ entry_text details → c ≡ b ++ codes "\",\"kind\":\"" → d ≡ c ++ kind → e ≡ d ++ codes "\",\"number\":" → f ≡ e ++ number → g ≡ f ++ codes "}"
+pub message_added : (t a b c d e f g kind number : List ℕ) (n : ℕ) (m : Message) → kind ≡ kind_text m → number ≡ decimal n
+    → a ≡ t ++ codes "{\"details\":\"" → b ≡ a ++ details_text m → c ≡ b ++ codes "\",\"kind\":\"" → d ≡ c ++ kind → e ≡ d ++ codes "\",\"number\":" → f ≡ e ++ number → g ≡ f ++ codes "}"
     → g ≡ t ++ message_text (n, m)
-message_added t a b c d e f g details kind number n m is_details is_kind is_number p q r s k l o =
-    rw (o, l, k, s, r, q, p, is_details, is_kind, is_number) (simp append_assoc)
+message_added t a b c d e f g kind number n m is_kind is_number p q r s k l o =
+    rw (o, l, k, s, r, q, p, is_kind, is_number) (simp append_assoc)
 
 -- the head of a response 200, piece by piece
 pub head_added : (t a b c number : List ℕ) (n : ℕ) → number ≡ decimal n → t ≡ []

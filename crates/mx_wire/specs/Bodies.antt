@@ -1,6 +1,6 @@
 -- What a body says: one JSON object with the keys that the route needs, each with a value of its kind and range.
 -- Other keys don't count, and of a key that stands twice the value that serde_json's map keeps does, the last.
-use Rattle.std.specs.Prelude.{ℕ, List, Bool, true, false, if◌then◌else◌, nat_le, Option, Some, None, is_none, option_and_then, option_map, codes}
+use Rattle.std.specs.Prelude.{ℕ, List, Bool, if◌then◌else◌, nat_le, Option, Some, None, is_none, option_and_then, option_map, codes}
 use Rattle.std.specs.Str.{is_utf8}
 use Rattle.serde_json.specs.Data.{Data}
 use Rattle.serde_json.specs.Read.{read}

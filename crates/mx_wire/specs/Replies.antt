@@ -2,7 +2,7 @@
 -- with its keys in byte order.
 use Rattle.std.specs.Prelude.{ℕ, List, [], ◌∷◌, ◌++◌, length, map, Bool, true, false, codes, if◌then◌else◌}
 use Rattle.std.specs.Fmt.{decimal}
-use Rattle.mx_pay.specs.Codes.{entry_text}
+use Rattle.mx_pay.specs.Codes.{code, entry_text}
 use Rattle.mx_pay.specs.Details.{Details}
 use Rattle.mx_purse.specs.State.{State}
 use Rattle.mx_purse.specs.declared.status.Status.{Status}
@@ -97,6 +97,7 @@ fixed_parts fixed.Loaded = done (codes "loaded")
 fixed_parts fixed.ValueSent = done (codes "value-sent")
 fixed_parts fixed.Received = done (codes "received")
 fixed_parts fixed.Finished = done (codes "finished")
+fixed_parts fixed.Cleared = done (codes "cleared")
 fixed_parts fixed.Ignored = done (codes "ignored")
 fixed_parts fixed.Discarded = done (codes "discarded")
 fixed_parts fixed.AbortedLogged = response (codes "200 OK") (aborted_body (codes "true"))
@@ -146,21 +147,23 @@ quoted name = codes "\"" ++ name ++ codes "\""
 unfoldable pub purses_body : List (List ℕ) → List ℕ
 purses_body names = codes "{\"purses\":[" ++ in_commas (map quoted names) ++ codes "]}"
 
--- the word for a message, and its details
+-- the word for a message, and the text of its details: one entry, or the code text of the set that a clear has
 abbrev pub kind_text : Message → List ℕ
 kind_text (message.Req d) = codes "req"
 kind_text (message.Val d) = codes "val"
 kind_text (message.Ack d) = codes "ack"
+kind_text (message.Clear set) = codes "clear"
 
-abbrev pub message_details : Message → Details
-message_details (message.Req d) = d
-message_details (message.Val d) = d
-message_details (message.Ack d) = d
+abbrev pub details_text : Message → List ℕ
+details_text (message.Req d) = entry_text d
+details_text (message.Val d) = entry_text d
+details_text (message.Ack d) = entry_text d
+details_text (message.Clear set) = code set
 
 -- a message in a list, with its number, and the body of a list of messages
 abbrev pub message_text : ℕ × Message → List ℕ
 message_text m =
-    codes "{\"details\":\"" ++ entry_text (message_details m.1) ++ codes "\",\"kind\":\"" ++ kind_text m.1
+    codes "{\"details\":\"" ++ details_text m.1 ++ codes "\",\"kind\":\"" ++ kind_text m.1
     ++ codes "\",\"number\":" ++ decimal m.0 ++ codes "}"
 
 unfoldable pub inbox_body : List (ℕ × Message) → List ℕ
@@ -173,6 +176,7 @@ abbrev pub handled_fixed : Handled → Fixed
 handled_fixed (took.Req d) = fixed.ValueSent
 handled_fixed (took.Val d) = fixed.Received
 handled_fixed (took.Ack d) = fixed.Finished
+handled_fixed took.Cleared = fixed.Cleared
 handled_fixed took.Ignored = fixed.Ignored
 
 abbrev pub reply_parts : Reply → Parts

@@ -1,11 +1,10 @@
 //! The responses: a head, and a body that is one JSON object.
 ghost use Rattle.std.specs.Prelude.{◌≡◌, ◌++◌, length, map, false, IfOk, IfErr, IsTrue, codes, string_bytes};
-ghost use Rattle.mx_pay.specs.Codes.{entry_text};
 ghost use Rattle.mx_wire.specs.Made.{parts_of};
-ghost use Rattle.mx_wire.specs.Replies.{sent, unavailable, fixed_parts, refusal_parts, response, reply_parts, handled_fixed, is_made, status_text, kind_text, message_details, shown_text, shown_body, started_body, collected_body, purses_body, quoted, inbox_body, message_text, after_commas};
+ghost use Rattle.mx_wire.specs.Replies.{sent, unavailable, fixed_parts, refusal_parts, response, reply_parts, handled_fixed, is_made, status_text, kind_text, details_text, shown_text, shown_body, started_body, collected_body, purses_body, quoted, inbox_body, message_text, after_commas};
 
 use mx_office::{Messages, Names, Refusal, Reply};
-use mx_pay::{Name, PayDetails, push_entry};
+use mx_pay::{Name, PayDetails, code_text, push_entry};
 use mx_purse::{Handled, Message, Purse, Status};
 use std::alloc::{AllocError, Global};
 use std::marker::Model;
@@ -43,6 +42,8 @@ pub enum Fixed {
     Received,
     /// 200: the purse took an ack.
     Finished,
+    /// 200: the purse took a clear.
+    Cleared,
     /// 200: the purse ignored the message.
     Ignored,
     /// 200: the message is thrown away.
@@ -133,6 +134,7 @@ fn fixed_answer(fixed: Fixed) -> (&'static str, usize)
         Fixed::ValueSent => answer!("200 OK", 21, "{\"done\":\"value-sent\"}"),
         Fixed::Received => answer!("200 OK", 19, "{\"done\":\"received\"}"),
         Fixed::Finished => answer!("200 OK", 19, "{\"done\":\"finished\"}"),
+        Fixed::Cleared => answer!("200 OK", 18, "{\"done\":\"cleared\"}"),
         Fixed::Ignored => answer!("200 OK", 18, "{\"done\":\"ignored\"}"),
         Fixed::Discarded => answer!("200 OK", 20, "{\"done\":\"discarded\"}"),
         Fixed::AbortedLogged => answer!("200 OK", 32, "{\"done\":\"aborted\",\"logged\":true}"),
@@ -323,26 +325,37 @@ fn kind_text(message: &Message) -> &'static str
         Message::Req(_) => "req",
         Message::Val(_) => "val",
         Message::Ack(_) => "ack",
+        Message::Clear(_) => "clear",
     }
 }
 
-/// The details of a message.
-fn details_of(message: &Message) -> PayDetails
-    ensures { result ≡ message_details message.now }
+/// Writes the details of a message at the end: those of its payment, or the code text of a clear's set.
+fn push_details(alloc: Global, text: &mut String, message: &Message) -> Result<(), AllocError>
+    ensures { IfOk result (λ _. string_bytes text.new ≡ string_bytes text.old ++ details_text message.now) }
 {
     match message {
-        Message::Req(details) | Message::Val(details) | Message::Ack(details) => *details,
+        Message::Req(details) | Message::Val(details) | Message::Ack(details) => {
+            push_entry(text, details)
+        }
+        Message::Clear(set) => {
+            let code = code_text(alloc, set)?;
+            text.push_str(code.as_str())
+        }
     }
 }
 
 /// Writes a message with its number at the end.
-fn push_message(text: &mut String, number: u64, message: &Message) -> Result<(), AllocError>
+fn push_message(
+    alloc: Global,
+    text: &mut String,
+    number: u64,
+    message: &Message,
+) -> Result<(), AllocError>
     ensures { IfOk result (λ _. string_bytes text.new ≡ string_bytes text.old ++ message_text (number, message.now)) }
 {
-    let details = details_of(message);
     let mut buffer = itoa::Buffer::new();
     text.push_str("{\"details\":\"")?;
-    push_entry(text, &details)?;
+    push_details(alloc, text, message)?;
     text.push_str("\",\"kind\":\"")?;
     text.push_str(kind_text(message))?;
     text.push_str("\",\"number\":")?;
@@ -352,12 +365,16 @@ fn push_message(text: &mut String, number: u64, message: &Message) -> Result<(),
 }
 
 /// Writes messages with their numbers at the end, each behind a comma.
-fn push_more_messages(text: &mut String, messages: &[(u64, Message)]) -> Result<(), AllocError>
+fn push_more_messages(
+    alloc: Global,
+    text: &mut String,
+    messages: &[(u64, Message)],
+) -> Result<(), AllocError>
     ensures { IfOk result (λ _. string_bytes text.new ≡ string_bytes text.old ++ after_commas (map message_text messages.now)) }
 {
     for (number, message) in messages {
         text.push_str(",")?;
-        push_message(text, *number, message)?;
+        push_message(alloc, text, *number, message)?;
     }
     Ok(())
 }
@@ -370,8 +387,8 @@ fn inbox_body(alloc: Global, messages: &Messages) -> Result<String, AllocError>
     let mut text = String::new(alloc);
     text.push_str("{\"messages\":[")?;
     if let [(number, message), more @ ..] = messages.as_slice() {
-        push_message(&mut text, *number, message)?;
-        push_more_messages(&mut text, more)?;
+        push_message(alloc, &mut text, *number, message)?;
+        push_more_messages(alloc, &mut text, more)?;
     }
     text.push_str("]}")?;
     Ok(text)
@@ -399,6 +416,7 @@ fn handled_fixed(handled: &Handled) -> Fixed
         Handled::Req(_) => Fixed::ValueSent,
         Handled::Val(_) => Fixed::Received,
         Handled::Ack(_) => Fixed::Finished,
+        Handled::Cleared => Fixed::Cleared,
         Handled::Ignored => Fixed::Ignored,
     }
 }

@@ -53,6 +53,13 @@ fn payment() -> Result<PayDetails, Fail> {
     Ok(PayDetails::new(name("p1")?, name("q1")?, value, from, to).ok_or("no details")?)
 }
 
+/// The payment of 5 by a, whose own number is 0, to p1, whose own is 3.
+fn earlier_payment() -> Result<PayDetails, Fail> {
+    let value = Amount::new(5).ok_or("no amount")?;
+    let (from, to) = (Seq::zero(), Seq::new(3).ok_or("no number")?);
+    Ok(PayDetails::new(name("a")?, name("p1")?, value, from, to).ok_or("no details")?)
+}
+
 /// A purse of that name and status, with the balance 100 and the next number 8.
 fn purse(word: &str, status: Status) -> Result<Purse, Fail> {
     let next = Seq::new(8).ok_or("no number")?;
@@ -79,6 +86,7 @@ fn fixed_replies(rt: HostRuntime) -> Result<(), Fail> {
             Reply::Handled(Handled::Ack(payment)),
             "{\"done\":\"finished\"}",
         ),
+        (Reply::Handled(Handled::Cleared), "{\"done\":\"cleared\"}"),
         (Reply::Handled(Handled::Ignored), "{\"done\":\"ignored\"}"),
         (Reply::Discarded, "{\"done\":\"discarded\"}"),
         (
@@ -317,5 +325,22 @@ fn lists_of_messages(rt: HostRuntime) -> Result<(), Fail> {
         &Reply::Inbox(Messages::new(list)),
         "200 OK",
         "{\"messages\":[{\"details\":\"p1,q1,60,4,7\",\"kind\":\"req\",\"number\":0},{\"details\":\"p1,q1,60,4,7\",\"kind\":\"val\",\"number\":7},{\"details\":\"p1,q1,60,4,7\",\"kind\":\"ack\",\"number\":999999999999999}]}",
+    )
+}
+
+/// A clear is listed with its whole set, in the order of the details and not in that in which they were added.
+#[test]
+fn a_clear_in_a_list(rt: HostRuntime) -> Result<(), Fail> {
+    let payment = payment()?;
+    let mut set = Log::new();
+    assert!(rt; set.add(payment) && set.add(earlier_payment()?));
+    let mut list = Vec::new(rt.alloc());
+    list.push((4, Message::Req(payment)))?;
+    list.push((5, Message::Clear(set)))?;
+    assert_reply(
+        &rt,
+        &Reply::Inbox(Messages::new(list)),
+        "200 OK",
+        "{\"messages\":[{\"details\":\"p1,q1,60,4,7\",\"kind\":\"req\",\"number\":4},{\"details\":\"a,p1,5,0,3;p1,q1,60,4,7\",\"kind\":\"clear\",\"number\":5}]}",
     )
 }
