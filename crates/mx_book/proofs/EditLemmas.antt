@@ -10,6 +10,8 @@ use Rattle.std.specs.FinMap.{nat_cmp-IsAntisymmetric}
 use Rattle.mx_book.specs.Limits.{most_messages}
 use Rattle.mx_pay.specs.Limits.{most_number}
 use Rattle.mx_pay.specs.Names.{name_cmp, is_name}
+use Rattle.mx_pay.specs.Details.{Details, details_cmp}
+use Rattle.mx_pay.specs.Log.{has_logged, is_within}
 use Rattle.mx_purse.specs.State.{State, new_purse}
 use Rattle.mx_purse.specs.declared.message.Message.{Message}
 use Rattle.mx_book.specs.World.{World, Row, Name, delivered, new_row, is_of, is_of_member, with_collected}
@@ -23,12 +25,13 @@ use Rattle.mx_book.specs.declared.values.PurseRow.{PurseRow}
 use Rattle.mx_book.specs.declared.values.Redemption.{Redemption}
 use Rattle.mx_book.specs.declared.values.LineRow.{LineRow}
 use Rattle.mx_book.specs.declared.edits.Edit.{Edit}
-use Rattle.mx_book.specs.declared.edits.Edit.TheVariants.{NewMember, SetMember, NewHolder, NewPurse, SetPurse, AddMessage, DropMessage, AddLine, AddLoad, AddRedemption, AddTray, Collect}
+use Rattle.mx_book.specs.declared.edits.Edit.TheVariants.{NewMember, SetMember, NewHolder, NewPurse, SetPurse, AddMessage, DropMessage, AddLine, AddLoad, AddRedemption, AddTray, ArchiveTray, Collect}
 use Rattle.mx_book.specs.Under.{pair_cmp, under, remake}
 use Rattle.mx_book.specs.Rows.{Rows, world_of, row_of, row_from, IsProper, Spelled, line_row, line_at, lines_from, amount_of, mark_of}
 use Rattle.mx_book.specs.Edits.{edited, all_edited, AllSuit, Suits}
-use Rattle.mx_book.specs.RowEdits.{rewritten, all_rewritten, able, all_able, can_rise, on_purse, member_at, marked}
+use Rattle.mx_book.specs.RowEdits.{rewritten, all_rewritten, able, all_able, can_rise, on_purse, member_at, marked, log_at, row_tray_of}
 use Rattle.mx_book.proofs.UnderLemmas.{under-insert, under-insert_other, under-remove, under-remove_other, under-none, under-remake, get-remake, pair_exact, entries_empty}
+use Rattle.mx_book.proofs.LogLemmas.{under_has, within_from}
 use Rattle.mx_book.proofs.LineLemmas.{lines-insert}
 use Rattle.mx_book.proofs.RowLemmas.{rows_put, get_rows, found, found_row, not_there, change_is, NoStray-insert, NoStray-remove, proper_purse}
 
@@ -189,6 +192,7 @@ edit_is r (AddLine p l) h fits = let x = found r p (λ row. AreNumbered 1 (row.h
 edit_is r (AddLoad p ref amount) h fits = let x = found r p (λ row. IsNone (fmap.get row.loads ref)) fits in add_load r h p ref amount x.0 x.1
 edit_is r (AddRedemption p ref amount) h fits = let x = found r p (λ row. IsNone (fmap.get row.holding.redemptions ref)) fits in add_redemption r h p ref amount x.0 x.1 (none_is _ x.2)
 edit_is r (AddTray p d) h fits = record { world = refl; proper = h }
+edit_is r (ArchiveTray p) h fits = record { world = refl; proper = h }
 edit_is r (Collect m) h fits = collect r m h
 
 -- and so of a list of edits
@@ -205,6 +209,9 @@ able_there : (r : Rows) (e : Edit) → Suits (world_of r) e → IsTrue (able r e
 able_there r (AddMessage p m) fits =
     let z = found r p (λ row. (fmap.len row.holding.inbox < most_messages) × (row.holding.next_message < most_number)) fits in
     subst (λ o. IsTrue (can_rise o)) (sym z.1) (grind (arith, nat_tests, z.2.1))
+able_there r (ArchiveTray p) fits =
+    let z = found r p (λ row. (d : Details) → fmap.contains_key r.tray (p, d) ≡ true → has_logged row.holding.purse.log d ≡ true) fits in
+    subst (λ o. IsTrue (is_within (row_tray_of r p) (log_at o))) (sym z.1) (within_from (row_tray_of r p) z.0.purse.log (λ d laid. z.2 d (sym (under_has p r.tray d) ∙ laid)))
 able_there r e fits = refl
 
 pub all_able_there : (r : Rows) (w : World) (es : List Edit) → Spelled r w → AllSuit w es → IsTrue (all_able r es)

@@ -30,12 +30,12 @@ use Rattle.mx_book.proofs.FoundLemmas.{value_found, inside, none_is, some_of, no
 
 -- ---- what may lie in an inbox
 
--- what may lie in an inbox may lie there as long as the archive stays
-pub may_lie : (w v : World) → v.archive ≡ w.archive → (p : Name) (m : Message) → MayLie w p m → MayLie v p m
-may_lie w v same p (Req d) h = tt
-may_lie w v same p (Val d) h = tt
-may_lie w v same p (Ack d) h = tt
-may_lie w v same p (Clear set) h = record { some = h.some; archived = rw same h.archived }
+-- what may lie in an inbox may lie there as long as nothing leaves the archive
+pub may_lie : (w v : World) → ((p : Name) (d : Details) → fmap.contains_key w.archive (p, d) ≡ true → fmap.contains_key v.archive (p, d) ≡ true) → (p : Name) (m : Message) → MayLie w p m → MayLie v p m
+may_lie w v stay p (Req d) h = tt
+may_lie w v stay p (Val d) h = tt
+may_lie w v stay p (Ack d) h = tt
+may_lie w v stay p (Clear set) h = record { some = h.some; archived = λ d there. stay p d (h.archived d there) }
 
 -- ---- where the rows of the purses stay
 
@@ -52,7 +52,7 @@ module _ (w : World) (tokens : fmap.FinMap token_cmp Caller) (members : fmap.Fin
     inboxes = record { each = h.inboxes.each };
     lines = record { each = h.lines.each };
     results = record { archived = h.results.archived; details = h.results.details; logged = h.results.logged; apart = h.results.apart };
-    clears = record { each = λ p r n m at there. may_lie w with_heads refl p m (h.clears.each p r n m at there) };
+    clears = record { each = λ p r n m at there. may_lie w with_heads (λ q d there. there) p m (h.clears.each p r n m at there) };
     payments = record { each = h.payments.each };
   }
 
@@ -91,7 +91,7 @@ module _ (w : World) (rows : fmap.FinMap name_cmp Row) where
       logged = λ p d there. let r = h.results.logged p d there in let s = stays p r.0 r.1 in (s.0, s.1, s.2 d there r.2);
       apart = h.results.apart;
     };
-    clears = record { each = λ p r n m at there. may_lie w with_rows refl p m ((each p r at).clears n m there) };
+    clears = record { each = λ p r n m at there. may_lie w with_rows (λ q d there. there) p m ((each p r at).clears n m there) };
     payments = record { each = λ p r at. (each p r at).paid };
   }
 

@@ -5,16 +5,18 @@ use Rattle.mx_pay.specs.Details.{Details}
 use Rattle.mx_book.specs.declared.edits.Edit.{Edit}
 use Rattle.mx_book.specs.World.{World, Name, Token}
 use Rattle.mx_book.specs.Rows.{Rows, world_of}
-use Rattle.mx_book.specs.Reads.{who_of, member_of, holder_of, purses_of, account_of, message_of, inbox_of, lines_of, members_of, load_of, redemption_of, is_archived, uncollected_of}
+use Rattle.mx_book.specs.Reads.{who_of, member_of, holder_of, purses_of, account_of, message_of, inbox_of, lines_of, members_of, load_of, redemption_of, is_archived, tray_of, uncollected_of}
 use Rattle.mx_book.specs.RowReads.{row_who_of, row_holder_of, row_purses_of, row_account_of, row_inbox_of, row_lines_of, row_members_of, row_load_of, row_redemption_of, row_is_archived, row_uncollected_of}
 use Rattle.mx_book.specs.Edits.{all_edited, Fits}
-use Rattle.mx_book.specs.RowEdits.{rewritten, all_rewritten, all_able}
+use Rattle.mx_book.specs.RowEdits.{rewritten, all_rewritten, all_able, log_at, row_laid_of}
 use Rattle.mx_book.specs.declared.edits.Edit.TheVariants.{NewMember, SetMember, NewHolder, NewPurse, SetPurse, AddMessage, DropMessage, AddLine, AddLoad, AddRedemption, Collect}
 use Rattle.std.proofs.Props.{props}
 use mathlib.Core.Logic.{∥∥₁_elim, ∥∥₁_map}
 use Rattle.mx_book.proofs.ReadLemmas.{purses_are, holder_is, account_is, message_is, inbox_is, lines_are, members_are, load_is, redemption_is}
 use Rattle.mx_book.proofs.UncollectedLemmas.{uncollected_is}
 use Rattle.mx_book.proofs.EditLemmas.{edits_spelled, all_able_there}
+use Rattle.mx_book.proofs.ResultLemmas.{laid_is}
+use Rattle.mx_book.specs.Conditions.{IsWorld}
 use Rattle.mx_book.specs.Spells.{Spells}
 
 -- a read of the World of the rows is one of each World that they spell
@@ -56,6 +58,10 @@ redemption_at r w p ref h = read_at (λ z. redemption_of z p ref) r w _ h (redem
 
 pub archived_at : (r : Rows) (w : World) (p : Name) (d : Details) → Spells r w → row_is_archived r p d ≡ is_archived w p d
 archived_at r w p d h = read_at (λ z. is_archived z p d) r w _ h refl
+
+-- what is in the tray of a purse is an entry of its log, so it is found from there
+pub tray_at : (r : Rows) (w : World) (p : Name) → Spells r w → row_laid_of r p ≡ tray_of w p
+tray_at r w p h = read_at (λ z. tray_of z p) r w _ h (sym (laid_is r p (subst IsWorld h.spelled.world h.sound)))
 
 pub uncollected_at : (r : Rows) (w : World) (m : Name) → Spells r w → row_uncollected_of r m ≡ uncollected_of w m
 uncollected_at r w m h = read_at (λ z. uncollected_of z m) r w _ h (uncollected_is r m h.spelled.proper)

@@ -3,10 +3,12 @@ use Rattle.std.specs.Prelude.{◌≡◌, ◌<◌, Bool, List, [], ◌∷◌, ◌
 use Rattle.std.specs.FinMap as fmap
 use Rattle.mx_book.specs.Limits.{most_messages}
 use Rattle.mx_pay.specs.Limits.{most_number}
+use Rattle.mx_pay.specs.Details.{Details}
+use Rattle.mx_pay.specs.Log.{has_logged}
 use Rattle.mx_book.specs.declared.values.Caller.TheVariants.{Clerk, Holder}
 use Rattle.mx_book.specs.declared.edits.Edit.{Edit}
-use Rattle.mx_book.specs.declared.edits.Edit.TheVariants.{NewMember, SetMember, NewHolder, NewPurse, SetPurse, AddMessage, DropMessage, AddLine, AddLoad, AddRedemption, AddTray, Collect}
-use Rattle.mx_book.specs.World.{World, delivered, new_row, set_row, change_row, change_holding, all_collected}
+use Rattle.mx_book.specs.declared.edits.Edit.TheVariants.{NewMember, SetMember, NewHolder, NewPurse, SetPurse, AddMessage, DropMessage, AddLine, AddLoad, AddRedemption, AddTray, ArchiveTray, Collect}
+use Rattle.mx_book.specs.World.{World, delivered, new_row, set_row, change_row, change_holding, all_collected, with_archived}
 use Rattle.mx_book.specs.Reads.{who_of}
 use Rattle.mx_book.specs.Conditions.{IsWorld, AreNumbered}
 
@@ -23,10 +25,12 @@ edited w (AddLine p l) = change_holding w p (λ a. record a { lines = a.lines ++
 edited w (AddLoad p reference amount) = change_row w p (λ r. record r { loads = fmap.insert r.loads reference amount })
 edited w (AddRedemption p reference amount) = change_holding w p (λ a. record a { redemptions = fmap.insert a.redemptions reference amount })
 edited w (AddTray p d) = record w { tray = fmap.insert w.tray (p, d) tt }
+edited w (ArchiveTray p) = with_archived w p
 edited w (Collect m) = all_collected w m
 
 -- the rows that an edit names are there, those that it adds are new, and its own condition holds: a message
--- finds a place, a line is numbered as the next one, and a result is in neither the tray nor the archive
+-- finds a place, a line is numbered as the next one, a result is in neither the tray nor the archive, and a tray that
+-- is archived is a part of its purse's log
 abbrev pub Suits : World → Edit → Type 0
 Suits w (NewMember m t) = IsNone (fmap.get w.members m) × IsNone (who_of w t)
 Suits w (SetMember m granted float) = IsSome (fmap.get w.members m)
@@ -39,6 +43,7 @@ Suits w (AddLine p l) = IsSomeAnd (fmap.get w.rows p) (λ r. AreNumbered 1 (r.ho
 Suits w (AddLoad p reference amount) = IsSomeAnd (fmap.get w.rows p) (λ r. IsNone (fmap.get r.loads reference))
 Suits w (AddRedemption p reference amount) = IsSomeAnd (fmap.get w.rows p) (λ r. IsNone (fmap.get r.holding.redemptions reference))
 Suits w (AddTray p d) = IsSome (fmap.get w.rows p) × (fmap.contains_key w.tray (p, d) ≡ Bool.false) × (fmap.contains_key w.archive (p, d) ≡ Bool.false)
+Suits w (ArchiveTray p) = IsSomeAnd (fmap.get w.rows p) (λ r. (d : Details) → fmap.contains_key w.tray (p, d) ≡ Bool.true → has_logged r.holding.purse.log d ≡ Bool.true)
 Suits w (Collect m) = IsSome (fmap.get w.members m)
 
 -- the World after edits, in order

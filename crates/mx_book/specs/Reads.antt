@@ -1,8 +1,9 @@
 -- What the reads of a book give of a World.
 use Rattle.std.specs.Prelude.{ℕ, Bool, List, [], map, filter, take, length, Option, Some, None, option_map, option_and_then, nat_lt, if◌then◌else◌}
 use Rattle.std.specs.FinMap as fmap
-use Rattle.mx_pay.specs.Names.{is_name}
-use Rattle.mx_pay.specs.Details.{Details}
+use Rattle.mx_pay.specs.Names.{name_cmp, is_name}
+use Rattle.mx_pay.specs.Details.{Details, details_cmp}
+use Rattle.mx_pay.specs.Log.{Entries}
 use Rattle.mx_pay.specs.Tokens.{is_token}
 use Rattle.mx_purse.specs.declared.message.Message.{Message}
 use Rattle.mx_book.specs.declared.values.Caller.{Caller}
@@ -12,6 +13,7 @@ use Rattle.mx_book.specs.declared.values.HolderRow.{HolderRow}
 use Rattle.mx_book.specs.declared.values.Line.{Line}
 use Rattle.mx_book.specs.declared.values.Account as given
 use Rattle.mx_book.specs.Sums.{sum_values, sum_entries}
+use Rattle.mx_book.specs.Under.{under}
 use Rattle.mx_book.specs.World.{World, Row, Name, Token, is_of_member}
 
 -- whose token it is
@@ -70,6 +72,10 @@ redemption_of w p reference = of_purse None (λ r. fmap.get r.holding.redemption
 -- whether details are archived for a purse
 abbrev pub is_archived : World → Name → Details → Bool
 is_archived w p d = fmap.contains_key w.archive (p, d)
+
+-- the results in the tray of a purse
+abbrev pub tray_of : World → Name → Entries
+tray_of w p = under name_cmp details_cmp p w.tray
 
 -- the names of the members, in order
 abbrev pub members_of : World → List Name

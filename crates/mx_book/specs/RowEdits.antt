@@ -1,16 +1,18 @@
 -- What edits make of rows.
-use Rattle.std.specs.Prelude.{Bool, true, ◌&&◌, ◌||◌, ◌+◌, nat_lt, List, [], ◌∷◌, Option, Some, None}
+use Rattle.std.specs.Prelude.{ℕ, ◌*◌, count_by, Bool, true, ◌&&◌, ◌||◌, ◌+◌, nat_lt, List, [], ◌∷◌, Option, Some, None}
 use Rattle.std.specs.FinMap as fmap
-use Rattle.mx_pay.specs.Limits.{most_number}
+use Rattle.mx_pay.specs.Limits.{most_entries, most_number}
 use Rattle.mx_pay.specs.Names.{name_cmp}
+use Rattle.mx_pay.specs.Details.{details_cmp}
+use Rattle.mx_pay.specs.Log.{Entries, none_logged, is_within}
 use Rattle.mx_purse.specs.State.{new_purse}
 use Rattle.mx_book.specs.declared.values.Caller.TheVariants.{Clerk, Holder}
 use Rattle.mx_book.specs.declared.values.PurseRow.{PurseRow}
 use Rattle.mx_book.specs.declared.edits.Edit.{Edit}
-use Rattle.mx_book.specs.declared.edits.Edit.TheVariants.{NewMember, SetMember, NewHolder, NewPurse, SetPurse, AddMessage, DropMessage, AddLine, AddLoad, AddRedemption, AddTray, Collect}
+use Rattle.mx_book.specs.declared.edits.Edit.TheVariants.{NewMember, SetMember, NewHolder, NewPurse, SetPurse, AddMessage, DropMessage, AddLine, AddLoad, AddRedemption, AddTray, ArchiveTray, Collect}
 use Rattle.mx_book.specs.declared.values.Redemption.{Redemption}
-use Rattle.mx_book.specs.Under.{remake}
-use Rattle.mx_book.specs.World.{Name, is_of}
+use Rattle.mx_book.specs.Under.{under, remake}
+use Rattle.mx_book.specs.World.{Name, is_of, results_of, results_but, and_results}
 use Rattle.mx_book.specs.Rows.{Rows, line_row}
 
 -- the rows with another row of a purse, where it had one
@@ -44,6 +46,7 @@ rewritten r (AddLine p l) = record r { lines = fmap.insert r.lines (p, l.number)
 rewritten r (AddLoad p reference amount) = record r { loads = fmap.insert r.loads (p, reference) amount }
 rewritten r (AddRedemption p reference amount) = record r { redemptions = fmap.insert r.redemptions (p, reference) (record { amount = amount; collected = Bool.false }) }
 rewritten r (AddTray p d) = record r { tray = fmap.insert r.tray (p, d) tt }
+rewritten r (ArchiveTray p) = record r { tray = results_but p r.tray; archive = and_results r.archive (fmap.keys (results_of p r.tray)) }
 rewritten r (Collect m) = record r { redemptions = remake (marked r.purses r.holders m) r.redemptions }
 
 -- the rows after edits, in order
@@ -51,14 +54,36 @@ abbrev pub all_rewritten : Rows → List Edit → Rows
 all_rewritten r [] = r
 all_rewritten r (e ∷ es) = all_rewritten (rewritten r e) es
 
+-- how many rows edits may add to the archive
+abbrev pub is_archiving : Edit → Bool
+is_archiving (ArchiveTray p) = true
+is_archiving e = Bool.false
+
+abbrev pub archive_rows : List Edit → ℕ
+archive_rows es = most_entries * count_by is_archiving es
+
 -- whether the next message number of a purse can rise
 abbrev pub can_rise : Option PurseRow → Bool
 can_rise None = true
 can_rise (Some x) = nat_lt x.next_message most_number
 
+-- the log of a purse, and the empty one where there is no such purse
+abbrev pub log_at : Option PurseRow → Entries
+log_at None = none_logged
+log_at (Some x) = x.purse.log
+
+-- the results in the tray of a purse
+abbrev pub row_tray_of : Rows → Name → Entries
+row_tray_of r p = under name_cmp details_cmp p r.tray
+
+-- the entries of a purse's log that lie in its tray
+abbrev pub row_laid_of : Rows → Name → Entries
+row_laid_of r p = fmap.retain_keys (log_at (fmap.get r.purses p)) (λ d. fmap.contains_key r.tray (p, d))
+
 -- whether the rows have what a write of them needs
 abbrev pub able : Rows → Edit → Bool
 able r (AddMessage p m) = can_rise (fmap.get r.purses p)
+able r (ArchiveTray p) = is_within (row_tray_of r p) (log_at (fmap.get r.purses p))
 able r e = true
 
 -- and so for edits, in order

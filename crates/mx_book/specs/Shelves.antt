@@ -25,8 +25,8 @@ rows_of s = record {
   redemptions = map_of (pair_cmp name_cmp name_cmp) s.redemptions;
 }
 
--- room for n more rows in each table that edits add to
-pub record HasRoom (n : ℕ) (s : Shelves) : Type 0 where
+-- room for n more rows in each table that edits add to, and for m more in the archive
+pub record HasRoom (n m : ℕ) (s : Shelves) : Type 0 where
   pub tokens : n ≤ s.tokens.room
   pub members : n ≤ s.members.room
   pub holders : n ≤ s.holders.room
@@ -34,11 +34,12 @@ pub record HasRoom (n : ℕ) (s : Shelves) : Type 0 where
   pub inbox : n ≤ s.inbox.room
   pub lines : n ≤ s.lines.room
   pub tray : n ≤ s.tray.room
+  pub archive : m ≤ s.archive.room
   pub loads : n ≤ s.loads.room
   pub redemptions : n ≤ s.redemptions.room
 
--- each of these tables has lost room for one row at most
-pub record SpendsOne (old new : Shelves) : Type 0 where
+-- each of these tables has lost room for one row at most, and the archive for m
+pub record SpendsOne (m : ℕ) (old new : Shelves) : Type 0 where
   pub tokens : old.tokens.room ≤ new.tokens.room + 1
   pub members : old.members.room ≤ new.members.room + 1
   pub holders : old.holders.room ≤ new.holders.room + 1
@@ -46,5 +47,6 @@ pub record SpendsOne (old new : Shelves) : Type 0 where
   pub inbox : old.inbox.room ≤ new.inbox.room + 1
   pub lines : old.lines.room ≤ new.lines.room + 1
   pub tray : old.tray.room ≤ new.tray.room + 1
+  pub archive : old.archive.room ≤ new.archive.room + m
   pub loads : old.loads.room ≤ new.loads.room + 1
   pub redemptions : old.redemptions.room ≤ new.redemptions.room + 1

@@ -1,5 +1,5 @@
 -- The World: everything that the office keeps.
-use Rattle.std.specs.Prelude.{ℕ, ◌+◌, nat_lt, ◌&&◌, Bool, if◌then◌else◌, List, [], Option, Some, None}
+use Rattle.std.specs.Prelude.{ℕ, ◌+◌, nat_lt, ◌&&◌, not, Bool, if◌then◌else◌, List, [], ◌∷◌, Option, Some, None}
 use Rattle.std.specs.Ordering.{nat_cmp}
 use Rattle.std.specs.FinMap as fmap
 use Rattle.std.specs.FinSet.{FinSet}
@@ -123,3 +123,19 @@ with_collected r = record r { collected = pick (λ amount. Some tt) r.holding.re
 -- a World in which all redemptions of the member's purses are collected
 abbrev pub all_collected : World → Name → World
 all_collected w m = record w { rows = remake (λ p r. if is_of_member w m r then with_collected r else r) w.rows }
+
+-- the results of one purse, and all others
+abbrev pub results_of : Name → FinSet result_cmp → FinSet result_cmp
+results_of p results = fmap.retain_keys results (λ result. is_name p result.0)
+
+abbrev pub results_but : Name → FinSet result_cmp → FinSet result_cmp
+results_but p results = fmap.retain_keys results (λ result. not (is_name p result.0))
+
+-- results with more of them
+abbrev pub and_results : FinSet result_cmp → List (Name × Details) → FinSet result_cmp
+and_results results [] = results
+and_results results (k ∷ ks) = fmap.insert (and_results results ks) k tt
+
+-- a World in which what was in the tray of a purse is archived
+abbrev pub with_archived : World → Name → World
+with_archived w p = record w { tray = results_but p w.tray; archive = and_results w.archive (fmap.keys (results_of p w.tray)) }

@@ -2,7 +2,7 @@
 ghost use Rattle.std.specs.Prelude.{◌≡◌, ℕ, ◌≤◌, IfOk, IfErr, OnOk, OnErr, ◌⊎◌};
 ghost use Rattle.mx_book.specs.World.{World};
 ghost use Rattle.mx_book.specs.Conditions.{IsWorld};
-ghost use Rattle.mx_book.specs.Reads.{who_of, member_of, holder_of, account_of, purses_of, inbox_of, message_of, lines_of, members_of, load_of, redemption_of, is_archived, uncollected_of};
+ghost use Rattle.mx_book.specs.Reads.{who_of, member_of, holder_of, account_of, purses_of, inbox_of, message_of, lines_of, members_of, load_of, redemption_of, is_archived, tray_of, uncollected_of};
 ghost use Rattle.mx_book.specs.Edits.{Fits, all_edited};
 ghost use Rattle.mx_book.specs.Keeps.{Keeps};
 ghost use Rattle.mx_book.specs.declared.contract.StoreFault.{StoreFault};
@@ -10,7 +10,7 @@ ghost use Rattle.mx_book.specs.declared.contract.StoreFault.TheVariants.{Memory}
 
 use crate::edits::Edit;
 use crate::values::{Account, Caller, HolderRow, Line, MemberRow};
-use mx_pay::{Amount, Name, PayDetails, Token};
+use mx_pay::{Amount, Log, Name, PayDetails, Token};
 use mx_purse::message::Message;
 use std::alloc::Global;
 
@@ -141,6 +141,12 @@ pub trait Book {
     ) -> Result<bool, StoreFault>
         ensures keeps { Keeps doubt rows self.old self.new }
         ensures value { (w : World) → doubt self.new ≡ 0 → spells (rows self.old) w → IfOk result (λ b. b ≡ is_archived w purse details.now) }
+        ensures fault { IfErr result fails };
+
+    /// The results of read log of a purse that were sent and aren't archived; none where there is no such purse.
+    fn tray(&mut self, alloc: Global, purse: Name) -> Result<Log, StoreFault>
+        ensures keeps { Keeps doubt rows self.old self.new }
+        ensures value { (w : World) → doubt self.new ≡ 0 → spells (rows self.old) w → IfOk result (λ log. log ≡ tray_of w purse) }
         ensures fault { IfErr result fails };
 
     /// The sum of the redemptions of the purses of a member's holders that aren't collected; 0 where there is

@@ -94,6 +94,11 @@ pub enum Edit {
         /// The details that were read.
         details: PayDetails,
     },
+    /// What lies in the tray of a purse goes to the archive.
+    ArchiveTray {
+        /// The purse. What lies in its tray are entries of its log.
+        purse: Name,
+    },
     /// All redemptions of the purses of a member's holders are collected.
     Collect {
         /// The member.

@@ -8,7 +8,7 @@ use crate::contract::{Book, StoreFault};
 use crate::edits::Edit;
 use crate::shelves::Shelves;
 use crate::values::{Account, Caller, HolderRow, Line, MemberRow};
-use mx_pay::{Amount, Name, PayDetails, Token};
+use mx_pay::{Amount, Log, Name, PayDetails, Token};
 use mx_purse::message::Message;
 use std::alloc::Global;
 
@@ -130,12 +130,16 @@ impl Book for PlainBook {
         Ok(self.shelves.is_archived(purse, details))
     }
 
+    fn tray(&mut self, _alloc: Global, purse: Name) -> Result<Log, StoreFault> {
+        Ok(self.shelves.tray_of(purse))
+    }
+
     fn uncollected(&mut self, _alloc: Global, member: Name) -> Result<u128, StoreFault> {
         Ok(self.shelves.uncollected_of(member))
     }
 
     fn apply(&mut self, edits: &[Edit]) -> Result<(), StoreFault> {
-        if self.shelves.reserve(edits.len()).is_err() {
+        if self.shelves.reserve(edits).is_err() {
             return Err(StoreFault::Memory);
         }
         self.shelves.edit_all(edits);

@@ -1,12 +1,12 @@
 //! The tables of a book in memory, with no conditions on what they hold.
-ghost use Rattle.std.specs.Prelude.{◌≡◌, ◌+◌, ◌≤◌, ◌<◌, IsTrue, ℕ, List, length, OnOk, IfOk, map, filter, take, nat_lt};
+ghost use Rattle.std.specs.Prelude.{◌≡◌, ◌+◌, ◌≤◌, ◌<◌, IsTrue, ℕ, List, length, OnOk, IfOk, map, filter, take, nat_lt, count_by, ◌∷◌, []};
 ghost use Rattle.std.specs.FinMap.{get};
 ghost use Rattle.mx_pay.specs.Names.{is_name};
 ghost use Rattle.mx_purse.specs.declared.message.Message.{Message as Kept};
 ghost use Rattle.mx_book.specs.declared.values.LineRow.{LineRow as KeptLine};
 ghost use Rattle.mx_book.specs.declared.values.MemberRow.{MemberRow as KeptMember};
 ghost use Rattle.mx_book.specs.declared.values.PurseRow.{PurseRow as KeptPurse};
-ghost use Rattle.mx_book.specs.RowEdits.{rewritten, all_rewritten, able, all_able};
+ghost use Rattle.mx_book.specs.RowEdits.{rewritten, all_rewritten, able, all_able, archive_rows, is_archiving, row_laid_of};
 ghost use Rattle.mx_book.specs.RowReads.{row_who_of, row_holder_of, row_purses_of, row_account_of, row_inbox_of, row_lines_of, row_members_of, row_load_of, row_redemption_of, row_is_archived, row_uncollected_of, line_of_row};
 ghost use Rattle.mx_book.specs.Blocks.{first_of};
 ghost use Rattle.mx_book.specs.Left.{rows_left};
@@ -17,12 +17,13 @@ mod writes;
 
 use crate::edits::Edit;
 use crate::redemptions::uncollected_in;
+use crate::results::laid;
 use crate::rows::Rows;
 use crate::table::Table;
 use crate::values::{Account, Caller, HolderRow, Line, LineRow, MemberRow, PurseRow, Redemption};
 use mx_pay::names::same_name;
 use mx_pay::token::same_token;
-use mx_pay::{Amount, Name, PayDetails, Token};
+use mx_pay::{Amount, Log, MOST_ENTRIES, Name, PayDetails, Token};
 use mx_purse::message::Message;
 use mx_purse::purse::Purse;
 use std::alloc::{AllocError, Global};
@@ -78,9 +79,9 @@ impl Shelves {
     /// Makes one edit, for which there is room.
     pub fn edit(&mut self, edit: &Edit)
         requires able { IsTrue (able (rows_of self.old) edit.now) }
-        requires room { HasRoom 1 self.old }
+        requires room { HasRoom 1 (archive_rows (edit.now ∷ [])) self.old }
         ensures edited { rows_of self.new ≡ rewritten (rows_of self.old) edit.now }
-        ensures room { SpendsOne self.old self.new }
+        ensures room { SpendsOne (archive_rows (edit.now ∷ [])) self.old self.new }
     {
         match edit {
             Edit::NewMember { member, clerk } => self.add_member(*member, *clerk),
@@ -116,6 +117,7 @@ impl Shelves {
                 amount,
             } => self.add_redemption(*purse, *reference, *amount),
             Edit::AddTray { purse, details } => self.tray.put((*purse, *details), ()),
+            Edit::ArchiveTray { purse } => self.archive_tray(*purse),
             Edit::Collect { member } => {
                 self.redemptions
                     .collect(&self.purses, &self.holders, *member);
@@ -126,7 +128,7 @@ impl Shelves {
     /// Makes edits in order, for which there is room.
     pub fn edit_all(&mut self, edits: &[Edit])
         requires able { IsTrue (all_able (rows_of self.old) edits.now) }
-        requires room { HasRoom (length edits.now) self.old }
+        requires room { HasRoom (length edits.now) (archive_rows edits.now) self.old }
         ensures { rows_of self.new ≡ all_rewritten (rows_of self.old) edits.now }
     {
         for edit in edits {
@@ -134,12 +136,15 @@ impl Shelves {
         }
     }
 
-    /// Makes room for this many more rows in each table that edits add to. An AllocError leaves the rows as they
-    /// are.
-    pub fn reserve(&mut self, more: usize) -> Result<(), AllocError>
+    /// Makes room for what these edits add. An AllocError leaves the rows as they are.
+    pub fn reserve(&mut self, edits: &[Edit]) -> Result<(), AllocError>
         ensures same { rows_of self.new ≡ rows_of self.old }
-        ensures ok { OnOk result (HasRoom more self.new) }
+        ensures ok { OnOk result (HasRoom (length edits.now) (archive_rows edits.now) self.new) }
     {
+        let more = edits.len();
+        let archived = MOST_ENTRIES
+            .checked_mul(count_archiving(edits))
+            .ok_or(AllocError)?;
         self.tokens.reserve(more)?;
         self.members.reserve(more)?;
         self.holders.reserve(more)?;
@@ -147,6 +152,7 @@ impl Shelves {
         self.inbox.reserve(more)?;
         self.lines.reserve(more)?;
         self.tray.reserve(more)?;
+        self.archive.reserve(archived)?;
         self.loads.reserve(more)?;
         self.redemptions.reserve(more)?;
         Ok(())
@@ -249,12 +255,36 @@ impl Shelves {
         self.archive.get((purse, *details)).is_some()
     }
 
+    /// The entries of a purse's log that lie in its tray.
+    pub fn tray_of(&self, purse: Name) -> Log
+        ensures { result ≡ row_laid_of (rows_of self.now) purse }
+    {
+        match self.purses.get(purse) {
+            None => Log::new(),
+            Some(row) => laid(&self.tray, purse, &row.purse.log()),
+        }
+    }
+
     /// What the redemptions of the member's purses come to that aren't collected.
     pub fn uncollected_of(&self, member: Name) -> u128
         ensures { result ≡ row_uncollected_of (rows_of self.now) member }
     {
         uncollected_in(self.redemptions.rows(), &self.purses, &self.holders, member)
     }
+}
+
+/// How many of these edits archive a tray.
+fn count_archiving(edits: &[Edit]) -> usize
+    ensures { result ≡ count_by is_archiving edits.now }
+{
+    edits.iter().filter(|edit| archives(edit)).count()
+}
+
+/// Whether this edit archives a tray.
+fn archives(edit: &Edit) -> bool
+    ensures { result ≡ is_archiving edit.now }
+{
+    matches!(edit, Edit::ArchiveTray { .. })
 }
 
 /// How many of these purses the holder has.

@@ -75,9 +75,9 @@ placed_kept w p r s (Some m) at same =
     ap (λ b. cond b (Some m) None) (ap (from_row false (λ y. has_room y.holding)) (fmap.get-insert names_total w.rows p s m.0) ∙ room_case w p m.0 r s (is_name m.0 p) at same refl)
 
 -- edits that put a message, or none where it vanishes
-record Puts (w : World) (sent : Option (Name × Message)) (es : List Edit) : Type 0 where
-  suits : AllSuit w es
-  leads : all_edited w es ≡ put_sent w sent
+pub record Puts (w : World) (sent : Option (Name × Message)) (es : List Edit) : Type 0 where
+  pub suits : AllSuit w es
+  pub leads : all_edited w es ≡ put_sent w sent
 
 put_row : (w : World) (p : Name) (m : Message) (r : Row) (b : Bool) → fmap.get w.rows p ≡ Some r → has_room r.holding ≡ b → Puts w (Some (p, m)) (put_edits (cond b (Some (p, m)) None))
 put_row w p m r true at room = record { suits = (put_suits w p m r at room, tt); leads = put_leads w p m r at room }
@@ -87,7 +87,7 @@ put_case : (w : World) (p : Name) (m : Message) (o : Option Row) → fmap.get w.
 put_case w p m None at = record { suits = tt; leads = sym (put_nowhere w p m at) }
 put_case w p m (Some r) at = put_row w p m r (has_room r.holding) at refl
 
-puts : (w : World) (sent : Option (Name × Message)) → Puts w sent (put_edits (placed w sent))
+pub puts : (w : World) (sent : Option (Name × Message)) → Puts w sent (put_edits (placed w sent))
 puts w None = record { suits = tt; leads = refl }
 puts w (Some m) = put_case w m.0 m.1 (fmap.get w.rows m.0) refl
 
@@ -160,7 +160,7 @@ module _ (w : World) (g p : Name) (before : State) (own : IsOwn w g p before) (q
   unfolding has_room
   same_places sent = placed_kept w p own.row (with_lines own.row q ls) sent own.at refl
 
-  pub changed_decides : (f : Holding → Deed Holding) (r : Reply) (sent : Option (Name × Message)) (d : Decided) → IsSent sent → f own.row.holding ≡ record { state = with_purse own.row.holding q line; reply = r; sent = sent }
+  pub changed_decides : (f : Holding → Deed Holding) (r : Reply) (sent : Option (Name × Message)) (d : Decided) → IsSent sent → f own.row.holding ≡ record { state = with_purse own.row.holding q line; reply = r; sent = sent; result = None }
       → d.reply ≡ r → d.edits ≡ purse_edits q line (placed w sent) → Decides w (on_own w g p f) d
   changed_decides f r sent d valid f_is reply_is edits_is =
       let next = is_next w p (λ x. is_name g x.holder) before own q ls h follows in
@@ -168,7 +168,7 @@ module _ (w : World) (g p : Name) (before : State) (own : IsOwn w g p before) (q
       let last : List Edit = put_edits (placed w sent) in
       let lead : all_edited w first ≡ changed = purse_leads w p own.row q ls own.at next.named in
       let here : Puts changed sent last = subst (λ m. Puts changed sent (put_edits m)) (same_places sent) (puts changed sent) in
-      edits_decide w changed (on_own w g p f) r sent (first ++ last) d (own_there w g p before own f ∙ ap (in_place (λ b. set_row w p (record own.row { holding = b }))) f_is)
+      edits_decide w (on_own w g p f) (record { state = changed; reply = r; sent = sent; result = None }) (first ++ last) d (own_there w g p before own f ∙ ap (in_place (λ b. set_row w p (record own.row { holding = b }))) f_is)
       (suits_append w first last (purse_suits w p own.row q ls own.at next.named next.numbered) (subst (λ x. AllSuit x last) (sym lead) here.suits))
       (edits_append w first last ∙ ap (λ x. all_edited x last) lead ∙ here.leads)
       (sent_stays changed sent valid (purse_stays w p own.row q ls own.at next.named follows.whole next.numbered next.counted follows.valid next.logged h))

@@ -1,6 +1,7 @@
 -- A change of a holder's own of a purse keeps the balance equation.
 use Rattle.std.proofs.Common.{◌≡◌, ℕ, ◌+◌, Bool, true, false, cond, refl, sym, ◌∙◌, ap, subst, Option, Some, None, IsSome, arith}
 use Rattle.std.specs.FinMap as fmap
+use Rattle.mx_pay.specs.Details.{Details}
 use Rattle.mx_purse.specs.declared.message.Message.{Message}
 use Rattle.mx_book.specs.Sums.{sum_entries, sum_values}
 use Rattle.mx_book.specs.Reads.{uncollected_row}
@@ -9,7 +10,7 @@ use Rattle.mx_book.proofs.FoundLemmas.{none_some, still_some}
 use Rattle.mx_book.proofs.PurseLemmas.{change_there}
 use Rattle.mx_office.specs.declared.values.Refusal.TheVariants.{NoSuchPurse}
 use Rattle.mx_office.specs.Balance.{issued_row, redeemed_row}
-use Rattle.mx_office.specs.Step.{Deed, Asks, on_found, in_place, own_holding, on_world, put_sent}
+use Rattle.mx_office.specs.Step.{Deed, Asks, on_found, in_place, own_holding, on_world, put_sent, is_kept, with_result}
 use Rattle.mx_office.proofs.BalanceLemmas.{IsAccounted, IsRow, left_row, set_accounted}
 use Rattle.mx_office.proofs.EntrySumLemmas.{sum_entries-new, sum_values-new}
 use Rattle.mx_office.proofs.OwnLemmas.{is_owned}
@@ -76,3 +77,12 @@ put_row w p m is (Some r) at = account_accounted w p r (with_message r.holding m
 pub sent_accounted : (w : World) → IsAccounted w → (sent : Option (Name × Message)) → IsAccounted (put_sent w sent)
 sent_accounted w is None = is
 sent_accounted w is (Some m) = put_row w m.0 m.1 is (fmap.get w.rows m.0) refl
+
+-- results of read log are none of what is counted
+kept_accounted : (w : World) → IsAccounted w → (result : Name × Details) (b : Bool) → IsAccounted (cond b w (record w { tray = fmap.insert w.tray result tt }))
+kept_accounted w is result true = is
+kept_accounted w is result false = record { equal = is.equal; rows = is.rows }
+
+pub result_accounted : (w : World) → IsAccounted w → (result : Option (Name × Details)) → IsAccounted (with_result w result)
+result_accounted w is None = is
+result_accounted w is (Some result) = kept_accounted w is result (is_kept w result)

@@ -16,16 +16,16 @@ use Rattle.mx_book.proofs.NameLemmas.{names_total, names_exact, same_name}
 use Rattle.mx_book.proofs.PurseLemmas.{change_there}
 use Rattle.mx_book.proofs.UnderLemmas.{get-remake}
 use Rattle.mx_office.specs.declared.values.Command.{Command}
-use Rattle.mx_office.specs.declared.values.Command.TheVariants.{NewMember, Grant, NewHolder, NewPurse, Load, Collect}
+use Rattle.mx_office.specs.declared.values.Command.TheVariants.{NewMember, Grant, Archive, Clear, NewHolder, NewPurse, Load, Collect}
 use Rattle.mx_office.specs.declared.values.Refusal.{Refusal}
 use Rattle.mx_office.specs.declared.values.Reply.{Reply}
 use Rattle.mx_office.specs.declared.values.Reply.TheVariants as reply
 use Rattle.mx_office.specs.Balance.{IsBalanced, issued_row, redeemed_row, is_chosen, of_purses}
 use Rattle.mx_office.specs.Reachable.{IsReachable}
-use Rattle.mx_office.specs.Step.{Deed, Asked, tell, unless, unless_told, idle, asks, new_member, new_member_refusal, new_holder, new_holder_refusal, new_purse, new_purse_refusal, change_member, grant, grant_refusal, loaded_holding, loaded_row, loaded_world, new_load_refusal, idle_load_at, idle_load, collect, collect_refusal, base, step, steps}
+use Rattle.mx_office.specs.Step.{Deed, Asked, tell, unless, unless_told, idle, asks, new_member, new_member_refusal, new_holder, new_holder_refusal, new_purse, new_purse_refusal, change_member, grant, grant_refusal, archive_refusal, clear_refusal, put_sent, loaded_holding, loaded_row, loaded_world, new_load_refusal, idle_load_at, idle_load, collect, collect_refusal, base, step, steps}
 use Rattle.mx_office.proofs.OwnLemmas.{absent, present, none_refused, of_there, change_to}
 use Rattle.mx_office.proofs.BalanceLemmas.{Choice, IsAccounted, IsRow, left, right, left_row, counted, is_counted, none_counts, same_change, with_member, left_member, right_member, new_member_accounted, left_set, right_set, rows_stay, new_row_accounted, new_holder_accounted, opening_accounted, is_balanced}
-use Rattle.mx_office.proofs.BalanceAccountLemmas.{asks_accounted, sent_accounted}
+use Rattle.mx_office.proofs.BalanceAccountLemmas.{asks_accounted, sent_accounted, result_accounted}
 use Rattle.mx_office.proofs.RuleLemmas.{new_reference, each_rule}
 use Rattle.mx_office.proofs.EntrySumLemmas.{sum_entries-same, sum_entries-add, sum_entries-empty, sum_values-empty, sum_values-zero, sum_values-remake, sum_values-new, values_are}
 
@@ -296,6 +296,8 @@ collect_accounted w m is = unless_accounted w (collect_refusal w m) _ is (λ e.
 base_accounted : (w : World) → IsAccounted w → (caller : Caller) (c : Command) → IsAccounted (base w caller c).state
 base_accounted w is Operator (NewMember m t) = member_accounted w m t is
 base_accounted w is Operator (Grant m amount) = grant_accounted w m amount is
+base_accounted w is Operator (Archive p) = unless_accounted w (archive_refusal w p) _ is (λ e. record { equal = is.equal; rows = is.rows })
+base_accounted w is Operator (Clear p set) = unless_accounted w (clear_refusal w p set) _ is (λ e. is)
 base_accounted w is (Clerk m) (NewHolder h t) = holder_accounted w m h t is
 base_accounted w is (Clerk m) (NewPurse p h) = purse_accounted w m p h is
 base_accounted w is (Clerk m) (Load p amount reference) = load_accounted w m p amount reference is (idle_load w m p amount reference) refl
@@ -306,7 +308,9 @@ base_accounted w is (Clerk m) c = is
 
 step_accounted : (w : World) → IsAccounted w → (caller : Caller) (c : Command) → IsAccounted (step w caller c).world
 unfolding step
-step_accounted w is caller c = sent_accounted (base w caller c).state (base_accounted w is caller c) (base w caller c).sent
+step_accounted w is caller c =
+    let d = base w caller c in
+    result_accounted (put_sent d.state d.sent) (sent_accounted d.state (base_accounted w is caller c) d.sent) d.result
 
 run_accounted : (w : World) (cs : List Asked) → IsAccounted w → IsAccounted (steps w cs).end
 run_accounted w [] is = is

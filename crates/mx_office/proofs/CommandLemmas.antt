@@ -210,7 +210,7 @@ handle_decides w h p n q after m x d is e message x_is after_is reply_is edits_i
 -- ---- aborts and starts
 
 -- what an abort leaves follows the purse, and so does what a start makes of it
-abort_follows : (kept : Details → Bool) (p q : State) → IsPurse p → q.name ≡ p.name → q.lines ≡ (aborted p).lines → q.log ≡ (aborted p).log → IsPurse q → Follows kept p q (listed (abort_line q (pending p.status)))
+pub abort_follows : (kept : Details → Bool) (p q : State) → IsPurse p → q.name ≡ p.name → q.lines ≡ (aborted p).lines → q.log ≡ (aborted p).log → IsPurse q → Follows kept p q (listed (abort_line q (pending p.status)))
 abort_follows kept p q old name lines log is =
     let next = abort_numbered p q (pending p.status) lines in
     record { name = name; whole = is; numbered = next.0; counted = next.1; valid = abort_line_valid q (pending p.status) is.balance (pending_valid p.status old.details); logged = λ d stays there. ap (λ l. has_logged l d) log ∙ logged_case p.log (pending p.status) d there }
@@ -243,10 +243,10 @@ same_answer (Some r) a x e = absurd (cc)
 
 -- a start from a purse or to one, by its guards, its status and its details
 module _ (w : World) (h p : Name) (q : State) (f : Holding → Deed Holding) (o : Option StartRefusal) (status : Status) (details : Details) (sent : Details → Option (Name × Message))
-    (f_is : (a : Holding) → a.purse ≡ q → f a ≡ unless a (option_map refusal_of_start o) (record { state = with_aborted a (started q status); reply = reply.Started details; sent = sent details }))
+    (f_is : (a : Holding) → a.purse ≡ q → f a ≡ unless a (option_map refusal_of_start o) (record { state = with_aborted a (started q status); reply = reply.Started details; sent = sent details; result = None }))
     (sent_is : IfSome (details_of status) IsDetails → IsSent (sent details)) (d : Decided) (is : IsWorld w) (e : own_purse w h p ≡ Some q) where
   abbrev done : Holding → Deed Holding
-  done a = record { state = with_aborted a (started q status); reply = reply.Started details; sent = sent details }
+  done a = record { state = with_aborted a (started q status); reply = reply.Started details; sent = sent details; result = None }
 
   pub start_refused : (r : StartRefusal) → or_refused o details ≡ Err r → d.reply ≡ reply.Refused (refusal_of_start r) → d.edits ≡ [] → Decides w (on_own w h p f) d
   start_refused r refused =
@@ -317,7 +317,7 @@ module _ (w : World) (h p : Name) (amount : ℕ) (reference : Name) (q : State) 
       let next = is_next w p (λ r. is_name h r.holder) q own now ls is follows in
       let fresh = redemption_at w p reference own.row None own.at new in
       let v : World = set_row w p (with_redemption (with_lines own.row now ls) reference amount) in
-      edits_decide w v (on_own w h p (redeem amount reference)) reply.Redeemed None ((SetPurse now ∷ line_edits p ls) ++ AddRedemption p reference amount ∷ []) d
+      edits_decide w (on_own w h p (redeem amount reference)) (tell v reply.Redeemed) ((SetPurse now ∷ line_edits p ls) ++ AddRedemption p reference amount ∷ []) d
       (own_there w h p q own (redeem amount reference) ∙ rw (fresh, own.purse, free) refl)
       (redemption_suits w p own.row now ls reference amount own.at next.named next.numbered fresh)
       (redemption_leads w p own.row now ls reference amount own.at next.named)

@@ -23,28 +23,27 @@ use Rattle.mx_office.specs.declared.values.Decided.{Decided}
 use Rattle.mx_office.specs.declared.values.Refusal.{Refusal}
 use Rattle.mx_office.specs.declared.values.Reply.{Reply}
 use Rattle.mx_office.specs.declared.values.Reply.TheVariants.{Added, Refused}
-use Rattle.mx_office.specs.Step.{Deed, tell, put_sent, unless, new_member, new_holder, new_purse}
+use Rattle.mx_office.specs.Step.{Deed, tell, world_after, unless, new_member, new_holder, new_purse}
 use Rattle.mx_office.proofs.OwnLemmas.{absent, present, of_there, next, none_left}
 use Rattle.mx_office.specs.Decides.{Decides, finds_place, purse_count}
 
 -- ---- decisions
 
 -- these edits lead to what is done
-pub edits_decide : (w v : World) (to : Deed World) (r : Reply) (sent : Option (Name × Message)) (es : List Edit) (d : Decided) → to ≡ record { state = v; reply = r; sent = sent }
-    → AllSuit w es → all_edited w es ≡ put_sent v sent → IsWorld (put_sent v sent) → d.reply ≡ r → d.edits ≡ es → Decides w to d
-edits_decide w v to r sent es d to_is suit lead stays reply_is edits_are = record {
-  reply = reply_is ∙ sym (ap (λ x. x.reply) to_is);
+pub edits_decide : (w : World) (to x : Deed World) (es : List Edit) (d : Decided) → to ≡ x → AllSuit w es → all_edited w es ≡ world_after x → IsWorld (world_after x) → d.reply ≡ x.reply → d.edits ≡ es → Decides w to d
+edits_decide w to x es d to_is suit lead stays reply_is edits_are = record {
+  reply = reply_is ∙ sym (ap (λ y. y.reply) to_is);
   fits = subst (Fits w) (sym edits_are) (record { each = suit; end = subst IsWorld (sym lead) stays });
-  leads = ap (all_edited w) edits_are ∙ lead ∙ sym (ap (λ x. put_sent x.state x.sent) to_is);
+  leads = ap (all_edited w) edits_are ∙ lead ∙ sym (ap world_after to_is);
 }
 
 -- nothing changes, and this is told
 pub told_decides : (w : World) (to : Deed World) (r : Reply) (d : Decided) → IsWorld w → to ≡ tell w r → d.reply ≡ r → d.edits ≡ [] → Decides w to d
-told_decides w to r d h to_is = edits_decide w w to r None [] d to_is tt refl h
+told_decides w to r d h to_is = edits_decide w to (tell w r) [] d to_is tt refl h
 
 -- one edit leads there
 pub edit_decides : (w : World) (to : Deed World) (e : Edit) (r : Reply) (d : Decided) → to ≡ tell (edited w e) r → Suits w e → IsWorld (edited w e) → d.reply ≡ r → d.edits ≡ e ∷ [] → Decides w to d
-edit_decides w to e r d to_is suits stays = edits_decide w (edited w e) to r None (e ∷ []) d to_is (suits, tt) refl stays
+edit_decides w to e r d to_is suits stays = edits_decide w to (tell (edited w e) r) (e ∷ []) d to_is (suits, tt) refl stays
 
 -- a refusal
 pub refused_decides : (w : World) (o : Option Refusal) (x : Deed World) (r : Refusal) (d : Decided) → IsWorld w → o ≡ Some r → d.reply ≡ Refused r → d.edits ≡ [] → Decides w (unless w o x) d

@@ -5,6 +5,7 @@ use Rattle.std.specs.Option.{option_map_or}
 use Rattle.std.specs.Prelude.{map, filter, is_none, is_some}
 use Rattle.std.specs.FinMap as fmap
 use Rattle.mx_pay.specs.Names.{name_cmp, is_name}
+use Rattle.mx_pay.specs.Details.{Details}
 use Rattle.mx_purse.specs.declared.message.Message.{Message}
 use Rattle.mx_book.specs.declared.values.Caller.{Caller}
 use Rattle.mx_book.specs.declared.values.Caller.TheVariants.{Operator, Clerk, Holder}
@@ -16,12 +17,12 @@ use Rattle.mx_book.proofs.MapLemmas.{get-pick, entries-pick, pick-insert, pick-s
 use Rattle.mx_book.proofs.NameLemmas.{names_total, names_exact, same_name}
 use Rattle.mx_book.proofs.UnderLemmas.{get-remake}
 use Rattle.mx_office.specs.declared.values.Command.{Command}
-use Rattle.mx_office.specs.declared.values.Command.TheVariants.{NewMember, Grant, NewHolder, NewPurse, Load, Collect}
+use Rattle.mx_office.specs.declared.values.Command.TheVariants.{NewMember, Grant, Archive, Clear, NewHolder, NewPurse, Load, Collect}
 use Rattle.mx_office.specs.declared.values.Refusal.{Refusal}
 use Rattle.mx_office.specs.declared.values.Refusal.TheVariants.{NoSuchPurse}
 use Rattle.mx_office.specs.declared.values.Reply.{Reply}
 use Rattle.mx_office.specs.declared.values.Reply.TheVariants as reply
-use Rattle.mx_office.specs.Step.{Deed, Asks, Asked, Course, ends, tell, unless, unless_told, on_found, in_place, asks, holding_for, own_holding, on_world, loaded_holding, loaded_row, loaded_world, idle_load, change_member, new_purse_refusal, base, put_sent, step, steps, course}
+use Rattle.mx_office.specs.Step.{Deed, Asks, Asked, Course, ends, tell, unless, unless_told, on_found, in_place, asks, holding_for, own_holding, on_world, loaded_holding, loaded_row, loaded_world, idle_load, change_member, new_purse_refusal, base, put_sent, is_kept, with_result, step, steps, course}
 use Rattle.mx_office.proofs.OwnLemmas.{absent, none_refused, own_at, is_owned}
 use Rattle.mx_office.specs.Isolation.{Event, Holdings, only_if, for_holder, issued_event, put_event, view_of, view, on_holdings, with_changed, after_event, local, cut, told_to}
 
@@ -108,7 +109,7 @@ names-cut w h = sym (names_picked h (fmap.entries w.rows) ∙ ap (map (λ (e : N
 
 -- a deed, of which a holder sees what is cut out
 abbrev cut_deed : Name → Deed World → Deed Holdings
-cut_deed h d = record { state = cut d.state h; reply = d.reply; sent = d.sent }
+cut_deed h d = record { state = cut d.state h; reply = d.reply; sent = d.sent; result = d.result }
 
 rule_case : (w : World) (h p : Name) (f : Holding → Deed Holding) (o : Option Holding) → own_holding w h p ≡ o
     → on_found (cut w h) NoSuchPurse o (λ a. in_place (fmap.insert (cut w h) p) (f a)) ≡ cut_deed h (on_found w NoSuchPurse o (λ a. in_place (λ b. change_holding w p (λ _. b)) (f a)))
@@ -191,6 +192,15 @@ cut-collected w h m = fmap.same_map names_total names_exact _ _ (λ q.
     ∙ each_case w h m (fmap.get w.rows q)
     ∙ sym (get-cut w h q))
 
+-- results of read log are none of what is cut out
+kept_case : (w : World) (h : Name) (result : Name × Details) (b : Bool) → cut (cond b w (record w { tray = fmap.insert w.tray result tt })) h ≡ cut w h
+kept_case w h result true = refl
+kept_case w h result false = refl
+
+cut-result : (w : World) (h : Name) (result : Option (Name × Details)) → cut (with_result w result) h ≡ cut w h
+cut-result w h None = refl
+cut-result w h (Some result) = kept_case w h result (is_kept w result)
+
 -- ---- each command
 
 -- a command leaves what is cut out for h
@@ -202,6 +212,8 @@ quiet w h None d same = ap silent (sym same)
 base_law : (w : World) (h : Name) (caller : Caller) (c : Command) → local (cut w h) (for_holder h caller (Event.Own c) ++ issued_event w h caller c) ≡ cut_course h caller (base w caller c)
 base_law w h Operator (NewMember m t) = quiet w h _ _ refl
 base_law w h Operator (Grant m amount) = quiet w h _ _ (cut-member w h m _)
+base_law w h Operator (Archive p) = quiet w h _ _ refl
+base_law w h Operator (Clear p set) = quiet w h _ _ refl
 base_law w h (Clerk m) (NewHolder g t) = quiet w h _ _ refl
 base_law w h (Clerk m) (NewPurse p g) = issued_law w h m p g (new_purse_refusal w m p g) refl
 base_law w h (Clerk m) (Load p amount reference) = load_law w h m p amount reference (idle_load w m p amount reference)
@@ -231,7 +243,14 @@ one_law w h caller c =
     course-append after_event (cut w h) (for_holder h caller (Event.Own c) ++ issued_event w h caller c) late
     ∙ ap (λ x. and_then after_event x late) (base_law w h caller c)
     ∙ ap (λ (x : Course Holdings Reply). ends x.end (for_holder h caller d.reply ++ x.replies)) (put_law d.state h d.sent)
-    ∙ ap (ends (cut (put_sent d.state d.sent) h)) (append-nil _)
+    ∙ (λ i. ends (sym (cut-result (put_sent d.state d.sent) h d.result) i) (append-nil (for_holder h caller d.reply) i))
+
+-- and so they are of a World that is the step's, and of a reply that is
+pub accounts_after : (w v : World) (h : Name) (caller : Caller) (c : Command) → v ≡ (step w caller c).world → cut v h ≡ (local (cut w h) (view_of w h caller c)).end
+accounts_after w v h caller c is = ap (λ x. cut x h) is ∙ sym (ap (λ x. x.end) (one_law w h caller c))
+
+pub told_after : (w : World) (h : Name) (caller : Caller) (c : Command) (r : Reply) → r ≡ (step w caller c).reply → for_holder h caller r ≡ (local (cut w h) (view_of w h caller c)).replies
+told_after w h caller c r is = ap (for_holder h caller) is ∙ sym (ap (λ x. x.replies) (one_law w h caller c))
 
 -- ---- runs
 

@@ -11,6 +11,7 @@ pub mod EntrySumLemmas
 pub mod BalanceLemmas
 pub mod BalanceAccountLemmas
 pub mod BalanceCommandLemmas
+pub mod ArchiveLemmas
 pub mod StepLemmas
 pub mod ReachLemmas
 pub mod GrantedLemmas

@@ -87,7 +87,7 @@ module _ (w : World) (m : Name) (row : MemberRow) (u sum : ℕ) (at : fmap.get w
       let sums = granted_after v m row.granted float row at in
       let most = is.members.granted in
       let same : sum ≡ row.float + uncollected_of w m = omega (arith, u_is, sum_is, le) in
-      edits_decide w (edited v (SetMember m row.granted float)) (collect w m) (reply.Collected (uncollected_of w m)) None (Collect m ∷ SetMember m row.granted float ∷ []) d
+      edits_decide w (collect w m) (tell (edited v (SetMember m row.granted float)) (reply.Collected (uncollected_of w m))) (Collect m ∷ SetMember m row.granted float ∷ []) d
       (ap (λ o. unless w o (tell (change_member v m rise) (reply.Collected (uncollected_of w m)))) free ∙ ap (λ x. tell x (reply.Collected (uncollected_of w m))) (change_to v m rise row at))
       (there, (there, tt)) refl (set_member_stays v m row.granted float there (omega (arith, same, le)) (omega (arith, sums, most)) (collect_stays w m is))
       (reply_is ∙ ap reply.Collected u_is) (edits_is ∙ ap (λ n. Collect m ∷ SetMember m row.granted n ∷ []) same)
@@ -168,7 +168,7 @@ module _ (w : World) (m p : Name) (amount : ℕ) (reference : Name) (q : State) 
         let sums = granted_after v m member.granted (member.float - amount) member here in
         let most = is.members.granted in
         let float_most : member.float ≤ most_number = is.members.floats m member here in
-        edits_decide w (edited v last) (load_purse w m p amount reference) reply.Loaded None (firsts ++ last ∷ []) d
+        edits_decide w (load_purse w m p amount reference) (tell (edited v last) reply.Loaded) (firsts ++ last ∷ []) d
         (ap (λ o. unless_told w o (tell (loaded_world w m p amount reference) reply.Loaded)) none ∙ ap (λ x. tell (change_member x m lower) reply.Loaded) (change_there w p (loaded_row amount reference) r own.at ∙ ap (set_row w p) row_is) ∙ ap (λ x. tell x reply.Loaded) (change_to v m lower member here))
         (suits_append w firsts (last ∷ []) (load_suits w p r now ls reference amount own.at next_row.named next_row.numbered loads) (subst (λ z. AllSuit z (last ∷ [])) (sym lead) (there, tt)))
         (edits_append w firsts (last ∷ []) ∙ ap (λ z. edited z last) lead)

@@ -8,15 +8,16 @@ use Rattle.mx_pay.specs.Limits.{most_amount, most_number}
 use Rattle.mx_pay.specs.Names.{is_name}
 use Rattle.mx_pay.specs.Tokens.{IsToken}
 use Rattle.mx_pay.specs.Details.{Details, IsDetails}
+use Rattle.mx_pay.specs.Log.{Entries, IsLogValue}
 use Rattle.mx_purse.specs.State.{State, IsPurse, details_of}
 use Rattle.mx_purse.specs.declared.status.Status.{Status}
 use Rattle.mx_purse.specs.declared.status.Status.TheVariants.{Epr, Epv}
 use Rattle.mx_purse.specs.declared.message.Message.{Message}
-use Rattle.mx_purse.specs.declared.message.Message.TheVariants.{Req}
+use Rattle.mx_purse.specs.declared.message.Message.TheVariants.{Req, Clear}
 use Rattle.mx_purse.specs.declared.refusals.StartRefusal.{StartRefusal}
 use Rattle.mx_purse.specs.declared.refusals.StartRefusal.TheVariants.{SamePurse}
 use Rattle.mx_purse.specs.declared.refusals.RedeemRefusal.{RedeemRefusal}
-use Rattle.mx_purse.specs.Operations.{or_refused, unless_refused, pending, aborted, start_from_refusal, start_to_refusal, from_details, to_details, started, handled, after_message, sent_for, loaded, redeem_refusal, redeemed}
+use Rattle.mx_purse.specs.Operations.{or_refused, unless_refused, pending, aborted, start_from_refusal, start_to_refusal, from_details, to_details, started, handled, after_message, sent_for, read_entry, loaded, redeem_refusal, redeemed}
 use Rattle.mx_purse.proofs.OperationLemmas.{started_from_is, started_to_is, from_same, to_same}
 use Rattle.mx_book.specs.declared.edits.Edit.TheVariants.{SetMember, DropMessage, Collect as CollectAll}
 use Rattle.mx_book.specs.declared.values.Caller.{Caller}
@@ -26,18 +27,21 @@ use Rattle.mx_book.specs.Conditions.{IsWorld, all_granted}
 use Rattle.mx_book.specs.Reads.{from_row, uncollected_of, inbox_of, message_of, redemption_of}
 use Rattle.mx_book.proofs.Opening.{opening_is}
 use Rattle.mx_book.proofs.KeepLemmas.{member_stays, holder_stays, new_purse_stays}
+use Rattle.mx_book.proofs.PurseLemmas.{put_stays}
+use Rattle.mx_book.proofs.ResultLemmas.{archived_stays}
 use Rattle.mx_office.specs.declared.values.Command.{Command}
-use Rattle.mx_office.specs.declared.values.Command.TheVariants.{NewMember, Grant, NewHolder, NewPurse, Load, Collect, Show, StartFrom, StartTo, Handle, Discard, Abort, Redeem, Inbox}
+use Rattle.mx_office.specs.declared.values.Command.TheVariants.{NewMember, Grant, Archive, Clear as ClearLog, NewHolder, NewPurse, Load, Collect, Show, StartFrom, StartTo, Handle, Discard, Abort, ReadLog, Redeem, Inbox}
 use Rattle.mx_office.specs.declared.values.Decided.{Decided}
 use Rattle.mx_office.specs.declared.values.Refusal.{Refusal}
 use Rattle.mx_office.specs.declared.values.Refusal.TheVariants.{NoSuchPurse, NoSuchMessage, RefReused}
 use Rattle.mx_office.specs.declared.values.Reply.{Reply}
 use Rattle.mx_office.specs.declared.values.Reply.TheVariants as reply
 use Rattle.mx_office.specs.Commands.{IsNamed, IsCommand, IsAsked}
-use Rattle.mx_office.specs.Decides.{Decides, own_purse, placed, purse_edits, load_edits, redeem_edits}
+use Rattle.mx_office.specs.Decides.{Decides, own_purse, placed, purse_edits, not_kept, read_edits, load_edits, redeem_edits}
 use Rattle.mx_office.specs.Reachable.{IsReachable}
-use Rattle.mx_office.specs.Step.{Deed, Asked, tell, unless, unless_told, on_found, in_place, refusal_of_start, refusal_of_redeem, abort_line, message_line, with_aborted, show, start_from, start_to, handle, discard, abort, redeem, inbox, asks, own_holding, on_own, on_world, new_member, new_member_refusal, new_holder, new_holder_refusal, new_purse, new_purse_refusal, grant, grant_refusal, idle_load, load_purse, collect, collect_refusal, base, put_sent, step, steps}
+use Rattle.mx_office.specs.Step.{Deed, Asked, tell, unless, unless_told, on_found, in_place, refusal_of_start, refusal_of_redeem, abort_line, message_line, with_aborted, show, start_from, start_to, handle, discard, abort, read_log, redeem, inbox, asks, own_holding, on_own, on_world, new_member, new_member_refusal, new_holder, new_holder_refusal, new_purse, new_purse_refusal, grant, grant_refusal, idle_load, load_purse, collect, collect_refusal, archive, archive_refusal, clear, clear_refusal, base, world_after, step, steps}
 use Rattle.mx_office.proofs.OwnLemmas.{absent, present, of_there, none_refused, is_owned}
+use Rattle.mx_office.proofs.ArchiveLemmas.{clear_means, read_decides}
 use Rattle.mx_office.proofs.AccountLemmas.{IsSent, is_own}
 use Rattle.mx_office.proofs.BalanceCommandLemmas.{is_load}
 use Rattle.mx_office.proofs.CommandLemmas.{nothing, whole, purse_told, inbox_decides, no_message_decides, discard_decides, nothing_handled_decides, handle_decides, abort_decides, start_refused, start_decides, redeem_repeated, redeem_refuses, redeem_made}
@@ -45,7 +49,7 @@ use Rattle.mx_office.proofs.MoneyLemmas.{float_there, grant_decides, collect_dec
 
 -- what is done leaves a World
 abbrev Stays : Deed World → Type 0
-Stays to = IsWorld (put_sent to.state to.sent)
+Stays to = IsWorld (world_after to)
 
 -- what a decision leads to is one
 decided : (w : World) (to : Deed World) (d : Decided) → Decides w to d → Stays to
@@ -113,6 +117,15 @@ load_stays w m p amount reference small named is = idle_stays w (idle_load w m p
     load.member load.there now _ is (ap (from_row None (λ (r : Row). fmap.get r.loads reference)) load.at ∙ load.fresh) load.enough named small
     (ap (λ o. or_refused o nothing) load.free) (sym (ap (λ o. unless_refused o q now) load.free)) refl refl))
 
+archive_stays : (w : World) (p : Name) → IsWorld w → Stays (archive w p)
+archive_stays w p is = refused_stays w (archive_refusal w p) _ is (λ e. rw e (archived_stays w p is))
+
+clear_stays : (w : World) (p : Name) (set : Entries) → IsLogValue set → IsWorld w → Stays (clear w p set)
+clear_stays w p set valid is = refused_stays w (clear_refusal w p set) _ is (λ e.
+    let found = none_refused _ _ _ e in
+    let may = (none_refused _ _ _ found.1).0 in
+    rw e (put_stays w p (Clear set) valid (clear_means w p set (grind (arith, may))) is))
+
 -- ---- the commands of holders
 
 -- a purse that isn't the holder's is refused
@@ -124,7 +137,7 @@ own_case w h p f (Some a) own is rest =
 
 -- a start, by its guards, its status and its details
 start_case : (w : World) (h p : Name) (q : State) (f : Holding → Deed Holding) (o : Option StartRefusal) (status : Status) (details : Details) (sent : Details → Option (Name × Message))
-    → ((a : Holding) → a.purse ≡ q → f a ≡ unless a (option_map refusal_of_start o) (record { state = with_aborted a (started q status); reply = reply.Started details; sent = sent details }))
+    → ((a : Holding) → a.purse ≡ q → f a ≡ unless a (option_map refusal_of_start o) (record { state = with_aborted a (started q status); reply = reply.Started details; sent = sent details; result = None }))
     → (IfSome (details_of status) IsDetails → IsSent (sent details)) → IsWorld w → own_purse w h p ≡ Some q → (o ≡ None → IsPurse (started q status)) → Stays (on_own w h p f)
 start_case w h p q f (Some r) status details sent f_is sent_is is e purse =
     decided w (on_own w h p f) (record { reply = reply.Refused (refusal_of_start r); edits = [] }) (start_refused w h p q f (Some r) status details sent f_is sent_is _ is e r refl refl refl)
@@ -186,6 +199,10 @@ asks_stays w h (Discard p n) valid is = own_case w h p (discard n) _ refl is (λ
 asks_stays w h (Abort p) valid is = own_case w h p abort _ refl is (λ q e.
     let now : State = aborted q in
     decided w (on_own w h p abort) (record { reply = reply.Aborted (is_some (pending q.status)); edits = purse_edits now (abort_line now (pending q.status)) None }) (abort_decides w h p q now _ is e refl refl refl))
+asks_stays w h (ReadLog p place) valid is = own_case w h p (read_log place) _ refl is (λ q e.
+    let entry = read_entry q place in
+    let now : State = aborted q in
+    decided w (on_own w h p (read_log place)) (record { reply = reply.Read entry; edits = read_edits now (abort_line now (pending q.status)) (not_kept w p entry) }) (read_decides w h p q place _ is e entry refl refl refl))
 asks_stays w h (Redeem p amount reference) valid is = own_case w h p (redeem amount reference) _ refl is (λ q e. redeem_case w h p amount reference q _ _ refl refl valid.1 valid.2 is e)
 asks_stays w h (Inbox p) valid is = own_case w h p inbox _ refl is (λ q e.
     decided w (on_own w h p inbox) (record { reply = reply.Inbox (inbox_of w p); edits = [] }) (inbox_decides w h p _ is (ap is_none e) refl refl))
@@ -196,6 +213,8 @@ asks_stays w h c valid is = is
 base_stays : (w : World) (caller : Caller) (c : Command) → IsCommand c → IsWorld w → Stays (base w caller c)
 base_stays w Operator (NewMember m t) valid is = new_member_stays w m t valid.0 valid.1 is
 base_stays w Operator (Grant m amount) valid is = grant_stays w m amount is
+base_stays w Operator (Archive p) valid is = archive_stays w p is
+base_stays w Operator (ClearLog p set) valid is = clear_stays w p set valid.1 is
 base_stays w (Clerk m) (NewHolder h t) valid is = new_holder_stays w m h t valid.0 valid.1 is
 base_stays w (Clerk m) (NewPurse p h) valid is = issued_stays w m p h valid.0 is
 base_stays w (Clerk m) (Load p amount reference) valid is = load_stays w m p amount reference valid.1 valid.2 is

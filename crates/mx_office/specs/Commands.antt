@@ -3,11 +3,12 @@ use Rattle.std.specs.Prelude.{◌≤◌, IsTrue}
 use Rattle.mx_pay.specs.Limits.{most_amount, most_number}
 use Rattle.mx_pay.specs.Names.{is_name_text}
 use Rattle.mx_pay.specs.Tokens.{IsToken}
+use Rattle.mx_pay.specs.Log.{IsLogValue}
 use Rattle.mx_book.specs.declared.values.Caller.{Caller}
 use Rattle.mx_book.specs.declared.values.Caller.TheVariants.{Operator, Clerk, Holder}
 use Rattle.mx_book.specs.World.{Name}
 use Rattle.mx_office.specs.declared.values.Command.{Command}
-use Rattle.mx_office.specs.declared.values.Command.TheVariants.{NewMember, Grant, NewHolder, NewPurse, Load, Collect, Purses, Show, StartFrom, StartTo, Handle, Discard, Abort, Redeem, Inbox}
+use Rattle.mx_office.specs.declared.values.Command.TheVariants.{NewMember, Grant, Archive, Clear, NewHolder, NewPurse, Load, Collect, Purses, Show, StartFrom, StartTo, Handle, Discard, Abort, ReadLog, Redeem, Inbox}
 use Rattle.mx_office.specs.Step.{Asked}
 
 -- a name has the text of one
@@ -20,10 +21,13 @@ IsCaller Operator = Unit {0}
 IsCaller (Clerk member) = IsNamed member
 IsCaller (Holder holder) = IsNamed holder
 
--- the names of a command are names, its amount and its number are within their limits, and its token has its bytes
+-- the names of a command are names, its amount and its number are within their limits, its token has its bytes, and
+-- its details are those of a log
 abbrev pub IsCommand : Command → Type 0
 IsCommand (NewMember member token) = IsNamed member × IsToken token
 IsCommand (Grant member amount) = IsNamed member × (amount ≤ most_amount)
+IsCommand (Archive purse) = IsNamed purse
+IsCommand (Clear purse set) = IsNamed purse × IsLogValue set
 IsCommand (NewHolder holder token) = IsNamed holder × IsToken token
 IsCommand (NewPurse purse holder) = IsNamed purse × IsNamed holder
 IsCommand (Load purse amount reference) = IsNamed purse × (amount ≤ most_amount) × IsNamed reference
@@ -35,6 +39,7 @@ IsCommand (StartTo purse peer value seq) = IsNamed purse × IsNamed peer × (val
 IsCommand (Handle purse number) = IsNamed purse × (number ≤ most_number)
 IsCommand (Discard purse number) = IsNamed purse × (number ≤ most_number)
 IsCommand (Abort purse) = IsNamed purse
+IsCommand (ReadLog purse place) = IsNamed purse
 IsCommand (Redeem purse amount reference) = IsNamed purse × (amount ≤ most_amount) × IsNamed reference
 IsCommand (Inbox purse) = IsNamed purse
 

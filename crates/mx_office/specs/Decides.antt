@@ -2,10 +2,11 @@
 use Rattle.std.specs.Prelude.{◌≡◌, ℕ, ◌-◌, Bool, if◌then◌else◌, List, [], ◌∷◌, ◌++◌, length, Option, Some, None, map, option_map, unwrap_or}
 use Rattle.std.specs.FinMap as fmap
 use Rattle.mx_pay.specs.Names.{is_name}
+use Rattle.mx_pay.specs.Details.{Details}
 use Rattle.mx_purse.specs.State.{State}
 use Rattle.mx_purse.specs.declared.message.Message.{Message}
 use Rattle.mx_book.specs.declared.edits.Edit.{Edit}
-use Rattle.mx_book.specs.declared.edits.Edit.TheVariants.{SetMember, SetPurse, AddLine, AddMessage, AddLoad, AddRedemption}
+use Rattle.mx_book.specs.declared.edits.Edit.TheVariants.{SetMember, SetPurse, AddLine, AddMessage, AddLoad, AddRedemption, AddTray}
 use Rattle.mx_book.specs.declared.values.Line.{Line}
 use Rattle.mx_book.specs.declared.values.LineKind.TheVariants as kind
 use Rattle.mx_book.specs.declared.values.MemberRow.{MemberRow}
@@ -13,13 +14,13 @@ use Rattle.mx_book.specs.World.{World, Name, is_of, is_of_member, has_room}
 use Rattle.mx_book.specs.Reads.{of_purse, purses_of}
 use Rattle.mx_book.specs.Edits.{Fits, all_edited}
 use Rattle.mx_office.specs.declared.values.Decided.{Decided}
-use Rattle.mx_office.specs.Step.{Deed, put_sent, listed, money_line}
+use Rattle.mx_office.specs.Step.{Deed, world_after, is_kept, listed, money_line}
 
--- the reply of what is done, and edits that fit the World and lead to what is done, with the message put
+-- the reply of what is done, and edits that fit the World and lead to what is done, with what is sent
 pub record Decides (w : World) (to : Deed World) (d : Decided) : Type 0 where
   pub reply : d.reply ≡ to.reply
   pub fits : Fits w d.edits
-  pub leads : all_edited w d.edits ≡ put_sent to.state to.sent
+  pub leads : all_edited w d.edits ≡ world_after to
 
 -- how many purses a holder of a member has, and nothing where the member has no such holder
 abbrev pub purse_count : World → Name → Name → Option ℕ
@@ -50,6 +51,16 @@ put_edits (Some m) = AddMessage m.0 m.1 ∷ []
 -- the edits for a purse as it is now, its new line, and a message that finds a place
 abbrev pub purse_edits : State → Option Line → Option (Name × Message) → List Edit
 purse_edits q line m = purse_and_lines q (listed line) ++ put_edits m
+
+-- an entry of a purse's log that was read, where it isn't kept as a result yet
+abbrev pub not_kept : World → Name → Option Details → Option Details
+not_kept w p None = None
+not_kept w p (Some d) = if is_kept w (p, d) then None else Some d
+
+-- the edits for a purse as it is now, its new line, and a result that isn't kept yet
+abbrev pub read_edits : State → Option Line → Option Details → List Edit
+read_edits q line None = purse_and_lines q (listed line)
+read_edits q line (Some d) = purse_and_lines q (listed line) ++ AddTray q.name d ∷ []
 
 -- how much a member was granted, and nothing where there is no such member
 abbrev pub granted_to : World → Name → ℕ

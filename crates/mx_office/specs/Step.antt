@@ -1,15 +1,17 @@
 -- What a command does to the World, and what is answered.
-use Rattle.std.specs.Prelude.{ℕ, ◌+◌, ◌-◌, ◌==◌, nat_lt, nat_le, unwrap_or, option_map, option_and_then, not, Bool, if◌then◌else◌, List, [], ◌∷◌, ◌++◌, length, Option, Some, None, is_some, is_none}
+use Rattle.std.specs.Prelude.{ℕ, ◌+◌, ◌-◌, ◌==◌, ◌&&◌, ◌||◌, nat_lt, nat_le, unwrap_or, option_map, option_and_then, not, Bool, if◌then◌else◌, List, [], ◌∷◌, ◌++◌, length, Option, Some, None, is_some, is_none}
 use Rattle.mx_pay.specs.Limits.{most_number}
 use Rattle.mx_book.specs.Limits.{most_purses}
 use Rattle.std.specs.Option.{option_map_or}
+use Rattle.std.specs.List.{list_all}
 use Rattle.std.specs.FinMap as fmap
 use Rattle.mx_pay.specs.Names.{is_name}
 use Rattle.mx_pay.specs.Details.{Details}
+use Rattle.mx_pay.specs.Log.{Entries, log_len, logged}
 use Rattle.mx_purse.specs.State.{State}
 use Rattle.mx_purse.specs.declared.status.Status.TheVariants.{Epr, Epv}
 use Rattle.mx_purse.specs.declared.message.Message.{Message}
-use Rattle.mx_purse.specs.declared.message.Message.TheVariants.{Req}
+use Rattle.mx_purse.specs.declared.message.Message.TheVariants as message
 use Rattle.mx_purse.specs.declared.message.Handled.{Handled}
 use Rattle.mx_purse.specs.declared.message.Handled.TheVariants as took
 use Rattle.mx_purse.specs.declared.refusals.StartRefusal.{StartRefusal}
@@ -18,7 +20,7 @@ use Rattle.mx_purse.specs.declared.refusals.LoadRefusal.{LoadRefusal}
 use Rattle.mx_purse.specs.declared.refusals.LoadRefusal.TheVariants as no_load
 use Rattle.mx_purse.specs.declared.refusals.RedeemRefusal.{RedeemRefusal}
 use Rattle.mx_purse.specs.declared.refusals.RedeemRefusal.TheVariants as no_redeem
-use Rattle.mx_purse.specs.Operations.{pending, aborted, start_from_refusal, start_to_refusal, from_details, to_details, started, handled, after_message, sent_for, load_refusal, loaded, redeem_refusal, redeemed}
+use Rattle.mx_purse.specs.Operations.{pending, aborted, start_from_refusal, start_to_refusal, from_details, to_details, started, handled, after_message, sent_for, read_entry, load_refusal, loaded, redeem_refusal, redeemed}
 use Rattle.mx_book.specs.declared.values.Caller.{Caller}
 use Rattle.mx_book.specs.declared.values.Caller.TheVariants.{Operator, Clerk, Holder}
 use Rattle.mx_book.specs.declared.values.Line.{Line}
@@ -26,28 +28,30 @@ use Rattle.mx_book.specs.declared.values.LineKind.{LineKind}
 use Rattle.mx_book.specs.declared.values.LineKind.TheVariants as kind
 use Rattle.mx_book.specs.declared.values.MemberRow.{MemberRow}
 use Rattle.mx_book.specs.declared.values.Note.TheVariants as note
-use Rattle.mx_book.specs.World.{World, Row, Holding, Name, Token, is_of, is_of_member, set_row, change_row, change_holding, all_collected, new_row, put}
+use Rattle.mx_book.specs.World.{World, Row, Holding, Name, Token, is_of, is_of_member, set_row, change_row, change_holding, all_collected, with_archived, new_row, put}
 use Rattle.mx_book.specs.Conditions.{all_granted}
-use Rattle.mx_book.specs.Reads.{who_of, purses_of, uncollected_of}
+use Rattle.mx_book.specs.Reads.{who_of, purses_of, is_archived, tray_of, uncollected_of}
 use Rattle.mx_office.specs.declared.values.Command.{Command}
-use Rattle.mx_office.specs.declared.values.Command.TheVariants.{NewMember, Grant, NewHolder, NewPurse, Load, Collect, Purses, Show, StartFrom, StartTo, Handle, Discard, Abort, Redeem, Inbox}
+use Rattle.mx_office.specs.declared.values.Command.TheVariants.{NewMember, Grant, Archive, Clear, NewHolder, NewPurse, Load, Collect, Purses, Show, StartFrom, StartTo, Handle, Discard, Abort, ReadLog, Redeem, Inbox}
 use Rattle.mx_office.specs.declared.values.Refusal.{Refusal}
-use Rattle.mx_office.specs.declared.values.Refusal.TheVariants.{NotForCaller, NoSuchPurse, NoSuchHolder, NoSuchMember, NoSuchMessage, NameTaken, TokenTaken, TooManyPurses, SamePurse, NotEnough, LogFull, Worn, RefReused, FloatTooSmall, FloatFull, GrantTooLarge, OverCap}
+use Rattle.mx_office.specs.declared.values.Refusal.TheVariants.{NotForCaller, NoSuchPurse, NoSuchHolder, NoSuchMember, NoSuchMessage, NameTaken, TokenTaken, TooManyPurses, SamePurse, NotEnough, LogFull, Worn, RefReused, FloatTooSmall, FloatFull, GrantTooLarge, OverCap, NotArchived}
 use Rattle.mx_office.specs.declared.values.Reply.{Reply}
 use Rattle.mx_office.specs.declared.values.Reply.TheVariants as reply
 
 -- ---- what a command comes to
 
--- what stands after it, the reply, and a message that is sent, with the purse to which it is sent. What stands is
--- a holder's own of one purse, or of each of the holder's purses, or the World
+-- what stands after it, the reply, a message that is sent, with the purse to which it is sent, and a result of read
+-- log that is sent, with the purse whose log it is. What stands is a holder's own of one purse, or of each of the
+-- holder's purses, or the World
 pub record Deed (S : Type 0) : Type 0 where
   pub state : S
   pub reply : Reply
   pub sent : Option (Name × Message)
+  pub result : Option (Name × Details)
 
 -- nothing is sent
 abbrev pub tell : {S : Type 0} → S → Reply → Deed S
-tell s r = record { state = s; reply = r; sent = None }
+tell s r = record { state = s; reply = r; sent = None; result = None }
 
 -- nothing changes, and this is refused
 abbrev pub refuse : {S : Type 0} → S → Refusal → Deed S
@@ -145,14 +149,14 @@ unfoldable pub start_to : Name → ℕ → ℕ → Holding → Deed Holding
 start_to peer value seq a =
     let d = to_details a.purse peer value seq in
     unless a (option_map refusal_of_start (start_to_refusal a.purse peer))
-    (record { state = with_aborted a (started a.purse (Epv d)); reply = reply.Started d; sent = Some (peer, Req d) })
+    (record { state = with_aborted a (started a.purse (Epv d)); reply = reply.Started d; sent = Some (peer, message.Req d); result = None })
 
 -- handle: the message of that number, which stays where it is
 abbrev pub handle_message : Holding → Message → Deed Holding
 handle_message a m =
     let h = handled a.purse m in
     let q = after_message a.purse h in
-    record { state = with_purse a q (message_line q (pending a.purse.status) h); reply = reply.Handled h; sent = sent_for h }
+    record { state = with_purse a q (message_line q (pending a.purse.status) h); reply = reply.Handled h; sent = sent_for h; result = None }
 
 unfoldable pub handle : ℕ → Holding → Deed Holding
 handle number a = on_found a NoSuchMessage (fmap.get a.inbox number) (handle_message a)
@@ -164,6 +168,12 @@ discard number a = on_found a NoSuchMessage (fmap.get a.inbox number) (λ m. tel
 -- abort, and whether something was logged
 unfoldable pub abort : Holding → Deed Holding
 abort a = tell (with_aborted a (aborted a.purse)) (reply.Aborted (is_some (pending a.purse.status)))
+
+-- read-log: readLog, whose result is sent to the archive
+unfoldable pub read_log : ℕ → Holding → Deed Holding
+read_log place a =
+    let entry = read_entry a.purse place in
+    record { state = with_aborted a (aborted a.purse); reply = reply.Read entry; sent = None; result = option_map (λ d. (a.purse.name, d)) entry }
 
 -- a holding with a redemption: the purse as it is now, the line of its abort and its own, and the reference
 abbrev pub with_redemption : Holding → State → ℕ → Name → Holding
@@ -200,6 +210,7 @@ asks (StartTo p peer value seq) = Asks.OnPurse p (start_to peer value seq)
 asks (Handle p number) = Asks.OnPurse p (handle number)
 asks (Discard p number) = Asks.OnPurse p (discard number)
 asks (Abort p) = Asks.OnPurse p abort
+asks (ReadLog p place) = Asks.OnPurse p (read_log place)
 asks (Redeem p amount reference) = Asks.OnPurse p (redeem amount reference)
 asks (Inbox p) = Asks.OnPurse p inbox
 asks command = Asks.NotAHolders
@@ -213,7 +224,7 @@ own_holding w h p = option_and_then (holding_for h) (fmap.get w.rows p)
 
 -- a deed on one holding, where what it leaves is put in its place
 abbrev pub in_place : {S : Type 0} → (Holding → S) → Deed Holding → Deed S
-in_place set d = record { state = set d.state; reply = d.reply; sent = d.sent }
+in_place set d = record { state = set d.state; reply = d.reply; sent = d.sent; result = d.result }
 
 -- a rule on a purse of the holder; another's purse and a purse that isn't there are refused alike
 abbrev pub on_own : World → Name → Name → (Holding → Deed Holding) → Deed World
@@ -316,12 +327,32 @@ collect_refusal w m = first_refusal ((is_none (fmap.get w.members m), NoSuchMemb
 abbrev pub collect : World → Name → Deed World
 collect w m = unless w (collect_refusal w m) (tell (change_member (all_collected w m) m (λ row. record row { float = row.float + uncollected_of w m })) (reply.Collected (uncollected_of w m)))
 
+-- archive, by the operator: what lies in the tray of a purse goes to the archive
+abbrev pub archive_refusal : World → Name → Option Refusal
+archive_refusal w p = first_refusal ((is_none (fmap.get w.rows p), NoSuchPurse) ∷ [])
+
+abbrev pub archive : World → Name → Deed World
+archive w p = unless w (archive_refusal w p) (tell (with_archived w p) (reply.Archived (log_len (tray_of w p))))
+
+-- whether a set of details may be cleared from the log of a purse: it isn't empty, and each of them is archived
+unfoldable pub may_clear : World → Name → Entries → Bool
+may_clear w p set = nat_lt 0 (log_len set) && list_all (is_archived w p) (logged set)
+
+-- clear, by the operator: a message that clears the log of a purse is sent
+abbrev pub clear_refusal : World → Name → Entries → Option Refusal
+clear_refusal w p set = first_refusal ((is_none (fmap.get w.rows p), NoSuchPurse) ∷ (not (may_clear w p set), NotArchived) ∷ [])
+
+abbrev pub clear : World → Name → Entries → Deed World
+clear w p set = unless w (clear_refusal w p set) (record { state = w; reply = reply.Sent; sent = Some (p, message.Clear set); result = None })
+
 -- ---- the step
 
--- each command of each caller, before a message that it sends is put; a command of another class is refused
+-- each command of each caller, before what it sends is put; a command of another class is refused
 abbrev pub base : World → Caller → Command → Deed World
 base w Operator (NewMember m t) = new_member w m t
 base w Operator (Grant m amount) = grant w m amount
+base w Operator (Archive p) = archive w p
+base w Operator (Clear p set) = clear w p set
 base w (Clerk m) (NewHolder h t) = new_holder w m h t
 base w (Clerk m) (NewPurse p h) = new_purse w m p h
 base w (Clerk m) (Load p amount reference) = load_purse w m p amount reference
@@ -334,13 +365,26 @@ abbrev pub put_sent : World → Option (Name × Message) → World
 put_sent w None = w
 put_sent w (Some m) = put w m.0 m.1
 
+-- whether a result of read log of a purse lies in the tray or is archived
+abbrev pub is_kept : World → Name × Details → Bool
+is_kept w result = fmap.contains_key w.tray result || fmap.contains_key w.archive result
+
+-- a World with a result that was sent, where one was: it lies in the tray, unless it lies there or is archived
+abbrev pub with_result : World → Option (Name × Details) → World
+with_result w None = w
+with_result w (Some result) = if is_kept w result then w else record w { tray = fmap.insert w.tray result tt }
+
+-- what stands after a deed, with what it sends
+abbrev pub world_after : Deed World → World
+world_after d = with_result (put_sent d.state d.sent) d.result
+
 -- the World after a command of a caller, and the reply
 pub record Answered : Type 0 where
   pub world : World
   pub reply : Reply
 
 unfoldable pub step : World → Caller → Command → Answered
-step w caller command = let d = base w caller command in record { world = put_sent d.state d.sent; reply = d.reply }
+step w caller command = let d = base w caller command in record { world = world_after d; reply = d.reply }
 
 -- ---- one after another
 

@@ -3,7 +3,7 @@ ghost use Rattle.std.specs.Prelude.{◌≡◌, ◌<◌, ◌==◌, ◌∷◌, ◌
 ghost use Rattle.mx_book.specs.declared.edits.Edit.TheVariants.{AddLine};
 ghost use Rattle.mx_purse.specs.Operations.{sent_for};
 ghost use Rattle.mx_office.specs.Step.{abort_line, listed, message_line, money_line, payment_line, refusal_of_load, refusal_of_redeem, refusal_of_start};
-ghost use Rattle.mx_office.specs.Decides.{purse_edits, redeem_edits};
+ghost use Rattle.mx_office.specs.Decides.{purse_edits, put_edits, read_edits, redeem_edits};
 
 use crate::values::{Decided, Refusal, Reply};
 use mx_book::edits::{Edit, Edits};
@@ -112,11 +112,44 @@ pub(crate) fn make_purse(
 {
     make(decided, reply, &Edit::SetPurse { purse: *purse });
     add_line(&mut decided.edits, purse.name(), line);
-    if let Some((peer, message)) = message {
-        decided.edits.push(&Edit::AddMessage {
-            purse: peer,
-            message,
-        });
+    add_message(&mut decided.edits, message);
+}
+
+/// The command is answered so, by the edit for a message that finds a place.
+pub(crate) fn make_message(decided: &mut Decided, reply: Reply, message: Option<(Name, Message)>)
+    ensures reply { decided.new.reply ≡ reply }
+    ensures edits { decided.new.edits ≡ put_edits message }
+{
+    tell(decided, reply);
+    add_message(&mut decided.edits, message);
+}
+
+/// The command is answered so, by the edits for a purse as it is now, its new line, and the result that comes into the
+/// tray, where one does.
+pub(crate) fn make_read(
+    decided: &mut Decided,
+    reply: Reply,
+    purse: &Purse,
+    line: Option<Line>,
+    new: Option<PayDetails>,
+)
+    ensures reply { decided.new.reply ≡ reply }
+    ensures edits { decided.new.edits ≡ read_edits purse.now line new }
+{
+    make_purse(decided, reply, purse, line, None);
+    if let Some(details) = new {
+        let purse = purse.name();
+        decided.edits.push(&Edit::AddTray { purse, details });
+    }
+}
+
+/// Adds the edit for a message, where there is one.
+fn add_message(edits: &mut Edits, message: Option<(Name, Message)>)
+    requires { length edits.old < 4 }
+    ensures { edits.new ≡ edits.old ++ put_edits message }
+{
+    if let Some((purse, message)) = message {
+        edits.push(&Edit::AddMessage { purse, message });
     }
 }
 

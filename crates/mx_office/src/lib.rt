@@ -1,6 +1,7 @@
 //! The office: what each caller's command does, over any book.
 #![tactic(auto)]
 
+mod archive;
 pub mod balance;
 mod decisions;
 pub mod isolation;

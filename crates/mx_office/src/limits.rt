@@ -1,12 +1,13 @@
 //! What callers and commands keep by their types, said for what follows.
 ghost use Rattle.std.specs.Prelude.{◌≤◌};
 ghost use Rattle.mx_pay.specs.Limits.{most_amount, most_number};
+ghost use Rattle.mx_pay.specs.Log.{IsLogValue};
 ghost use Rattle.mx_pay.specs.Tokens.{IsToken};
 ghost use Rattle.mx_office.specs.Commands.{IsCaller, IsCommand, IsNamed};
 
 use crate::values::Command;
 use mx_book::values::Caller;
-use mx_pay::{Amount, Name, Seq, Token};
+use mx_pay::{Amount, Log, Name, Seq, Token};
 
 /// A name is one.
 fn is_name(name: Name)
@@ -31,6 +32,15 @@ fn is_new(name: Name, token: Token)
 {
     is_name(name);
     let _bytes = token.as_bytes();
+}
+
+/// A name is one, and details are those of a log.
+fn is_log(name: Name, details: &Log)
+    ensures name { IsNamed name }
+    ensures details { IsLogValue details.now }
+{
+    is_name(name);
+    let _entries = details.len();
 }
 
 /// A name is one, and an amount is within its limit.
@@ -79,15 +89,19 @@ pub(crate) fn is_caller(caller: &Caller)
     }
 }
 
-/// The names of a command are names, its amount and its number are within their limits, and its token has its bytes.
+/// The names of a command are names, its amount and its number are within their limits, its token has its bytes, and
+/// its details are those of a log.
 pub(crate) fn is_command(command: &Command)
     ensures { IsCommand command.now }
 {
     match *command {
         Command::Collect | Command::Purses => {}
-        Command::Show { purse } | Command::Abort { purse } | Command::Inbox { purse } => {
-            is_name(purse);
-        }
+        Command::Archive { purse }
+        | Command::Show { purse }
+        | Command::Abort { purse }
+        | Command::ReadLog { purse, .. }
+        | Command::Inbox { purse } => is_name(purse),
+        Command::Clear { purse, ref details } => is_log(purse, details),
         Command::NewMember { member, token } => is_new(member, token),
         Command::NewHolder { holder, token } => is_new(holder, token),
         Command::NewPurse { purse, holder } => are_names(purse, holder),

@@ -3,23 +3,25 @@ ghost use Rattle.std.specs.Borrow.{sem};
 ghost use Rattle.std.specs.Prelude.{◌≡◌, ◌≤◌, ◌⊎◌, [], length, IfOk, IfErr, IsTrue, OnOk, OnErr};
 ghost use Rattle.mx_book.specs.Edits.{Fits, all_edited};
 ghost use Rattle.mx_book.specs.Keeps.{Keeps};
-ghost use Rattle.mx_book.specs.World.{World};
+ghost use Rattle.mx_book.specs.World.{World, Name as HolderName};
 ghost use Rattle.mx_book.specs.declared.contract.StoreFault.TheVariants.{Memory};
 ghost use Rattle.mx_office.specs.declared.values.Refusal.{Refusal};
 ghost use Rattle.mx_office.specs.declared.values.Reply.TheVariants.{Refused};
 ghost use Rattle.mx_office.specs.Commands.{IsAsked, IsCommand};
 ghost use Rattle.mx_office.specs.Decides.{Decides};
 ghost use Rattle.mx_office.specs.Faults.{MayFail, MayNotDecide, is_read};
+ghost use Rattle.mx_office.specs.Isolation.{cut, for_holder, local, view_of};
 ghost use Rattle.mx_office.specs.Lends.{LendsBook};
 ghost use Rattle.mx_office.specs.Reachable.{IsReachable, StandsBalanced};
 ghost use Rattle.mx_office.specs.Run.{Leads};
 ghost use Rattle.mx_office.specs.Step.{base, step};
 
+use crate::archive::{archive, clear};
 use crate::decisions::refuse;
 use crate::limits::{is_caller, is_command};
 use crate::members::{new_holder, new_member, new_purse};
 use crate::money::{collect, grant, load};
-use crate::purses::{abort, discard, handle, inbox, purses, redeem, show, start_from, start_to};
+use crate::purses::{abort, discard, handle, inbox, purses, read_log, redeem, show, start_from, start_to};
 use crate::values::{Command, Decided, Outcome, Refusal, Reply};
 use mx_book::contract::{Book, StoreFault};
 use mx_book::values::Caller;
@@ -124,6 +126,10 @@ impl<B: Book> Office<B> {
     /// Answers a command of a caller: decides, and makes the edits. After a fault and after a refusal nothing is
     /// changed, whatever the book holds. A fault is one of the book's reads, or `Memory` where the command takes some: it
     /// reads a list, or writes and isn't refused. `asked` says the same as at `decide`.
+    ///
+    /// It keeps holders apart: after an answer that succeeds, and for every holder, what is the holder's own of each of
+    /// the holder's purses is what the holder's view of that one command makes of what it was (`accounts`), and the reply,
+    /// where it is given to that holder, is the one that this view gives (`told`). What a view is stands at `isolation`.
     pub fn answer(
         &mut self,
         alloc: Global,
@@ -133,6 +139,8 @@ impl<B: Book> Office<B> {
         ensures later { B.doubt self.old.book ≤ B.doubt self.new.book }
         ensures ok { (w : World) → B.doubt self.new.book ≡ 0 → B.spells (B.rows self.old.book) w → OnOk result (B.spells (B.rows self.new.book) (step w caller command.now).world) }
         ensures reply { (w : World) → B.doubt self.new.book ≡ 0 → B.spells (B.rows self.old.book) w → IfOk result (λ r. r ≡ (step w caller command.now).reply) }
+        ensures accounts { (w v : World) → B.doubt self.new.book ≡ 0 → B.spells (B.rows self.old.book) w → B.spells (B.rows self.new.book) v → OnOk result ((h : HolderName) → cut v h ≡ (local (cut w h) (view_of w h caller command.now)).end) }
+        ensures told { (w : World) → B.doubt self.new.book ≡ 0 → B.spells (B.rows self.old.book) w → IfOk result (λ r. (h : HolderName) → for_holder h caller r ≡ (local (cut w h) (view_of w h caller command.now)).replies) }
         ensures refused { B.doubt self.new.book ≡ 0 → IfOk result (λ r. (refusal : Refusal) → r ≡ Refused refusal → B.rows self.new.book ≡ B.rows self.old.book) }
         ensures err { B.doubt self.new.book ≡ 0 → OnErr result (B.rows self.new.book ≡ B.rows self.old.book) }
         ensures fault { IfErr result (λ e. (e ≡ Memory) ⊎ B.fails e) }
@@ -188,6 +196,8 @@ fn decide_operator<B: Book>(
     match *command {
         Command::NewMember { member, token } => new_member(book, alloc, member, token, decided),
         Command::Grant { member, amount } => grant(book, alloc, member, amount, decided),
+        Command::Archive { purse } => archive(book, alloc, purse, decided),
+        Command::Clear { purse, ref details } => clear(book, alloc, purse, details, decided),
         _ => {
             refuse(decided, Refusal::NotForCaller);
             Ok(())
@@ -259,6 +269,7 @@ fn decide_holder<B: Book>(
         Command::Handle { purse, number } => handle(book, alloc, holder, purse, number, decided),
         Command::Discard { purse, number } => discard(book, alloc, holder, purse, number, decided),
         Command::Abort { purse } => abort(book, alloc, holder, purse, decided),
+        Command::ReadLog { purse, place } => read_log(book, alloc, holder, purse, place, decided),
         Command::Redeem {
             purse,
             amount,

@@ -1,16 +1,16 @@
 //! The commands of holders.
-ghost use Rattle.std.specs.Prelude.{◌≡◌, ◌⊎◌, [], IfOk, OnOk, IfErr};
+ghost use Rattle.std.specs.Prelude.{◌≡◌, ◌⊎◌, [], IfOk, OnOk, IfErr, option_map};
 ghost use Rattle.mx_book.specs.declared.contract.StoreFault.TheVariants.{Memory};
 ghost use Rattle.mx_book.specs.Keeps.{Keeps};
 ghost use Rattle.mx_book.specs.World.{World};
 ghost use Rattle.mx_book.specs.Reads.{purses_of};
 ghost use Rattle.mx_office.specs.Commands.{IsCommand};
-ghost use Rattle.mx_office.specs.Decides.{Decides, finds_place, own_purse, placed};
-ghost use Rattle.mx_office.specs.Step.{abort, discard, handle, inbox, on_own, redeem, show, start_from, start_to, tell};
+ghost use Rattle.mx_office.specs.Decides.{Decides, finds_place, not_kept, own_purse, placed};
+ghost use Rattle.mx_office.specs.Step.{abort, discard, handle, inbox, on_own, read_log, redeem, show, start_from, start_to, tell};
 ghost use Rattle.mx_office.specs.declared.values.Command.{Command};
 
 use crate::decisions::{
-    abort_line, again, make, make_purse, make_redemption, message_line, redeem_refusal, refuse,
+    abort_line, again, make, make_purse, make_read, make_redemption, message_line, redeem_refusal, refuse,
     sent_for, start_refusal, tell,
 };
 use crate::values::{Decided, Messages, Names, Refusal, Reply};
@@ -19,7 +19,7 @@ use mx_book::edits::Edit;
 use mx_book::values::MOST_MESSAGES;
 use mx_pay::names::same_name;
 use mx_pay::numbers::MOST_NUMBER;
-use mx_pay::{Amount, Name, Seq};
+use mx_pay::{Amount, Name, PayDetails, Seq};
 use mx_purse::{Message, Purse};
 use std::alloc::Global;
 
@@ -53,7 +53,7 @@ fn finds_place<B: Book>(book: &mut B, alloc: Global, purse: Name) -> Result<bool
 }
 
 /// A message that was sent, where it finds a place. Elsewhere it vanishes.
-fn placed<B: Book>(
+pub(crate) fn placed<B: Book>(
     book: &mut B,
     alloc: Global,
     sent: Option<(Name, Message)>,
@@ -283,6 +283,56 @@ pub(crate) fn abort<B: Book>(
         logged: logged.is_some(),
     };
     make_purse(decided, reply, &after, abort_line(&after, logged), None);
+    Ok(())
+}
+
+/// An entry of the log of the purse that was read, where it isn't kept as a result yet: where it is in neither the tray
+/// nor the archive.
+fn not_kept<B: Book>(
+    book: &mut B,
+    alloc: Global,
+    purse: Name,
+    entry: Option<&PayDetails>,
+) -> Result<Option<PayDetails>, StoreFault>
+    ensures keeps { Keeps B.doubt B.rows book.old book.new }
+    ensures value { (w : World) → B.doubt book.new ≡ 0 → B.spells (B.rows book.old) w → IfOk result (λ o. o ≡ not_kept w purse (option_map (λ d. d.now) entry.entry)) }
+    ensures fault { IfErr result B.fails }
+{
+    let Some(details) = entry else {
+        return Ok(None);
+    };
+    let laid = book.tray(alloc, purse)?;
+    if laid.has(details) {
+        return Ok(None);
+    }
+    if book.archived(alloc, purse, details)? {
+        return Ok(None);
+    }
+    Ok(Some(*details))
+}
+
+/// The entry at a place of the log of the purse, which is at rest then. What is read is sent to the archive.
+pub(crate) fn read_log<B: Book>(
+    book: &mut B,
+    alloc: Global,
+    holder: Name,
+    purse: Name,
+    place: u64,
+    decided: &mut Decided,
+) -> Result<(), StoreFault>
+    ensures keeps { Keeps B.doubt B.rows book.old book.new }
+    ensures decides { (w : World) → B.doubt book.new ≡ 0 → B.spells (B.rows book.old) w → OnOk result (Decides w (on_own w holder purse (read_log place)) decided.new) }
+    ensures fault { IfErr result B.fails }
+{
+    let Some(mut after) = own_purse(book, alloc, holder, purse)? else {
+        refuse(decided, Refusal::NoSuchPurse);
+        return Ok(());
+    };
+    let logged = after.pending();
+    let entry = after.read_log(place);
+    let new = not_kept(book, alloc, purse, entry.as_ref())?;
+    let line = abort_line(&after, logged);
+    make_read(decided, Reply::Read(entry), &after, line, new);
     Ok(())
 }
 

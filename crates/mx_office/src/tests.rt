@@ -1,9 +1,6 @@
 //! The office over a book in memory: commands with the replies to them, worked out by hand.
 mod faults;
 mod holders;
-mod limits;
-mod money;
-mod payments;
 mod scripts;
 mod words;
 mod worn;
@@ -113,6 +110,7 @@ fn refusals_in_words(rt: HostRuntime) {
         (Refusal::FloatFull, "float full"),
         (Refusal::GrantTooLarge, "grant too large"),
         (Refusal::OverCap, "over cap"),
+        (Refusal::NotArchived, "not archived"),
     ] {
         assert_eq!(rt; refusal.text(), words);
     }

@@ -3,7 +3,7 @@ ghost use Rattle.std.specs.Prelude.{◌≡◌, []};
 ghost use Rattle.mx_office.specs.Texts.{refusal_text};
 
 use mx_book::edits::Edits;
-use mx_pay::{Amount, Name, PayDetails, Seq, Token};
+use mx_pay::{Amount, Log, Name, PayDetails, Seq, Token};
 use mx_purse::{Handled, Message, Purse};
 use std::marker::Model;
 
@@ -23,6 +23,19 @@ pub enum Command {
         member: Name,
         /// How much.
         amount: Amount,
+    },
+    /// The operator archives what lies in the tray of a purse: the results of read log that were sent.
+    Archive {
+        /// The purse.
+        purse: Name,
+    },
+    /// The operator sends a purse a message that clears its exception log of these details, which have to be
+    /// archived for it.
+    Clear {
+        /// The purse.
+        purse: Name,
+        /// The details, which are to be its log in full.
+        details: Log,
     },
     /// A clerk adds a holder of its member.
     NewHolder {
@@ -98,6 +111,14 @@ pub enum Command {
         /// The purse.
         purse: Name,
     },
+    /// A holder reads the entry at a place of the exception log of a purse, whose payment is aborted first. What is
+    /// read is sent to the archive.
+    ReadLog {
+        /// The purse.
+        purse: Name,
+        /// The place, counted from 0.
+        place: u64,
+    },
     /// A holder redeems an amount of a purse. The same reference and amount again changes nothing.
     Redeem {
         /// The purse.
@@ -151,6 +172,8 @@ pub enum Refusal {
     GrantTooLarge,
     /// The balance of the purse would be above 10^15.
     OverCap,
+    /// The details to clear are none, or one of them isn't archived for the purse.
+    NotArchived,
 }
 
 impl Refusal {
@@ -176,6 +199,7 @@ impl Refusal {
             Refusal::FloatFull => "float full",
             Refusal::GrantTooLarge => "grant too large",
             Refusal::OverCap => "over cap",
+            Refusal::NotArchived => "not archived",
         }
     }
 }
@@ -261,6 +285,10 @@ pub enum Reply {
     Loaded,
     /// So much is collected.
     Collected(u128),
+    /// So many results went from the tray to the archive.
+    Archived(usize),
+    /// The message that clears a log is sent, and waits in the inbox or vanished.
+    Sent,
     /// These are the holder's purses.
     Purses(Names),
     /// This is the purse.
@@ -276,6 +304,8 @@ pub enum Reply {
         /// Whether a payment was logged.
         logged: bool,
     },
+    /// This entry was read, or none where the log has none at that place.
+    Read(Option<PayDetails>),
     /// The purse is redeemed, now or by an earlier redemption with that reference and amount.
     Redeemed,
     /// These messages lie in the inbox.

@@ -1,16 +1,22 @@
 -- What a body says, from its JSON value.
-use Rattle.std.proofs.Common.{◌≡◌, ℕ, List, Bool, true, false, refl, ap}
-use Rattle.std.specs.Prelude.{Option, Some, None, Result, Err, IfOk, if◌then◌else◌, option_and_then}
+use Rattle.std.proofs.Common.{◌≡◌, ℕ, List, [], ◌∷◌, Bool, true, false, refl, sym, ap}
+use Rattle.std.specs.Prelude.{Option, Some, None, Result, Err, IfSome, IfOk, if◌then◌else◌, option_and_then}
 use Rattle.std.specs.Str.{is_utf8, IsUtf8}
 use Rattle.std.proofs.lemmas.Str.{IsUtf8-from_is_utf8, is_utf8-from_IsUtf8}
 use Rattle.std.specs.Option.{ok_or}
 use Rattle.serde_json.specs.Data.{Data}
 use Rattle.serde_json.specs.Read.{read}
+use Rattle.mx_pay.specs.Limits.{most_entries}
+use Rattle.mx_pay.specs.Log.{Entries, IsLogValue, none_logged}
+use Rattle.mx_pay.specs.Codes.{code, entry_texts}
+use Rattle.mx_pay.specs.Reading.{entries_of}
+use Rattle.mx_pay.proofs.CodeLemmas.{found_in, valid_in, only_in, none_is}
+use Rattle.mx_pay.proofs.SameLemmas.{none_valid}
 use Rattle.mx_office.specs.declared.values.Command.{Command}
 use Rattle.mx_wire.specs.declared.bodies.WireFault.{WireFault}
 use Rattle.mx_wire.specs.declared.bodies.WireFault.TheVariants.{BadBody}
 use Rattle.mx_wire.specs.declared.routes.Route.{Route}
-use Rattle.mx_wire.specs.Bodies.{value_of, bare, bare_or, said, command_of}
+use Rattle.mx_wire.specs.Bodies.{log_of_code, value_of, bare, bare_or, said, command_of}
 
 pub value_of_text : (body : List ℕ) (d : Data) → IsUtf8 body → read body ≡ Some d → value_of body ≡ Some d
 value_of_text body d text reads =
@@ -53,3 +59,16 @@ ok_or_fault (Some c) r fault is bad = cc
 
 pub same_fault : (r : Result Command WireFault) (a b : WireFault) → r ≡ Err a → r ≡ Err b → a ≡ b
 same_fault r a b e f = cc
+
+-- ---- the log of a code text
+
+-- what reads the code texts of logs, and nothing else, reads a text as its log
+pub log_read : (t : List ℕ) (r : Option Entries) → IfSome r (λ log. t ≡ code log) → IfSome r IsLogValue → ((log : Entries) → IsLogValue log → t ≡ code log → r ≡ Some log) → r ≡ log_of_code t
+log_read [] r found valid only = only none_logged none_valid (sym (ap entry_texts none_is))
+log_read (b ∷ bs) r found valid only = by (entries_of most_entries (b ∷ bs) none_logged) r refl found valid only
+  where
+    by : (o r : Option Entries) → o ≡ entries_of most_entries (b ∷ bs) none_logged → IfSome r (λ log. b ∷ bs ≡ code log) → IfSome r IsLogValue
+        → ((log : Entries) → IsLogValue log → b ∷ bs ≡ code log → r ≡ Some log) → r ≡ o
+    by None None e found valid only = refl
+    by None (Some log) e found valid only = sym (only_in (b ∷ bs) None e (λ f. cc) log valid found)
+    by (Some log) r e found valid only = only log (valid_in (b ∷ bs) (Some log) e) (found_in (b ∷ bs) (Some log) e)

@@ -1,11 +1,13 @@
 -- What a body says: one JSON object with the keys that the route needs, each with a value of its kind and range.
 -- Other keys don't count, and of a key that stands twice the value that serde_json's map keeps does, the last.
-use Rattle.std.specs.Prelude.{ℕ, List, Bool, if◌then◌else◌, nat_le, Option, Some, None, is_none, option_and_then, option_map, codes}
+use Rattle.std.specs.Prelude.{ℕ, List, [], ◌∷◌, Bool, if◌then◌else◌, nat_le, Option, Some, None, is_none, option_and_then, option_map, codes}
 use Rattle.std.specs.Str.{is_utf8}
 use Rattle.serde_json.specs.Data.{Data}
 use Rattle.serde_json.specs.Read.{read}
 use Rattle.serde_json.specs.Find.{get, as_str, as_number, as_u64}
-use Rattle.mx_pay.specs.Limits.{most_amount, most_number}
+use Rattle.mx_pay.specs.Limits.{most_amount, most_number, most_entries}
+use Rattle.mx_pay.specs.Log.{Entries, none_logged}
+use Rattle.mx_pay.specs.Reading.{entries_of}
 use Rattle.mx_pay.specs.Tokens.{token_of}
 use Rattle.mx_office.specs.declared.values.Command.{Command}
 use Rattle.mx_office.specs.declared.values.Command.TheVariants as command
@@ -37,9 +39,19 @@ amount_at key d = option_and_then (at_most most_amount) (number_at key d)
 abbrev pub seq_at : List ℕ → Data → Option ℕ
 seq_at key d = option_and_then (at_most most_number) (number_at key d)
 
+-- the log that has a text as its code text: the empty one has the empty text
+abbrev pub log_of_code : List ℕ → Option Entries
+log_of_code [] = Some none_logged
+log_of_code (b ∷ bs) = entries_of most_entries (b ∷ bs) none_logged
+
+-- the log of that key
+abbrev pub log_at : List ℕ → Data → Option Entries
+log_at key d = option_and_then log_of_code (text_at key d)
+
 -- the command of a route that needs no body
 abbrev pub bare : Route → Option Command
 bare route.Collect = Some command.Collect
+bare (route.Archive p) = Some (command.Archive p)
 bare route.Purses = Some command.Purses
 bare (route.Show p) = Some (command.Show p)
 bare (route.Abort p) = Some (command.Abort p)
@@ -57,6 +69,7 @@ of_three a b c make = option_and_then (λ x. of_two b c (make x)) a
 abbrev pub said : Route → Data → Option Command
 said route.NewMember d = of_two (name_at (codes "member") d) (token_at (codes "token") d) command.NewMember
 said (route.Grant m) d = option_map (command.Grant m) (amount_at (codes "amount") d)
+said (route.Clear p) d = option_map (command.Clear p) (log_at (codes "details") d)
 said route.NewHolder d = of_two (name_at (codes "holder") d) (token_at (codes "token") d) command.NewHolder
 said route.NewPurse d = of_two (name_at (codes "purse") d) (name_at (codes "holder") d) command.NewPurse
 said (route.Load p) d = of_two (amount_at (codes "amount") d) (name_at (codes "ref") d) (command.Load p)
@@ -64,6 +77,7 @@ said (route.StartFrom p) d = of_three (name_at (codes "peer") d) (amount_at (cod
 said (route.StartTo p) d = of_three (name_at (codes "peer") d) (amount_at (codes "value") d) (seq_at (codes "seq") d) (command.StartTo p)
 said (route.Handle p) d = option_map (command.Handle p) (seq_at (codes "number") d)
 said (route.Discard p) d = option_map (command.Discard p) (seq_at (codes "number") d)
+said (route.ReadLog p) d = option_map (command.ReadLog p) (number_at (codes "place") d)
 said (route.Redeem p) d = of_two (amount_at (codes "amount") d) (name_at (codes "ref") d) (command.Redeem p)
 said _ d = None
 

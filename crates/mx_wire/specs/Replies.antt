@@ -1,6 +1,6 @@
 -- What is written for a reply (RFC 9110, section 15; RFC 9112, section 4): a head, and a body that is one JSON object
 -- with its keys in byte order.
-use Rattle.std.specs.Prelude.{ℕ, List, [], ◌∷◌, ◌++◌, length, map, Bool, true, false, codes, if◌then◌else◌}
+use Rattle.std.specs.Prelude.{ℕ, List, [], ◌∷◌, ◌++◌, length, map, Bool, true, false, codes, if◌then◌else◌, Option, Some, None}
 use Rattle.std.specs.Fmt.{decimal}
 use Rattle.mx_pay.specs.Codes.{code, entry_text}
 use Rattle.mx_pay.specs.Details.{Details}
@@ -94,6 +94,7 @@ fixed_parts (fixed.Refused r) = refusal_parts r
 fixed_parts fixed.Added = done (codes "added")
 fixed_parts fixed.Granted = done (codes "granted")
 fixed_parts fixed.Loaded = done (codes "loaded")
+fixed_parts fixed.Sent = done (codes "sent")
 fixed_parts fixed.ValueSent = done (codes "value-sent")
 fixed_parts fixed.Received = done (codes "received")
 fixed_parts fixed.Finished = done (codes "finished")
@@ -140,6 +141,18 @@ started_body d = codes "{\"details\":\"" ++ entry_text d ++ codes "\",\"done\":\
 unfoldable pub collected_body : ℕ → List ℕ
 collected_body sum = codes "{\"collected\":\"" ++ decimal sum ++ codes "\"}"
 
+-- the body of so many results that went to the archive
+unfoldable pub archived_body : ℕ → List ℕ
+archived_body count = codes "{\"archived\":" ++ decimal count ++ codes "}"
+
+-- an entry in quotes, or null where there is none, and the body of what was read of a log
+abbrev pub entry_or_null : Option Details → List ℕ
+entry_or_null None = codes "null"
+entry_or_null (Some d) = codes "\"" ++ entry_text d ++ codes "\""
+
+unfoldable pub entry_body : Option Details → List ℕ
+entry_body entry = codes "{\"done\":\"read\",\"entry\":" ++ entry_or_null entry ++ codes "}"
+
 -- a name in a list, and the body of a list of names
 abbrev pub quoted : List ℕ → List ℕ
 quoted name = codes "\"" ++ name ++ codes "\""
@@ -185,20 +198,25 @@ reply_parts reply.Added = fixed_parts fixed.Added
 reply_parts reply.Granted = fixed_parts fixed.Granted
 reply_parts reply.Loaded = fixed_parts fixed.Loaded
 reply_parts (reply.Collected sum) = response (codes "200 OK") (collected_body sum)
+reply_parts (reply.Archived count) = response (codes "200 OK") (archived_body count)
+reply_parts reply.Sent = fixed_parts fixed.Sent
 reply_parts (reply.Purses names) = response (codes "200 OK") (purses_body names)
 reply_parts (reply.Shown p) = response (codes "200 OK") (shown_body p)
 reply_parts (reply.Started d) = response (codes "200 OK") (started_body d)
 reply_parts (reply.Handled h) = fixed_parts (handled_fixed h)
 reply_parts reply.Discarded = fixed_parts fixed.Discarded
 reply_parts (reply.Aborted logged) = fixed_parts (if logged then fixed.AbortedLogged else fixed.Aborted)
+reply_parts (reply.Read entry) = response (codes "200 OK") (entry_body entry)
 reply_parts reply.Redeemed = fixed_parts fixed.Redeemed
 reply_parts (reply.Inbox messages) = response (codes "200 OK") (inbox_body messages)
 
 -- whether the response to a reply is made for it, which takes memory
 abbrev pub is_made : Reply → Bool
 is_made (reply.Collected sum) = true
+is_made (reply.Archived count) = true
 is_made (reply.Purses names) = true
 is_made (reply.Shown p) = true
 is_made (reply.Started d) = true
+is_made (reply.Read entry) = true
 is_made (reply.Inbox messages) = true
 is_made r = false

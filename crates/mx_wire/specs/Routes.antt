@@ -37,6 +37,8 @@ abbrev pub patterns : List (List ℕ × Pattern)
 patterns =
     (codes "/members", pattern.Members)
     ∷ (codes "/members/{m}/grant", pattern.Grant)
+    ∷ (codes "/archive/{p}", pattern.Archive)
+    ∷ (codes "/clear/{p}", pattern.Clear)
     ∷ (codes "/holders", pattern.Holders)
     ∷ (codes "/purses", pattern.Purses)
     ∷ (codes "/purses/{p}", pattern.Purse)
@@ -47,6 +49,7 @@ patterns =
     ∷ (codes "/purses/{p}/handle", pattern.Handle)
     ∷ (codes "/purses/{p}/discard", pattern.Discard)
     ∷ (codes "/purses/{p}/abort", pattern.Abort)
+    ∷ (codes "/purses/{p}/read-log", pattern.ReadLog)
     ∷ (codes "/purses/{p}/redeem", pattern.Redeem)
     ∷ (codes "/purses/{p}/inbox", pattern.Inbox)
     ∷ []
@@ -90,12 +93,15 @@ posted pattern.Holders name = Some route.NewHolder
 posted pattern.Purses name = Some route.NewPurse
 posted pattern.Collect name = Some route.Collect
 posted pattern.Grant name = option_map route.Grant name
+posted pattern.Archive name = option_map route.Archive name
+posted pattern.Clear name = option_map route.Clear name
 posted pattern.Load name = option_map route.Load name
 posted pattern.StartFrom name = option_map route.StartFrom name
 posted pattern.StartTo name = option_map route.StartTo name
 posted pattern.Handle name = option_map route.Handle name
 posted pattern.Discard name = option_map route.Discard name
 posted pattern.Abort name = option_map route.Abort name
+posted pattern.ReadLog name = option_map route.ReadLog name
 posted pattern.Redeem name = option_map route.Redeem name
 posted pattern.Purse name = None
 posted pattern.Inbox name = None
@@ -118,6 +124,8 @@ route_of method path =
 abbrev pub class_of : Route → Class
 class_of route.NewMember = class.Operator
 class_of (route.Grant member) = class.Operator
+class_of (route.Archive purse) = class.Operator
+class_of (route.Clear purse) = class.Operator
 class_of route.NewHolder = class.Clerk
 class_of route.NewPurse = class.Clerk
 class_of (route.Load purse) = class.Clerk

@@ -1,14 +1,16 @@
 //! The bodies of requests: JSON in, commands out.
-ghost use Rattle.std.specs.Prelude.{◌≡◌, ◌≢◌, ◌↔◌, true, Some, None, Err, IsTrue, IfOk, option_map};
+ghost use Rattle.std.specs.Prelude.{◌≡◌, ◌≢◌, ◌↔◌, true, Some, None, Err, IsTrue, IfSome, IfOk, option_map};
+ghost use Rattle.mx_pay.specs.Codes.{code};
+ghost use Rattle.mx_pay.specs.Log.{Entries, IsLogValue};
 ghost use Rattle.mx_wire.specs.Routes.{route_of};
-ghost use Rattle.mx_wire.specs.Bodies.{name_at, token_at, amount_at, seq_at, bare, said, value_of, has_body, command_of, request_command};
+ghost use Rattle.mx_wire.specs.Bodies.{name_at, token_at, amount_at, seq_at, log_of_code, log_at, bare, said, value_of, has_body, command_of, request_command};
 ghost use Rattle.mx_wire.specs.Trees.{data_of, IsData};
 
 use crate::routes::{Route, Routes};
 use crate::trees::{is_data, number_at, text_at};
 use json::{Error, Reader, Scratch, Value};
 use mx_office::Command;
-use mx_pay::{Amount, Name, Seq, Token};
+use mx_pay::{Amount, Log, Name, Seq, Token, read_code};
 use std::alloc::Global;
 
 /// Why a request gives no command.
@@ -89,12 +91,31 @@ fn seq_at(value: &Value<'_>, key: &str) -> Option<Seq>
     Seq::new(number)
 }
 
+/// The log that has a text as its code text.
+fn log_of_code(text: &str) -> Option<Log>
+    ensures value { result ≡ log_of_code text.now }
+    ensures found { IfSome result (λ log. text.now ≡ code log) }
+    ensures only { (log : Entries) → IsLogValue log → text.now ≡ code log → log_of_code text.now ≡ Some log }
+{
+    read_code(text)
+}
+
+/// The log of a key.
+fn log_at(value: &Value<'_>, key: &str) -> Option<Log>
+    requires { IsData value.now }
+    ensures { result ≡ log_at key.now (data_of value.now) }
+{
+    let text = text_at(value, key)?;
+    log_of_code(text)
+}
+
 /// The command of a route that needs no body.
 fn bare(route: &Route) -> Option<Command>
     ensures { result ≡ bare route.now }
 {
     match *route {
         Route::Collect => Some(Command::Collect),
+        Route::Archive(purse) => Some(Command::Archive { purse }),
         Route::Purses => Some(Command::Purses),
         Route::Show(purse) => Some(Command::Show { purse }),
         Route::Abort(purse) => Some(Command::Abort { purse }),
@@ -116,6 +137,10 @@ fn said(route: &Route, value: &Value<'_>) -> Option<Command>
         Route::Grant(member) => Some(Command::Grant {
             member,
             amount: amount_at(value, "amount")?,
+        }),
+        Route::Clear(purse) => Some(Command::Clear {
+            purse,
+            details: log_at(value, "details")?,
         }),
         Route::NewHolder => Some(Command::NewHolder {
             holder: name_at(value, "holder")?,
@@ -149,6 +174,10 @@ fn said(route: &Route, value: &Value<'_>) -> Option<Command>
         Route::Discard(purse) => Some(Command::Discard {
             purse,
             number: seq_at(value, "number")?,
+        }),
+        Route::ReadLog(purse) => Some(Command::ReadLog {
+            purse,
+            place: number_at(value, "place")?,
         }),
         Route::Redeem(purse) => Some(Command::Redeem {
             purse,

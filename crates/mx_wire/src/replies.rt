@@ -1,7 +1,7 @@
 //! The responses: a head, and a body that is one JSON object.
 ghost use Rattle.std.specs.Prelude.{◌≡◌, ◌++◌, length, map, false, IfOk, IfErr, IsTrue, codes, string_bytes};
 ghost use Rattle.mx_wire.specs.Made.{parts_of};
-ghost use Rattle.mx_wire.specs.Replies.{sent, unavailable, fixed_parts, refusal_parts, response, reply_parts, handled_fixed, is_made, status_text, kind_text, details_text, shown_text, shown_body, started_body, collected_body, purses_body, quoted, inbox_body, message_text, after_commas};
+ghost use Rattle.mx_wire.specs.Replies.{sent, unavailable, fixed_parts, refusal_parts, response, reply_parts, handled_fixed, is_made, status_text, kind_text, details_text, shown_text, shown_body, started_body, collected_body, archived_body, entry_or_null, entry_body, purses_body, quoted, inbox_body, message_text, after_commas};
 
 use mx_office::{Messages, Names, Refusal, Reply};
 use mx_pay::{Name, PayDetails, code_text, push_entry};
@@ -36,6 +36,8 @@ pub enum Fixed {
     Granted,
     /// 200: the purse is loaded.
     Loaded,
+    /// 200: the message that clears a log is sent.
+    Sent,
     /// 200: the purse took a req, and the value is sent.
     ValueSent,
     /// 200: the purse took a val.
@@ -101,6 +103,7 @@ fn refusal_answer(refusal: Refusal) -> (&'static str, usize)
         Refusal::FloatFull => answer!("409 Conflict", 22, "{\"error\":\"float full\"}"),
         Refusal::GrantTooLarge => answer!("409 Conflict", 27, "{\"error\":\"grant too large\"}"),
         Refusal::OverCap => answer!("409 Conflict", 20, "{\"error\":\"over cap\"}"),
+        Refusal::NotArchived => answer!("409 Conflict", 24, "{\"error\":\"not archived\"}"),
     }
 }
 
@@ -131,6 +134,7 @@ fn fixed_answer(fixed: Fixed) -> (&'static str, usize)
         Fixed::Added => answer!("200 OK", 16, "{\"done\":\"added\"}"),
         Fixed::Granted => answer!("200 OK", 18, "{\"done\":\"granted\"}"),
         Fixed::Loaded => answer!("200 OK", 17, "{\"done\":\"loaded\"}"),
+        Fixed::Sent => answer!("200 OK", 15, "{\"done\":\"sent\"}"),
         Fixed::ValueSent => answer!("200 OK", 21, "{\"done\":\"value-sent\"}"),
         Fixed::Received => answer!("200 OK", 19, "{\"done\":\"received\"}"),
         Fixed::Finished => answer!("200 OK", 19, "{\"done\":\"finished\"}"),
@@ -281,6 +285,45 @@ fn collected_body(alloc: Global, sum: u128) -> Result<String, AllocError>
     format!(in alloc; "{{\"collected\":\"{sum}\"}}")
 }
 
+/// The body of so many results that went to the archive.
+#[tactic(auto, unfolding(crate::specs::Replies::archived_body))]
+fn archived_body(alloc: Global, count: usize) -> Result<String, AllocError>
+    ensures { IfOk result (λ text. string_bytes text ≡ archived_body count) }
+{
+    let mut buffer = itoa::Buffer::new();
+    let mut text = String::with_capacity(alloc, 64)?;
+    text.push_str("{\"archived\":")?;
+    text.push_str(buffer.format(count))?;
+    text.push_str("}")?;
+    Ok(text)
+}
+
+/// Writes an entry in quotes at the end, or null where there is none.
+fn push_entry_or_null(text: &mut String, entry: &Option<PayDetails>) -> Result<(), AllocError>
+    ensures { IfOk result (λ _. string_bytes text.new ≡ string_bytes text.old ++ entry_or_null entry.now) }
+{
+    match entry {
+        Some(details) => {
+            text.push_str("\"")?;
+            push_entry(text, details)?;
+            text.push_str("\"")
+        }
+        None => text.push_str("null"),
+    }
+}
+
+/// The body of what was read of a log.
+#[tactic(auto, unfolding(crate::specs::Replies::entry_body))]
+fn entry_body(alloc: Global, entry: &Option<PayDetails>) -> Result<String, AllocError>
+    ensures { IfOk result (λ text. string_bytes text ≡ entry_body entry.now) }
+{
+    let mut text = String::with_capacity(alloc, 128)?;
+    text.push_str("{\"done\":\"read\",\"entry\":")?;
+    push_entry_or_null(&mut text, entry)?;
+    text.push_str("}")?;
+    Ok(text)
+}
+
 /// Writes a name in quotes at the end.
 fn push_quoted(text: &mut String, name: &Name) -> Result<(), AllocError>
     ensures { IfOk result (λ _. string_bytes text.new ≡ string_bytes text.old ++ quoted name.now) }
@@ -422,21 +465,25 @@ fn handled_fixed(handled: &Handled) -> Fixed
 }
 
 /// The response to a reply. An error is lack of memory, which only a response that is made for its reply takes: a sum
-/// that is collected, a list of purses or messages, a purse that is shown, a payment that is started.
+/// that is collected, a count of what is archived, a list of purses or messages, a purse that is shown, a payment that
+/// is started, what is read of a log.
 pub fn render(alloc: Global, reply: &Reply) -> Result<Response, AllocError>
     ensures parts { IfOk result (λ r. parts_of r ≡ reply_parts reply.now) }
     ensures memory { IfErr result (λ _. IsTrue (is_made reply.now)) }
 {
     let fixed = match reply {
         Reply::Collected(sum) => return respond(alloc, collected_body(alloc, *sum)?.as_str()),
+        Reply::Archived(count) => return respond(alloc, archived_body(alloc, *count)?.as_str()),
         Reply::Purses(names) => return respond(alloc, purses_body(alloc, names)?.as_str()),
         Reply::Shown(purse) => return respond(alloc, shown_body(alloc, purse)?.as_str()),
         Reply::Started(details) => return respond(alloc, started_body(alloc, details)?.as_str()),
+        Reply::Read(entry) => return respond(alloc, entry_body(alloc, entry)?.as_str()),
         Reply::Inbox(messages) => return respond(alloc, inbox_body(alloc, messages)?.as_str()),
         Reply::Refused(refusal) => Fixed::Refused(*refusal),
         Reply::Added => Fixed::Added,
         Reply::Granted => Fixed::Granted,
         Reply::Loaded => Fixed::Loaded,
+        Reply::Sent => Fixed::Sent,
         Reply::Handled(handled) => handled_fixed(handled),
         Reply::Discarded => Fixed::Discarded,
         Reply::Aborted { logged: true } => Fixed::AbortedLogged,

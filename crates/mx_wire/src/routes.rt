@@ -28,6 +28,10 @@ pub enum Route {
     NewMember,
     /// `POST /members/{m}/grant`, of that member.
     Grant(Name),
+    /// `POST /archive/{p}`, of that purse.
+    Archive(Name),
+    /// `POST /clear/{p}`, of that purse.
+    Clear(Name),
     /// `POST /holders`.
     NewHolder,
     /// `POST /purses`.
@@ -50,6 +54,8 @@ pub enum Route {
     Discard(Name),
     /// `POST /purses/{p}/abort`, of that purse.
     Abort(Name),
+    /// `POST /purses/{p}/read-log`, of that purse.
+    ReadLog(Name),
     /// `POST /purses/{p}/redeem`, of that purse.
     Redeem(Name),
     /// `GET /purses/{p}/inbox`, of that purse.
@@ -61,6 +67,8 @@ pub enum Route {
 pub enum Pattern {
     Members,
     Grant,
+    Archive,
+    Clear,
     Holders,
     Purses,
     Purse,
@@ -71,14 +79,17 @@ pub enum Pattern {
     Handle,
     Discard,
     Abort,
+    ReadLog,
     Redeem,
     Inbox,
 }
 
 /// Each pattern with its text.
-const TABLE: [(&str, Pattern); 14] = [
+const TABLE: [(&str, Pattern); 17] = [
     ("/members", Pattern::Members),
     ("/members/{m}/grant", Pattern::Grant),
+    ("/archive/{p}", Pattern::Archive),
+    ("/clear/{p}", Pattern::Clear),
     ("/holders", Pattern::Holders),
     ("/purses", Pattern::Purses),
     ("/purses/{p}", Pattern::Purse),
@@ -89,6 +100,7 @@ const TABLE: [(&str, Pattern); 14] = [
     ("/purses/{p}/handle", Pattern::Handle),
     ("/purses/{p}/discard", Pattern::Discard),
     ("/purses/{p}/abort", Pattern::Abort),
+    ("/purses/{p}/read-log", Pattern::ReadLog),
     ("/purses/{p}/redeem", Pattern::Redeem),
     ("/purses/{p}/inbox", Pattern::Inbox),
 ];
@@ -198,12 +210,15 @@ fn posted(pattern: Pattern, name: Option<Name>) -> Option<Route>
         Pattern::Purses => Some(Route::NewPurse),
         Pattern::Collect => Some(Route::Collect),
         Pattern::Grant => Some(Route::Grant(name?)),
+        Pattern::Archive => Some(Route::Archive(name?)),
+        Pattern::Clear => Some(Route::Clear(name?)),
         Pattern::Load => Some(Route::Load(name?)),
         Pattern::StartFrom => Some(Route::StartFrom(name?)),
         Pattern::StartTo => Some(Route::StartTo(name?)),
         Pattern::Handle => Some(Route::Handle(name?)),
         Pattern::Discard => Some(Route::Discard(name?)),
         Pattern::Abort => Some(Route::Abort(name?)),
+        Pattern::ReadLog => Some(Route::ReadLog(name?)),
         Pattern::Redeem => Some(Route::Redeem(name?)),
         Pattern::Purse | Pattern::Inbox => None,
     }
@@ -268,7 +283,9 @@ impl Route {
         ensures { result ≡ class_of self }
     {
         match self {
-            Route::NewMember | Route::Grant(_) => Class::Operator,
+            Route::NewMember | Route::Grant(_) | Route::Archive(_) | Route::Clear(_) => {
+                Class::Operator
+            }
             Route::NewHolder | Route::NewPurse | Route::Load(_) | Route::Collect => Class::Clerk,
             Route::Purses
             | Route::Show(_)
@@ -277,6 +294,7 @@ impl Route {
             | Route::Handle(_)
             | Route::Discard(_)
             | Route::Abort(_)
+            | Route::ReadLog(_)
             | Route::Redeem(_)
             | Route::Inbox(_) => Class::Holder,
         }

@@ -1,9 +1,11 @@
 //! The writes of an edit that is more than one row or not its row alone.
 ghost use Rattle.std.specs.Prelude.{◌≡◌, IsTrue};
+ghost use Rattle.mx_pay.specs.Limits.{most_entries};
 ghost use Rattle.mx_book.specs.RowEdits.{rewritten, able};
 ghost use Rattle.mx_book.specs.Shelves.{rows_of, HasRoom, SpendsOne};
 
 use crate::edits::Edit;
+use crate::results::archive;
 use crate::shelves::Shelves;
 use crate::values::{Caller, Line, LineRow, MemberRow, PurseRow, Redemption};
 use mx_pay::{Amount, Name, Token};
@@ -13,9 +15,9 @@ use mx_purse::purse::Purse;
 impl Shelves {
     /// Adds a member with grants 0 and float 0, and the token of its clerk.
     pub(super) fn add_member(&mut self, member: Name, clerk: Token)
-        requires { HasRoom 1 self.old }
+        requires { HasRoom 1 0 self.old }
         ensures edited { rows_of self.new ≡ rewritten (rows_of self.old) (Edit.NewMember member clerk) }
-        ensures room { SpendsOne self.old self.new }
+        ensures room { SpendsOne 0 self.old self.new }
     {
         let row = MemberRow {
             granted: 0,
@@ -27,9 +29,9 @@ impl Shelves {
 
     /// Adds a holder of a member, and the holder's token.
     pub(super) fn add_holder(&mut self, holder: Name, member: Name, token: Token)
-        requires { HasRoom 1 self.old }
+        requires { HasRoom 1 0 self.old }
         ensures edited { rows_of self.new ≡ rewritten (rows_of self.old) (Edit.NewHolder holder member token) }
-        ensures room { SpendsOne self.old self.new }
+        ensures room { SpendsOne 0 self.old self.new }
     {
         self.holders.put(holder, member);
         self.tokens.put(token, Caller::Holder(holder));
@@ -37,9 +39,9 @@ impl Shelves {
 
     /// Adds a purse of a holder.
     pub(super) fn add_purse(&mut self, purse: Name, holder: Name)
-        requires { HasRoom 1 self.old }
+        requires { HasRoom 1 0 self.old }
         ensures edited { rows_of self.new ≡ rewritten (rows_of self.old) (Edit.NewPurse purse holder) }
-        ensures room { SpendsOne self.old self.new }
+        ensures room { SpendsOne 0 self.old self.new }
     {
         let row = PurseRow {
             holder,
@@ -51,9 +53,9 @@ impl Shelves {
 
     /// Sets a purse that is there.
     pub(super) fn set_purse(&mut self, purse: &Purse)
-        requires { HasRoom 1 self.old }
+        requires { HasRoom 1 0 self.old }
         ensures edited { rows_of self.new ≡ rewritten (rows_of self.old) (Edit.SetPurse purse.now) }
-        ensures room { SpendsOne self.old self.new }
+        ensures room { SpendsOne 0 self.old self.new }
     {
         let name = purse.name();
         if let Some(row) = self.purses.get(name) {
@@ -68,9 +70,9 @@ impl Shelves {
     /// Adds a message to the inbox of a purse that is there, under its next number.
     pub(super) fn add_message(&mut self, purse: Name, message: Message)
         requires able { IsTrue (able (rows_of self.old) (Edit.AddMessage purse message)) }
-        requires room { HasRoom 1 self.old }
+        requires room { HasRoom 1 0 self.old }
         ensures edited { rows_of self.new ≡ rewritten (rows_of self.old) (Edit.AddMessage purse message) }
-        ensures room { SpendsOne self.old self.new }
+        ensures room { SpendsOne 0 self.old self.new }
     {
         if let Some(row) = self.purses.get(purse) {
             let number = row.next_message;
@@ -85,9 +87,9 @@ impl Shelves {
 
     /// Adds a line to the statement of a purse.
     pub(super) fn add_line(&mut self, purse: Name, line: Line)
-        requires { HasRoom 1 self.old }
+        requires { HasRoom 1 0 self.old }
         ensures edited { rows_of self.new ≡ rewritten (rows_of self.old) (Edit.AddLine purse line) }
-        ensures room { SpendsOne self.old self.new }
+        ensures room { SpendsOne 0 self.old self.new }
     {
         let row = LineRow {
             kind: line.kind,
@@ -100,14 +102,25 @@ impl Shelves {
 
     /// Adds a redemption of a purse, which isn't collected.
     pub(super) fn add_redemption(&mut self, purse: Name, reference: Name, amount: Amount)
-        requires { HasRoom 1 self.old }
+        requires { HasRoom 1 0 self.old }
         ensures edited { rows_of self.new ≡ rewritten (rows_of self.old) (Edit.AddRedemption purse reference amount) }
-        ensures room { SpendsOne self.old self.new }
+        ensures room { SpendsOne 0 self.old self.new }
     {
         let row = Redemption {
             amount,
             collected: false,
         };
         self.redemptions.put((purse, reference), row);
+    }
+
+    /// Archives what lies in the tray of a purse, which are entries of its log.
+    pub(super) fn archive_tray(&mut self, purse: Name)
+        requires able { IsTrue (able (rows_of self.old) (Edit.ArchiveTray purse)) }
+        requires room { HasRoom 1 most_entries self.old }
+        ensures edited { rows_of self.new ≡ rewritten (rows_of self.old) (Edit.ArchiveTray purse) }
+        ensures room { SpendsOne most_entries self.old self.new }
+    {
+        let results = self.tray_of(purse);
+        archive(&mut self.tray, &mut self.archive, purse, &results);
     }
 }

@@ -6,7 +6,7 @@ use super::words::outcome_words;
 use super::{empty_book, tell};
 use crate::{Command, Office, Outcome};
 use mx_book::{Account, Book, Caller, Edit, HolderRow, Line, MemberRow, PlainBook, StoreFault};
-use mx_pay::{Amount, Name, PayDetails, Token};
+use mx_pay::{Amount, Log, Name, PayDetails, Token};
 use mx_purse::Message;
 use std::alloc::{AllocError, Global};
 use std::process::Abort;
@@ -134,6 +134,48 @@ fn payment_with_a_growth_refused(rt: HostRuntime) -> Result<(), Fail> {
         uncollected: 0,
         balance: 40,
         lines: 2,
+        next_message: 2,
+    };
+    assert_eq!(rt; read_held(&mut office, rt.alloc())?, held);
+    Ok(())
+}
+
+/// A lost payment whose entry is read, archived and cleared, in an office that begins empty.
+#[test]
+fn log_with_a_growth_refused(rt: HostRuntime) -> Result<(), Fail> {
+    let mut office = Office::new(empty_book(&rt)?);
+    tell_again(
+        &rt,
+        &mut office,
+        &[
+            ("operator new-member m 2", "added"),
+            ("clerk new-holder ann a", "added"),
+            ("clerk new-holder bob b", "added"),
+            ("clerk new-purse p1 ann", "added"),
+            ("clerk new-purse q1 bob", "added"),
+            ("operator grant m 1000", "granted"),
+            ("clerk load p1 100 a1", "loaded"),
+            ("bob start-to q1 p1 60 0", "started p1,q1,60,0,0"),
+            ("bob abort q1", "aborted true"),
+            ("ann start-from p1 q1 60 0", "started p1,q1,60,0,0"),
+            ("ann handle p1 0", "value-sent"),
+            ("bob handle q1 0", "ignored"),
+            ("ann read-log p1 0", "read p1,q1,60,0,0"),
+            ("ann read-log p1 16", "read nothing"),
+            ("operator clear p1 p1,q1,60,0,0", "not archived"),
+            ("operator archive p1", "archived 1"),
+            ("operator archive p1", "archived 0"),
+            ("operator clear p1 p1,q1,60,0,0", "sent"),
+            ("ann handle p1 1", "cleared"),
+            ("ann read-log p1 0", "read nothing"),
+        ],
+    )?;
+    let held = Held {
+        granted: 1000,
+        float: 900,
+        uncollected: 0,
+        balance: 40,
+        lines: 3,
         next_message: 2,
     };
     assert_eq!(rt; read_held(&mut office, rt.alloc())?, held);
@@ -295,6 +337,13 @@ impl<B: Book> Book for Faulty<B> {
             return Err(StoreFault::Store);
         }
         self.book.archived(alloc, purse, details)
+    }
+
+    fn tray(&mut self, alloc: Global, purse: Name) -> Result<Log, StoreFault> {
+        if self.is_left_out() {
+            return Err(StoreFault::Store);
+        }
+        self.book.tray(alloc, purse)
     }
 
     fn load_of(

@@ -1,7 +1,7 @@
 //! Scripts: commands in words, each with the words of its reply.
 use crate::Command;
 use mx_book::Caller;
-use mx_pay::{Amount, Name, Seq, Token};
+use mx_pay::{Amount, Name, Seq, Token, read_code};
 use std::alloc::Global;
 use std::test::Fail;
 
@@ -71,6 +71,13 @@ fn scheme_command(words: Words<'_>) -> Result<Command, Fail> {
             member: name(words.first)?,
             amount: amount(words.second)?,
         }),
+        "archive" => Ok(Command::Archive {
+            purse: name(words.first)?,
+        }),
+        "clear" => Ok(Command::Clear {
+            purse: name(words.first)?,
+            details: read_code(words.second).ok_or("no details")?,
+        }),
         "new-holder" => Ok(Command::NewHolder {
             holder: name(words.first)?,
             token: token(words.second)?,
@@ -118,6 +125,10 @@ fn holder_command(words: Words<'_>) -> Result<Command, Fail> {
             number: seq(words.second)?,
         }),
         "abort" => Ok(Command::Abort { purse }),
+        "read-log" => Ok(Command::ReadLog {
+            purse,
+            place: number(words.second)?,
+        }),
         "redeem" => Ok(Command::Redeem {
             purse,
             amount: amount(words.second)?,

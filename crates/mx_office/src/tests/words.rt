@@ -81,6 +81,8 @@ fn reply_words(alloc: Global, reply: &Reply) -> Result<String, AllocError> {
         Reply::Granted => Ok(String::from_str(alloc, "granted")?),
         Reply::Loaded => Ok(String::from_str(alloc, "loaded")?),
         Reply::Collected(sum) => Ok(format!(in alloc; "collected {sum}")?),
+        Reply::Archived(count) => Ok(format!(in alloc; "archived {count}")?),
+        Reply::Sent => Ok(String::from_str(alloc, "sent")?),
         Reply::Purses(names) => names_words(alloc, names),
         Reply::Shown(purse) => purse_words(alloc, purse),
         Reply::Started(details) => {
@@ -90,6 +92,11 @@ fn reply_words(alloc: Global, reply: &Reply) -> Result<String, AllocError> {
         Reply::Handled(handled) => Ok(String::from_str(alloc, handled_words(handled))?),
         Reply::Discarded => Ok(String::from_str(alloc, "discarded")?),
         Reply::Aborted { logged } => Ok(format!(in alloc; "aborted {logged}")?),
+        Reply::Read(None) => Ok(String::from_str(alloc, "read nothing")?),
+        Reply::Read(Some(details)) => {
+            let details = details_words(alloc, details)?;
+            Ok(format!(in alloc; "read {}", details.as_str())?)
+        }
         Reply::Redeemed => Ok(String::from_str(alloc, "redeemed")?),
         Reply::Inbox(messages) => inbox_words(alloc, messages),
     }

@@ -50,6 +50,13 @@ fn each_command_from_its_request(rt: HostRuntime) -> Result<(), Fail> {
                 b"{\"amount\":1000}",
                 "grant m 1000",
             ),
+            ("POST /archive/p1", b"", "archive p1"),
+            ("POST /clear/p1", b"{\"details\":\"\"}", "clear p1 []"),
+            (
+                "POST /clear/p1",
+                b"{\"details\":\"a,p1,5,0,3;p1,q1,60,4,7\"}",
+                "clear p1 [a,p1,5,0,3;p1,q1,60,4,7]",
+            ),
             (
                 "POST /holders",
                 b"{\"holder\":\"ann\",\"token\":\"0000000000000000000000000000000A\"}",
@@ -82,6 +89,11 @@ fn each_command_from_its_request(rt: HostRuntime) -> Result<(), Fail> {
             ("POST /purses/p1/discard", b"{\"number\":7}", "discard p1 7"),
             ("POST /purses/p1/abort", b"", "abort p1"),
             (
+                "POST /purses/p1/read-log",
+                b"{\"place\":16}",
+                "read-log p1 16",
+            ),
+            (
                 "POST /purses/p1/redeem",
                 b"{\"amount\":100,\"ref\":\"r1\"}",
                 "redeem p1 100 r1",
@@ -101,7 +113,9 @@ fn bodies_that_are_not_looked_at(rt: HostRuntime) -> Result<(), Fail> {
             ("POST /collect", b"\xff", "collect"),
             ("GET /purses/p1", b"{", "show p1"),
             ("POST /purses/p1/abort", b"[]", "abort p1"),
+            ("POST /archive/p1", b"{\"x\":1e999", "archive p1"),
             ("GET /collect", b"", "no route"),
+            ("GET /archive/p1", b"", "no route"),
             ("POST /purses/P1/handle", b"{", "no route"),
         ],
     )
@@ -137,6 +151,26 @@ fn objects_in_other_forms(rt: HostRuntime) -> Result<(), Fail> {
                 "POST /members/m/grant",
                 b"{\"\\u0061mount\":5}",
                 "grant m 5",
+            ),
+            (
+                "POST /clear/p1",
+                b"{\"x\":0,\"details\":\"p1,q1,60,4,7\",\"place\":null}",
+                "clear p1 [p1,q1,60,4,7]",
+            ),
+            (
+                "POST /clear/p1",
+                b"{\"details\":\"p1\\u002cq1,60,4,\\u0037\"}",
+                "clear p1 [p1,q1,60,4,7]",
+            ),
+            (
+                "POST /clear/p1",
+                b"{\"details\":\"\",\"details\":\"p1,q1,60,4,7\"}",
+                "clear p1 [p1,q1,60,4,7]",
+            ),
+            (
+                "POST /purses/p1/read-log",
+                b"{\"details\":\"\",\"place\":3}",
+                "read-log p1 3",
             ),
             (
                 "POST /purses",
@@ -199,6 +233,26 @@ fn numbers_at_their_limits(rt: HostRuntime) -> Result<(), Fail> {
                 b"{\"peer\":\"q1\",\"value\":0,\"seq\":1000000000000001}",
                 "bad body",
             ),
+            (
+                "POST /purses/p1/read-log",
+                b"{\"place\":0}",
+                "read-log p1 0",
+            ),
+            (
+                "POST /purses/p1/read-log",
+                b"{\"place\":1000000000000001}",
+                "read-log p1 1000000000000001",
+            ),
+            (
+                "POST /purses/p1/read-log",
+                b"{\"place\":18446744073709551615}",
+                "read-log p1 18446744073709551615",
+            ),
+            (
+                "POST /purses/p1/read-log",
+                b"{\"place\":18446744073709551616}",
+                "bad body",
+            ),
         ],
     )
 }
@@ -220,6 +274,58 @@ fn amounts_that_are_bad(rt: HostRuntime) -> Result<(), Fail> {
             b"{\"amount\":05}",
             b"{\"amount\":+5}",
             b"{\"amount\":18446744073709551616}",
+        ],
+    )
+}
+
+/// A place is one too, and any.
+#[test]
+fn places_that_are_bad(rt: HostRuntime) -> Result<(), Fail> {
+    assert_bad(
+        &rt,
+        "POST /purses/p1/read-log",
+        &[
+            b"",
+            b"{}",
+            b"{\"Place\":1}",
+            b"{\"place\":-1}",
+            b"{\"place\":1.5}",
+            b"{\"place\":1.0}",
+            b"{\"place\":\"1\"}",
+            b"{\"place\":null}",
+            b"{\"place\":18446744073709551616}",
+            b"{\"place\":1,\"place\":-1}",
+        ],
+    )
+}
+
+/// The details of a clear are a code text: entries of five fields that rise, with nothing beside them.
+#[test]
+fn details_that_are_bad(rt: HostRuntime) -> Result<(), Fail> {
+    assert_bad(
+        &rt,
+        "POST /clear/p1",
+        &[
+            b"",
+            b"{}",
+            b"{\"details\":null}",
+            b"{\"details\":[]}",
+            b"{\"details\":0}",
+            b"{\"details\":\" \"}",
+            b"{\"details\":\";\"}",
+            b"{\"details\":\"p1\"}",
+            b"{\"details\":\"p1,q1,60,4\"}",
+            b"{\"details\":\"p1,q1,60,4,7,8\"}",
+            b"{\"details\":\"p1,q1,60,4,7;\"}",
+            b"{\"details\":\"p1,q1,60,4,7 \"}",
+            b"{\"details\":\"p1,q1,060,4,7\"}",
+            b"{\"details\":\"p1,q1,1000000000001,4,7\"}",
+            b"{\"details\":\"p1,p1,60,4,7\"}",
+            b"{\"details\":\"P1,q1,60,4,7\"}",
+            b"{\"details\":\"p1,q1,60,4,7;p1,q1,60,4,7\"}",
+            b"{\"details\":\"p1,q1,60,4,7;a,p1,5,0,3\"}",
+            b"{\"details\":[\"p1,q1,60,4,7\"]}",
+            b"{\"Details\":\"p1,q1,60,4,7\"}",
         ],
     )
 }

@@ -53,6 +53,13 @@ fn payment() -> Result<PayDetails, Fail> {
     Ok(PayDetails::new(name("p1")?, name("q1")?, value, from, to).ok_or("no details")?)
 }
 
+/// The first payment of 60 by p1 to q1.
+fn first_payment() -> Result<PayDetails, Fail> {
+    let value = Amount::new(60).ok_or("no amount")?;
+    let (from, to) = (Seq::zero(), Seq::zero());
+    Ok(PayDetails::new(name("p1")?, name("q1")?, value, from, to).ok_or("no details")?)
+}
+
 /// The payment of 5 by a, whose own number is 0, to p1, whose own is 3.
 fn earlier_payment() -> Result<PayDetails, Fail> {
     let value = Amount::new(5).ok_or("no amount")?;
@@ -74,6 +81,7 @@ fn fixed_replies(rt: HostRuntime) -> Result<(), Fail> {
         (Reply::Added, "{\"done\":\"added\"}"),
         (Reply::Granted, "{\"done\":\"granted\"}"),
         (Reply::Loaded, "{\"done\":\"loaded\"}"),
+        (Reply::Sent, "{\"done\":\"sent\"}"),
         (
             Reply::Handled(Handled::Req(payment)),
             "{\"done\":\"value-sent\"}",
@@ -180,6 +188,11 @@ fn refusals(rt: HostRuntime) -> Result<(), Fail> {
             "{\"error\":\"grant too large\"}",
         ),
         (Refusal::OverCap, "409 Conflict", "{\"error\":\"over cap\"}"),
+        (
+            Refusal::NotArchived,
+            "409 Conflict",
+            "{\"error\":\"not archived\"}",
+        ),
     ] {
         assert_reply(&rt, &Reply::Refused(refusal), status, body)?;
     }
@@ -256,6 +269,26 @@ fn sums_and_payments(rt: HostRuntime) -> Result<(), Fail> {
         "200 OK",
         "{\"details\":\"p1,q1,60,4,7\",\"done\":\"started\"}",
     )
+}
+
+#[test]
+fn logs_that_are_read(rt: HostRuntime) -> Result<(), Fail> {
+    for (reply, body) in [
+        (
+            Reply::Read(Some(first_payment()?)),
+            "{\"done\":\"read\",\"entry\":\"p1,q1,60,0,0\"}",
+        ),
+        (Reply::Read(None), "{\"done\":\"read\",\"entry\":null}"),
+        (Reply::Archived(1), "{\"archived\":1}"),
+        (Reply::Archived(0), "{\"archived\":0}"),
+        (
+            Reply::Archived(usize::MAX),
+            "{\"archived\":18446744073709551615}",
+        ),
+    ] {
+        assert_reply(&rt, &reply, "200 OK", body)?;
+    }
+    Ok(())
 }
 
 #[test]

@@ -1,7 +1,7 @@
 //! Commands in words.
 use crate::WireFault;
 use mx_office::Command;
-use mx_pay::{Amount, Name, Seq, Token};
+use mx_pay::{Amount, Log, Name, Seq, Token, code_text};
 use std::alloc::{AllocError, Global};
 
 /// What a command is called, and the names that come first in it.
@@ -25,6 +25,11 @@ fn with_token(alloc: Global, what: &str, name: &Name, token: &Token) -> Result<S
 
 fn with_number(alloc: Global, what: &str, name: &Name, number: u64) -> Result<String, AllocError> {
     format!(in alloc; "{what} {} {number}", name.as_str())
+}
+
+fn with_log(alloc: Global, what: &str, name: &Name, log: &Log) -> Result<String, AllocError> {
+    let code = code_text(alloc, log)?;
+    format!(in alloc; "{what} {} [{}]", name.as_str(), code.as_str())
 }
 
 fn with_reference(
@@ -57,6 +62,8 @@ fn command_words(alloc: Global, command: &Command) -> Result<String, AllocError>
     match command {
         Command::NewMember { member, token } => with_token(alloc, "new-member", member, token),
         Command::Grant { member, amount } => with_number(alloc, "grant", member, amount.get()),
+        Command::Archive { purse } => start_words(alloc, "archive", &[purse]),
+        Command::Clear { purse, details } => with_log(alloc, "clear", purse, details),
         Command::NewHolder { holder, token } => with_token(alloc, "new-holder", holder, token),
         Command::NewPurse { purse, holder } => start_words(alloc, "new-purse", &[purse, holder]),
         Command::Load {
@@ -82,6 +89,7 @@ fn command_words(alloc: Global, command: &Command) -> Result<String, AllocError>
         Command::Handle { purse, number } => with_number(alloc, "handle", purse, number.get()),
         Command::Discard { purse, number } => with_number(alloc, "discard", purse, number.get()),
         Command::Abort { purse } => start_words(alloc, "abort", &[purse]),
+        Command::ReadLog { purse, place } => with_number(alloc, "read-log", purse, *place),
         Command::Redeem {
             purse,
             amount,

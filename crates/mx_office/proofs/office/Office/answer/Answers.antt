@@ -1,6 +1,7 @@
 use Rattle.std.proofs.Common.{◌≡◌, rules, sym, ◌∙◌, subst}
 use Rattle.std.proofs.lemmas.Result.{err_from_is_err_and}
 use Rattle.mx_office.proofs.FaultLemmas.{writes, memory_fails}
+use Rattle.mx_office.proofs.LawLemmas.{accounts_after, told_after}
 use Rattle.mx_office.proofs.RefuseLemmas.{refused_stays}
 use Rattle.mx_office.specs.Step.{step}
 use Rattle.mx_office.proofs.office.Office.answer.Goals as goal
@@ -39,3 +40,17 @@ returns-in_err-commit-clause-memory g c = λ w honest spelled.
     let p = err_from_is_err_and c.from_residual-in_err-commit.result c.from_residual-in_err-commit.ensures.1 in
     let takes = writes w c.args.caller c.args.command.now _ _ (c.in_ok-decided.ensures.decides w before spelled).reply c.in_default.not-Refused c.in_ok-decided.ensures.reads c.in_err-commit.ensures.nothing in
     rw (p.1, p.2) (memory_fails g.B.Book.fails w c.args.caller c.args.command.now _ takes c.in_err-commit.ensures.fault)
+
+-- the holders are kept apart, since what stands is the step's World, and the reply is the step's
+pub returns-in-Refused-clause-accounts : goal.returns-in-Refused-clause-accounts
+returns-in-Refused-clause-accounts g c = λ w v honest spelled here h.
+    accounts_after w v h _ _ (g.met.B.Book.single _ v _ here (returns-in-Refused-clause-ok g c w honest spelled))
+
+pub returns-clause-accounts : goal.returns-clause-accounts
+returns-clause-accounts g c = λ w v honest spelled here h. accounts_after w v h _ _ (g.met.B.Book.single _ v _ here (returns-clause-ok g c w honest spelled))
+
+pub returns-in-Refused-clause-told : goal.returns-in-Refused-clause-told
+returns-in-Refused-clause-told g c = λ w honest spelled h. told_after w h _ _ _ (returns-in-Refused-clause-reply g c w honest spelled)
+
+pub returns-clause-told : goal.returns-clause-told
+returns-clause-told g c = λ w honest spelled h. told_after w h _ _ _ (returns-clause-reply g c w honest spelled)

@@ -1,0 +1,12 @@
+use Rattle.std.proofs.Common.{rules}
+use Rattle.mx_office.proofs.ArchiveLemmas.{no_archive, nothing_archived, archive_decides}
+use Rattle.mx_office.proofs.archive.archive.Goals as goal
+
+pub returns-then-is_none-clause-decides : goal.returns-then-is_none-clause-decides
+returns-then-is_none-clause-decides g c = λ w honest spelled. no_archive w _ _ (g.met.B.Book.sound _ w spelled) (search rules) (search rules) (search rules)
+
+pub returns-then-results-eq0-clause-decides : goal.returns-then-results-eq0-clause-decides
+returns-then-results-eq0-clause-decides g c = λ w honest spelled. nothing_archived w _ _ (g.met.B.Book.sound _ w spelled) (search rules) (search rules) (search rules) (search rules)
+
+pub returns-else-results-eq0-clause-decides : goal.returns-else-results-eq0-clause-decides
+returns-else-results-eq0-clause-decides g c = λ w honest spelled. archive_decides w _ _ (g.met.B.Book.sound _ w spelled) c.len-results.result (search rules) (search rules) (search rules) (search rules)

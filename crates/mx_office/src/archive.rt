@@ -1,0 +1,88 @@
+//! The operator's commands on the results of read log: archives and clears.
+ghost use Rattle.std.specs.Prelude.{◌≡◌, IfOk, OnOk, IfErr};
+ghost use Rattle.mx_book.specs.Keeps.{Keeps};
+ghost use Rattle.mx_book.specs.World.{World};
+ghost use Rattle.mx_office.specs.Commands.{IsCommand};
+ghost use Rattle.mx_office.specs.Decides.{Decides};
+ghost use Rattle.mx_office.specs.Step.{archive, clear, may_clear};
+ghost use Rattle.mx_office.specs.declared.values.Command.{Command};
+
+use crate::decisions::{make, make_message, refuse, tell};
+use crate::purses::placed;
+use crate::values::{Decided, Refusal, Reply};
+use mx_book::contract::{Book, StoreFault};
+use mx_book::edits::Edit;
+use mx_pay::{Log, Name};
+use mx_purse::Message;
+use std::alloc::Global;
+
+/// What lies in the tray of the purse goes to the archive. Where nothing lies there, nothing is to change.
+pub(crate) fn archive<B: Book>(
+    book: &mut B,
+    alloc: Global,
+    purse: Name,
+    decided: &mut Decided,
+) -> Result<(), StoreFault>
+    ensures keeps { Keeps B.doubt B.rows book.old book.new }
+    ensures decides { (w : World) → B.doubt book.new ≡ 0 → B.spells (B.rows book.old) w → OnOk result (Decides w (archive w purse) decided.new) }
+    ensures fault { IfErr result B.fails }
+{
+    if book.purse(alloc, purse)?.is_none() {
+        refuse(decided, Refusal::NoSuchPurse);
+        return Ok(());
+    }
+    let results = book.tray(alloc, purse)?.len();
+    if results == 0 {
+        tell(decided, Reply::Archived(0));
+    } else {
+        make(decided, Reply::Archived(results), &Edit::ArchiveTray { purse });
+    }
+    Ok(())
+}
+
+/// Whether these details may be cleared from the log of the purse: they are some, and each is archived for it. The book
+/// is asked once for each, until one isn't archived.
+fn may_clear<B: Book>(
+    book: &mut B,
+    alloc: Global,
+    purse: Name,
+    details: &Log,
+) -> Result<bool, StoreFault>
+    ensures keeps { Keeps B.doubt B.rows book.old book.new }
+    ensures value { (w : World) → B.doubt book.new ≡ 0 → B.spells (B.rows book.old) w → IfOk result (λ b. b ≡ may_clear w purse details.now) }
+    ensures fault { IfErr result B.fails }
+{
+    for place in 0..details.len() {
+        if let Some(entry) = details.at(place) {
+            if !book.archived(alloc, purse, &entry)? {
+                return Ok(false);
+            }
+        }
+    }
+    Ok(details.len() != 0)
+}
+
+/// A message is sent to the purse that clears its log of these details, where they are some and all archived for it.
+pub(crate) fn clear<B: Book>(
+    book: &mut B,
+    alloc: Global,
+    purse: Name,
+    details: &Log,
+    decided: &mut Decided,
+) -> Result<(), StoreFault>
+    ensures keeps { Keeps B.doubt B.rows book.old book.new }
+    ensures decides { (w : World) → IsCommand (Command.Clear purse details.now) → B.doubt book.new ≡ 0 → B.spells (B.rows book.old) w → OnOk result (Decides w (clear w purse details.now) decided.new) }
+    ensures fault { IfErr result B.fails }
+{
+    if book.purse(alloc, purse)?.is_none() {
+        refuse(decided, Refusal::NoSuchPurse);
+        return Ok(());
+    }
+    if !may_clear(book, alloc, purse, details)? {
+        refuse(decided, Refusal::NotArchived);
+        return Ok(());
+    }
+    let message = placed(book, alloc, Some((purse, Message::Clear(*details))))?;
+    make_message(decided, Reply::Sent, message);
+    Ok(())
+}
