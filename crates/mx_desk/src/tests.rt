@@ -3,6 +3,7 @@ mod devices;
 mod faults;
 mod framing;
 mod limits;
+mod logs;
 mod money;
 mod payments;
 mod purses;
