@@ -29,6 +29,14 @@ PAYMENT = (
     + [response('{"balance":40,"next":1,"purse":"p1","status":"eaFrom"}')]
     + [response('{"balance":60,"next":1,"purse":"q1","status":"eaTo"}')]
 )
+LOST_PAYMENT = (
+    [done("added"), done("granted")]
+    + 4 * [done("added")]
+    + [done("loaded"), STARTED, response('{"done":"aborted","logged":true}'), STARTED, done("value-sent"), done("ignored")]
+    + [response('{"done":"read","entry":"p1,q1,60,0,0"}'), response('{"archived":1}'), done("sent"), done("cleared")]
+    + [response('{"done":"read","entry":null}')]
+    + [response('{"balance":40,"next":1,"purse":"p1","status":"eaFrom"}')]
+)
 
 
 def requests(name):
