@@ -39,8 +39,7 @@ fn read_payments() -> Result<Payments, &'static str> {
 
 /// Adds the member, the holder and the purse.
 fn add_purse(shelves: &mut Shelves, first: &First) -> Result<(), AllocError> {
-    shelves.reserve(3)?;
-    shelves.edit_all(&[
+    let edits = [
         Edit::NewMember {
             member: first.names.member,
             clerk: first.tokens.clerk,
@@ -54,14 +53,15 @@ fn add_purse(shelves: &mut Shelves, first: &First) -> Result<(), AllocError> {
             purse: first.names.purse,
             holder: first.names.holder,
         },
-    ]);
+    ];
+    shelves.reserve(&edits)?;
+    shelves.edit_all(&edits);
     Ok(())
 }
 
 /// Adds the payments of the purse.
 fn add_payments(shelves: &mut Shelves, purse: Name, paid: &Payments) -> Result<(), AllocError> {
-    shelves.reserve(3)?;
-    shelves.edit_all(&[
+    let edits = [
         Edit::AddLoad {
             purse,
             reference: paid.load.reference,
@@ -77,7 +77,9 @@ fn add_payments(shelves: &mut Shelves, purse: Name, paid: &Payments) -> Result<(
             reference: paid.late.reference,
             amount: paid.late.amount,
         },
-    ]);
+    ];
+    shelves.reserve(&edits)?;
+    shelves.edit_all(&edits);
     Ok(())
 }
 
@@ -121,8 +123,9 @@ fn collected(
     member: Name,
 ) -> Result<(Option<Amount>, u128), AllocError> {
     let mut shelves = filled(alloc, first, paid)?;
-    shelves.reserve(1)?;
-    shelves.edit(&Edit::Collect { member });
+    let collect = Edit::Collect { member };
+    shelves.reserve(&[collect])?;
+    shelves.edit(&collect);
     let amount = shelves.redemption_of(first.names.purse, paid.early.reference);
     Ok((amount, shelves.uncollected_of(first.names.member)))
 }
@@ -149,12 +152,13 @@ fn a_collect_of_another_member_takes_nothing(rt: HostRuntime) -> Result<(), Fail
 fn granted(alloc: Global, first: &First) -> Result<Option<MemberRow>, AllocError> {
     let mut shelves = Shelves::new(alloc, first.tokens.operator);
     add_purse(&mut shelves, first)?;
-    shelves.reserve(1)?;
-    shelves.edit(&Edit::SetMember {
+    let grant = Edit::SetMember {
         member: first.names.member,
         granted: 1_000,
         float: 900,
-    });
+    };
+    shelves.reserve(&[grant])?;
+    shelves.edit(&grant);
     Ok(shelves.members.get(first.names.member).copied())
 }
 
