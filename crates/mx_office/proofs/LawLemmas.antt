@@ -18,12 +18,16 @@ use Rattle.mx_book.proofs.NameLemmas.{names_total, names_exact, same_name}
 use Rattle.mx_book.proofs.UnderLemmas.{get-remake}
 use Rattle.mx_office.specs.declared.values.Command.{Command}
 use Rattle.mx_office.specs.declared.values.Command.TheVariants.{NewMember, Grant, Archive, Clear, NewHolder, NewPurse, Load, Collect}
+use Rattle.mx_book.specs.declared.contract.StoreFault.{StoreFault}
+use Rattle.mx_office.specs.declared.values.Outcome.{Outcome}
+use Rattle.mx_office.specs.declared.values.Outcome.TheVariants.{Reply as Replied, Unavailable}
 use Rattle.mx_office.specs.declared.values.Refusal.{Refusal}
 use Rattle.mx_office.specs.declared.values.Refusal.TheVariants.{NoSuchPurse}
 use Rattle.mx_office.specs.declared.values.Reply.{Reply}
 use Rattle.mx_office.specs.declared.values.Reply.TheVariants as reply
 use Rattle.mx_office.specs.Step.{Deed, Asks, Asked, Course, ends, tell, unless, unless_told, on_found, in_place, asks, holding_for, own_holding, on_world, loaded_holding, loaded_row, loaded_world, idle_load, change_member, new_purse_refusal, base, put_sent, is_kept, with_result, step, steps, course}
 use Rattle.mx_office.proofs.OwnLemmas.{absent, none_refused, own_at, is_owned}
+use Rattle.mx_office.specs.Run.{IsRun, answered, replies}
 use Rattle.mx_office.specs.Isolation.{Event, Holdings, only_if, for_holder, issued_event, put_event, view_of, view, on_holdings, with_changed, after_event, local, cut, told_to}
 
 -- ---- what is cut out
@@ -261,3 +265,20 @@ run_law w h (c ∷ cs) =
     course-append after_event (cut w h) (view_of w h c.0 c.1) (view h (step w c.0 c.1).world cs)
     ∙ ap (λ x. and_then after_event x (view h (step w c.0 c.1).world cs)) (one_law w h c.0 c.1)
     ∙ ap (λ (x : Course Holdings Reply). ends x.end (for_holder h c.0 (step w c.0 c.1).reply ++ x.replies)) (run_law (step w c.0 c.1).world h cs)
+
+-- a run that may have left some commands undone comes to the steps of those that it answered
+run_steps : (fails : StoreFault → Type 0) (w end : World) (cs : List Asked) (os : List Outcome) → IsRun fails w cs os end → ends end (replies cs os) ≡ steps w (answered cs os)
+run_steps fails w end [] [] is = ap (λ x. ends x []) (sym is)
+run_steps fails w end [] (o ∷ os) is = absurd is
+run_steps fails w end (c ∷ cs) [] is = absurd is
+run_steps fails w end (c ∷ cs) (Replied r ∷ os) is =
+    let rest = run_steps fails (step w c.0 c.1).world end cs os is.1 in
+    λ i. ends (rest i).end ((c.0, is.0 i) ∷ (rest i).replies)
+run_steps fails w end (c ∷ cs) (Unavailable ∷ os) is = run_steps fails w end cs os is.1
+
+-- and so it leaves, and tells, each holder what the holder's view of these gives
+pub run_accounts : (fails : StoreFault → Type 0) (w end v : World) (h : Name) (cs : List Asked) (os : List Outcome) → IsRun fails w cs os end → v ≡ end → cut v h ≡ (local (cut w h) (view h w (answered cs os))).end
+run_accounts fails w end v h cs os is same = ap (λ x. cut x h) same ∙ ap (λ (c : Course World (Caller × Reply)). cut c.end h) (run_steps fails w end cs os is) ∙ sym (ap (λ x. x.end) (run_law w h (answered cs os)))
+
+pub run_told : (fails : StoreFault → Type 0) (w end : World) (h : Name) (cs : List Asked) (os : List Outcome) → IsRun fails w cs os end → told_to h (replies cs os) ≡ (local (cut w h) (view h w (answered cs os))).replies
+run_told fails w end h cs os is = ap (λ (c : Course World (Caller × Reply)). told_to h c.replies) (run_steps fails w end cs os is) ∙ sym (ap (λ x. x.replies) (run_law w h (answered cs os)))

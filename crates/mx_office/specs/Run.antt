@@ -2,6 +2,8 @@
 use Rattle.std.specs.Prelude.{◌≡◌, List, [], ◌∷◌}
 use Rattle.mx_book.specs.World.{World}
 use Rattle.mx_book.specs.declared.contract.StoreFault.{StoreFault}
+use Rattle.mx_book.specs.declared.values.Caller.{Caller}
+use Rattle.mx_office.specs.declared.values.Reply.{Reply}
 use Rattle.mx_office.specs.declared.values.Outcome.{Outcome}
 use Rattle.mx_office.specs.declared.values.Outcome.TheVariants.{Reply as Replied, Unavailable}
 use Rattle.mx_office.specs.Faults.{MayFail}
@@ -24,3 +26,17 @@ pub record Leads (fails : StoreFault → Type 0) (Stands : World → Type 0) (w 
   pub end : World
   pub stands : Stands end
   pub run : IsRun fails w cs os end
+
+-- ---- what was answered
+
+-- the commands that were answered
+abbrev pub answered : List Asked → List Outcome → List Asked
+answered (c ∷ cs) (Replied r ∷ os) = c ∷ answered cs os
+answered (c ∷ cs) (Unavailable ∷ os) = answered cs os
+answered _ _ = []
+
+-- the replies to them, each with its caller
+abbrev pub replies : List Asked → List Outcome → List (Caller × Reply)
+replies (c ∷ cs) (Replied r ∷ os) = (c.0, r) ∷ replies cs os
+replies (c ∷ cs) (Unavailable ∷ os) = replies cs os
+replies _ _ = []

@@ -10,10 +10,10 @@ ghost use Rattle.mx_office.specs.declared.values.Reply.TheVariants.{Refused};
 ghost use Rattle.mx_office.specs.Commands.{IsAsked, IsCommand};
 ghost use Rattle.mx_office.specs.Decides.{Decides};
 ghost use Rattle.mx_office.specs.Faults.{MayFail, MayNotDecide, is_read};
-ghost use Rattle.mx_office.specs.Isolation.{cut, for_holder, local, view_of};
+ghost use Rattle.mx_office.specs.Isolation.{cut, for_holder, local, told_to, view, view_of};
 ghost use Rattle.mx_office.specs.Lends.{LendsBook};
 ghost use Rattle.mx_office.specs.Reachable.{IsReachable, StandsBalanced};
-ghost use Rattle.mx_office.specs.Run.{Leads};
+ghost use Rattle.mx_office.specs.Run.{Leads, answered, replies};
 ghost use Rattle.mx_office.specs.Step.{base, step};
 
 use crate::archive::{archive, clear};
@@ -158,6 +158,10 @@ impl<B: Book> Office<B> {
     /// Answers commands in order: one outcome a command, its reply, or `Unavailable` where `answer` gives a fault. An
     /// AllocError means that nothing was done. From a World that commands can lead to it ends in such a World, which
     /// meets all the conditions of a World, and in which each member's account is balanced.
+    ///
+    /// It keeps holders apart, as `answer` does: for every holder, the replies to the holder, in order, are those that
+    /// the holder's view of the commands that were answered gives (`told`), and what is the holder's own in the end is
+    /// what that view leaves (`accounts`). Commands that were not answered are in no view, and change nothing.
     pub fn run(
         &mut self,
         alloc: Global,
@@ -166,6 +170,8 @@ impl<B: Book> Office<B> {
         ensures later { B.doubt self.old.book ≤ B.doubt self.new.book }
         ensures run { (w : World) → B.doubt self.new.book ≡ 0 → B.spells (B.rows self.old.book) w → IfOk result (λ outcomes. Leads B.fails (B.spells (B.rows self.new.book)) w commands.now outcomes.items) }
         ensures reachable { (w : World) → B.doubt self.new.book ≡ 0 → B.spells (B.rows self.old.book) w → IsReachable w → IfOk result (λ _. StandsBalanced (B.spells (B.rows self.new.book))) }
+        ensures accounts { (w v : World) → B.doubt self.new.book ≡ 0 → B.spells (B.rows self.old.book) w → B.spells (B.rows self.new.book) v → IfOk result (λ outcomes. (h : HolderName) → cut v h ≡ (local (cut w h) (view h w (answered commands.now outcomes.items))).end) }
+        ensures told { (w : World) → B.doubt self.new.book ≡ 0 → B.spells (B.rows self.old.book) w → IfOk result (λ outcomes. (h : HolderName) → told_to h (replies commands.now outcomes.items) ≡ (local (cut w h) (view h w (answered commands.now outcomes.items))).replies) }
         ensures each { IfOk result (λ outcomes. length outcomes.items ≡ length commands.now) }
         ensures err { OnErr result (self.new ≡ self.old) }
     {

@@ -6,6 +6,7 @@ use Rattle.mx_office.specs.Run.{Leads}
 use Rattle.mx_office.specs.Step.{step}
 use Rattle.mx_office.proofs.OutcomeLemmas.{asked_more, run_replied_at, run_undone_at}
 use Rattle.mx_office.proofs.BalanceCommandLemmas.{reachable_balanced}
+use Rattle.mx_office.proofs.LawLemmas.{run_accounts, run_told}
 use Rattle.mx_office.proofs.ReachLemmas.{reachable_run}
 use Rattle.mx_office.proofs.StepLemmas.{reachable_world}
 use Rattle.mx_office.proofs.office.Office.run.Goals as goal
@@ -52,3 +53,14 @@ returns-clause-reachable g c = λ w honest spelled reachable.
     let values = subst (AllByRecursion IsAsked) (take_all c.loop-caller.caller-index c.args.commands.now (search rules)) c.loop-caller.invariant.values in
     let ends = reachable_run _ w led.end c.args.commands.now c.loop-caller.outcomes.items values led.run reachable in
     record { end = led.end; stands = led.stands; reachable = ends; world = reachable_world led.end ends; balanced = reachable_balanced led.end ends }
+
+-- the holders are kept apart, since what stands is the World of the steps of what was answered
+pub returns-clause-accounts : goal.returns-clause-accounts
+returns-clause-accounts g c = λ w v honest spelled here h.
+    let led = returns-clause-run g c w honest spelled in
+    run_accounts g.B.Book.fails w led.end v h c.args.commands.now c.loop-caller.outcomes.items led.run (g.met.B.Book.single _ v led.end here led.stands)
+
+pub returns-clause-told : goal.returns-clause-told
+returns-clause-told g c = λ w honest spelled h.
+    let led = returns-clause-run g c w honest spelled in
+    run_told g.B.Book.fails w led.end h c.args.commands.now c.loop-caller.outcomes.items led.run
