@@ -1,5 +1,5 @@
 -- Reading a log, archives and clears: each decision is the step's.
-use Rattle.std.proofs.Common.{◌≡◌, ℕ, zero, suc, ◌<◌, Bool, true, false, cond, not, List, [], ◌∷◌, ◌++◌, Option, Some, None, IsSome, refl, sym, ◌∙◌, ap, subst, arith, take, add-one, nat_eq, ◌+◌, is_some, is_none, option_and_then, option_map}
+use Rattle.std.proofs.Common.{◌≡◌, ℕ, zero, suc, Bool, true, false, cond, not, List, [], ◌∷◌, ◌++◌, Option, Some, None, IsSome, refl, sym, ◌∙◌, ap, subst, arith, take, add-one, nat_eq, ◌+◌, is_some, is_none, option_map}
 use Rattle.std.specs.Prelude.{nat_lt, ◌&&◌, slice_get}
 use Rattle.std.specs.List.{list_all, list_any}
 use Rattle.std.proofs.lemmas.List.{take_all}
@@ -8,7 +8,7 @@ use Rattle.std.proofs.lemmas.Bool.Decides.{nat_tests}
 use Rattle.std.specs.FinMap as fmap
 use Rattle.mx_pay.specs.Names.{is_name}
 use Rattle.mx_pay.specs.Details.{Details, is_details}
-use Rattle.mx_pay.proofs.CodeLemmas.{no_gap, len_logged}
+use Rattle.mx_pay.proofs.CodeLemmas.{len_logged}
 use Rattle.mx_pay.specs.Log.{Entries, IsLogValue, entry_at, has_logged, log_len, logged}
 use Rattle.mx_pay.proofs.SameLemmas.{one_of, details_itself}
 use Rattle.mx_purse.specs.State.{State}
@@ -18,7 +18,7 @@ use Rattle.mx_purse.proofs.OperationLemmas.{aborted_is}
 use Rattle.mx_book.specs.declared.edits.Edit.{Edit}
 use Rattle.mx_book.specs.declared.edits.Edit.TheVariants.{SetPurse, AddTray, ArchiveTray}
 use Rattle.mx_book.specs.declared.values.Line.{Line}
-use Rattle.mx_book.specs.World.{World, Row, Holding, Name, set_row, with_archived}
+use Rattle.mx_book.specs.World.{World, Name, set_row, with_archived}
 use Rattle.mx_book.specs.Conditions.{IsWorld, IsEntry, MayClear}
 use Rattle.mx_book.specs.Reads.{account_of, is_archived, tray_of}
 use Rattle.mx_book.specs.Edits.{AllSuit, Suits, edited, all_edited}
@@ -28,8 +28,8 @@ use Rattle.mx_book.proofs.ResultLemmas.{archive_suits, archived_stays, empty_tra
 use Rattle.mx_office.specs.declared.values.Decided.{Decided}
 use Rattle.mx_office.specs.declared.values.Refusal.TheVariants.{NoSuchPurse, NotArchived}
 use Rattle.mx_office.specs.declared.values.Reply.TheVariants as reply
-use Rattle.mx_office.specs.Step.{Deed, tell, unless, in_place, on_own, abort_line, listed, with_aborted, read_log, archive, archive_refusal, may_clear, clear, clear_refusal, is_kept, with_result, world_after}
-use Rattle.mx_office.specs.Decides.{Decides, own_purse, placed, put_edits, not_kept, purse_and_lines, read_edits}
+use Rattle.mx_office.specs.Step.{Deed, tell, unless, in_place, on_own, abort_line, listed, with_aborted, read_log, archive, archive_refusal, may_clear, clear, clear_refusal, is_kept}
+use Rattle.mx_office.specs.Decides.{Decides, own_purse, placed, put_edits, not_kept, read_edits}
 use Rattle.mx_office.proofs.DecideLemmas.{edits_decide, told_decides, edit_decides, refused_decides, purse_given}
 use Rattle.mx_office.proofs.AccountLemmas.{IsOwn, IsNext, Follows, in_tray, is_own, own_there, is_next, puts}
 use Rattle.mx_office.proofs.CommandLemmas.{abort_follows, whole}

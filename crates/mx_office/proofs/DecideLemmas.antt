@@ -8,7 +8,6 @@ use Rattle.std.proofs.lemmas.Option.{cond_some}
 use Rattle.std.specs.FinMap as fmap
 use Rattle.mx_pay.specs.Tokens.{IsToken}
 use Rattle.mx_pay.specs.Names.{is_name_text}
-use Rattle.mx_purse.specs.declared.message.Message.{Message}
 use Rattle.mx_book.specs.declared.edits.Edit.{Edit}
 use Rattle.mx_book.specs.declared.edits.Edit.TheVariants.{NewMember, NewHolder, NewPurse}
 use Rattle.mx_book.specs.declared.values.HolderRow.{HolderRow}

@@ -1,4 +1,4 @@
-use Rattle.std.proofs.Common.{◌≡◌, rules, sym, ◌∙◌}
+use Rattle.std.proofs.Common.{rules}
 use Rattle.mx_pay.proofs.CodeLemmas.{no_gap}
 use Rattle.mx_office.proofs.ArchiveLemmas.{one_lacks, archived_more, all_archived}
 use Rattle.mx_office.proofs.archive.may_clear.Goals as goal

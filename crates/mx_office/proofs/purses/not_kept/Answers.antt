@@ -1,4 +1,4 @@
-use Rattle.std.proofs.Common.{◌≡◌, rules, sym, ◌∙◌, ap}
+use Rattle.std.proofs.Common.{rules, sym, ◌∙◌, ap}
 use Rattle.std.specs.Prelude.{option_map}
 use Rattle.mx_office.specs.Decides.{not_kept}
 use Rattle.mx_office.proofs.ArchiveLemmas.{laid_kept, archived_kept, new_result}
