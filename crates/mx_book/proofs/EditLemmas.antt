@@ -1,7 +1,7 @@
 -- An edit of the rows is the edit of the World.
-use Rattle.std.proofs.Common.{◌≡◌, ℕ, ◌+◌, ◌<◌, Bool, true, false, cond, List, [], ◌∷◌, ◌++◌, map, refl, sym, ◌∙◌, ap, subst, Option, Some, None, IsSome, option_and_then, arith}
-use Rattle.mx_book.proofs.FoundLemmas.{none_is, inside}
-use Rattle.std.specs.Prelude.{◌&&◌, ◌||◌, option_map, IsNone, IsTrue, nat_lt}
+use Rattle.std.proofs.Common.{◌≡◌, ℕ, ◌+◌, ◌<◌, Bool, true, false, cond, List, [], ◌∷◌, ◌++◌, refl, sym, ◌∙◌, ap, subst, Option, Some, None, IsSome, arith}
+use Rattle.mx_book.proofs.FoundLemmas.{none_is}
+use Rattle.std.specs.Prelude.{◌||◌, option_map, IsNone, IsTrue}
 use Rattle.std.specs.Ordering.{nat_cmp}
 use Rattle.std.specs.Cmp.{nat_cmp_total}
 use Rattle.std.specs.FinMap as fmap
@@ -10,7 +10,7 @@ use Rattle.std.specs.FinMap.{nat_cmp-IsAntisymmetric}
 use Rattle.mx_book.specs.Limits.{most_messages}
 use Rattle.mx_pay.specs.Limits.{most_number}
 use Rattle.mx_pay.specs.Names.{name_cmp, is_name}
-use Rattle.mx_pay.specs.Details.{Details, details_cmp}
+use Rattle.mx_pay.specs.Details.{Details}
 use Rattle.mx_pay.specs.Log.{has_logged, is_within}
 use Rattle.mx_purse.specs.State.{State, new_purse}
 use Rattle.mx_purse.specs.declared.message.Message.{Message}
@@ -27,9 +27,9 @@ use Rattle.mx_book.specs.declared.values.LineRow.{LineRow}
 use Rattle.mx_book.specs.declared.edits.Edit.{Edit}
 use Rattle.mx_book.specs.declared.edits.Edit.TheVariants.{NewMember, SetMember, NewHolder, NewPurse, SetPurse, AddMessage, DropMessage, AddLine, AddLoad, AddRedemption, AddTray, ArchiveTray, Collect}
 use Rattle.mx_book.specs.Under.{pair_cmp, under, remake}
-use Rattle.mx_book.specs.Rows.{Rows, world_of, row_of, row_from, IsProper, Spelled, line_row, line_at, lines_from, amount_of, mark_of}
+use Rattle.mx_book.specs.Rows.{Rows, world_of, row_of, IsProper, Spelled, line_row, amount_of, mark_of}
 use Rattle.mx_book.specs.Edits.{edited, all_edited, AllSuit, Suits}
-use Rattle.mx_book.specs.RowEdits.{rewritten, all_rewritten, able, all_able, can_rise, on_purse, member_at, marked, log_at, row_tray_of}
+use Rattle.mx_book.specs.RowEdits.{rewritten, all_rewritten, able, all_able, can_rise, member_at, marked, log_at, row_tray_of}
 use Rattle.mx_book.proofs.UnderLemmas.{under-insert, under-insert_other, under-remove, under-remove_other, under-none, under-remake, get-remake, pair_exact, entries_empty}
 use Rattle.mx_book.proofs.LogLemmas.{under_has, within_from}
 use Rattle.mx_book.proofs.LineLemmas.{lines-insert}

@@ -1,18 +1,15 @@
 -- The first edits of a new book fit.
-use Rattle.std.proofs.Common.{◌≡◌, ◌<◌, ◌&&◌, length, IsSome, option_map, option_and_then, Bool, true, false, is_some, cond, List, [], ◌∷◌, refl, sym, ◌∙◌, ap, subst, Option, Some, None, arith}
-use Rattle.std.specs.Prelude.{IsNone, IsSomeAnd, IsTrue}
+use Rattle.std.proofs.Common.{◌≡◌, ◌<◌, length, IsSome, option_map, option_and_then, true, false, is_some, List, [], ◌∷◌, refl, sym, ◌∙◌, ap, subst, Option, Some, None, arith}
+use Rattle.std.specs.Prelude.{IsTrue}
 use Rattle.std.specs.Ordering.{nat_cmp}
 use Rattle.std.specs.FinMap as fmap
-use Rattle.mx_book.specs.Limits.{most_messages, most_purses}
-use Rattle.mx_pay.specs.Limits.{most_number}
+use Rattle.mx_book.specs.Limits.{most_purses}
 use Rattle.mx_pay.specs.Names.{name_cmp, is_name_text}
-use Rattle.mx_pay.specs.Tokens.{token_cmp, is_token, IsToken}
+use Rattle.mx_pay.specs.Tokens.{is_token, IsToken}
 use Rattle.mx_pay.specs.Details.{Details, IsDetails, details_cmp}
 use Rattle.mx_purse.specs.State.{State, IsPurse}
 use Rattle.mx_purse.specs.declared.message.Message.{Message}
 use Rattle.mx_purse.specs.declared.message.Message.TheVariants.{Req}
-use Rattle.mx_book.specs.declared.values.Caller.{Caller}
-use Rattle.mx_book.specs.declared.values.Caller.TheVariants.{Operator, Clerk}
 use Rattle.mx_book.specs.World.{World, Row, Name, Token, opening, new_row}
 use Rattle.mx_book.specs.Conditions.{IsWorld, IsEntry}
 use Rattle.mx_book.specs.Reads.{purses_of, holder_of, account_of, account_with}

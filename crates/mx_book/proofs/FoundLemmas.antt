@@ -1,8 +1,8 @@
 -- What is found in a map by names after a write.
-use Rattle.std.proofs.Common.{◌≡◌, ◌⊎◌, inl, inr, Bool, true, false, cond, refl, sym, ◌∙◌, ap, subst, Option, Some, None, IsSome, is_some, arith}
-use Rattle.std.specs.Prelude.{unwrap_or, IsNone}
+use Rattle.std.proofs.Common.{◌≡◌, ◌⊎◌, refl, Option, Some, None, IsSome, arith}
+use Rattle.std.specs.Prelude.{IsNone}
 use Rattle.std.specs.FinMap as fmap
-use Rattle.mx_pay.specs.Names.{name_cmp, is_name}
+use Rattle.mx_pay.specs.Names.{name_cmp}
 use Rattle.mx_book.specs.World.{Name}
 use Rattle.mx_book.proofs.NameLemmas.{names_total, same_name}
 use Rattle.std.specs.FinMap.{gets}

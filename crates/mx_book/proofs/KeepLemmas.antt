@@ -1,10 +1,9 @@
 -- Which conditions of the World an edit keeps, by groups.
-use Rattle.std.proofs.Common.{◌≡◌, ◌⊎◌, inl, inr, ℕ, ◌+◌, ◌-◌, ◌<◌, ◌≤◌, Bool, true, false, cond, List, [], ◌∷◌, map, length, refl, sym, ◌∙◌, ap, subst, Option, Some, None, IsSome, arith}
-use Rattle.std.specs.Prelude.{filter, sum_by, IsNone, IsTrue}
+use Rattle.std.proofs.Common.{◌≡◌, ◌⊎◌, inl, inr, ℕ, ◌+◌, ◌<◌, ◌≤◌, true, false, cond, List, [], ◌∷◌, map, length, refl, sym, ◌∙◌, ap, subst, Some, None, IsSome, arith}
+use Rattle.std.specs.Prelude.{filter, IsNone, IsTrue}
 use Rattle.std.specs.Cmp.{nat_cmp_total, eq_by_cmp_equiv}
-use Rattle.std.specs.Ordering.{nat_cmp, eq_by_cmp}
+use Rattle.std.specs.Ordering.{nat_cmp}
 use Rattle.std.specs.FinMap as fmap
-use Rattle.std.proofs.lemmas.List.Sums.{sum_by-cons}
 use Rattle.mx_book.specs.Limits.{most_messages, most_purses}
 use Rattle.mx_pay.specs.Limits.{most_number}
 use Rattle.mx_pay.specs.Names.{name_cmp, is_name, is_name_text}
@@ -19,14 +18,14 @@ use Rattle.mx_book.specs.declared.values.Caller.{Caller}
 use Rattle.mx_book.specs.declared.values.Caller.TheVariants.{Operator, Clerk, Holder}
 use Rattle.mx_book.specs.declared.values.MemberRow.{MemberRow}
 use Rattle.mx_book.specs.Sums.{sum_values}
-use Rattle.mx_book.specs.World.{World, Row, Holding, Name, Token, set_row, changed_row, delivered, new_row}
+use Rattle.mx_book.specs.World.{World, Row, Name, Token, set_row, changed_row, delivered, new_row}
 use Rattle.mx_book.specs.Reads.{who_of, purses_of}
-use Rattle.mx_book.specs.Conditions.{IsWorld, IsOwner, HasToken, TokensHold, MembersHold, PursesHold, InboxesHold, LinesHold, ResultsHold, PaymentsHold, ClearsHold, MayLie, IsPurseRow, IsInbox, AreLines, IsEntry, IsPaid}
-use Rattle.mx_book.specs.declared.edits.Edit.TheVariants.{NewMember, NewHolder, NewPurse, AddMessage, DropMessage}
+use Rattle.mx_book.specs.Conditions.{IsWorld, IsOwner, HasToken, TokensHold, MembersHold, MayLie, IsPurseRow, IsInbox, AreLines, IsPaid}
+use Rattle.mx_book.specs.declared.edits.Edit.TheVariants.{NewMember, NewHolder, NewPurse, AddMessage}
 use Rattle.mx_book.specs.Edits.{edited, Suits}
 use Rattle.mx_book.proofs.NameLemmas.{names_total, same_name, same_number, get-inserted}
 use Rattle.mx_book.proofs.SumLemmas.{sum_values-insert, value_of, total, total_is}
-use Rattle.mx_book.proofs.FoundLemmas.{value_found, inside, none_is, some_of, none_found, none_some, each_inserted, some_inserted, still_some, kept_value}
+use Rattle.mx_book.proofs.FoundLemmas.{value_found, none_is, some_of, none_found, none_some, each_inserted, some_inserted, still_some, kept_value}
 
 -- ---- what may lie in an inbox
 

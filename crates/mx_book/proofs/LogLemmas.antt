@@ -1,5 +1,5 @@
 -- Logs: how a loop goes over one, which are within one another, and the log of what a purse has in a set of results.
-use Rattle.std.proofs.Common.{◌≡◌, ℕ, ◌+◌, ◌<◌, ◌≤◌, zero, suc, Bool, true, false, cond, not, ◌&&◌, ◌||◌, List, [], ◌∷◌, take, length, add-one, refl, sym, ◌∙◌, ap, subst, Option, Some, None, is_some, arith}
+use Rattle.std.proofs.Common.{◌≡◌, ℕ, ◌+◌, ◌<◌, ◌≤◌, zero, suc, Bool, true, false, cond, not, ◌&&◌, ◌||◌, List, [], ◌∷◌, take, length, add-one, refl, sym, ◌∙◌, ap, Option, Some, None, is_some, arith}
 use Rattle.std.specs.Prelude.{slice_get, nat_le, option_map}
 use Rattle.std.proofs.lemmas.List.{length-map}
 use Rattle.std.proofs.lemmas.Bool.Decides.{nat_tests}
@@ -10,7 +10,7 @@ use Rattle.std.specs.FinMap.{IsAntisymmetric}
 use Rattle.std.specs.FinMap as fmap
 use Rattle.std.specs.FinSet.{FinSet}
 use Rattle.mx_pay.specs.Limits.{most_entries}
-use Rattle.mx_pay.specs.Names.{name_cmp, is_name}
+use Rattle.mx_pay.specs.Names.{name_cmp}
 use Rattle.mx_pay.specs.Details.{Details, details_cmp, is_details}
 use Rattle.mx_pay.specs.Orders.{details_exact}
 use Rattle.mx_pay.specs.Log.{Entries, logged, log_len, has_logged, with_entry, none_logged, is_within}

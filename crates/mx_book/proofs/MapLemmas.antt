@@ -1,12 +1,11 @@
 -- What a map has where some of its entries are picked.
-use Rattle.std.proofs.Common.{◌≡◌, Bool, true, false, cond, List, [], ◌∷◌, refl, sym, ◌∙◌, ap, Option, Some, None, T, ◌&&◌, option_and_then, arith}
+use Rattle.std.proofs.Common.{◌≡◌, List, [], ◌∷◌, refl, Option, Some, None, T, option_and_then, arith}
 use Rattle.std.specs.declared.cmp.Ordering.{Ordering}
-use Rattle.std.specs.declared.cmp.Ordering.TheVariants.{Less, Equal, Greater}
-use Rattle.std.specs.Ordering.{eq_by_cmp, is_eq, is_lt}
+use Rattle.std.specs.declared.cmp.Ordering.TheVariants.{Equal}
 use Rattle.std.specs.Cmp.{IsTotalOrder}
-use Rattle.std.specs.FinMap.{gets, FinMap, IsAntisymmetric, get, insert, entries, entries_sorted, entries-from_sorted, get-from_sorted, get-entries, get-insert, same_map}
+use Rattle.std.specs.FinMap.{gets, FinMap, IsAntisymmetric, get, insert, entries, entries_sorted, entries-from_sorted, get-entries, same_map}
 use Rattle.std.specs.FinMap.Entries.{find, is_sorted, below_all}
-use Rattle.mx_book.specs.Maps.{picked, with_picked, pick}
+use Rattle.mx_book.specs.Maps.{picked, pick}
 
 module _ {K X Y : Type 0} (R : K → K → Ordering) (f : X → Option Y) where
   below-picked : (x : K) (es : List (K × X)) → T (below_all R x es) → T (below_all R x (picked f es))

@@ -1,6 +1,6 @@
 -- What grants, loads, redemptions and collects make of the World.
-use Rattle.std.proofs.Common.{◌≡◌, ℕ, ◌+◌, ◌≤◌, Bool, true, false, cond, List, [], ◌∷◌, ◌++◌, length, refl, sym, ◌∙◌, ap, subst, arith, Option, Some, None, IsSome, IsNone, IsTrue, is_some, option_map, option_and_then, map}
-use Rattle.std.specs.Prelude.{IsSomeAnd, filter}
+use Rattle.std.proofs.Common.{◌≡◌, ℕ, ◌+◌, ◌≤◌, Bool, true, false, cond, List, [], ◌∷◌, ◌++◌, length, refl, sym, ◌∙◌, ap, subst, arith, Some, None, IsSome, IsTrue, option_map, map}
+use Rattle.std.specs.Prelude.{filter}
 use Rattle.std.specs.List.{AllByRecursion}
 use Rattle.std.specs.FinMap as fmap
 use Rattle.mx_pay.specs.Limits.{most_amount, most_number}
@@ -8,21 +8,19 @@ use Rattle.mx_pay.specs.Names.{name_cmp, is_name, is_name_text}
 use Rattle.mx_pay.specs.Details.{Details}
 use Rattle.mx_pay.specs.Log.{has_logged}
 use Rattle.mx_purse.specs.State.{State, IsPurse}
-use Rattle.mx_book.specs.declared.values.Caller.{Caller}
-use Rattle.mx_book.specs.declared.values.Caller.TheVariants.{Operator, Clerk, Holder}
 use Rattle.mx_book.specs.declared.values.Line.{Line}
 use Rattle.mx_book.specs.declared.values.MemberRow.{MemberRow}
-use Rattle.mx_book.specs.declared.edits.Edit.TheVariants.{SetMember, SetPurse, AddLoad, AddRedemption, Collect}
+use Rattle.mx_book.specs.declared.edits.Edit.TheVariants.{SetMember, SetPurse, AddLoad, AddRedemption}
 use Rattle.mx_book.specs.World.{World, Row, Name, is_of_member, with_collected, all_collected, set_row}
 use Rattle.mx_book.specs.Reads.{purses_of}
-use Rattle.mx_book.specs.Conditions.{IsOwner, IsWorld, IsLine, IsPurseRow, IsInbox, IsPaid, AreLines, AreNumbered, all_granted}
-use Rattle.mx_book.specs.Edits.{edited, all_edited, Suits, AllSuit}
+use Rattle.mx_book.specs.Conditions.{IsWorld, IsLine, AreNumbered, all_granted}
+use Rattle.mx_book.specs.Edits.{edited, all_edited, AllSuit}
 use Rattle.mx_book.proofs.NameLemmas.{names_total, names_exact, same_name, get-inserted}
 use Rattle.mx_book.proofs.UnderLemmas.{get-remake, entries-remake}
 use Rattle.mx_book.specs.Under.{remade}
 use Rattle.mx_book.proofs.MapLemmas.{get-pick}
 use Rattle.mx_book.proofs.SumLemmas.{sum_values-insert, value_of}
-use Rattle.mx_book.proofs.FoundLemmas.{inside, each_inserted, still_some}
+use Rattle.mx_book.proofs.FoundLemmas.{each_inserted, still_some}
 use Rattle.mx_book.proofs.KeepLemmas.{owner_stays, heads_stay, IsRow, is_row, rows_stay}
 use Rattle.mx_book.proofs.PurseLemmas.{paid_stays, with_lines, line_edits, change_set, edits_append, suits_append, purse_leads, purse_suits}
 

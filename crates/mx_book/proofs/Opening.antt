@@ -1,5 +1,5 @@
 -- The opening rows spell the opening World.
-use Rattle.std.proofs.Common.{◌≡◌, Bool, Option, Some, None, IsSome, sym, ◌∙◌, ap, subst, arith, length, map}
+use Rattle.std.proofs.Common.{◌≡◌, sym, ◌∙◌, ap, subst, arith, length, map}
 use Rattle.std.specs.Prelude.{option_map, filter}
 use Rattle.std.specs.Ordering.{nat_cmp}
 use Rattle.std.specs.FinMap as fmap

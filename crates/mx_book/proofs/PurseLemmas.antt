@@ -1,25 +1,23 @@
 -- What an operation of a purse, a message and a discard make of the World.
 use Rattle.std.proofs.Common.{◌≡◌, ℕ, ◌+◌, ◌<◌, Bool, true, false, cond, List, [], ◌∷◌, ◌++◌, length, append_assoc, refl, sym, ◌∙◌, ap, subst, Option, Some, None, IsSome, arith}
 use Rattle.std.proofs.lemmas.List.{append-nil}
-use Rattle.std.specs.Prelude.{nat_lt, IsSomeAnd, IsTrue}
+use Rattle.std.specs.Prelude.{IsSomeAnd}
 use Rattle.std.specs.List.{AllByRecursion}
 use Rattle.std.specs.FinMap as fmap
 use Rattle.std.proofs.lemmas.Bool.Decides.{nat_tests}
-use Rattle.mx_book.specs.Limits.{most_messages, most_purses}
+use Rattle.mx_book.specs.Limits.{most_messages}
 use Rattle.mx_pay.specs.Limits.{most_number}
-use Rattle.mx_pay.specs.Names.{name_cmp, is_name, is_name_text}
+use Rattle.mx_pay.specs.Names.{name_cmp}
 use Rattle.mx_pay.specs.Details.{Details}
 use Rattle.mx_pay.specs.Log.{has_logged}
 use Rattle.mx_purse.specs.State.{State, IsPurse}
-use Rattle.mx_pay.specs.Tokens.{IsToken}
 use Rattle.mx_purse.specs.declared.message.Message.{Message}
 use Rattle.mx_purse.specs.Messages.{IsMessage}
 use Rattle.mx_book.specs.declared.values.Line.{Line}
-use Rattle.mx_book.specs.World.{World, Row, Holding, Name, Token, set_row, change_row, changed_row, has_room, delivered, with_message, put}
-use Rattle.mx_book.specs.Reads.{purses_of}
+use Rattle.mx_book.specs.World.{World, Row, Holding, Name, set_row, change_row, changed_row, has_room, delivered, with_message, put}
 use Rattle.mx_book.specs.Conditions.{IsWorld, IsLine, AreNumbered, IsPaid, MayLie}
 use Rattle.mx_book.specs.declared.edits.Edit.{Edit}
-use Rattle.mx_book.specs.declared.edits.Edit.TheVariants.{NewMember, NewHolder, NewPurse, SetPurse, AddMessage, DropMessage, AddLine}
+use Rattle.mx_book.specs.declared.edits.Edit.TheVariants.{SetPurse, AddMessage, DropMessage, AddLine}
 use Rattle.mx_book.specs.Edits.{edited, all_edited, Suits, AllSuit}
 use Rattle.mx_book.proofs.NameLemmas.{names_total, names_exact, same_name, get-inserted}
 use Rattle.mx_book.proofs.FoundLemmas.{some_of}

@@ -1,5 +1,5 @@
 -- What is read of the rows is what the World has.
-use Rattle.std.proofs.Common.{◌≡◌, ℕ, Bool, true, false, cond, ◌&&◌, List, [], ◌∷◌, map, length, take, arith, refl, sym, ◌∙◌, ap, Option, Some, None, option_and_then}
+use Rattle.std.proofs.Common.{◌≡◌, ℕ, ◌&&◌, List, [], ◌∷◌, map, length, take, arith, refl, sym, ◌∙◌, ap, Option, Some, None}
 use Rattle.std.specs.Prelude.{option_map, filter, nat_lt}
 use Rattle.std.specs.List.{take-map}
 use Rattle.std.specs.Ordering.{nat_cmp}
@@ -13,11 +13,10 @@ use Rattle.mx_book.proofs.NameLemmas.{names_total}
 use Rattle.mx_book.proofs.MapLemmas.{get-pick}
 use Rattle.mx_book.specs.declared.values.PurseRow.{PurseRow}
 use Rattle.mx_book.specs.declared.values.LineRow.{LineRow}
-use Rattle.mx_book.specs.declared.values.Redemption.{Redemption}
-use Rattle.mx_book.specs.Under.{under, those, with_second, remade}
+use Rattle.mx_book.specs.Under.{under, those, remade}
 use Rattle.mx_book.specs.Rows.{Rows, world_of, row_of, line_at, amount_of, IsProper}
-use Rattle.mx_book.specs.Reads.{of_purse, from_row, purses_of, holder_of, account_of, account_with, inbox_of, message_of, lines_of, members_of, load_of, redemption_of}
-use Rattle.mx_book.specs.RowReads.{of_name, purse_rows_of, row_purses_of, row_holder_of, row_account_of, row_account_with, row_inbox_of, row_lines_of, row_members_of, row_load_of, row_redemption_of, line_of_row}
+use Rattle.mx_book.specs.Reads.{of_purse, from_row, purses_of, holder_of, account_of, inbox_of, message_of, lines_of, members_of, load_of, redemption_of}
+use Rattle.mx_book.specs.RowReads.{of_name, purse_rows_of, row_purses_of, row_holder_of, row_account_of, row_inbox_of, row_lines_of, row_members_of, row_load_of, row_redemption_of, line_of_row}
 use Rattle.mx_book.proofs.UnderLemmas.{get-under, entries-under, len-under, entries-remake, under-none, entries_empty}
 use Rattle.mx_book.proofs.RowLemmas.{get_rows}
 

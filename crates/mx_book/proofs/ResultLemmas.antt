@@ -1,7 +1,6 @@
 -- Results of read log in the tray and in the archive.
-use Rattle.std.proofs.Common.{◌≡◌, ◌⊎◌, ℕ, ◌+◌, inl, inr, Bool, true, false, cond, not, ◌&&◌, ◌||◌, List, [], ◌∷◌, refl, sym, ◌∙◌, ap, subst, Option, Some, None, IsSome, is_some, arith}
+use Rattle.std.proofs.Common.{◌≡◌, ◌⊎◌, ℕ, ◌+◌, inl, inr, Bool, true, false, not, ◌&&◌, ◌||◌, List, [], ◌∷◌, sym, ◌∙◌, ap, subst, Option, Some, None, IsSome, is_some, arith}
 use Rattle.std.specs.Prelude.{IsSomeAnd, slice_get, option_map}
-use Rattle.std.specs.declared.cmp.Ordering.TheVariants.{Equal}
 use Rattle.std.specs.Ordering.{eq_by_cmp}
 use Rattle.std.specs.List.{list_any}
 use Rattle.std.specs.Cmp.{IsTotalOrder, eq_by_cmp_equiv}
@@ -26,7 +25,7 @@ use Rattle.mx_book.specs.declared.edits.Edit.TheVariants.{AddTray, ArchiveTray}
 use Rattle.mx_book.specs.Edits.{edited, Suits}
 use Rattle.mx_book.proofs.NameLemmas.{names_total, names_exact, same_name}
 use Rattle.mx_book.proofs.UnderLemmas.{pair_total, pair_exact}
-use Rattle.mx_book.proofs.LogLemmas.{is_among, among_more, among_all, same_members, has_kept, within_means, under_has}
+use Rattle.mx_book.proofs.LogLemmas.{is_among, among_more, same_members, has_kept, within_means, under_has}
 use Rattle.mx_book.proofs.FoundLemmas.{inside, some_of, value_found}
 use Rattle.mx_book.proofs.KeepLemmas.{may_lie}
 

@@ -1,5 +1,5 @@
 -- Reads and edits of rows that spell a World.
-use Rattle.std.proofs.Common.{◌≡◌, ℕ, IsTrue, List, [], ◌∷◌, ap, ◌∙◌, sym, subst, refl}
+use Rattle.std.proofs.Common.{◌≡◌, ℕ, IsTrue, List, ap, ◌∙◌, sym, subst, refl}
 use Rattle.std.specs.FinMap as fmap
 use Rattle.mx_pay.specs.Details.{Details}
 use Rattle.mx_book.specs.declared.edits.Edit.{Edit}
@@ -8,8 +8,7 @@ use Rattle.mx_book.specs.Rows.{Rows, world_of}
 use Rattle.mx_book.specs.Reads.{who_of, member_of, holder_of, purses_of, account_of, message_of, inbox_of, lines_of, members_of, load_of, redemption_of, is_archived, tray_of, uncollected_of}
 use Rattle.mx_book.specs.RowReads.{row_who_of, row_holder_of, row_purses_of, row_account_of, row_inbox_of, row_lines_of, row_members_of, row_load_of, row_redemption_of, row_is_archived, row_uncollected_of}
 use Rattle.mx_book.specs.Edits.{all_edited, Fits}
-use Rattle.mx_book.specs.RowEdits.{rewritten, all_rewritten, all_able, log_at, row_laid_of}
-use Rattle.mx_book.specs.declared.edits.Edit.TheVariants.{NewMember, SetMember, NewHolder, NewPurse, SetPurse, AddMessage, DropMessage, AddLine, AddLoad, AddRedemption, Collect}
+use Rattle.mx_book.specs.RowEdits.{all_rewritten, all_able, row_laid_of}
 use Rattle.std.proofs.Props.{props}
 use mathlib.Core.Logic.{∥∥₁_elim, ∥∥₁_map}
 use Rattle.mx_book.proofs.ReadLemmas.{purses_are, holder_is, account_is, message_is, inbox_is, lines_are, members_are, load_is, redemption_is}

@@ -1,18 +1,17 @@
 -- What isn't collected: the sum over all rows is the sum over the purses of the sums over their redemptions.
-use Rattle.std.proofs.Common.{◌≡◌, ℕ, ◌+◌, Bool, true, false, cond, ◌&&◌, List, [], ◌∷◌, refl, sym, ◌∙◌, ap, arith, Option, Some, None, T, option_and_then}
-use Rattle.std.specs.Prelude.{sum_by, is_some, not}
+use Rattle.std.proofs.Common.{◌≡◌, ℕ, ◌+◌, Bool, cond, ◌&&◌, List, [], ◌∷◌, refl, sym, ◌∙◌, ap, arith, Option, Some, None, T}
+use Rattle.std.specs.Prelude.{not}
 use Rattle.std.specs.declared.cmp.Ordering.{Ordering}
-use Rattle.std.specs.declared.cmp.Ordering.TheVariants.{Less, Equal, Greater}
-use Rattle.std.specs.Ordering.{eq_by_cmp, is_eq}
+use Rattle.std.specs.declared.cmp.Ordering.TheVariants.{Equal}
+use Rattle.std.specs.Ordering.{is_eq}
 use Rattle.std.specs.Cmp.{IsTotalOrder, eq_by_cmp_equiv, tied_itself}
-use Rattle.std.proofs.lemmas.List.Sums.{sum_by-cons}
 use Rattle.std.specs.FinMap as fmap
 use Rattle.std.specs.FinMap.Entries.{find, is_sorted, below_all}
 use Rattle.mx_pay.specs.Names.{name_cmp, is_name}
 use Rattle.mx_book.specs.declared.values.PurseRow.{PurseRow}
 use Rattle.mx_book.specs.declared.values.Redemption.{Redemption}
 use Rattle.mx_book.specs.Maps.{pick, picked}
-use Rattle.mx_book.specs.Under.{pair_cmp, under, those, with_second, remade}
+use Rattle.mx_book.specs.Under.{pair_cmp, under, those, remade}
 use Rattle.mx_book.specs.Sums.{sum_values, sum_entries}
 use Rattle.mx_book.proofs.SumLemmas.{total, total_is}
 use Rattle.mx_book.specs.World.{Row, Name, is_of, is_of_member}
@@ -22,7 +21,7 @@ use Rattle.mx_book.specs.RowEdits.{member_at}
 use Rattle.mx_book.specs.RowReads.{uncollected_amount, row_uncollected_of}
 use Rattle.mx_book.proofs.NameLemmas.{names_total, same_name}
 use Rattle.mx_book.proofs.FoundLemmas.{none_found}
-use Rattle.mx_pay.proofs.TestLemmas.{first_true, second_true, is_less, is_equal}
+use Rattle.mx_pay.proofs.TestLemmas.{second_true}
 use Rattle.mx_book.proofs.MapLemmas.{find_below, entries-pick, get-pick}
 use Rattle.mx_book.proofs.UnderLemmas.{entries-under, entries-remake, pair_total}
 

@@ -1,14 +1,14 @@
 -- What a map has under one first key.
-use Rattle.std.proofs.Common.{◌≡◌, Bool, true, false, cond, List, [], ◌∷◌, length, refl, sym, ◌∙◌, ap, subst, Option, Some, None, T, ◌&&◌, arith}
+use Rattle.std.proofs.Common.{◌≡◌, false, List, [], ◌∷◌, length, refl, sym, ◌∙◌, ap, None, T, arith}
 use Rattle.std.specs.Prelude.{option_map}
 use Rattle.std.specs.declared.cmp.Ordering.{Ordering}
-use Rattle.std.specs.declared.cmp.Ordering.TheVariants.{Less, Equal, Greater}
-use Rattle.std.specs.Ordering.{eq_by_cmp, is_eq, is_lt, ordering_then}
+use Rattle.std.specs.declared.cmp.Ordering.TheVariants.{Equal}
+use Rattle.std.specs.Ordering.{eq_by_cmp}
 use Rattle.std.specs.Cmp.{IsTotalOrder, tied_itself, then_total, on_total}
-use Rattle.std.specs.FinMap.{FinMap, IsAntisymmetric, get, insert, remove, empty, entries, from_sorted, entries_sorted, entries-from_sorted, get-entries, get-insert, get-remove, get-empty, same_map, len, len-entries, len-empty}
+use Rattle.std.specs.FinMap.{FinMap, IsAntisymmetric, get, insert, remove, empty, entries, from_sorted, entries_sorted, entries-from_sorted, get-entries, same_map, len, len-entries, len-empty}
 use Rattle.std.specs.FinMap.Entries.{find, is_sorted, below_all}
 use Rattle.std.proofs.lemmas.Map.Lookups.{exact_pairs}
-use Rattle.mx_book.specs.Under.{pair_cmp, under, those, with_second, remake, remade}
+use Rattle.mx_book.specs.Under.{pair_cmp, under, those, remake, remade}
 use Rattle.std.specs.FinMap.{gets}
 use Rattle.std.proofs.lemmas.List.{nil_from_length}
 

@@ -7,3 +7,6 @@ pub mod Lists
 pub mod Known
 pub mod StepLemmas
 pub mod RunLemmas
+pub mod ApartLemmas
+pub mod LeavesLemmas
+pub mod LawLemmas

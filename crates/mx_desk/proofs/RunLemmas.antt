@@ -24,7 +24,7 @@ outputs-snoc w (n ∷ ms) m =
     ap (λ t. response_to w n ++ t) (outputs-snoc (world_after_one w n) ms m)
     ∙ sym (append_assoc (response_to w n) (outputs (world_after_one w n) ms) _)
 
-marks-snoc : (fails : StoreFault → Type 0) (w : World) (ms : List Marked) (m : Marked) → AllMayBeMarked fails w ms → MayBeMarked fails (world_after w ms) m → AllMayBeMarked fails w (ms ++ m ∷ [])
+pub marks-snoc : (fails : StoreFault → Type 0) (w : World) (ms : List Marked) (m : Marked) → AllMayBeMarked fails w ms → MayBeMarked fails (world_after w ms) m → AllMayBeMarked fails w (ms ++ m ∷ [])
 marks-snoc fails w [] m all one = (one, tt)
 marks-snoc fails w (n ∷ ms) m all one = (all.0, marks-snoc fails (world_after_one w n) ms m all.1 one)
 

@@ -6,3 +6,4 @@ pub mod Respond
 pub mod Serve
 pub mod Steps
 pub mod Answers
+pub mod Isolation

@@ -4,6 +4,7 @@ ghost use Rattle.std.specs.Io.KnownBytes.{Appends, Keeps};
 ghost use Rattle.mx_book.specs.World.{World};
 ghost use Rattle.mx_desk.specs.Devices.{capped};
 ghost use Rattle.mx_desk.specs.Found.{request_view};
+ghost use Rattle.mx_desk.specs.Isolation.{IsLeft};
 ghost use Rattle.mx_desk.specs.Serve.{Marked, MayBeMarked, response_to, world_after_one, stop_text, stop_fixed, ServedAll};
 ghost use Rattle.mx_desk.specs.Steps.{state, Steps, Faults, Leads, IsReplied, IsCut};
 
@@ -151,6 +152,10 @@ fn serve_next<R: Read, W: Write, B: Book>(
 /// the input ends before its first byte; `Stopped` where the response is that to a fault of the input. A fault is `Read`
 /// where a read failed, and then nothing was answered; or `Write` where a write or a flush failed or a write took nothing,
 /// and then the request stands as its response says, which may be cut.
+///
+/// However it ends, it keeps holders apart (`apart`): for every holder, the bytes of the response, where the request is the
+/// holder's own, and what is the holder's own then, are those that what the holder sees of the request gives. A request
+/// that is given up is seen by nobody.
 pub fn serve_one<R: Read, W: Write, B: Book>(
     alloc: Global,
     reader: &mut Counted<R>,
@@ -163,6 +168,10 @@ pub fn serve_one<R: Read, W: Write, B: Book>(
         → Leads (B.spells (B.rows office.new.book)) (λ v. (left : List ℕ) × Steps B.fails
         (state [] (R.remaining reader.old.device) (W.contents writer.old.device) w) result
         (state left (R.remaining reader.new.device) (W.contents writer.new.device) v)) }
+    ensures apart { (w : World) → B.doubt office.new.book ≡ 0 → B.spells (B.rows office.old.book) w
+        → Leads (B.spells (B.rows office.new.book)) (λ v. IsLeft B.fails
+        (state [] (R.remaining reader.old.device) (W.contents writer.old.device) w)
+        (state [] (R.remaining reader.new.device) (W.contents writer.new.device) v)) }
     ensures reads { (reads : ℕ) × (reads ≤ 12288) × (reader.new.calls ≡ capped (reader.old.calls + reads)) }
     ensures never { result ≢ Err DeskFault.Turns }
     ensures read_failed { result ≡ Err DeskFault.Read → reader.new.failures ≡ capped (reader.old.failures + 1) }
@@ -195,6 +204,10 @@ pub const MOST_READS: u64 = 1_000_000_000;
 /// where a read failed, `Turns` where 1,000,000,000 reads didn't reach the end, and then the requests that were whole are
 /// answered; or `Write` where a write or a flush failed or a write took nothing, and then the last request stands as its
 /// response says, which may be cut.
+///
+/// However it ends, it keeps holders apart (`apart`): for every holder, the responses to the holder's own requests, in
+/// order and byte for byte, and what is the holder's own in the end, are those that what the holder sees of the requests
+/// gives. Requests that are given up are seen by nobody; after `Write` the last response may be cut.
 pub fn run<R: Read, W: Write, B: Book>(
     alloc: Global,
     reader: &mut Counted<R>,
@@ -210,6 +223,10 @@ pub fn run<R: Read, W: Write, B: Book>(
         → IfErr result (λ e. Leads (B.spells (B.rows office.new.book)) (λ now. Faults B.fails
         (state [] (R.remaining reader.old.device) (W.contents writer.old.device) w) e
         (state [] (R.remaining reader.new.device) (W.contents writer.new.device) now))) }
+    ensures apart { (w : World) → B.doubt office.new.book ≡ 0 → B.spells (B.rows office.old.book) w
+        → Leads (B.spells (B.rows office.new.book)) (λ v. IsLeft B.fails
+        (state [] (R.remaining reader.old.device) (W.contents writer.old.device) w)
+        (state [] (R.remaining reader.new.device) (W.contents writer.new.device) v)) }
     ensures reads { (reads : ℕ) × (reads ≤ 1000000000) × (reader.new.calls ≡ capped (reader.old.calls + reads)) }
     ensures turns { result ≡ Err DeskFault.Turns → reader.new.calls ≡ capped (reader.old.calls + 1000000000) }
     ensures read_failed { result ≡ Err DeskFault.Read → reader.new.failures ≡ capped (reader.old.failures + 1) }

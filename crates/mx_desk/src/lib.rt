@@ -9,6 +9,7 @@ pub mod fields;
 pub mod first;
 pub mod head;
 pub mod input;
+pub mod isolation;
 pub mod output;
 #[cfg(test)]
 mod tests;

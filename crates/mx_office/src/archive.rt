@@ -35,7 +35,11 @@ pub(crate) fn archive<B: Book>(
     if results == 0 {
         tell(decided, Reply::Archived(0));
     } else {
-        make(decided, Reply::Archived(results), &Edit::ArchiveTray { purse });
+        make(
+            decided,
+            Reply::Archived(results),
+            &Edit::ArchiveTray { purse },
+        );
     }
     Ok(())
 }

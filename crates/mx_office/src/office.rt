@@ -21,7 +21,9 @@ use crate::decisions::refuse;
 use crate::limits::{is_caller, is_command};
 use crate::members::{new_holder, new_member, new_purse};
 use crate::money::{collect, grant, load};
-use crate::purses::{abort, discard, handle, inbox, purses, read_log, redeem, show, start_from, start_to};
+use crate::purses::{
+    abort, discard, handle, inbox, purses, read_log, redeem, show, start_from, start_to,
+};
 use crate::values::{Command, Decided, Outcome, Refusal, Reply};
 use mx_book::contract::{Book, StoreFault};
 use mx_book::values::Caller;

@@ -10,8 +10,8 @@ ghost use Rattle.mx_office.specs.Step.{abort, discard, handle, inbox, on_own, re
 ghost use Rattle.mx_office.specs.declared.values.Command.{Command};
 
 use crate::decisions::{
-    abort_line, again, make, make_purse, make_read, make_redemption, message_line, redeem_refusal, refuse,
-    sent_for, start_refusal, tell,
+    abort_line, again, make, make_purse, make_read, make_redemption, message_line, redeem_refusal,
+    refuse, sent_for, start_refusal, tell,
 };
 use crate::values::{Decided, Messages, Names, Refusal, Reply};
 use mx_book::contract::{Book, StoreFault};

@@ -1,7 +1,6 @@
-use Rattle.std.proofs.Common.{◌≡◌, ◌<◌, ◌≤◌, ◌&&◌, ◌||◌, not, Some, sym, ◌∙◌, ap, subst, arith}
+use Rattle.std.proofs.Common.{◌≡◌, ◌<◌, ◌&&◌, ◌||◌, not, Some, sym, ◌∙◌, ap, arith}
 use Rattle.std.specs.Prelude.{slice_get}
 use Rattle.std.specs.FinMap.{contains_key}
-use Rattle.mx_pay.specs.Details.{Details}
 use Rattle.mx_pay.specs.Names.{is_name}
 use Rattle.mx_pay.specs.Log.{logged, log_len}
 use Rattle.mx_pay.proofs.CodeLemmas.{no_gap}

@@ -1,6 +1,7 @@
 use Rattle.std.proofs.Common.{◌≡◌, ◌+◌, ◌*◌, ◌<◌, ◌≤◌, ℕ, List, [], ◌∷◌, ◌++◌, Ok, Err, length, refl, sym, ap, ◌∙◌, arith, rules, length-append}
 use Rattle.mx_desk.specs.Serve.{Marked}
 use Rattle.mx_desk.proofs.StepLemmas.{capped_none, capped_then}
+use Rattle.mx_desk.proofs.LeavesLemmas.{leaves}
 use Rattle.mx_desk.proofs.RunLemmas.{Ran-none, Ran-step, serves_nothing, serves_stopped, leads_if}
 use Rattle.std.proofs.lemmas.Result.{err_from_is_err_and}
 use Rattle.std.specs.Io.KnownBytes.{Appends}
@@ -99,3 +100,25 @@ returns-in-Stopped-clause-reads g c =
     let had = c.requests.invariant.reads in
     let more = c.in_ok-serve_next.ensures.reads in
     (had.0 + more.0, omega arith, capped_then _ had.0 _ more.0 _ had.2 more.3)
+
+-- the holders are kept apart, however the run ends
+pub returns-in_err-serve_next-clause-apart : goal.returns-in_err-serve_next-clause-apart
+returns-in_err-serve_next-clause-apart g c = λ w honest spelled.
+    let before : g.B.Book.doubt c.requests.office.book ≡ 0 = search rules in
+    let ran = c.requests.invariant.ran w before spelled in
+    let led = c.in_err-serve_next.ensures.steps ran.end honest ran.stands in
+    record { end = led.end; stands = led.stands; holds = leaves g.B.Book.fails _ _ _ ran.holds.0 _ [] ran.holds.1 led.holds }
+
+pub returns-in-Nothing-clause-apart : goal.returns-in-Nothing-clause-apart
+returns-in-Nothing-clause-apart g c = λ w honest spelled.
+    let before : g.B.Book.doubt c.requests.office.book ≡ 0 = search rules in
+    let ran = c.requests.invariant.ran w before spelled in
+    let led = c.in_ok-serve_next.ensures.steps ran.end honest ran.stands in
+    record { end = led.end; stands = led.stands; holds = leaves g.B.Book.fails _ _ _ ran.holds.0 _ [] ran.holds.1 led.holds }
+
+pub returns-in-Stopped-clause-apart : goal.returns-in-Stopped-clause-apart
+returns-in-Stopped-clause-apart g c = λ w honest spelled.
+    let before : g.B.Book.doubt c.requests.office.book ≡ 0 = search rules in
+    let ran = c.requests.invariant.ran w before spelled in
+    let led = c.in_ok-serve_next.ensures.steps ran.end honest ran.stands in
+    record { end = led.end; stands = led.stands; holds = leaves g.B.Book.fails _ _ _ ran.holds.0 _ [] ran.holds.1 led.holds }

@@ -1,5 +1,6 @@
 use Rattle.std.proofs.Common.{◌≡◌, List, [], refl, sym, ap, ◌∙◌, rules}
 use Rattle.std.proofs.lemmas.Result.{err_from_is_err_and}
+use Rattle.mx_desk.proofs.LeavesLemmas.{leaves_one}
 use Rattle.mx_desk.proofs.RunLemmas.{flushed, unflushed}
 use Rattle.mx_desk.proofs.desk.serve_one.Goals as goal
 use Rattle.mx_desk.proofs.desk.serve_one.Goals.{in-Answered+in_ok-flush_out, in_default}
@@ -34,3 +35,19 @@ returns-clause-steps g c = λ w honest spelled.
       })
       | in_default v ↦ rw v.writer-is (record { end = led.end; stands = led.stands; holds = (c.serve_next.new.input, rw c.new-input.ensures at steps) })
     ]
+
+-- the holders are kept apart, however the turn ends
+pub returns-in_err-served-clause-apart : goal.returns-in_err-served-clause-apart
+returns-in_err-served-clause-apart g c = λ w honest spelled.
+    let led = returns-in_err-served-clause-steps g c w honest spelled in
+    record { end = led.end; stands = led.stands; holds = leaves_one g.B.Book.fails _ _ _ [] led.holds.1 }
+
+pub returns-in_err-flush_out-clause-apart : goal.returns-in_err-flush_out-clause-apart
+returns-in_err-flush_out-clause-apart g c = λ w honest spelled.
+    let led = returns-in_err-flush_out-clause-steps g c w honest spelled in
+    record { end = led.end; stands = led.stands; holds = leaves_one g.B.Book.fails _ _ _ [] led.holds.1 }
+
+pub returns-clause-apart : goal.returns-clause-apart
+returns-clause-apart g c = λ w honest spelled.
+    let led = returns-clause-steps g c w honest spelled in
+    record { end = led.end; stands = led.stands; holds = leaves_one g.B.Book.fails _ _ _ [] led.holds.1 }

@@ -1,4 +1,4 @@
-use Rattle.std.proofs.Common.{◌≡◌, None, sym, ◌∙◌, ap}
+use Rattle.std.proofs.Common.{◌∙◌, ap}
 use Rattle.std.specs.FinMap as fmap
 use Rattle.mx_book.specs.RowEdits.{log_at}
 use Rattle.mx_book.specs.Shelves.{rows_of}
