@@ -15,9 +15,10 @@ use Rattle.mx_wire.specs.declared.replies.Fixed.TheVariants as fixed
 use Rattle.mx_wire.specs.declared.routes.Class.{Class}
 use Rattle.mx_wire.specs.declared.routes.Class.TheVariants as class
 use Rattle.mx_wire.specs.declared.routes.Route.{Route}
+use Rattle.mx_desk.specs.declared.head.Stop.{Stop}
 use Rattle.mx_desk.specs.Requests.{Request, Begins}
 use Rattle.mx_desk.specs.Respond.{caller_of, is_of_class, is_head}
-use Rattle.mx_desk.specs.Serve.{Marked, AllMayBeMarked, world_after_one, world_after, response_to, outputs, requests_of}
+use Rattle.mx_desk.specs.Serve.{Marked, AllMayBeMarked, world_after_one, world_after, response_to, outputs, requests_of, stop_text}
 use Rattle.mx_desk.specs.Steps.{State}
 
 -- ---- what is seen
@@ -122,11 +123,12 @@ pub record IsApart (w : World) (h : Name) (ms : List Marked) : Type 0 where
 
 -- ---- what a call of the desk leaves
 
--- what was written: the responses to these requests, and then the response to a fault of the input, whole, cut or not at
--- all; or the last of their responses was cut
+-- what was written: the responses to these requests; and then the response to a fault of the input, whole or cut; or the
+-- last of their responses was cut
 abbrev pub IsWritten : World → List Marked → List ℕ → Type 0
 IsWritten w ms out =
-    ((more : List ℕ) × (out ≡ outputs w ms ++ more))
+    (out ≡ outputs w ms)
+    ⊎ ((stop : Stop) × (count : ℕ) × (out ≡ outputs w ms ++ take count (stop_text stop)))
     ⊎ ((before : List Marked) × (last : Marked) × (count : ℕ) × (ms ≡ before ++ last ∷ []) × (out ≡ outputs w before ++ take count (response_to (world_after w before) last)))
 
 -- the first requests of what came in were answered, or given up; what was written are their responses; and they keep

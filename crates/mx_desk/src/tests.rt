@@ -1,6 +1,8 @@
 //! The desk over a book in memory: requests with the bytes of the responses to them, worked out by hand.
+mod apart;
 mod devices;
 mod faults;
+mod faulty;
 mod framing;
 mod limits;
 mod logs;
@@ -14,7 +16,7 @@ use self::devices::Pieces;
 use self::scripts::{ADDED, Exchange, token};
 use crate::Counted;
 use crate::desk::run;
-use mx_book::PlainBook;
+use mx_book::{Book, PlainBook};
 use mx_office::Office;
 use mx_wire::Routes;
 use std::io::Read;
@@ -79,7 +81,7 @@ fn funded(rt: &(impl Abort + AllocGlobal)) -> Result<Office<PlainBook>, Fail> {
 /// Serves what a reader gives in one run, and asserts that the responses of the exchange are written, and nothing else.
 fn serve_from(
     rt: &(impl Abort + AllocGlobal),
-    office: &mut Office<PlainBook>,
+    office: &mut Office<impl Book>,
     reader: impl Read + Drop,
     exchange: &Exchange,
 ) -> Result<(), Fail> {
@@ -97,7 +99,7 @@ fn serve_from(
 /// Serves the requests of an exchange in one run, and asserts that its responses are written.
 fn serve(
     rt: &(impl Abort + AllocGlobal),
-    office: &mut Office<PlainBook>,
+    office: &mut Office<impl Book>,
     exchange: &Exchange,
 ) -> Result<(), Fail> {
     serve_from(rt, office, exchange.input().as_bytes(), exchange)
@@ -106,7 +108,7 @@ fn serve(
 /// Serves requests, which stand before their responses, in one run, and asserts that each gets its response.
 fn tell(
     rt: &(impl Abort + AllocGlobal),
-    office: &mut Office<PlainBook>,
+    office: &mut Office<impl Book>,
     script: &[(&str, &str)],
 ) -> Result<(), Fail> {
     let exchange = Exchange::of(rt.alloc(), script)?;
@@ -116,7 +118,7 @@ fn tell(
 /// The same over a reader that gives so many bytes at a time.
 fn tell_in_pieces(
     rt: &(impl Abort + AllocGlobal),
-    office: &mut Office<PlainBook>,
+    office: &mut Office<impl Book>,
     size: usize,
     script: &[(&str, &str)],
 ) -> Result<(), Fail> {

@@ -6,6 +6,13 @@ use std::test::Fail;
 /// The response to a member, a holder or a purse that is added.
 pub(super) const ADDED: &str = "200 {\"done\":\"added\"}";
 
+/// The response to a request that is given up.
+pub(super) const GIVEN_UP: &str = "503";
+
+/// Its bytes.
+const UNAVAILABLE: &str =
+    "HTTP/1.1 503 Service Unavailable\r\ncontent-length: 0\r\nconnection: close\r\n\r\n";
+
 /// The response to a load.
 pub(super) const LOADED: &str = "200 {\"done\":\"loaded\"}";
 
@@ -23,6 +30,7 @@ fn digit_of(who: &str) -> Option<&'static str> {
         "clerk" => Some("2"),
         "ann" => Some("a"),
         "bob" => Some("b"),
+        "cy" => Some("c"),
         _ => None,
     }
 }
@@ -110,6 +118,10 @@ impl Exchange {
     }
 
     fn push_response(&mut self, response: &str, head_only: bool) -> Result<(), AllocError> {
+        self.count = self.count.saturating_add(1);
+        if response == GIVEN_UP {
+            return self.output.push_str(UNAVAILABLE);
+        }
         let (status, body) = response.split_once(' ').unwrap_or((response, ""));
         let head = format!(in self.alloc;
             "HTTP/1.1 {status} {}\r\ncontent-type: application/json\r\ncontent-length: {}\r\nconnection: close\r\n\r\n",
@@ -120,7 +132,6 @@ impl Exchange {
         if !head_only {
             self.output.push_str(body)?;
         }
-        self.count = self.count.saturating_add(1);
         Ok(())
     }
 
