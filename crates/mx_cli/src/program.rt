@@ -4,6 +4,7 @@ ghost use Rattle.std.specs.Io.KnownBytes.{Appends};
 ghost use Rattle.mx_book.specs.World.{World, opening};
 ghost use Rattle.mx_cli.specs.Faults.{fault_of};
 ghost use Rattle.mx_desk.specs.Devices.{capped};
+ghost use Rattle.mx_desk.specs.Isolation.{IsLeft};
 ghost use Rattle.mx_desk.specs.Serve.{ServedAll};
 ghost use Rattle.mx_desk.specs.Steps.{state, Faults};
 ghost use Rattle.mx_desk.specs.declared.fault.DeskFault.{DeskFault as Fault};
@@ -33,6 +34,9 @@ fn fault_of(fault: DeskFault) -> CliFault
 /// and says how many responses were written. A fault is `Memory` where there is none for the routes, and then nothing
 /// was read or written; or that of the desk: `Read` where a read failed, `Turns` where 1,000,000,000 reads didn't reach
 /// the end of the input, `Write` where a response couldn't be written or flushed.
+///
+/// However it ends, it keeps holders apart (`apart`): for every holder, the responses to the holder's own requests, in
+/// order and byte for byte, are those that what the holder sees of the requests gives; after `Write` the last may be cut.
 pub fn run_memory<R: Read, W: Write>(
     alloc: Global,
     operator: Token,
@@ -46,6 +50,9 @@ pub fn run_memory<R: Read, W: Write>(
         ⊎ ((d : Fault) × (e ≡ fault_of d) × ((now : World) × Faults ⟦<PlainBook as Book>⟧.fails
         (state [] (R.remaining reader.old.device) (W.contents writer.old.device) (opening operator)) d
         (state [] (R.remaining reader.new.device) (W.contents writer.new.device) now)))) }
+    ensures apart { (now : World) × IsLeft ⟦<PlainBook as Book>⟧.fails
+        (state [] (R.remaining reader.old.device) (W.contents writer.old.device) (opening operator))
+        (state [] (R.remaining reader.new.device) (W.contents writer.new.device) now) }
 {
     let Ok(routes) = Routes::new(alloc) else {
         return Err(CliFault::Memory);

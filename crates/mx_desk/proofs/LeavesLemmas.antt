@@ -14,7 +14,7 @@ use Rattle.mx_desk.specs.Requests.{Request, Whole, First, Begins}
 use Rattle.mx_desk.specs.Serve.{Marked, MayBeMarked, AllMayBeMarked, world_after, world_after_one, outputs, requests_of, response_to, stop_text}
 use Rattle.mx_desk.specs.Steps.{State, StepCase, Steps, Ran}
 use Rattle.mx_desk.specs.Isolation.{IsWritten, IsLeft}
-use Rattle.mx_desk.proofs.Known.{Appends-then, Consumes-then}
+use Rattle.mx_desk.proofs.Known.{Appends-none, Appends-then, Consumes-none, Consumes-then}
 use Rattle.mx_desk.proofs.RequestLemmas.{Begins-append, Begins-snoc}
 use Rattle.mx_desk.proofs.RunLemmas.{Ran-none, world_after-snoc, outputs-snoc, marks-snoc}
 use Rattle.mx_desk.proofs.ApartLemmas.{are_apart}
@@ -93,6 +93,12 @@ module _ (fails : StoreFault → Type 0) (s u t : State) (ms : List Marked) (ran
 -- after some requests, and a turn however it ends
 pub leaves : (fails : StoreFault → Type 0) (s u t : State) (ms : List Marked) (r : Result Served DeskFault) (pending : List ℕ) → Ran fails s ms u → Steps fails u r t → IsLeft fails s (record t { pending = pending })
 leaves fails s u t ms r pending ran step = by_case fails s u t ms ran step.came step.consumed pending r step.then
+
+-- before any
+pub leaves_nothing : (fails : StoreFault → Type 0) (s : State) (pending : List ℕ) → IsLeft fails s (record s { pending = pending })
+leaves_nothing fails s pending =
+    let ran = Ran-none fails s in
+    no_more fails s s s [] ran [] (Consumes-none _) pending [] (Appends-none _) refl (nothing_more fails s s s [] ran [] (Consumes-none _) pending)
 
 -- after one turn
 pub leaves_one : (fails : StoreFault → Type 0) (s t : State) (r : Result Served DeskFault) (pending : List ℕ) → Steps fails s r t → IsLeft fails s (record t { pending = pending })
