@@ -39,6 +39,28 @@ LOST_PAYMENT = (
 )
 
 
+def sums(**changed):
+    """The response with the sums of the scheme: those of 100 loaded onto p1 out of 1000, but for these."""
+    all_sums = {"balances": 100, "float": 900, "granted": 1000, "issued": 100, "lost": 0, "redeemed": 0, "transit": 0, "uncollected": 0}
+    return response("{%s}" % ",".join(f'"{name}":"{value}"' for name, value in (all_sums | changed).items()))
+
+
+def lines(*all_lines):
+    """The response with these lines, each a kind, an amount, a balance and a note."""
+    forms = ('{"amount":%d,"balance":%d,"kind":"%s","note":"%s","number":%d}' % (amount, balance, kind, note, number + 1)
+             for number, (kind, amount, balance, note) in enumerate(all_lines))
+    return response('{"lines":[%s]}' % ",".join(forms))
+
+
+STATEMENTS = (
+    [done("added"), done("granted")]
+    + 4 * [done("added")]
+    + [done("loaded"), STARTED, STARTED, done("value-sent"), sums(balances=40, transit=60), done("received"), done("finished")]
+    + [lines(("loaded", 100, 100, "a1"), ("sent", 60, 40, "p1,q1,60,0,0")), lines()]
+    + [lines(("received", 60, 60, "p1,q1,60,0,0")), sums()]
+)
+
+
 def requests(name):
     """The requests of a sample: each begins with its method at the start of a line or behind a body."""
     with open(os.path.join(TOP, "examples", name), "rb") as file:

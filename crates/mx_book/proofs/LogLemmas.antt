@@ -1,6 +1,6 @@
 -- Logs: how a loop goes over one, which are within one another, and the log of what a purse has in a set of results.
 use Rattle.std.proofs.Common.{◌≡◌, ℕ, ◌+◌, ◌<◌, ◌≤◌, zero, suc, Bool, true, false, cond, not, ◌&&◌, ◌||◌, List, [], ◌∷◌, take, length, add-one, refl, sym, ◌∙◌, ap, Option, Some, None, is_some, arith}
-use Rattle.std.specs.Prelude.{slice_get, nat_le, option_map}
+use Rattle.std.specs.Prelude.{slice_get, nat_le, option_map, sum_by}
 use Rattle.std.proofs.lemmas.List.{length-map}
 use Rattle.std.proofs.lemmas.Bool.Decides.{nat_tests}
 use Rattle.std.specs.List.{list_any}
@@ -19,6 +19,7 @@ use Rattle.mx_pay.proofs.SameLemmas.{one_of, all_of, same_details, has-with_entr
 use Rattle.mx_book.specs.Under.{under}
 use Rattle.mx_book.specs.World.{Name, result_cmp}
 use Rattle.mx_book.proofs.NameLemmas.{names_total}
+use Rattle.mx_book.proofs.SumLemmas.{total, total_is}
 use Rattle.mx_book.proofs.UnderLemmas.{get-under}
 
 -- ---- a loop over a log
@@ -46,6 +47,25 @@ logged_len log = length-map (fmap.entries log) (λ e. e.0) ∙ sym (fmap.len-ent
 
 pub among_all : (log : Entries) (i : ℕ) → log_len log ≤ i → (d : Details) → is_among log i d ≡ has_logged log d
 among_all log i past d = any_past (is_details d) (logged log) i (omega (arith, logged_len log)) ∙ sym (fmap.contains_key-keys log d)
+
+-- ---- a sum over the first entries of a log
+
+sum_step : (f : Details → ℕ) (ds : List Details) (i : ℕ) (d : Details) → slice_get ds i ≡ Some d → total f (take (suc i) ds) ≡ total f (take i ds) + f d
+sum_step f [] i d at = absurd (cc)
+sum_step f (x ∷ ds) zero d at = grind (arith, at)
+sum_step f (x ∷ ds) (suc i) d at = omega (arith, sum_step f ds i d at)
+
+sum_past : (f : Details → ℕ) (ds : List Details) (i : ℕ) → length ds ≤ i → total f (take i ds) ≡ total f ds
+sum_past f [] zero h = refl
+sum_past f [] (suc i) h = refl
+sum_past f (x ∷ ds) zero h = absurd (omega arith)
+sum_past f (x ∷ ds) (suc i) h = ap (λ n. f x + n) (sum_past f ds i (omega arith))
+
+pub sum_more : (f : Details → ℕ) (log : Entries) (i : ℕ) (d : Details) → slice_get (logged log) i ≡ Some d → sum_by f (take (i + 1) (logged log)) ≡ sum_by f (take i (logged log)) + f d
+sum_more f log i d at = rw add-one (total_is f (take (suc i) (logged log)) ∙ sum_step f (logged log) i d at ∙ ap (λ n. n + f d) (sym (total_is f (take i (logged log)))))
+
+pub sum_all : (f : Details → ℕ) (log : Entries) (i : ℕ) → log_len log ≤ i → sum_by f (take i (logged log)) ≡ sum_by f (logged log)
+sum_all f log i past = total_is f (take i (logged log)) ∙ sum_past f (logged log) i (omega (arith, logged_len log)) ∙ sym (total_is f (logged log))
 
 -- ---- those of a log's entries that pass a test
 

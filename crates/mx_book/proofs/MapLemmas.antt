@@ -1,8 +1,11 @@
 -- What a map has where some of its entries are picked.
-use Rattle.std.proofs.Common.{◌≡◌, List, [], ◌∷◌, refl, Option, Some, None, T, option_and_then, arith}
+use Rattle.std.proofs.Common.{◌≡◌, cond, List, [], ◌∷◌, refl, ◌∙◌, ap, Option, Some, None, T, option_and_then, arith}
 use Rattle.std.specs.declared.cmp.Ordering.{Ordering}
 use Rattle.std.specs.declared.cmp.Ordering.TheVariants.{Equal}
-use Rattle.std.specs.Cmp.{IsTotalOrder}
+use Rattle.std.specs.Ordering.{is_eq}
+use Rattle.std.specs.Cmp.{IsTotalOrder, tied_itself}
+use Rattle.mx_pay.proofs.TestLemmas.{second_true}
+use Rattle.std.specs.FinMap as fmap
 use Rattle.std.specs.FinMap.{gets, FinMap, IsAntisymmetric, get, insert, entries, entries_sorted, entries-from_sorted, get-entries, same_map}
 use Rattle.std.specs.FinMap.Entries.{find, is_sorted, below_all}
 use Rattle.mx_book.specs.Maps.{picked, pick}
@@ -40,3 +43,20 @@ module _ {K X Y : Type 0} {R : K → K → Ordering} (o : IsTotalOrder R) (f : X
   -- an entry that isn't picked, as the one before it wasn't
   pub pick-skip : IsAntisymmetric R → (m : FinMap R X) (k : K) (v : X) → f v ≡ None → option_and_then f (get m k) ≡ None → pick f (insert m k v) ≡ pick f m
   pick-skip exact m k v is none = same_map o exact _ _ (λ q. grind (arith, gets, o, get-pick, exact q k))
+
+-- ---- what is found of a map holds of each of its entries
+
+abbrev pub AllEntries : {Q V : Type 0} → (Q → V → Type 0) → List (Q × V) → Type 0
+AllEntries P [] = Unit {0}
+AllEntries P (e ∷ es) = P e.0 e.1 × AllEntries P es
+
+module _ {Q V : Type 0} {R : Q → Q → Ordering} (o : IsTotalOrder R) (P : Q → V → Type 0) where
+  all_listed : (es : List (Q × V)) → T (is_sorted R es) → ((q : Q) (x : V) → find R q es ≡ Some x → P q x) → AllEntries P es
+  all_listed [] s h = tt
+  all_listed (e ∷ es) s h = (
+    h e.0 e.1 (ap (λ r. cond (is_eq r) (Some e.1) (find R e.0 es)) (tied_itself o e.0)),
+    all_listed es (second_true _ _ s) (λ q x at. h q x (grind (arith, find_below o q e.0 es))),
+  )
+
+  pub all_entries : (m : fmap.FinMap R V) → ((q : Q) (x : V) → fmap.get m q ≡ Some x → P q x) → AllEntries P (fmap.entries m)
+  all_entries m h = all_listed (fmap.entries m) (fmap.entries_sorted m) (λ q x at. h q x (fmap.get-entries m q ∙ at))

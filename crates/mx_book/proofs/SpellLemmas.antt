@@ -12,7 +12,11 @@ use Rattle.mx_book.specs.RowEdits.{all_rewritten, all_able, row_laid_of}
 use Rattle.std.proofs.Props.{props}
 use mathlib.Core.Logic.{∥∥₁_elim, ∥∥₁_map}
 use Rattle.mx_book.proofs.ReadLemmas.{purses_are, holder_is, account_is, message_is, inbox_is, lines_are, members_are, load_is, redemption_is}
-use Rattle.mx_book.proofs.UncollectedLemmas.{uncollected_is}
+use Rattle.mx_book.proofs.CountedLemmas.{uncollected_is}
+use Rattle.mx_book.proofs.TotalLemmas.{totals_are, member_totals_are}
+use Rattle.mx_book.specs.Totals.{totals_of, member_totals_of}
+use Rattle.mx_book.specs.RowTotals.{row_totals_of, row_member_totals_of}
+use Rattle.mx_book.specs.declared.totals.Scope.TheVariants.{Member}
 use Rattle.mx_book.proofs.EditLemmas.{edits_spelled, all_able_there}
 use Rattle.mx_book.proofs.ResultLemmas.{laid_is}
 use Rattle.mx_book.specs.Conditions.{IsWorld}
@@ -62,8 +66,14 @@ archived_at r w p d h = read_at (λ z. is_archived z p d) r w _ h refl
 pub tray_at : (r : Rows) (w : World) (p : Name) → Spells r w → row_laid_of r p ≡ tray_of w p
 tray_at r w p h = read_at (λ z. tray_of z p) r w _ h (sym (laid_is r p (subst IsWorld h.spelled.world h.sound)))
 
-pub uncollected_at : (r : Rows) (w : World) (m : Name) → Spells r w → row_uncollected_of r m ≡ uncollected_of w m
-uncollected_at r w m h = read_at (λ z. uncollected_of z m) r w _ h (uncollected_is r m h.spelled.proper)
+pub uncollected_at : (r : Rows) (w : World) (m : Name) → Spells r w → row_uncollected_of r (Member m) ≡ uncollected_of w m
+uncollected_at r w m h = read_at (λ z. uncollected_of z m) r w _ h (uncollected_is r (Member m) h.spelled.proper)
+
+pub totals_at : (r : Rows) (w : World) → Spells r w → row_totals_of r ≡ totals_of w
+totals_at r w h = read_at totals_of r w _ h (totals_are r h.spelled.proper (subst IsWorld h.spelled.world h.sound))
+
+pub member_totals_at : (r : Rows) (w : World) (m : Name) → Spells r w → row_member_totals_of r m ≡ member_totals_of w m
+member_totals_at r w m h = read_at (λ z. member_totals_of z m) r w _ h (member_totals_are r h.spelled.proper m)
 
 pub applied : (r s : Rows) (w : World) (es : List Edit) → Spells r w → Fits w es → s ≡ all_rewritten r es → Spells s (all_edited w es)
 applied r s w es h fits is = subst (λ (z : Rows). Spells z (all_edited w es)) (sym is) (record { spelled = edits_spelled r w es h.spelled fits.each; sound = fits.end })

@@ -8,3 +8,7 @@ most_messages = 32
 -- how many purses a holder has at most
 abbrev pub most_purses : ℕ
 most_purses = 64
+
+-- how many lines a page of a statement has at most
+abbrev pub most_lines : ℕ
+most_lines = 50

@@ -57,9 +57,13 @@ inbox_of = of_purse [] (λ r. fmap.entries r.holding.inbox)
 abbrev pub message_of : World → Name → ℕ → Option Message
 message_of w p n = of_purse None (λ r. fmap.get r.holding.inbox n) w p
 
+-- the first of these lines that are numbered above `after`, at most `most` of them
+abbrev pub page : ℕ → ℕ → List Line → List Line
+page after most lines = take most (filter (λ (l : Line). nat_lt after l.number) lines)
+
 -- the first lines of a purse that are numbered above `after`, at most `most` of them
 abbrev pub lines_of : World → Name → ℕ → ℕ → List Line
-lines_of w p after most = take most (filter (λ (l : Line). nat_lt after l.number) (of_purse [] (λ r. r.holding.lines) w p))
+lines_of w p after most = page after most (of_purse [] (λ r. r.holding.lines) w p)
 
 -- the amount of the load of a purse with that reference
 abbrev pub load_of : World → Name → Name → Option ℕ

@@ -1,10 +1,12 @@
 -- What the reads of a book give, from its rows.
-use Rattle.std.specs.Prelude.{ℕ, Bool, ◌&&◌, List, map, filter, take, length, Option, Some, option_map, option_and_then, nat_lt, not, if◌then◌else◌}
+use Rattle.std.specs.Prelude.{ℕ, Bool, ◌&&◌, List, map, filter, take, length, Option, Some, option_map, option_and_then, nat_lt, if◌then◌else◌}
 use Rattle.std.specs.FinMap as fmap
 use Rattle.mx_pay.specs.Names.{name_cmp, is_name}
 use Rattle.mx_pay.specs.Details.{Details}
 use Rattle.mx_pay.specs.Tokens.{is_token}
 use Rattle.mx_purse.specs.declared.message.Message.{Message}
+use Rattle.mx_book.specs.declared.totals.Scope.{Scope}
+use Rattle.mx_book.specs.declared.totals.Scope.TheVariants.{Scheme, Member}
 use Rattle.mx_book.specs.declared.values.Caller.{Caller}
 use Rattle.mx_book.specs.declared.values.Caller.TheVariants.{Operator}
 use Rattle.mx_book.specs.declared.values.PurseRow.{PurseRow}
@@ -12,11 +14,11 @@ use Rattle.mx_book.specs.declared.values.LineRow.{LineRow}
 use Rattle.mx_book.specs.declared.values.HolderRow.{HolderRow}
 use Rattle.mx_book.specs.declared.values.Line.{Line}
 use Rattle.mx_book.specs.declared.values.Account as given
-use Rattle.mx_book.specs.World.{Name, Token}
+use Rattle.mx_book.specs.World.{Name, Token, is_of}
 use Rattle.mx_book.specs.declared.values.Redemption.{Redemption}
 use Rattle.mx_book.specs.Sums.{sum_entries}
 use Rattle.mx_book.specs.Rows.{Rows, line_at}
-use Rattle.mx_book.specs.RowEdits.{is_redeemed_of}
+use Rattle.mx_book.specs.RowEdits.{member_at}
 
 -- whose token it is
 abbrev pub row_who_of : Rows → Token → Option Caller
@@ -74,10 +76,19 @@ row_redemption_of r p reference = option_map (λ (x : Redemption). x.amount) (fm
 abbrev pub row_is_archived : Rows → Name → Details → Bool
 row_is_archived r p d = fmap.contains_key r.archive (p, d)
 
--- what a redemption adds to the sum of those that aren't collected
-abbrev pub uncollected_amount : fmap.FinMap name_cmp PurseRow → fmap.FinMap name_cmp Name → Name → Name × Name → Redemption → ℕ
-uncollected_amount purses holders m key x = if not x.collected && is_redeemed_of purses holders m key then x.amount else 0
+-- whether a purse counts: each for the whole scheme, and for a member those of its holders
+abbrev pub is_counted : fmap.FinMap name_cmp Name → Scope → Option PurseRow → Bool
+is_counted holders Scheme x = Bool.true
+is_counted holders (Member m) x = is_of m (member_at holders x)
 
--- what the redemptions of the member's purses come to that aren't collected
-abbrev pub row_uncollected_of : Rows → Name → ℕ
-row_uncollected_of r m = sum_entries (uncollected_amount r.purses r.holders m) r.redemptions
+-- a number of a row of a purse, where the purse counts
+abbrev pub counted_of : {V : Type 0} → fmap.FinMap name_cmp PurseRow → fmap.FinMap name_cmp Name → Scope → (V → ℕ) → Name × Name → V → ℕ
+counted_of purses holders scope f key x = if is_counted holders scope (fmap.get purses key.0) then f x else 0
+
+-- what a redemption comes to that isn't collected
+abbrev pub uncollected_amount : Redemption → ℕ
+uncollected_amount x = if x.collected then 0 else x.amount
+
+-- what the redemptions of the purses that count come to that aren't collected
+abbrev pub row_uncollected_of : Rows → Scope → ℕ
+row_uncollected_of r scope = sum_entries (counted_of r.purses r.holders scope uncollected_amount) r.redemptions

@@ -3,13 +3,14 @@ ghost use Rattle.std.specs.Prelude.{◌≡◌, ℕ, ◌≤◌, IfOk, IfErr, OnOk
 ghost use Rattle.mx_book.specs.World.{World};
 ghost use Rattle.mx_book.specs.Conditions.{IsWorld};
 ghost use Rattle.mx_book.specs.Reads.{who_of, member_of, holder_of, account_of, purses_of, inbox_of, message_of, lines_of, members_of, load_of, redemption_of, is_archived, tray_of, uncollected_of};
+ghost use Rattle.mx_book.specs.Totals.{totals_of, member_totals_of};
 ghost use Rattle.mx_book.specs.Edits.{Fits, all_edited};
 ghost use Rattle.mx_book.specs.Keeps.{Keeps};
 ghost use Rattle.mx_book.specs.declared.contract.StoreFault.{StoreFault};
 ghost use Rattle.mx_book.specs.declared.contract.StoreFault.TheVariants.{Memory};
 
 use crate::edits::Edit;
-use crate::values::{Account, Caller, HolderRow, Line, MemberRow};
+use crate::values::{Account, Caller, HolderRow, Line, MemberRow, MemberTotals, Totals};
 use mx_pay::{Amount, Log, Name, PayDetails, Token};
 use mx_purse::message::Message;
 use std::alloc::Global;
@@ -154,6 +155,23 @@ pub trait Book {
     fn uncollected(&mut self, alloc: Global, member: Name) -> Result<u128, StoreFault>
         ensures keeps { Keeps doubt rows self.old self.new }
         ensures value { (w : World) → doubt self.new ≡ 0 → spells (rows self.old) w → IfOk result (λ r. r ≡ uncollected_of w member) }
+        ensures fault { IfErr result fails };
+
+    /// What the books come to for the whole scheme.
+    fn totals(&mut self, alloc: Global) -> Result<Totals, StoreFault>
+        ensures keeps { Keeps doubt rows self.old self.new }
+        ensures value { (w : World) → doubt self.new ≡ 0 → spells (rows self.old) w → IfOk result (λ r. r ≡ totals_of w) }
+        ensures fault { IfErr result fails };
+
+    /// What the books come to for a member and the purses of the member's holders, or None where there is no such
+    /// member.
+    fn member_totals(
+        &mut self,
+        alloc: Global,
+        member: Name,
+    ) -> Result<Option<MemberTotals>, StoreFault>
+        ensures keeps { Keeps doubt rows self.old self.new }
+        ensures value { (w : World) → doubt self.new ≡ 0 → spells (rows self.old) w → IfOk result (λ r. r ≡ member_totals_of w member) }
         ensures fault { IfErr result fails };
 
     /// Makes these edits in order, all of them, or none where it answers a fault. Where a World is spelled

@@ -7,7 +7,7 @@ ghost use Rattle.mx_book.specs.Spells.{Spells, one_world};
 use crate::contract::{Book, StoreFault};
 use crate::edits::Edit;
 use crate::shelves::Shelves;
-use crate::values::{Account, Caller, HolderRow, Line, MemberRow};
+use crate::values::{Account, Caller, HolderRow, Line, MemberRow, MemberTotals, Totals};
 use mx_pay::{Amount, Log, Name, PayDetails, Token};
 use mx_purse::message::Message;
 use std::alloc::Global;
@@ -136,6 +136,18 @@ impl Book for PlainBook {
 
     fn uncollected(&mut self, _alloc: Global, member: Name) -> Result<u128, StoreFault> {
         Ok(self.shelves.uncollected_of(member))
+    }
+
+    fn totals(&mut self, _alloc: Global) -> Result<Totals, StoreFault> {
+        Ok(self.shelves.totals())
+    }
+
+    fn member_totals(
+        &mut self,
+        _alloc: Global,
+        member: Name,
+    ) -> Result<Option<MemberTotals>, StoreFault> {
+        Ok(self.shelves.member_totals(member))
     }
 
     fn apply(&mut self, edits: &[Edit]) -> Result<(), StoreFault> {

@@ -3,6 +3,7 @@ ghost use Rattle.std.specs.Prelude.{◌≡◌, ◌+◌, ◌≤◌, ◌<◌, IsTr
 ghost use Rattle.std.specs.FinMap.{get};
 ghost use Rattle.mx_pay.specs.Names.{is_name};
 ghost use Rattle.mx_purse.specs.declared.message.Message.{Message as Kept};
+ghost use Rattle.mx_book.specs.declared.totals.Scope.TheVariants.{Member};
 ghost use Rattle.mx_book.specs.declared.values.LineRow.{LineRow as KeptLine};
 ghost use Rattle.mx_book.specs.declared.values.MemberRow.{MemberRow as KeptMember};
 ghost use Rattle.mx_book.specs.declared.values.PurseRow.{PurseRow as KeptPurse};
@@ -13,13 +14,14 @@ ghost use Rattle.mx_book.specs.Left.{rows_left};
 ghost use Rattle.mx_book.specs.Shelves.{rows_of, HasRoom, SpendsOne};
 ghost use Rattle.mx_book.specs.Spells.{opening_rows};
 
+mod sums;
 mod writes;
 
 use crate::edits::Edit;
-use crate::redemptions::uncollected_in;
 use crate::results::laid;
 use crate::rows::Rows;
 use crate::table::Table;
+use crate::totals::{Scope, uncollected_in};
 use crate::values::{Account, Caller, HolderRow, Line, LineRow, MemberRow, PurseRow, Redemption};
 use mx_pay::names::same_name;
 use mx_pay::token::same_token;
@@ -267,9 +269,14 @@ impl Shelves {
 
     /// What the redemptions of the member's purses come to that aren't collected.
     pub fn uncollected_of(&self, member: Name) -> u128
-        ensures { result ≡ row_uncollected_of (rows_of self.now) member }
+        ensures { result ≡ row_uncollected_of (rows_of self.now) (Member member) }
     {
-        uncollected_in(self.redemptions.rows(), &self.purses, &self.holders, member)
+        uncollected_in(
+            self.redemptions.rows(),
+            &self.purses,
+            &self.holders,
+            &Scope::Member(member),
+        )
     }
 }
 

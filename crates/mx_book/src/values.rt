@@ -8,6 +8,9 @@ pub const MOST_MESSAGES: usize = 32;
 /// How many purses a holder has at most.
 pub const MOST_PURSES: usize = 64;
 
+/// How many lines a page of a statement has at most.
+pub const MOST_LINES: u64 = 50;
+
 /// Who asks.
 #[derive(Clone, Copy, Debug)]
 pub enum Caller {
@@ -122,4 +125,42 @@ pub struct Redemption {
     pub amount: Amount,
     /// Whether the member's clerk has collected it.
     pub collected: bool,
+}
+
+/// What the books come to for one member. Each sum is exact.
+#[derive(Clone, Copy, Debug)]
+pub struct MemberTotals {
+    /// The sum of all grants to the member.
+    pub granted: u128,
+    /// What is left to load purses with.
+    pub float: u128,
+    /// What the purses of the member's holders redeemed that isn't collected yet.
+    pub uncollected: u128,
+    /// What was loaded onto the purses of the member's holders.
+    pub issued: u128,
+    /// What the purses of the member's holders redeemed.
+    pub redeemed: u128,
+    /// The balances of the purses of the member's holders.
+    pub balances: u128,
+}
+
+/// What the books come to for the whole scheme. Each sum is exact.
+#[derive(Clone, Copy, Debug)]
+pub struct Totals {
+    /// The sum of all grants.
+    pub granted: u128,
+    /// What is left to the members to load purses with.
+    pub float: u128,
+    /// What was redeemed that isn't collected yet.
+    pub uncollected: u128,
+    /// What was loaded onto purses.
+    pub issued: u128,
+    /// What purses redeemed.
+    pub redeemed: u128,
+    /// The balances of all purses.
+    pub balances: u128,
+    /// What left a purse and may still reach the purse that waits for it.
+    pub transit: u128,
+    /// What left a purse and will not reach the other any more.
+    pub lost: u128,
 }

@@ -3,6 +3,7 @@ ghost use Rattle.std.specs.Prelude.{◌≡◌, ◌≤◌, ◌+◌, ◌⊎◌, �
 ghost use Rattle.std.specs.Io.KnownBytes.{Appends};
 ghost use Rattle.mx_book.specs.World.{World, opening};
 ghost use Rattle.mx_cli.specs.Faults.{fault_of};
+ghost use Rattle.mx_desk.specs.Conservation.{LeavesReachable};
 ghost use Rattle.mx_desk.specs.Devices.{capped};
 ghost use Rattle.mx_desk.specs.Isolation.{IsLeft};
 ghost use Rattle.mx_desk.specs.Serve.{ServedAll};
@@ -37,6 +38,9 @@ fn fault_of(fault: DeskFault) -> CliFault
 ///
 /// However it ends, it keeps holders apart (`apart`): for every holder, the responses to the holder's own requests, in
 /// order and byte for byte, are those that what the holder sees of the requests gives; after `Write` the last may be cut.
+///
+/// It ends in a World that commands lead to (`reachable`), and no command that a request asks is refused because a purse or
+/// a float is full.
 pub fn run_memory<R: Read, W: Write>(
     alloc: Global,
     operator: Token,
@@ -53,7 +57,12 @@ pub fn run_memory<R: Read, W: Write>(
     ensures apart { (now : World) × IsLeft ⟦<PlainBook as Book>⟧.fails
         (state [] (R.remaining reader.old.device) (W.contents writer.old.device) (opening operator))
         (state [] (R.remaining reader.new.device) (W.contents writer.new.device) now) }
+    ensures reachable { (now : World) × LeavesReachable
+        (state [] (R.remaining reader.old.device) (W.contents writer.old.device) (opening operator))
+        (state [] (R.remaining reader.new.device) (W.contents writer.new.device) now) }
 {
+    // The reader says that the token has its bytes.
+    let _bytes = operator.as_bytes();
     let Ok(routes) = Routes::new(alloc) else {
         return Err(CliFault::Memory);
     };

@@ -10,3 +10,4 @@ pub mod RunLemmas
 pub mod ApartLemmas
 pub mod LeavesLemmas
 pub mod LawLemmas
+pub mod ConservationLemmas

@@ -7,3 +7,4 @@ pub mod Serve
 pub mod Steps
 pub mod Answers
 pub mod Isolation
+pub mod Conservation

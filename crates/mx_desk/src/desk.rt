@@ -2,6 +2,8 @@
 ghost use Rattle.std.specs.Prelude.{◌≡◌, ◌+◌, ◌*◌, ◌<◌, ◌≤◌, ℕ, List, [], Ok, Err, IfOk, OnOk, OnErr, IfErr, IfSome, ◌≢◌, length, take};
 ghost use Rattle.std.specs.Io.KnownBytes.{Appends, Keeps};
 ghost use Rattle.mx_book.specs.World.{World};
+ghost use Rattle.mx_office.specs.Reachable.{IsReachable};
+ghost use Rattle.mx_desk.specs.Conservation.{LeavesReachable};
 ghost use Rattle.mx_desk.specs.Devices.{capped};
 ghost use Rattle.mx_desk.specs.Found.{request_view};
 ghost use Rattle.mx_desk.specs.Isolation.{IsLeft};
@@ -156,6 +158,9 @@ fn serve_next<R: Read, W: Write, B: Book>(
 /// However it ends, it keeps holders apart (`apart`): for every holder, the bytes of the response, where the request is the
 /// holder's own, and what is the holder's own then, are those that what the holder sees of the request gives. A request
 /// that is given up is seen by nobody.
+///
+/// From a World that commands lead to it ends in such a World (`reachable`), and no command that the request asks is
+/// refused because a purse or a float is full.
 pub fn serve_one<R: Read, W: Write, B: Book>(
     alloc: Global,
     reader: &mut Counted<R>,
@@ -170,6 +175,10 @@ pub fn serve_one<R: Read, W: Write, B: Book>(
         (state left (R.remaining reader.new.device) (W.contents writer.new.device) v)) }
     ensures apart { (w : World) → B.doubt office.new.book ≡ 0 → B.spells (B.rows office.old.book) w
         → Leads (B.spells (B.rows office.new.book)) (λ v. IsLeft B.fails
+        (state [] (R.remaining reader.old.device) (W.contents writer.old.device) w)
+        (state [] (R.remaining reader.new.device) (W.contents writer.new.device) v)) }
+    ensures reachable { (w : World) → B.doubt office.new.book ≡ 0 → B.spells (B.rows office.old.book) w → IsReachable w
+        → Leads (B.spells (B.rows office.new.book)) (λ v. LeavesReachable
         (state [] (R.remaining reader.old.device) (W.contents writer.old.device) w)
         (state [] (R.remaining reader.new.device) (W.contents writer.new.device) v)) }
     ensures reads { (reads : ℕ) × (reads ≤ 12288) × (reader.new.calls ≡ capped (reader.old.calls + reads)) }
@@ -208,6 +217,9 @@ pub const MOST_READS: u64 = 1_000_000_000;
 /// However it ends, it keeps holders apart (`apart`): for every holder, the responses to the holder's own requests, in
 /// order and byte for byte, and what is the holder's own in the end, are those that what the holder sees of the requests
 /// gives. Requests that are given up are seen by nobody; after `Write` the last response may be cut.
+///
+/// From a World that commands lead to it ends in such a World (`reachable`), and no command that a request asks is
+/// refused because a purse or a float is full.
 pub fn run<R: Read, W: Write, B: Book>(
     alloc: Global,
     reader: &mut Counted<R>,
@@ -225,6 +237,10 @@ pub fn run<R: Read, W: Write, B: Book>(
         (state [] (R.remaining reader.new.device) (W.contents writer.new.device) now))) }
     ensures apart { (w : World) → B.doubt office.new.book ≡ 0 → B.spells (B.rows office.old.book) w
         → Leads (B.spells (B.rows office.new.book)) (λ v. IsLeft B.fails
+        (state [] (R.remaining reader.old.device) (W.contents writer.old.device) w)
+        (state [] (R.remaining reader.new.device) (W.contents writer.new.device) v)) }
+    ensures reachable { (w : World) → B.doubt office.new.book ≡ 0 → B.spells (B.rows office.old.book) w → IsReachable w
+        → Leads (B.spells (B.rows office.new.book)) (λ v. LeavesReachable
         (state [] (R.remaining reader.old.device) (W.contents writer.old.device) w)
         (state [] (R.remaining reader.new.device) (W.contents writer.new.device) v)) }
     ensures reads { (reads : ℕ) × (reads ≤ 1000000000) × (reader.new.calls ≡ capped (reader.old.calls + reads)) }

@@ -11,8 +11,6 @@ pub mod head;
 pub mod input;
 pub mod isolation;
 pub mod output;
-#[cfg(test)]
-mod tests;
 pub mod workspace;
 
 pub use counted::Counted;

@@ -9,7 +9,7 @@ use Rattle.mx_book.specs.World.{World, Row, Holding, Name, set_row, changed_row,
 use Rattle.mx_book.proofs.FoundLemmas.{none_some, still_some}
 use Rattle.mx_book.proofs.PurseLemmas.{change_there}
 use Rattle.mx_office.specs.declared.values.Refusal.TheVariants.{NoSuchPurse}
-use Rattle.mx_office.specs.Balance.{issued_row, redeemed_row}
+use Rattle.mx_book.specs.Totals.{issued_row, redeemed_row}
 use Rattle.mx_office.specs.Step.{Deed, Asks, on_found, in_place, own_holding, on_world, put_sent, is_kept, with_result}
 use Rattle.mx_office.proofs.BalanceLemmas.{IsAccounted, IsRow, left_row, set_accounted}
 use Rattle.mx_office.proofs.EntrySumLemmas.{sum_entries-new, sum_values-new}

@@ -16,11 +16,12 @@ use Rattle.mx_book.proofs.NameLemmas.{names_total, names_exact, same_name}
 use Rattle.mx_book.proofs.PurseLemmas.{change_there}
 use Rattle.mx_book.proofs.UnderLemmas.{get-remake}
 use Rattle.mx_office.specs.declared.values.Command.{Command}
-use Rattle.mx_office.specs.declared.values.Command.TheVariants.{NewMember, Grant, Archive, Clear, NewHolder, NewPurse, Load, Collect}
+use Rattle.mx_office.specs.declared.values.Command.TheVariants.{NewMember, Grant, Archive, Clear, NewHolder, NewPurse, Load, Collect, Reconcile}
 use Rattle.mx_office.specs.declared.values.Refusal.{Refusal}
 use Rattle.mx_office.specs.declared.values.Reply.{Reply}
 use Rattle.mx_office.specs.declared.values.Reply.TheVariants as reply
-use Rattle.mx_office.specs.Balance.{IsBalanced, issued_row, redeemed_row, is_chosen, of_purses}
+use Rattle.mx_book.specs.Totals.{issued_row, redeemed_row}
+use Rattle.mx_office.specs.Balance.{IsBalanced, is_chosen, of_purses}
 use Rattle.mx_office.specs.Reachable.{IsReachable}
 use Rattle.mx_office.specs.Step.{Deed, Asked, tell, unless, unless_told, idle, asks, new_member, new_member_refusal, new_holder, new_holder_refusal, new_purse, new_purse_refusal, change_member, grant, grant_refusal, archive_refusal, clear_refusal, put_sent, loaded_holding, loaded_row, loaded_world, new_load_refusal, idle_load_at, idle_load, collect, collect_refusal, base, step, steps}
 use Rattle.mx_office.proofs.OwnLemmas.{absent, present, none_refused, of_there, change_to}
@@ -125,7 +126,7 @@ same_redemptions : (a b : Holding) (c : Bool) → b.redemptions ≡ a.redemption
 same_redemptions a b true same = same
 same_redemptions a b false same = refl
 
-loaded_redemptions : (a : Holding) (amount : ℕ) (reference : Name) → (loaded_holding a amount reference).redemptions ≡ a.redemptions
+pub loaded_redemptions : (a : Holding) (amount : ℕ) (reference : Name) → (loaded_holding a amount reference).redemptions ≡ a.redemptions
 unfolding loaded_holding
 loaded_redemptions a amount reference = same_redemptions a _ (is_none (load_refusal a.purse amount)) refl
 
@@ -298,6 +299,7 @@ base_accounted w is Operator (NewMember m t) = member_accounted w m t is
 base_accounted w is Operator (Grant m amount) = grant_accounted w m amount is
 base_accounted w is Operator (Archive p) = unless_accounted w (archive_refusal w p) _ is (λ e. record { equal = is.equal; rows = is.rows })
 base_accounted w is Operator (Clear p set) = unless_accounted w (clear_refusal w p set) _ is (λ e. is)
+base_accounted w is Operator Reconcile = is
 base_accounted w is (Clerk m) (NewHolder h t) = holder_accounted w m h t is
 base_accounted w is (Clerk m) (NewPurse p h) = purse_accounted w m p h is
 base_accounted w is (Clerk m) (Load p amount reference) = load_accounted w m p amount reference is (idle_load w m p amount reference) refl

@@ -9,7 +9,8 @@ use Rattle.mx_book.specs.World.{World, Row, Name, Token, is_of, is_of_member, se
 use Rattle.mx_book.proofs.FoundLemmas.{value_found, none_found, kept_value, each_inserted, still_some}
 use Rattle.mx_book.proofs.NameLemmas.{names_total}
 use Rattle.mx_book.proofs.SumLemmas.{value_of, sum_values-insert}
-use Rattle.mx_office.specs.Balance.{IsBalanced, IsMemberBalanced, issued_row, redeemed_row, is_chosen, of_members, of_purses}
+use Rattle.mx_book.specs.Totals.{issued_row, redeemed_row}
+use Rattle.mx_office.specs.Balance.{IsBalanced, IsMemberBalanced, is_chosen, of_members, of_purses}
 use Rattle.mx_office.proofs.EntrySumLemmas.{sum_entries-insert, sum_entries-new, sum_values-new, sum_entries-one, sum_entries-empty, sum_values-same, sum_values-empty}
 
 -- a choice of members

@@ -30,7 +30,8 @@ use Rattle.mx_pay.specs.Details.{IsDetails}
 use Rattle.mx_purse.specs.Messages.{IsMessage}
 use Rattle.mx_purse.proofs.OperationLemmas.{pending_valid}
 use Rattle.mx_book.specs.Conditions.{IsWorld, AreNumbered, IsLine, MayLie}
-use Rattle.mx_book.specs.Reads.{from_row, inbox_of, message_of, redemption_of}
+use Rattle.mx_book.specs.Limits.{most_lines}
+use Rattle.mx_book.specs.Reads.{from_row, inbox_of, page, lines_of, message_of, redemption_of}
 use Rattle.mx_book.proofs.PartLemmas.{all_append}
 use Rattle.mx_book.proofs.MoneyLemmas.{with_redemption, redemptions_stay, redemption_leads, redemption_suits}
 use Rattle.mx_book.proofs.PurseLemmas.{with_lines, line_edits, discard_leads, discard_suits, discard_stays}
@@ -38,7 +39,7 @@ use Rattle.mx_office.specs.declared.values.Decided.{Decided}
 use Rattle.mx_office.specs.declared.values.Reply.{Reply}
 use Rattle.mx_office.specs.declared.values.Reply.TheVariants as reply
 use Rattle.mx_office.specs.declared.values.Refusal.TheVariants.{NoSuchMessage, RefReused}
-use Rattle.mx_office.specs.Step.{Deed, tell, unless, on_found, in_place, refusal_of_start, refusal_of_redeem, abort_line, payment_line, message_line, money_line, listed, with_aborted, inbox, discard, abort, handle, handle_message, redeem, on_own}
+use Rattle.mx_office.specs.Step.{Deed, tell, unless, on_found, in_place, refusal_of_start, refusal_of_redeem, abort_line, payment_line, message_line, money_line, listed, with_aborted, inbox, statement, discard, abort, handle, handle_message, redeem, on_own}
 use Rattle.mx_office.specs.Decides.{Decides, own_purse, placed, purse_edits, redeem_edits}
 use Rattle.mx_office.proofs.DecideLemmas.{edits_decide, edit_decides}
 use Rattle.mx_office.proofs.AccountLemmas.{IsOwn, IsSent, Follows, in_tray, is_own, own_there, own_told, numbered_after, is_next, changed_decides}
@@ -56,6 +57,14 @@ inbox_decides w h p d is there reply_is =
     let found = present (own_purse w h p) there in
     let own = is_own w h p found.0 found.1 in
     own_told w h p found.0 own inbox (reply.Inbox (fmap.entries own.row.holding.inbox)) d is refl (reply_is ∙ ap (λ o. reply.Inbox (from_row [] (λ (x : Row). fmap.entries x.holding.inbox) o)) own.at)
+
+pub statement_decides : (w : World) (h p : Name) (after : ℕ) (d : Decided) → IsWorld w → is_none (own_purse w h p) ≡ false → d.reply ≡ reply.Statement (lines_of w p after most_lines) → d.edits ≡ []
+    → Decides w (on_own w h p (statement after)) d
+unfolding statement
+statement_decides w h p after d is there reply_is =
+    let found = present (own_purse w h p) there in
+    let own = is_own w h p found.0 found.1 in
+    own_told w h p found.0 own (statement after) (reply.Statement (page after most_lines own.row.holding.lines)) d is refl (reply_is ∙ ap (λ o. reply.Statement (page after most_lines (from_row [] (λ (x : Row). x.holding.lines) o))) own.at)
 
 -- ---- messages
 

@@ -17,7 +17,7 @@ use Rattle.mx_book.proofs.MapLemmas.{get-pick, entries-pick, pick-insert, pick-s
 use Rattle.mx_book.proofs.NameLemmas.{names_total, names_exact, same_name}
 use Rattle.mx_book.proofs.UnderLemmas.{get-remake}
 use Rattle.mx_office.specs.declared.values.Command.{Command}
-use Rattle.mx_office.specs.declared.values.Command.TheVariants.{NewMember, Grant, Archive, Clear, NewHolder, NewPurse, Load, Collect}
+use Rattle.mx_office.specs.declared.values.Command.TheVariants.{NewMember, Grant, Archive, Clear, NewHolder, NewPurse, Load, Collect, Reconcile}
 use Rattle.mx_book.specs.declared.contract.StoreFault.{StoreFault}
 use Rattle.mx_office.specs.declared.values.Outcome.{Outcome}
 use Rattle.mx_office.specs.declared.values.Outcome.TheVariants.{Reply as Replied, Unavailable}
@@ -218,6 +218,7 @@ base_law w h Operator (NewMember m t) = quiet w h _ _ refl
 base_law w h Operator (Grant m amount) = quiet w h _ _ (cut-member w h m _)
 base_law w h Operator (Archive p) = quiet w h _ _ refl
 base_law w h Operator (Clear p set) = quiet w h _ _ refl
+base_law w h Operator Reconcile = refl
 base_law w h (Clerk m) (NewHolder g t) = quiet w h _ _ refl
 base_law w h (Clerk m) (NewPurse p g) = issued_law w h m p g (new_purse_refusal w m p g) refl
 base_law w h (Clerk m) (Load p amount reference) = load_law w h m p amount reference (idle_load w m p amount reference)

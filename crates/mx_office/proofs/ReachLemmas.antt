@@ -1,5 +1,5 @@
 -- Worlds that commands lead to.
-use Rattle.std.proofs.Common.{List, [], ◌∷◌, ◌++◌, ◌∙◌, ap, subst}
+use Rattle.std.proofs.Common.{List, [], ◌∷◌, ◌++◌, ◌∙◌, ap, sym, subst}
 use Rattle.std.specs.List.{AllByRecursion}
 use Rattle.mx_book.specs.World.{World, opening}
 use Rattle.mx_book.proofs.PartLemmas.{all_append}
@@ -12,6 +12,8 @@ use Rattle.mx_office.specs.Commands.{IsAsked, IsCaller, IsCommand}
 use Rattle.mx_office.specs.Reachable.{IsReachable}
 use Rattle.mx_office.specs.Run.{IsRun}
 use Rattle.mx_office.specs.Step.{Asked, step, one_step}
+use Rattle.mx_office.specs.Conservation.{IsNeverFull, IsNeverFullOutcome}
+use Rattle.mx_office.proofs.FullLemmas.{never_full}
 use Rattle.mx_office.proofs.LawLemmas.{course-append}
 
 -- one command more
@@ -31,3 +33,12 @@ reachable_run fails w end [] (o ∷ os) values is r = absurd is
 reachable_run fails w end (c ∷ cs) [] values is r = absurd is
 reachable_run fails w end (c ∷ cs) (Replied x ∷ os) values is r = reachable_run fails (step w c.0 c.1).world end cs os values.1 is.1 (reachable_after w c.0 c.1 values.0.0 values.0.1 r)
 reachable_run fails w end (c ∷ cs) (Unavailable ∷ os) values is r = reachable_run fails w end cs os values.1 is.1 r
+
+-- none of its outcomes is that a purse or a float is full
+pub never_full_run : (fails : StoreFault → Type 0) (w end : World) (cs : List Asked) (os : List Outcome) → AllByRecursion IsAsked cs → IsRun fails w cs os end → IsReachable w → AllByRecursion IsNeverFullOutcome os
+never_full_run fails w end [] [] values is r = tt
+never_full_run fails w end [] (o ∷ os) values is r = absurd is
+never_full_run fails w end (c ∷ cs) [] values is r = absurd is
+never_full_run fails w end (c ∷ cs) (Replied x ∷ os) values is r =
+    (subst IsNeverFull (sym is.0) (never_full w c.0 c.1 r), never_full_run fails (step w c.0 c.1).world end cs os values.1 is.1 (reachable_after w c.0 c.1 values.0.0 values.0.1 r))
+never_full_run fails w end (c ∷ cs) (Unavailable ∷ os) values is r = (tt, never_full_run fails w end cs os values.1 is.1 r)

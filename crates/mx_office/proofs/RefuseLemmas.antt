@@ -5,7 +5,7 @@ use Rattle.mx_book.specs.declared.values.Caller.TheVariants.{Operator, Clerk, Ho
 use Rattle.mx_book.specs.World.{World, Holding, Name, set_row, change_holding}
 use Rattle.mx_book.proofs.PurseLemmas.{change_there, set_same}
 use Rattle.mx_office.specs.declared.values.Command.{Command}
-use Rattle.mx_office.specs.declared.values.Command.TheVariants.{NewMember, Grant, Archive, Clear, NewHolder, NewPurse, Load, Collect}
+use Rattle.mx_office.specs.declared.values.Command.TheVariants.{NewMember, Grant, Archive, Clear, NewHolder, NewPurse, Load, Collect, Reconcile}
 use Rattle.mx_office.specs.declared.values.Refusal.{Refusal}
 use Rattle.mx_office.specs.declared.values.Refusal.TheVariants.{NoSuchPurse}
 use Rattle.mx_office.specs.declared.values.Reply.{Reply}
@@ -41,6 +41,7 @@ base_leaves w Operator (NewMember m t) = refusal_leaves w _ (new_member_refusal 
 base_leaves w Operator (Grant m amount) = refusal_leaves w _ (grant_refusal w m amount) refl
 base_leaves w Operator (Archive p) = refusal_leaves w _ (archive_refusal w p) refl
 base_leaves w Operator (Clear p set) = refusal_leaves w _ (clear_refusal w p set) refl
+base_leaves w Operator Reconcile = λ r e. (refl, refl, refl)
 base_leaves w (Clerk m) (NewHolder h t) = refusal_leaves w _ (new_holder_refusal w m h t) refl
 base_leaves w (Clerk m) (NewPurse p h) = refusal_leaves w _ (new_purse_refusal w m p h) refl
 base_leaves w (Clerk m) (Load p amount reference) = unless_leaves w _ (idle_load w m p amount reference) refl

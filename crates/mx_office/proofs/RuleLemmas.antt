@@ -4,11 +4,11 @@ use Rattle.std.specs.FinMap as fmap
 use Rattle.mx_purse.specs.Operations.{start_from_refusal, start_to_refusal, redeem_refusal}
 use Rattle.mx_book.specs.World.{Holding, Name}
 use Rattle.mx_office.specs.declared.values.Command.{Command}
-use Rattle.mx_office.specs.declared.values.Command.TheVariants.{Show, StartFrom, StartTo, Handle, Discard, Abort, ReadLog, Redeem, Inbox}
+use Rattle.mx_office.specs.declared.values.Command.TheVariants.{Show, StartFrom, StartTo, Handle, Discard, Abort, ReadLog, Redeem, Inbox, Statement}
 use Rattle.mx_office.specs.declared.values.Refusal.{Refusal}
 use Rattle.mx_office.specs.declared.values.Reply.{Reply}
 use Rattle.mx_office.specs.declared.values.Reply.TheVariants as reply
-use Rattle.mx_office.specs.Step.{Deed, Asks, tell, unless, unless_told, on_found, idle, refusal_of_start, refusal_of_redeem, asks, show, start_from, start_to, handle, discard, abort, read_log, redeem, inbox}
+use Rattle.mx_office.specs.Step.{Deed, Asks, tell, unless, unless_told, on_found, idle, refusal_of_start, refusal_of_redeem, asks, show, start_from, start_to, handle, discard, abort, read_log, redeem, inbox, statement}
 
 -- where it is refused, nothing changes and nothing is sent
 abbrev pub Leaves : {S : Type 0} → S → Deed S → Type 0
@@ -64,7 +64,7 @@ EachKeeps (Asks.OnPurse p f) = (a : Holding) → Keeps a (f a)
 EachKeeps x = Unit {0}
 
 pub each_rule : (c : Command) → EachKeeps (asks c)
-unfolding show start_from start_to handle discard abort read_log redeem inbox
+unfolding show start_from start_to handle discard abort read_log redeem inbox statement
 each_rule (Show p) = λ a. told a _
 each_rule (StartFrom p peer value seq) = λ a. refused_case a _ refusal_of_start (start_from_refusal a.purse peer value) (done a _ refl (Same refl))
 each_rule (StartTo p peer value seq) = λ a. refused_case a _ refusal_of_start (start_to_refusal a.purse peer) (done a _ refl (Same refl))
@@ -75,4 +75,5 @@ each_rule (ReadLog p place) = λ a. done a _ refl (Same refl)
 each_rule (Redeem p amount reference) = λ a.
     idle_case a _ (fmap.get a.redemptions reference) amount reply.Redeemed (option_map refusal_of_redeem (redeem_refusal a.purse amount)) _ refl (λ new. done a _ refl (More reference amount new refl))
 each_rule (Inbox p) = λ a. told a _
+each_rule (Statement p after) = λ a. told a _
 each_rule c = tt

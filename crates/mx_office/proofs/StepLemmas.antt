@@ -24,13 +24,14 @@ use Rattle.mx_book.specs.declared.values.Caller.{Caller}
 use Rattle.mx_book.specs.declared.values.Caller.TheVariants.{Operator, Clerk, Holder}
 use Rattle.mx_book.specs.World.{World, Row, Holding, Name, Token, is_of_member, change_holding, opening}
 use Rattle.mx_book.specs.Conditions.{IsWorld, all_granted}
-use Rattle.mx_book.specs.Reads.{from_row, uncollected_of, inbox_of, message_of, redemption_of}
+use Rattle.mx_book.specs.Limits.{most_lines}
+use Rattle.mx_book.specs.Reads.{from_row, uncollected_of, inbox_of, lines_of, message_of, redemption_of}
 use Rattle.mx_book.proofs.Opening.{opening_is}
 use Rattle.mx_book.proofs.KeepLemmas.{member_stays, holder_stays, new_purse_stays}
 use Rattle.mx_book.proofs.PurseLemmas.{put_stays}
 use Rattle.mx_book.proofs.ResultLemmas.{archived_stays}
 use Rattle.mx_office.specs.declared.values.Command.{Command}
-use Rattle.mx_office.specs.declared.values.Command.TheVariants.{NewMember, Grant, Archive, Clear as ClearLog, NewHolder, NewPurse, Load, Collect, Show, StartFrom, StartTo, Handle, Discard, Abort, ReadLog, Redeem, Inbox}
+use Rattle.mx_office.specs.declared.values.Command.TheVariants.{NewMember, Grant, Archive, Clear as ClearLog, NewHolder, NewPurse, Load, Collect, Show, StartFrom, StartTo, Handle, Discard, Abort, ReadLog, Redeem, Inbox, Statement, Reconcile}
 use Rattle.mx_office.specs.declared.values.Decided.{Decided}
 use Rattle.mx_office.specs.declared.values.Refusal.{Refusal}
 use Rattle.mx_office.specs.declared.values.Refusal.TheVariants.{NoSuchPurse, NoSuchMessage, RefReused}
@@ -39,12 +40,12 @@ use Rattle.mx_office.specs.declared.values.Reply.TheVariants as reply
 use Rattle.mx_office.specs.Commands.{IsNamed, IsCommand, IsAsked}
 use Rattle.mx_office.specs.Decides.{Decides, own_purse, placed, purse_edits, not_kept, read_edits, load_edits, redeem_edits}
 use Rattle.mx_office.specs.Reachable.{IsReachable}
-use Rattle.mx_office.specs.Step.{Deed, Asked, tell, unless, unless_told, on_found, in_place, refusal_of_start, refusal_of_redeem, abort_line, message_line, with_aborted, show, start_from, start_to, handle, discard, abort, read_log, redeem, inbox, asks, own_holding, on_own, on_world, new_member, new_member_refusal, new_holder, new_holder_refusal, new_purse, new_purse_refusal, grant, grant_refusal, idle_load, load_purse, collect, collect_refusal, archive, archive_refusal, clear, clear_refusal, base, world_after, step, steps}
+use Rattle.mx_office.specs.Step.{Deed, Asked, tell, unless, unless_told, on_found, in_place, refusal_of_start, refusal_of_redeem, abort_line, message_line, with_aborted, show, start_from, start_to, handle, discard, abort, read_log, redeem, inbox, statement, asks, own_holding, on_own, on_world, new_member, new_member_refusal, new_holder, new_holder_refusal, new_purse, new_purse_refusal, grant, grant_refusal, idle_load, load_purse, collect, collect_refusal, archive, archive_refusal, clear, clear_refusal, base, world_after, step, steps}
 use Rattle.mx_office.proofs.OwnLemmas.{absent, present, of_there, none_refused, is_owned}
 use Rattle.mx_office.proofs.ArchiveLemmas.{clear_means, read_decides}
 use Rattle.mx_office.proofs.AccountLemmas.{IsSent, is_own}
 use Rattle.mx_office.proofs.BalanceCommandLemmas.{is_load}
-use Rattle.mx_office.proofs.CommandLemmas.{nothing, whole, purse_told, inbox_decides, no_message_decides, discard_decides, nothing_handled_decides, handle_decides, abort_decides, start_refused, start_decides, redeem_repeated, redeem_refuses, redeem_made}
+use Rattle.mx_office.proofs.CommandLemmas.{nothing, whole, purse_told, inbox_decides, statement_decides, no_message_decides, discard_decides, nothing_handled_decides, handle_decides, abort_decides, start_refused, start_decides, redeem_repeated, redeem_refuses, redeem_made}
 use Rattle.mx_office.proofs.MoneyLemmas.{float_there, grant_decides, collect_decides, load_made}
 
 -- what is done leaves a World
@@ -206,6 +207,8 @@ asks_stays w h (ReadLog p place) valid is = own_case w h p (read_log place) _ re
 asks_stays w h (Redeem p amount reference) valid is = own_case w h p (redeem amount reference) _ refl is (λ q e. redeem_case w h p amount reference q _ _ refl refl valid.1 valid.2 is e)
 asks_stays w h (Inbox p) valid is = own_case w h p inbox _ refl is (λ q e.
     decided w (on_own w h p inbox) (record { reply = reply.Inbox (inbox_of w p); edits = [] }) (inbox_decides w h p _ is (ap is_none e) refl refl))
+asks_stays w h (Statement p after) valid is = own_case w h p (statement after) _ refl is (λ q e.
+    decided w (on_own w h p (statement after)) (record { reply = reply.Statement (lines_of w p after most_lines); edits = [] }) (statement_decides w h p after _ is (ap is_none e) refl refl))
 asks_stays w h c valid is = is
 
 -- ---- each command, and commands in order
@@ -215,6 +218,7 @@ base_stays w Operator (NewMember m t) valid is = new_member_stays w m t valid.0 
 base_stays w Operator (Grant m amount) valid is = grant_stays w m amount is
 base_stays w Operator (Archive p) valid is = archive_stays w p is
 base_stays w Operator (ClearLog p set) valid is = clear_stays w p set valid.1 is
+base_stays w Operator Reconcile valid is = is
 base_stays w (Clerk m) (NewHolder h t) valid is = new_holder_stays w m h t valid.0 valid.1 is
 base_stays w (Clerk m) (NewPurse p h) valid is = issued_stays w m p h valid.0 is
 base_stays w (Clerk m) (Load p amount reference) valid is = load_stays w m p amount reference valid.1 valid.2 is

@@ -3,25 +3,15 @@ use Rattle.std.specs.Prelude.{◌≡◌, ℕ, ◌+◌, Bool, if◌then◌else◌
 use Rattle.std.specs.FinMap as fmap
 use Rattle.mx_book.specs.declared.values.MemberRow.{MemberRow}
 use Rattle.mx_book.specs.Sums.{sum_values, sum_entries}
-use Rattle.mx_book.specs.World.{World, Row, Name, is_of_member}
-use Rattle.mx_book.specs.Reads.{uncollected_row, uncollected_of}
-
--- what the loads of a purse come to, and what its redemptions come to
-abbrev pub issued_row : Row → ℕ
-issued_row r = sum_values (λ n. n) r.loads
-
-abbrev pub redeemed_row : Row → ℕ
-redeemed_row r = sum_values (λ n. n) r.holding.redemptions
+use Rattle.mx_book.specs.World.{World, Row, Name}
+use Rattle.mx_book.specs.Reads.{uncollected_row}
+use Rattle.mx_book.specs.Totals.{issued_row, redeemed_row, sums_of}
 
 -- ---- one member
 
--- the sum of a number of each purse of the member's holders
-abbrev pub of_member : World → Name → (Row → ℕ) → ℕ
-of_member w m f = sum_values (λ r. if is_of_member w m r then f r else 0) w.rows
-
 -- float, what isn't collected, and what was issued to the member's purses are what was granted and redeemed
 abbrev pub IsMemberBalanced : World → Name → MemberRow → Type 0
-IsMemberBalanced w m row = (row.float + uncollected_of w m) + of_member w m issued_row ≡ row.granted + of_member w m redeemed_row
+IsMemberBalanced w m row = let sums = sums_of w m row in (sums.float + sums.uncollected) + sums.issued ≡ sums.granted + sums.redeemed
 
 -- ---- any choice of members
 

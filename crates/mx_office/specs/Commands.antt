@@ -8,7 +8,7 @@ use Rattle.mx_book.specs.declared.values.Caller.{Caller}
 use Rattle.mx_book.specs.declared.values.Caller.TheVariants.{Operator, Clerk, Holder}
 use Rattle.mx_book.specs.World.{Name}
 use Rattle.mx_office.specs.declared.values.Command.{Command}
-use Rattle.mx_office.specs.declared.values.Command.TheVariants.{NewMember, Grant, Archive, Clear, NewHolder, NewPurse, Load, Collect, Purses, Show, StartFrom, StartTo, Handle, Discard, Abort, ReadLog, Redeem, Inbox}
+use Rattle.mx_office.specs.declared.values.Command.TheVariants.{NewMember, Grant, Archive, Clear, NewHolder, NewPurse, Load, Collect, Purses, Show, StartFrom, StartTo, Handle, Discard, Abort, ReadLog, Redeem, Inbox, Statement, Reconcile}
 use Rattle.mx_office.specs.Step.{Asked}
 
 -- a name has the text of one
@@ -42,6 +42,8 @@ IsCommand (Abort purse) = IsNamed purse
 IsCommand (ReadLog purse place) = IsNamed purse
 IsCommand (Redeem purse amount reference) = IsNamed purse × (amount ≤ most_amount) × IsNamed reference
 IsCommand (Inbox purse) = IsNamed purse
+IsCommand (Statement purse after) = IsNamed purse × (after ≤ most_number)
+IsCommand Reconcile = Unit {0}
 
 -- a command that is a value, and so is who asks
 abbrev pub IsAsked : Asked → Type 0

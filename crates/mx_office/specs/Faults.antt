@@ -5,7 +5,7 @@ use Rattle.mx_book.specs.declared.contract.StoreFault.{StoreFault}
 use Rattle.mx_book.specs.declared.contract.StoreFault.TheVariants.{Memory}
 use Rattle.mx_book.specs.declared.values.Caller.{Caller}
 use Rattle.mx_office.specs.declared.values.Command.{Command}
-use Rattle.mx_office.specs.declared.values.Command.TheVariants.{Grant, Purses, Show, Inbox}
+use Rattle.mx_office.specs.declared.values.Command.TheVariants.{Grant, Purses, Show, Inbox, Statement, Reconcile}
 use Rattle.mx_office.specs.declared.values.Reply.{Reply}
 use Rattle.mx_office.specs.declared.values.Reply.TheVariants as reply
 use Rattle.mx_office.specs.Step.{step}
@@ -15,6 +15,7 @@ abbrev pub reads_list : Command → Bool
 reads_list (Grant m amount) = Bool.true
 reads_list Purses = Bool.true
 reads_list (Inbox p) = Bool.true
+reads_list (Statement p after) = Bool.true
 reads_list command = Bool.false
 
 -- whether a command only reads
@@ -22,6 +23,8 @@ abbrev pub is_read : Command → Bool
 is_read Purses = Bool.true
 is_read (Show p) = Bool.true
 is_read (Inbox p) = Bool.true
+is_read (Statement p after) = Bool.true
+is_read Reconcile = Bool.true
 is_read command = Bool.false
 
 -- whether a reply is a refusal

@@ -8,3 +8,5 @@ pub mod Commands
 pub mod Balance
 pub mod Reachable
 pub mod Faults
+pub mod Conservation
+pub mod Statement

@@ -7,6 +7,7 @@ use Rattle.mx_book.specs.World.{World, Token, opening}
 use Rattle.mx_office.specs.Step.{Asked, steps}
 use Rattle.mx_office.specs.Balance.{IsBalanced}
 use Rattle.mx_office.specs.Commands.{IsAsked}
+use Rattle.mx_office.specs.Conservation.{IsConserved}
 
 -- some commands that are values lead to the World from one that has nothing but an operator's token
 pub record IsReachable (w : World) : Type 0 where
@@ -16,10 +17,12 @@ pub record IsReachable (w : World) : Type 0 where
   pub values : AllByRecursion IsAsked commands
   pub leads : (steps (opening operator) commands).end ≡ w
 
--- a World stands that commands lead to, which meets the conditions of a World, and it is balanced
+-- a World stands that commands lead to, which meets the conditions of a World; the members' equation holds, and the
+-- scheme's
 pub record StandsBalanced (Stands : World → Type 0) : Type 0 where
   pub end : World
   pub stands : Stands end
   pub reachable : IsReachable end
   pub world : IsWorld end
   pub balanced : IsBalanced end
+  pub conserved : IsConserved end

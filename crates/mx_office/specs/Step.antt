@@ -1,7 +1,7 @@
 -- What a command does to the World, and what is answered.
 use Rattle.std.specs.Prelude.{ℕ, ◌+◌, ◌-◌, ◌==◌, ◌&&◌, ◌||◌, nat_lt, nat_le, unwrap_or, option_map, option_and_then, not, Bool, if◌then◌else◌, List, [], ◌∷◌, ◌++◌, length, Option, Some, None, is_some, is_none}
 use Rattle.mx_pay.specs.Limits.{most_number}
-use Rattle.mx_book.specs.Limits.{most_purses}
+use Rattle.mx_book.specs.Limits.{most_purses, most_lines}
 use Rattle.std.specs.Option.{option_map_or}
 use Rattle.std.specs.List.{list_all}
 use Rattle.std.specs.FinMap as fmap
@@ -30,9 +30,10 @@ use Rattle.mx_book.specs.declared.values.MemberRow.{MemberRow}
 use Rattle.mx_book.specs.declared.values.Note.TheVariants as note
 use Rattle.mx_book.specs.World.{World, Row, Holding, Name, Token, is_of, is_of_member, set_row, change_row, change_holding, all_collected, with_archived, new_row, put}
 use Rattle.mx_book.specs.Conditions.{all_granted}
-use Rattle.mx_book.specs.Reads.{who_of, purses_of, is_archived, tray_of, uncollected_of}
+use Rattle.mx_book.specs.Reads.{who_of, purses_of, page, is_archived, tray_of, uncollected_of}
+use Rattle.mx_book.specs.Totals.{totals_of}
 use Rattle.mx_office.specs.declared.values.Command.{Command}
-use Rattle.mx_office.specs.declared.values.Command.TheVariants.{NewMember, Grant, Archive, Clear, NewHolder, NewPurse, Load, Collect, Purses, Show, StartFrom, StartTo, Handle, Discard, Abort, ReadLog, Redeem, Inbox}
+use Rattle.mx_office.specs.declared.values.Command.TheVariants.{NewMember, Grant, Archive, Clear, NewHolder, NewPurse, Load, Collect, Purses, Show, StartFrom, StartTo, Handle, Discard, Abort, ReadLog, Redeem, Inbox, Statement, Reconcile}
 use Rattle.mx_office.specs.declared.values.Refusal.{Refusal}
 use Rattle.mx_office.specs.declared.values.Refusal.TheVariants.{NotForCaller, NoSuchPurse, NoSuchHolder, NoSuchMember, NoSuchMessage, NameTaken, TokenTaken, TooManyPurses, SamePurse, NotEnough, LogFull, Worn, RefReused, FloatTooSmall, FloatFull, GrantTooLarge, OverCap, NotArchived}
 use Rattle.mx_office.specs.declared.values.Reply.{Reply}
@@ -193,6 +194,10 @@ redeem amount reference a =
 unfoldable pub inbox : Holding → Deed Holding
 inbox a = tell a (reply.Inbox (fmap.entries a.inbox))
 
+-- statement: the first 50 lines that are numbered above a number
+unfoldable pub statement : ℕ → Holding → Deed Holding
+statement after a = tell a (reply.Statement (page after most_lines a.lines))
+
 -- ---- the holder's commands
 
 -- what a command asks: the names of the holder's purses, a rule on one of them, or what no holder may
@@ -213,6 +218,7 @@ asks (Abort p) = Asks.OnPurse p abort
 asks (ReadLog p place) = Asks.OnPurse p (read_log place)
 asks (Redeem p amount reference) = Asks.OnPurse p (redeem amount reference)
 asks (Inbox p) = Asks.OnPurse p inbox
+asks (Statement p after) = Asks.OnPurse p (statement after)
 asks command = Asks.NotAHolders
 
 -- what is the holder's own of a row, and of the purse of that name, where it is the holder's
@@ -345,6 +351,10 @@ clear_refusal w p set = first_refusal ((is_none (fmap.get w.rows p), NoSuchPurse
 abbrev pub clear : World → Name → Entries → Deed World
 clear w p set = unless w (clear_refusal w p set) (record { state = w; reply = reply.Sent; sent = Some (p, message.Clear set); result = None })
 
+-- reconcile, by the operator: the sums of the whole scheme
+abbrev pub reconcile : World → Deed World
+reconcile w = tell w (reply.Reconciled (totals_of w))
+
 -- ---- the step
 
 -- each command of each caller, before what it sends is put; a command of another class is refused
@@ -353,6 +363,7 @@ base w Operator (NewMember m t) = new_member w m t
 base w Operator (Grant m amount) = grant w m amount
 base w Operator (Archive p) = archive w p
 base w Operator (Clear p set) = clear w p set
+base w Operator Reconcile = reconcile w
 base w (Clerk m) (NewHolder h t) = new_holder w m h t
 base w (Clerk m) (NewPurse p h) = new_purse w m p h
 base w (Clerk m) (Load p amount reference) = load_purse w m p amount reference

@@ -3,6 +3,7 @@
 
 mod archive;
 pub mod balance;
+pub mod conservation;
 mod decisions;
 pub mod isolation;
 mod limits;
@@ -11,9 +12,8 @@ mod money;
 pub mod office;
 mod purses;
 pub mod reachable;
-#[cfg(test)]
-mod tests;
+pub mod statements;
 pub mod values;
 
 pub use office::Office;
-pub use values::{Command, Decided, Messages, Names, Outcome, Refusal, Reply};
+pub use values::{Command, Decided, Lines, Messages, Names, Outcome, Refusal, Reply};

@@ -95,7 +95,7 @@ pub(crate) fn is_command(command: &Command)
     ensures { IsCommand command.now }
 {
     match *command {
-        Command::Collect | Command::Purses => {}
+        Command::Collect | Command::Purses | Command::Reconcile => {}
         Command::Archive { purse }
         | Command::Show { purse }
         | Command::Abort { purse }
@@ -108,6 +108,7 @@ pub(crate) fn is_command(command: &Command)
         Command::Grant { member, amount } => is_amount(member, amount),
         Command::Handle { purse, number } => is_number(purse, number),
         Command::Discard { purse, number } => is_number(purse, number),
+        Command::Statement { purse, after } => is_number(purse, after),
         Command::Load {
             purse,
             amount,

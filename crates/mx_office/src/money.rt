@@ -1,15 +1,15 @@
 //! The commands that bring value into the office and settle what left it: grants, loads and collects.
-ghost use Rattle.std.specs.Prelude.{◌≡◌, ◌≤◌, ◌⊎◌, IfOk, OnOk, IfErr};
+ghost use Rattle.std.specs.Prelude.{◌≡◌, ◌≤◌, ◌⊎◌, [], IfOk, OnOk, IfErr};
 ghost use Rattle.mx_book.specs.declared.contract.StoreFault.TheVariants.{Memory};
 ghost use Rattle.mx_book.specs.Conditions.{all_granted};
 ghost use Rattle.mx_book.specs.Keeps.{Keeps};
 ghost use Rattle.mx_book.specs.World.{World};
 ghost use Rattle.mx_office.specs.Commands.{IsCommand};
 ghost use Rattle.mx_office.specs.Decides.{Decides, granted_to, load_edits, member_purse};
-ghost use Rattle.mx_office.specs.Step.{collect, grant, load_purse};
+ghost use Rattle.mx_office.specs.Step.{collect, grant, load_purse, reconcile};
 ghost use Rattle.mx_office.specs.declared.values.Command.{Command};
 
-use crate::decisions::{again, load_refusal, make, make_purse, money_line, refuse};
+use crate::decisions::{again, load_refusal, make, make_purse, money_line, refuse, tell};
 use crate::values::{Decided, Refusal, Reply};
 use mx_book::contract::{Book, StoreFault};
 use mx_book::edits::Edit;
@@ -201,5 +201,21 @@ pub(crate) fn collect<B: Book>(
         granted: row.granted,
         float: float as u64,
     });
+    Ok(())
+}
+
+/// What the books come to.
+pub(crate) fn reconcile<B: Book>(
+    book: &mut B,
+    alloc: Global,
+    decided: &mut Decided,
+) -> Result<(), StoreFault>
+    ensures keeps { Keeps B.doubt B.rows book.old book.new }
+    ensures decides { (w : World) → B.doubt book.new ≡ 0 → B.spells (B.rows book.old) w → OnOk result (Decides w (reconcile w) decided.new) }
+    ensures edits { OnOk result (decided.new.edits ≡ []) }
+    ensures fault { IfErr result B.fails }
+{
+    let totals = book.totals(alloc)?;
+    tell(decided, Reply::Reconciled(totals));
     Ok(())
 }

@@ -1,5 +1,6 @@
 //! The office over any book.
 ghost use Rattle.std.specs.Borrow.{sem};
+ghost use Rattle.std.specs.List.{AllByRecursion};
 ghost use Rattle.std.specs.Prelude.{◌≡◌, ◌≤◌, ◌⊎◌, [], length, IfOk, IfErr, IsTrue, OnOk, OnErr};
 ghost use Rattle.mx_book.specs.Edits.{Fits, all_edited};
 ghost use Rattle.mx_book.specs.Keeps.{Keeps};
@@ -8,6 +9,7 @@ ghost use Rattle.mx_book.specs.declared.contract.StoreFault.TheVariants.{Memory}
 ghost use Rattle.mx_office.specs.declared.values.Refusal.{Refusal};
 ghost use Rattle.mx_office.specs.declared.values.Reply.TheVariants.{Refused};
 ghost use Rattle.mx_office.specs.Commands.{IsAsked, IsCommand};
+ghost use Rattle.mx_office.specs.Conservation.{IsNeverFullOutcome};
 ghost use Rattle.mx_office.specs.Decides.{Decides};
 ghost use Rattle.mx_office.specs.Faults.{MayFail, MayNotDecide, is_read};
 ghost use Rattle.mx_office.specs.Isolation.{cut, for_holder, local, told_to, view, view_of};
@@ -20,9 +22,9 @@ use crate::archive::{archive, clear};
 use crate::decisions::refuse;
 use crate::limits::{is_caller, is_command};
 use crate::members::{new_holder, new_member, new_purse};
-use crate::money::{collect, grant, load};
+use crate::money::{collect, grant, load, reconcile};
 use crate::purses::{
-    abort, discard, handle, inbox, purses, read_log, redeem, show, start_from, start_to,
+    abort, discard, handle, inbox, purses, read_log, redeem, show, start_from, start_to, statement,
 };
 use crate::values::{Command, Decided, Outcome, Refusal, Reply};
 use mx_book::contract::{Book, StoreFault};
@@ -62,7 +64,8 @@ impl<B: Book> Office<B> {
     }
 
     /// What a command of a caller would do: its reply, and the edits that lead to its World. Nothing changes. A fault
-    /// is one of the book's reads, or `Memory` where the command reads a list: a grant, purses and inbox. `asked` says
+    /// is one of the book's reads, or `Memory` where the command reads a list: a grant, purses, inbox and
+    /// statement. `asked` says
     /// what the caller and the command keep by their types: names are names, and numbers and tokens are within limits.
     pub fn decide(
         &mut self,
@@ -158,8 +161,9 @@ impl<B: Book> Office<B> {
     }
 
     /// Answers commands in order: one outcome a command, its reply, or `Unavailable` where `answer` gives a fault. An
-    /// AllocError means that nothing was done. From a World that commands can lead to it ends in such a World, which
-    /// meets all the conditions of a World, and in which each member's account is balanced.
+    /// AllocError means that nothing was done. From a World that commands can lead to it ends in such a World
+    /// (`reachable`), which meets all the conditions of a World, in which each member's account is balanced, and no value
+    /// was made or is gone; and nothing is refused because a purse or a float is full (`never_full`).
     ///
     /// It keeps holders apart, as `answer` does: for every holder, the replies to the holder, in order, are those that
     /// the holder's view of the commands that were answered gives (`told`), and what is the holder's own in the end is
@@ -172,6 +176,7 @@ impl<B: Book> Office<B> {
         ensures later { B.doubt self.old.book ≤ B.doubt self.new.book }
         ensures run { (w : World) → B.doubt self.new.book ≡ 0 → B.spells (B.rows self.old.book) w → IfOk result (λ outcomes. Leads B.fails (B.spells (B.rows self.new.book)) w commands.now outcomes.items) }
         ensures reachable { (w : World) → B.doubt self.new.book ≡ 0 → B.spells (B.rows self.old.book) w → IsReachable w → IfOk result (λ _. StandsBalanced (B.spells (B.rows self.new.book))) }
+        ensures never_full { (w : World) → B.doubt self.new.book ≡ 0 → B.spells (B.rows self.old.book) w → IsReachable w → IfOk result (λ outcomes. AllByRecursion IsNeverFullOutcome outcomes.items) }
         ensures accounts { (w v : World) → B.doubt self.new.book ≡ 0 → B.spells (B.rows self.old.book) w → B.spells (B.rows self.new.book) v → IfOk result (λ outcomes. (h : HolderName) → cut v h ≡ (local (cut w h) (view h w (answered commands.now outcomes.items))).end) }
         ensures told { (w : World) → B.doubt self.new.book ≡ 0 → B.spells (B.rows self.old.book) w → IfOk result (λ outcomes. (h : HolderName) → told_to h (replies commands.now outcomes.items) ≡ (local (cut w h) (view h w (answered commands.now outcomes.items))).replies) }
         ensures each { IfOk result (λ outcomes. length outcomes.items ≡ length commands.now) }
@@ -206,6 +211,7 @@ fn decide_operator<B: Book>(
         Command::Grant { member, amount } => grant(book, alloc, member, amount, decided),
         Command::Archive { purse } => archive(book, alloc, purse, decided),
         Command::Clear { purse, ref details } => clear(book, alloc, purse, details, decided),
+        Command::Reconcile => reconcile(book, alloc, decided),
         _ => {
             refuse(decided, Refusal::NotForCaller);
             Ok(())
@@ -284,6 +290,9 @@ fn decide_holder<B: Book>(
             reference,
         } => redeem(book, alloc, holder, purse, amount, reference, decided),
         Command::Inbox { purse } => inbox(book, alloc, holder, purse, decided),
+        Command::Statement { purse, after } => {
+            statement(book, alloc, holder, purse, after, decided)
+        }
         _ => {
             refuse(decided, Refusal::NotForCaller);
             Ok(())

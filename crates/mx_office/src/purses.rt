@@ -6,17 +6,17 @@ ghost use Rattle.mx_book.specs.World.{World};
 ghost use Rattle.mx_book.specs.Reads.{purses_of};
 ghost use Rattle.mx_office.specs.Commands.{IsCommand};
 ghost use Rattle.mx_office.specs.Decides.{Decides, finds_place, not_kept, own_purse, placed};
-ghost use Rattle.mx_office.specs.Step.{abort, discard, handle, inbox, on_own, read_log, redeem, show, start_from, start_to, tell};
+ghost use Rattle.mx_office.specs.Step.{abort, discard, handle, inbox, on_own, read_log, redeem, show, start_from, start_to, statement, tell};
 ghost use Rattle.mx_office.specs.declared.values.Command.{Command};
 
 use crate::decisions::{
     abort_line, again, make, make_purse, make_read, make_redemption, message_line, redeem_refusal,
     refuse, sent_for, start_refusal, tell,
 };
-use crate::values::{Decided, Messages, Names, Refusal, Reply};
+use crate::values::{Decided, Lines, Messages, Names, Refusal, Reply};
 use mx_book::contract::{Book, StoreFault};
 use mx_book::edits::Edit;
-use mx_book::values::MOST_MESSAGES;
+use mx_book::values::{MOST_LINES, MOST_MESSAGES};
 use mx_pay::names::same_name;
 use mx_pay::numbers::MOST_NUMBER;
 use mx_pay::{Amount, Name, PayDetails, Seq};
@@ -133,6 +133,29 @@ pub(crate) fn inbox<B: Book>(
     }
     let messages = book.inbox(alloc, purse)?;
     tell(decided, Reply::Inbox(Messages::new(messages)));
+    Ok(())
+}
+
+/// The first 50 lines of the purse that are numbered above `after`.
+pub(crate) fn statement<B: Book>(
+    book: &mut B,
+    alloc: Global,
+    holder: Name,
+    purse: Name,
+    after: Seq,
+    decided: &mut Decided,
+) -> Result<(), StoreFault>
+    ensures keeps { Keeps B.doubt B.rows book.old book.new }
+    ensures decides { (w : World) → B.doubt book.new ≡ 0 → B.spells (B.rows book.old) w → OnOk result (Decides w (on_own w holder purse (statement after)) decided.new) }
+    ensures edits { OnOk result (decided.new.edits ≡ []) }
+    ensures fault { IfErr result (λ e. (e ≡ Memory) ⊎ B.fails e) }
+{
+    if own_purse(book, alloc, holder, purse)?.is_none() {
+        refuse(decided, Refusal::NoSuchPurse);
+        return Ok(());
+    }
+    let lines = book.lines(alloc, purse, after.get(), MOST_LINES)?;
+    tell(decided, Reply::Statement(Lines::new(lines)));
     Ok(())
 }
 

@@ -3,6 +3,7 @@ ghost use Rattle.std.specs.Prelude.{◌≡◌, []};
 ghost use Rattle.mx_office.specs.Texts.{refusal_text};
 
 use mx_book::edits::Edits;
+use mx_book::values::{Line, Totals};
 use mx_pay::{Amount, Log, Name, PayDetails, Seq, Token};
 use mx_purse::{Handled, Message, Purse};
 use std::marker::Model;
@@ -133,6 +134,15 @@ pub enum Command {
         /// The purse.
         purse: Name,
     },
+    /// A holder asks for the lines of a purse's statement, at most 50 of them.
+    Statement {
+        /// The purse.
+        purse: Name,
+        /// The number above which the lines are numbered.
+        after: Seq,
+    },
+    /// The operator asks what the books come to.
+    Reconcile,
 }
 
 /// Why a command is refused. Each command has its refusals in an order, and the first that applies is given.
@@ -272,6 +282,41 @@ impl Messages {
     }
 }
 
+/// Lines of a statement, by number. A contract sees the list of them.
+#[derive(Drop, Debug)]
+pub struct Lines {
+    list: Vec<Line>,
+}
+
+impl Model for Lines {
+    ghost use Rattle.std.specs.Prelude.{List};
+    ghost use Rattle.std.specs.Coded.{coded_list};
+    ghost use Rattle.mx_book.specs.declared.values.Line.{Line};
+    ghost use Rattle.mx_book.specs.contracts.values.Line as line;
+
+    ghost Value = { List Line };
+
+    ghost coded = { coded_list (line.the_row).coded };
+
+    ghost view = { λ l. l.list.items };
+}
+
+impl Lines {
+    /// These lines.
+    pub fn new(list: Vec<Line>) -> Lines
+        ensures { result ≡ list.items }
+    {
+        Lines { list }
+    }
+
+    /// The lines, by number.
+    pub fn as_slice(&self) -> &[Line]
+        ensures { result.now ≡ self.now }
+    {
+        self.list.as_slice()
+    }
+}
+
 /// The answer to a command.
 #[derive(Drop, Debug)]
 pub enum Reply {
@@ -310,6 +355,10 @@ pub enum Reply {
     Redeemed,
     /// These messages lie in the inbox.
     Inbox(Messages),
+    /// These are the lines of the statement.
+    Statement(Lines),
+    /// The books come to this.
+    Reconciled(Totals),
 }
 
 /// What a command would do: the reply, and the edits of the book that lead to its World.

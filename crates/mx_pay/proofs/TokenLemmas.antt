@@ -1,15 +1,15 @@
 -- Hexadecimal digits that were read are written again in lower case.
-use Rattle.std.proofs.Common.{◌≡◌, ℕ, zero, suc, ◌+◌, ◌*◌, ◌/◌, ◌%◌, ◌<◌, ◌==◌, Bool, true, ◌&&◌, List, [], ◌∷◌, length, Option, Some, None, Result, Ok, Err, slice_index, refl, sym, ◌∙◌, ap, arith, inl, inr}
+use Rattle.std.proofs.Common.{◌≡◌, ℕ, zero, suc, ◌+◌, ◌*◌, ◌/◌, ◌%◌, ◌<◌, ◌==◌, Bool, true, ◌&&◌, List, [], ◌∷◌, length, Option, Some, None, Result, Ok, Err, slice_index, unwrap_or, refl, sym, ◌∙◌, ap, subst, arith, inl, inr}
 use Rattle.std.specs.Prelude.{IsAscii, IsErr, IsOk, IsSome, IfSome, MatchResult, ◌↔◌}
 use Rattle.std.specs.Char.{to_ascii_lowercase}
 use Rattle.std.specs.Result.{result_ok, result_unwrap_or}
 use Rattle.std.proofs.lemmas.Bool.{and_parts, cases_lt, eqb-true}
 use Rattle.hex.specs.Hex.{decode_pairs, decode_sized, digit_or_error, encode_lower, encode_with, hex_digit_value, lower_digits, pair_value, value_at, ◌>>=◌}
 use Rattle.hex.specs.declared.error.FromHexError.{FromHexError}
-use Rattle.hex.proofs.HexLemmas.{IsAscii-encode_with, IsOk-decode_sized, decode_of-even, decode_sized-ok, decode_sized-twice}
+use Rattle.hex.proofs.HexLemmas.{IsAscii-encode_with, IsOk-decode_sized, decode_of-even, decode_of-ok, decode_sized-ok, decode_sized-twice}
 use Rattle.mx_pay.specs.Limits.{token_bytes}
 use Rattle.mx_pay.proofs.Texts.{IsAscii-name_bytes}
-use Rattle.mx_pay.specs.Tokens.{token_of, IsTokenText, lower_case}
+use Rattle.mx_pay.specs.Tokens.{IsToken, token_of, IsTokenText, lower_case}
 
 -- the test of one digit: the table's digit of its value is the digit in lower case
 abbrev comes_back : ℕ → Option ℕ → Bool
@@ -101,6 +101,19 @@ result_comes_back s n (Ok bytes) h =
 -- the text of a token that was read is the text that it was read from, in lower case
 pub IfSome-token_of : (text : List ℕ) → IfSome (token_of text) (λ token. encode_lower token ≡ lower_case text)
 IfSome-token_of text = result_comes_back text token_bytes (decode_sized text token_bytes) refl
+
+-- what is read is a token
+pub token_of-is : (text token : List ℕ) → token_of text ≡ Some token → IsToken token
+token_of-is text token = by_result (decode_sized text token_bytes) refl
+  where
+    by_result : (r : Result (List ℕ) FromHexError) → decode_sized text token_bytes ≡ r → result_ok r ≡ Some token → IsToken token
+    by_result (Err e) is found = cc
+    by_result (Ok bytes) is found =
+        let twice : length text ≡ 2 * token_bytes = decode_sized-ok text token_bytes bytes is in
+        let whole = decode_of-ok text bytes (sym (decode_sized-twice text token_bytes twice) ∙ is) in
+        let long : length text ≡ 2 * length bytes = whole.2 in
+        let same : bytes ≡ token = ap (λ o. unwrap_or o []) found in
+        subst IsToken same (record { count = omega (arith, twice, long); bytes = whole.3 })
 
 -- the texts that are tokens are 32 hexadecimal digits
 pub IsSome-token_of : (text : List ℕ) → IsSome (token_of text) ↔ IsTokenText text

@@ -156,7 +156,9 @@ fn read_amount(text: &str) -> Option<Amount>
     Amount::new(read_number(text)?)
 }
 
-fn read_seq(text: &str) -> Option<Seq>
+/// The sequence number that is written so, in decimal and without leading zeros. None exactly where the text isn't that
+/// of a number from 0 to 10^15.
+pub fn read_seq(text: &str) -> Option<Seq>
     ensures { result ≡ limited most_number text.now }
 {
     Seq::new(read_number(text)?)

@@ -14,7 +14,7 @@ pub mod numbers;
 mod tests;
 pub mod token;
 
-pub use codes::{code_text, push_entry, read_code};
+pub use codes::{code_text, push_entry, read_code, read_seq};
 pub use details::PayDetails;
 pub use log::{Log, MOST_ENTRIES};
 pub use names::{MOST_NAME_BYTES, Name};

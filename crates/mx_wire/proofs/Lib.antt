@@ -2,3 +2,4 @@ pub mod RouteLemmas
 pub mod BodyLemmas
 pub mod ReplyLemmas
 pub mod TreeLemmas
+pub mod ValueLemmas

@@ -56,6 +56,8 @@ bare route.Purses = Some command.Purses
 bare (route.Show p) = Some (command.Show p)
 bare (route.Abort p) = Some (command.Abort p)
 bare (route.Inbox p) = Some (command.Inbox p)
+bare (route.Statement p after) = Some (command.Statement p after)
+bare route.Reconcile = Some command.Reconcile
 bare _ = None
 
 -- a command of two values, where both are there, and of three

@@ -11,6 +11,9 @@ use Rattle.mx_purse.specs.declared.message.Message.{Message}
 use Rattle.mx_purse.specs.declared.message.Message.TheVariants as message
 use Rattle.mx_purse.specs.declared.message.Handled.{Handled}
 use Rattle.mx_purse.specs.declared.message.Handled.TheVariants as took
+use Rattle.mx_book.specs.declared.values.Line.{Line}
+use Rattle.mx_book.specs.declared.values.Totals.{Totals}
+use Rattle.mx_book.specs.Words as words
 use Rattle.mx_office.specs.Texts.{refusal_text}
 use Rattle.mx_office.specs.declared.values.Refusal.{Refusal}
 use Rattle.mx_office.specs.declared.values.Refusal.TheVariants as refusal
@@ -182,6 +185,22 @@ message_text m =
 unfoldable pub inbox_body : List (ℕ × Message) → List ℕ
 inbox_body messages = codes "{\"messages\":[" ++ in_commas (map message_text messages) ++ codes "]}"
 
+-- a line in a list, and the body of a list of lines
+abbrev pub line_text : Line → List ℕ
+line_text l =
+    codes "{\"amount\":" ++ decimal l.amount ++ codes ",\"balance\":" ++ decimal l.balance ++ codes ",\"kind\":\"" ++ words.kind_text l.kind
+    ++ codes "\",\"note\":\"" ++ words.note_text l.note ++ codes "\",\"number\":" ++ decimal l.number ++ codes "}"
+
+unfoldable pub statement_body : List Line → List ℕ
+statement_body lines = codes "{\"lines\":[" ++ in_commas (map line_text lines) ++ codes "]}"
+
+-- the body of the sums of the whole scheme
+unfoldable pub reconciled_body : Totals → List ℕ
+reconciled_body sums =
+    codes "{\"balances\":\"" ++ decimal sums.balances ++ codes "\",\"float\":\"" ++ decimal sums.float ++ codes "\",\"granted\":\"" ++ decimal sums.granted
+    ++ codes "\",\"issued\":\"" ++ decimal sums.issued ++ codes "\",\"lost\":\"" ++ decimal sums.lost ++ codes "\",\"redeemed\":\"" ++ decimal sums.redeemed
+    ++ codes "\",\"transit\":\"" ++ decimal sums.transit ++ codes "\",\"uncollected\":\"" ++ decimal sums.uncollected ++ codes "\"}"
+
 -- ---- the response to a reply
 
 -- the response of a message that was handled
@@ -209,6 +228,8 @@ reply_parts (reply.Aborted logged) = fixed_parts (if logged then fixed.AbortedLo
 reply_parts (reply.Read entry) = response (codes "200 OK") (entry_body entry)
 reply_parts reply.Redeemed = fixed_parts fixed.Redeemed
 reply_parts (reply.Inbox messages) = response (codes "200 OK") (inbox_body messages)
+reply_parts (reply.Statement lines) = response (codes "200 OK") (statement_body lines)
+reply_parts (reply.Reconciled sums) = response (codes "200 OK") (reconciled_body sums)
 
 -- whether the response to a reply is made for it, which takes memory
 abbrev pub is_made : Reply → Bool
@@ -219,4 +240,6 @@ is_made (reply.Shown p) = true
 is_made (reply.Started d) = true
 is_made (reply.Read entry) = true
 is_made (reply.Inbox messages) = true
+is_made (reply.Statement lines) = true
+is_made (reply.Reconciled sums) = true
 is_made r = false

@@ -10,7 +10,9 @@ use Rattle.matchit.specs.Router.{RouteOf, route_from}
 use Rattle.matchit.specs.Seek.{first}
 use Rattle.matchit.specs.Params.{walk, named}
 use Rattle.matchit.specs.declared.error.InsertError.{InsertError}
+use Rattle.mx_pay.specs.Limits.{most_number}
 use Rattle.mx_pay.specs.Names.{is_name_text}
+use Rattle.mx_pay.specs.Reading.{limited}
 use Rattle.mx_wire.specs.declared.routes.Class.{Class}
 use Rattle.mx_wire.specs.declared.routes.Class.TheVariants as class
 use Rattle.mx_wire.specs.declared.routes.Pattern.{Pattern}
@@ -52,6 +54,8 @@ patterns =
     ∷ (codes "/purses/{p}/read-log", pattern.ReadLog)
     ∷ (codes "/purses/{p}/redeem", pattern.Redeem)
     ∷ (codes "/purses/{p}/inbox", pattern.Inbox)
+    ∷ (codes "/purses/{p}/statement/{after}", pattern.Statement)
+    ∷ (codes "/reconcile", pattern.Reconcile)
     ∷ []
 
 -- the rows of a router of these patterns
@@ -79,12 +83,19 @@ abbrev pub taken : Pattern → List (List ℕ × List ℕ) → Option (List ℕ)
 taken pattern.Grant parts = option_and_then name_of (named (codes "m") parts)
 taken _ parts = option_and_then name_of (named (codes "p") parts)
 
--- what GET asks of a pattern, with the name that the path has
-abbrev pub got : Pattern → Option (List ℕ) → Option Route
-got pattern.Purses name = Some route.Purses
-got pattern.Purse name = option_map route.Show name
-got pattern.Inbox name = option_map route.Inbox name
-got _ name = None
+-- what {after} took of the path of a statement, where that is a number from 0 to 10^15 without leading zeros
+abbrev pub after : Pattern → List (List ℕ × List ℕ) → Option ℕ
+after pattern.Statement parts = option_and_then (limited most_number) (named (codes "after") parts)
+after _ parts = None
+
+-- what GET asks of a pattern, with the name and the number that the path has
+abbrev pub got : Pattern → Option (List ℕ) → Option ℕ → Option Route
+got pattern.Purses name n = Some route.Purses
+got pattern.Reconcile name n = Some route.Reconcile
+got pattern.Purse name n = option_map route.Show name
+got pattern.Inbox name n = option_map route.Inbox name
+got pattern.Statement name n = option_and_then (λ p. option_map (route.Statement p) n) name
+got _ name n = None
 
 -- what POST asks of a pattern, with the name that the path has
 abbrev pub posted : Pattern → Option (List ℕ) → Option Route
@@ -105,14 +116,16 @@ posted pattern.ReadLog name = option_map route.ReadLog name
 posted pattern.Redeem name = option_map route.Redeem name
 posted pattern.Purse name = None
 posted pattern.Inbox name = None
+posted pattern.Statement name = None
+posted pattern.Reconcile name = None
 
 -- what a pattern asks by this method
-abbrev pub asked_of : List ℕ → Pattern → Option (List ℕ) → Option Route
-asked_of method p name = if is_post method then posted p name else (if is_get method then got p name else None)
+abbrev pub asked_of : List ℕ → Pattern → Option (List ℕ) → Option ℕ → Option Route
+asked_of method p name n = if is_post method then posted p name else (if is_get method then got p name n else None)
 
 -- what the pattern that matchit found asks
 abbrev pub asked : List ℕ → List ℕ → RouteOf Pattern → Option Route
-asked method path found = asked_of method found.value (taken found.value (walk found.pattern found.text path found.names 0 0))
+asked method path found = let parts = walk found.pattern found.text path found.names 0 0 in asked_of method found.value (taken found.value parts) (after found.value parts)
 
 -- the route of a method and a path: none where the path isn't ASCII, since names are, and none where no
 -- pattern is found, the method is another or a part isn't a name
@@ -126,6 +139,7 @@ class_of route.NewMember = class.Operator
 class_of (route.Grant member) = class.Operator
 class_of (route.Archive purse) = class.Operator
 class_of (route.Clear purse) = class.Operator
+class_of route.Reconcile = class.Operator
 class_of route.NewHolder = class.Clerk
 class_of route.NewPurse = class.Clerk
 class_of (route.Load purse) = class.Clerk

@@ -120,6 +120,8 @@ fn bare(route: &Route) -> Option<Command>
         Route::Show(purse) => Some(Command::Show { purse }),
         Route::Abort(purse) => Some(Command::Abort { purse }),
         Route::Inbox(purse) => Some(Command::Inbox { purse }),
+        Route::Statement(purse, after) => Some(Command::Statement { purse, after }),
+        Route::Reconcile => Some(Command::Reconcile),
         _ => None,
     }
 }

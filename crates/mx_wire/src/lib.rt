@@ -4,8 +4,6 @@
 pub mod bodies;
 pub mod replies;
 pub mod routes;
-#[cfg(test)]
-mod tests;
 mod trees;
 
 pub use bodies::WireFault;

@@ -1,9 +1,12 @@
 //! The responses: a head, and a body that is one JSON object.
 ghost use Rattle.std.specs.Prelude.{◌≡◌, ◌++◌, length, map, false, IfOk, IfErr, IsTrue, codes, string_bytes};
 ghost use Rattle.mx_wire.specs.Made.{parts_of};
-ghost use Rattle.mx_wire.specs.Replies.{sent, unavailable, fixed_parts, refusal_parts, response, reply_parts, handled_fixed, is_made, status_text, kind_text, details_text, shown_text, shown_body, started_body, collected_body, archived_body, entry_or_null, entry_body, purses_body, quoted, inbox_body, message_text, after_commas};
+ghost use Rattle.mx_wire.specs.Replies.{sent, unavailable, fixed_parts, refusal_parts, response, reply_parts, handled_fixed, is_made, status_text, kind_text, details_text, shown_text, shown_body, started_body, collected_body, archived_body, entry_or_null, entry_body, purses_body, quoted, inbox_body, message_text, line_text, statement_body, reconciled_body, after_commas};
+ghost use Rattle.std.specs.Fmt.{decimal};
 
-use mx_office::{Messages, Names, Refusal, Reply};
+use mx_book::values::{Line, Totals};
+use mx_book::words::{kind_text as line_kind_text, push_note};
+use mx_office::{Lines, Messages, Names, Refusal, Reply};
 use mx_pay::{Name, PayDetails, code_text, push_entry};
 use mx_purse::{Handled, Message, Purse, Status};
 use std::alloc::{AllocError, Global};
@@ -437,6 +440,82 @@ fn inbox_body(alloc: Global, messages: &Messages) -> Result<String, AllocError>
     Ok(text)
 }
 
+/// Writes a number behind a text at the end.
+fn push_number(text: &mut String, before: &str, number: u64) -> Result<(), AllocError>
+    ensures { IfOk result (λ _. string_bytes text.new ≡ string_bytes text.old ++ before.now ++ decimal number) }
+{
+    let mut buffer = itoa::Buffer::new();
+    text.push_str(before)?;
+    text.push_str(buffer.format(number))
+}
+
+/// Writes a line at the end.
+fn push_line(text: &mut String, line: &Line) -> Result<(), AllocError>
+    ensures { IfOk result (λ _. string_bytes text.new ≡ string_bytes text.old ++ line_text line.now) }
+{
+    push_number(text, "{\"amount\":", line.amount.get())?;
+    push_number(text, ",\"balance\":", line.balance)?;
+    text.push_str(",\"kind\":\"")?;
+    text.push_str(line_kind_text(line.kind))?;
+    text.push_str("\",\"note\":\"")?;
+    push_note(text, &line.note)?;
+    push_number(text, "\",\"number\":", line.number)?;
+    text.push_str("}")?;
+    Ok(())
+}
+
+/// Writes lines at the end, each behind a comma.
+fn push_more_lines(text: &mut String, lines: &[Line]) -> Result<(), AllocError>
+    ensures { IfOk result (λ _. string_bytes text.new ≡ string_bytes text.old ++ after_commas (map line_text lines.now)) }
+{
+    for line in lines {
+        text.push_str(",")?;
+        push_line(text, line)?;
+    }
+    Ok(())
+}
+
+/// The body of a list of lines.
+#[tactic(auto, unfolding(crate::specs::Replies::statement_body))]
+fn statement_body(alloc: Global, lines: &Lines) -> Result<String, AllocError>
+    ensures { IfOk result (λ text. string_bytes text ≡ statement_body lines.now) }
+{
+    let mut text = String::new(alloc);
+    text.push_str("{\"lines\":[")?;
+    if let [first, more @ ..] = lines.as_slice() {
+        push_line(&mut text, first)?;
+        push_more_lines(&mut text, more)?;
+    }
+    text.push_str("]}")?;
+    Ok(text)
+}
+
+/// Writes a sum behind a text at the end.
+fn push_sum(text: &mut String, before: &str, sum: u128) -> Result<(), AllocError>
+    ensures { IfOk result (λ _. string_bytes text.new ≡ string_bytes text.old ++ before.now ++ decimal sum) }
+{
+    let mut buffer = itoa::Buffer::new();
+    text.push_str(before)?;
+    text.push_str(buffer.format(sum))
+}
+
+/// The body of the sums of the whole scheme.
+fn reconciled_body(alloc: Global, sums: &Totals) -> Result<String, AllocError>
+    ensures { IfOk result (λ text. string_bytes text ≡ reconciled_body sums.now) }
+{
+    let mut text = String::with_capacity(alloc, 512)?;
+    push_sum(&mut text, "{\"balances\":\"", sums.balances)?;
+    push_sum(&mut text, "\",\"float\":\"", sums.float)?;
+    push_sum(&mut text, "\",\"granted\":\"", sums.granted)?;
+    push_sum(&mut text, "\",\"issued\":\"", sums.issued)?;
+    push_sum(&mut text, "\",\"lost\":\"", sums.lost)?;
+    push_sum(&mut text, "\",\"redeemed\":\"", sums.redeemed)?;
+    push_sum(&mut text, "\",\"transit\":\"", sums.transit)?;
+    push_sum(&mut text, "\",\"uncollected\":\"", sums.uncollected)?;
+    text.push_str("\"}")?;
+    Ok(text)
+}
+
 /// The response 200 with that body.
 fn respond(alloc: Global, body: &str) -> Result<Response, AllocError>
     ensures { IfOk result (λ r. parts_of r ≡ response (codes "200 OK") body.now) }
@@ -465,8 +544,8 @@ fn handled_fixed(handled: &Handled) -> Fixed
 }
 
 /// The response to a reply. An error is lack of memory, which only a response that is made for its reply takes: a sum
-/// that is collected, a count of what is archived, a list of purses or messages, a purse that is shown, a payment that
-/// is started, what is read of a log.
+/// that is collected, a count of what is archived, a list of purses, messages or lines, a purse that is shown, a payment
+/// that is started, what is read of a log, the sums of the scheme.
 pub fn render(alloc: Global, reply: &Reply) -> Result<Response, AllocError>
     ensures parts { IfOk result (λ r. parts_of r ≡ reply_parts reply.now) }
     ensures memory { IfErr result (λ _. IsTrue (is_made reply.now)) }
@@ -479,6 +558,8 @@ pub fn render(alloc: Global, reply: &Reply) -> Result<Response, AllocError>
         Reply::Started(details) => return respond(alloc, started_body(alloc, details)?.as_str()),
         Reply::Read(entry) => return respond(alloc, entry_body(alloc, entry)?.as_str()),
         Reply::Inbox(messages) => return respond(alloc, inbox_body(alloc, messages)?.as_str()),
+        Reply::Statement(lines) => return respond(alloc, statement_body(alloc, lines)?.as_str()),
+        Reply::Reconciled(sums) => return respond(alloc, reconciled_body(alloc, sums)?.as_str()),
         Reply::Refused(refusal) => Fixed::Refused(*refusal),
         Reply::Added => Fixed::Added,
         Reply::Granted => Fixed::Granted,

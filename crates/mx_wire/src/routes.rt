@@ -3,10 +3,12 @@ ghost use Rattle.std.specs.Prelude.{◌≡◌, [], Some, IfOk, codes, option_map
 ghost use Rattle.std.specs.Char.{is_ascii};
 ghost use Rattle.std.specs.List.{list_all};
 ghost use Rattle.matchit.specs.Params.{walk, named};
-ghost use Rattle.mx_wire.specs.Routes.{rows_after, entries, table_rows, is_get, is_post, name_of, asked, got, posted, taken, route_of, class_of};
+ghost use Rattle.mx_wire.specs.Routes.{rows_after, entries, table_rows, is_get, is_post, name_of, after, asked, got, posted, taken, route_of, class_of};
+ghost use Rattle.mx_pay.specs.Limits.{most_number};
+ghost use Rattle.mx_pay.specs.Reading.{limited};
 
 use matchit::{InsertError, Match, Params, Router};
-use mx_pay::Name;
+use mx_pay::{Name, Seq, read_seq};
 use std::alloc::{AllocError, Global};
 use std::marker::Model;
 
@@ -60,6 +62,10 @@ pub enum Route {
     Redeem(Name),
     /// `GET /purses/{p}/inbox`, of that purse.
     Inbox(Name),
+    /// `GET /purses/{p}/statement/{after}`, of that purse, above that number.
+    Statement(Name, Seq),
+    /// `GET /reconcile`.
+    Reconcile,
 }
 
 /// The patterns of the paths.
@@ -82,10 +88,12 @@ pub enum Pattern {
     ReadLog,
     Redeem,
     Inbox,
+    Statement,
+    Reconcile,
 }
 
 /// Each pattern with its text.
-const TABLE: [(&str, Pattern); 17] = [
+const TABLE: [(&str, Pattern); 19] = [
     ("/members", Pattern::Members),
     ("/members/{m}/grant", Pattern::Grant),
     ("/archive/{p}", Pattern::Archive),
@@ -103,6 +111,8 @@ const TABLE: [(&str, Pattern); 17] = [
     ("/purses/{p}/read-log", Pattern::ReadLog),
     ("/purses/{p}/redeem", Pattern::Redeem),
     ("/purses/{p}/inbox", Pattern::Inbox),
+    ("/purses/{p}/statement/{after}", Pattern::Statement),
+    ("/reconcile", Pattern::Reconcile),
 ];
 
 /// The routes of the office, made once. A contract sees nothing of them: they are always the same.
@@ -176,6 +186,18 @@ fn name_in(params: &Params, key: &str) -> Option<Name>
     Name::read(part)
 }
 
+/// The number that an ASCII path has at a key of its pattern. None exactly where its part isn't a number from 0 to
+/// 10^15, written without leading zeros.
+fn number_in(params: &Params, key: &str) -> Option<Seq>
+    requires text { IsAscii params.now.text.now }
+    requires path { IsAscii params.now.path.now }
+    ensures { result ≡ option_and_then (limited most_number) (named key.now
+        (walk params.now.pattern.now params.now.text.now params.now.path.now params.now.names.now 0 0)) }
+{
+    let part = params.get(key)?;
+    read_seq(part)
+}
+
 /// The member or the purse that an ASCII path names, by the key of its pattern.
 fn taken(pattern: Pattern, params: &Params) -> Option<Name>
     requires text { IsAscii params.now.text.now }
@@ -188,14 +210,29 @@ fn taken(pattern: Pattern, params: &Params) -> Option<Name>
     }
 }
 
-/// What GET asks of a pattern, with the name in its path.
-fn got(pattern: Pattern, name: Option<Name>) -> Option<Route>
-    ensures { result ≡ got pattern name }
+/// The number above which an ASCII path asks for lines. None exactly where the path of a statement has none that is
+/// written without leading zeros, and for every other pattern.
+fn after(pattern: Pattern, params: &Params) -> Option<Seq>
+    requires text { IsAscii params.now.text.now }
+    requires path { IsAscii params.now.path.now }
+    ensures { result ≡ after pattern (walk params.now.pattern.now params.now.text.now params.now.path.now params.now.names.now 0 0) }
+{
+    match pattern {
+        Pattern::Statement => number_in(params, "after"),
+        _ => None,
+    }
+}
+
+/// What GET asks of a pattern, with the name and the number in its path.
+fn got(pattern: Pattern, name: Option<Name>, after: Option<Seq>) -> Option<Route>
+    ensures { result ≡ got pattern name after }
 {
     match pattern {
         Pattern::Purses => Some(Route::Purses),
+        Pattern::Reconcile => Some(Route::Reconcile),
         Pattern::Purse => Some(Route::Show(name?)),
         Pattern::Inbox => Some(Route::Inbox(name?)),
+        Pattern::Statement => Some(Route::Statement(name?, after?)),
         _ => None,
     }
 }
@@ -220,7 +257,7 @@ fn posted(pattern: Pattern, name: Option<Name>) -> Option<Route>
         Pattern::Abort => Some(Route::Abort(name?)),
         Pattern::ReadLog => Some(Route::ReadLog(name?)),
         Pattern::Redeem => Some(Route::Redeem(name?)),
-        Pattern::Purse | Pattern::Inbox => None,
+        Pattern::Purse | Pattern::Inbox | Pattern::Statement | Pattern::Reconcile => None,
     }
 }
 
@@ -240,7 +277,7 @@ fn asked(method: &[u8], found: &Match<&Pattern>) -> Option<Route>
     if is_post(method) {
         posted(pattern, name)
     } else if is_get(method) {
-        got(pattern, name)
+        got(pattern, name, after(pattern, &found.params))
     } else {
         None
     }
@@ -283,9 +320,11 @@ impl Route {
         ensures { result ≡ class_of self }
     {
         match self {
-            Route::NewMember | Route::Grant(_) | Route::Archive(_) | Route::Clear(_) => {
-                Class::Operator
-            }
+            Route::NewMember
+            | Route::Grant(_)
+            | Route::Archive(_)
+            | Route::Clear(_)
+            | Route::Reconcile => Class::Operator,
             Route::NewHolder | Route::NewPurse | Route::Load(_) | Route::Collect => Class::Clerk,
             Route::Purses
             | Route::Show(_)
@@ -296,7 +335,8 @@ impl Route {
             | Route::Abort(_)
             | Route::ReadLog(_)
             | Route::Redeem(_)
-            | Route::Inbox(_) => Class::Holder,
+            | Route::Inbox(_)
+            | Route::Statement(_, _) => Class::Holder,
         }
     }
 }

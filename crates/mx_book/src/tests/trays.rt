@@ -70,7 +70,7 @@ fn archive(alloc: Global, book: &mut PlainBook, purse: Name) -> Result<bool, Sto
 }
 
 /// A book with two purses that have logged the request, which lies in the tray of each.
-fn with_trays(alloc: Global, first: &First) -> Result<PlainBook, &'static str> {
+pub(super) fn with_trays(alloc: Global, first: &First) -> Result<PlainBook, &'static str> {
     let (mut book, _) = grown(alloc, first);
     for name in [first.request.from(), first.request.to()] {
         let purse = logged(name, first.request).ok_or("no purse")?;
@@ -83,19 +83,55 @@ fn with_trays(alloc: Global, first: &First) -> Result<PlainBook, &'static str> {
     Ok(book)
 }
 
+/// What lies in the tray of a purse, and whether the request is there and is archived.
+#[derive(Clone, Copy)]
+struct Kept {
+    len: usize,
+    in_tray: bool,
+    archived: bool,
+}
+
+fn look(
+    alloc: Global,
+    book: &mut PlainBook,
+    purse: Name,
+    details: &PayDetails,
+) -> Result<Kept, StoreFault> {
+    let tray = book.tray(alloc, purse)?;
+    Ok(Kept {
+        len: tray.len(),
+        in_tray: tray.has(details),
+        archived: book.archived(alloc, purse, details)?,
+    })
+}
+
+/// The payer before its tray is archived and after, and then the payee.
+fn archive_payer(
+    alloc: Global,
+    book: &mut PlainBook,
+    details: &PayDetails,
+) -> Result<(Kept, Kept, Kept), StoreFault> {
+    let before = look(alloc, book, details.from(), details)?;
+    archive(alloc, book, details.from())?;
+    let after = look(alloc, book, details.from(), details)?;
+    let payee = look(alloc, book, details.to(), details)?;
+    Ok((before, after, payee))
+}
+
+/// The same in a book with both trays.
+fn archived_alone(alloc: Global, first: &First) -> Result<(Kept, Kept, Kept), &'static str> {
+    let mut book = with_trays(alloc, first)?;
+    archive_payer(alloc, &mut book, &first.request).map_err(|_| "not read")
+}
+
 #[test]
 fn a_tray_goes_to_the_archive_alone(rt: HostRuntime) -> Result<(), Fail> {
     let first = read_first()?;
-    let (payer, payee) = (first.request.from(), first.request.to());
-    let mut book = with_trays(rt.alloc(), &first)?;
-    let tray = book.tray(rt.alloc(), payer)?;
-    assert_eq!(rt; tray.len(), 1);
-    assert!(rt; tray.has(&first.request));
-    assert!(rt; !book.archived(rt.alloc(), payer, &first.request)?);
-    assert!(rt; archive(rt.alloc(), &mut book, payer)?);
-    assert!(rt; book.archived(rt.alloc(), payer, &first.request)?);
-    assert_eq!(rt; book.tray(rt.alloc(), payer)?.len(), 0);
-    assert!(rt; !book.archived(rt.alloc(), payee, &first.request)?);
-    assert!(rt; book.tray(rt.alloc(), payee)?.has(&first.request));
+    let (before, after, payee) = archived_alone(rt.alloc(), &first)?;
+    assert_eq!(rt; before.len, 1);
+    assert!(rt; before.in_tray && !before.archived);
+    assert_eq!(rt; after.len, 0);
+    assert!(rt; !after.in_tray && after.archived);
+    assert!(rt; payee.in_tray && !payee.archived);
     Ok(())
 }

@@ -1,12 +1,12 @@
-use Rattle.std.proofs.Common.{◌≡◌, ◌+◌, ◌*◌, ◌<◌, ◌≤◌, ℕ, List, [], ◌∷◌, ◌++◌, Ok, Err, length, refl, sym, ap, ◌∙◌, arith, rules, length-append}
-use Rattle.mx_desk.specs.Serve.{Marked}
+use Rattle.std.proofs.Common.{◌≡◌, ◌+◌, ℕ, List, [], ◌∷◌, ◌++◌, Ok, refl, ap, ◌∙◌, arith, rules, length-append}
 use Rattle.mx_desk.proofs.StepLemmas.{capped_none, capped_then}
+use Rattle.mx_desk.proofs.ConservationLemmas.{leaves_reachable}
 use Rattle.mx_desk.proofs.LeavesLemmas.{leaves}
 use Rattle.mx_desk.proofs.RunLemmas.{Ran-none, Ran-step, serves_nothing, serves_stopped, leads_if}
 use Rattle.std.proofs.lemmas.Result.{err_from_is_err_and}
 use Rattle.std.specs.Io.KnownBytes.{Appends}
 use Rattle.mx_desk.specs.Serve.{ServedAll}
-use Rattle.mx_desk.specs.Steps.{Leads, Faults, state}
+use Rattle.mx_desk.specs.Steps.{state}
 use Rattle.mx_desk.proofs.desk.run.Goals as goal
 
 pub requests-init : goal.requests-init
@@ -122,3 +122,19 @@ returns-in-Stopped-clause-apart g c = λ w honest spelled.
     let ran = c.requests.invariant.ran w before spelled in
     let led = c.in_ok-serve_next.ensures.steps ran.end honest ran.stands in
     record { end = led.end; stands = led.stands; holds = leaves g.B.Book.fails _ _ _ ran.holds.0 _ [] ran.holds.1 led.holds }
+
+-- from a World that commands lead to the run ends in such a World, however it ends
+pub returns-in_err-serve_next-clause-reachable : goal.returns-in_err-serve_next-clause-reachable
+returns-in_err-serve_next-clause-reachable g c = λ w honest spelled from.
+    let led = returns-in_err-serve_next-clause-apart g c w honest spelled in
+    record { end = led.end; stands = led.stands; holds = leaves_reachable _ _ led.holds.0 from }
+
+pub returns-in-Nothing-clause-reachable : goal.returns-in-Nothing-clause-reachable
+returns-in-Nothing-clause-reachable g c = λ w honest spelled from.
+    let led = returns-in-Nothing-clause-apart g c w honest spelled in
+    record { end = led.end; stands = led.stands; holds = leaves_reachable _ _ led.holds.0 from }
+
+pub returns-in-Stopped-clause-reachable : goal.returns-in-Stopped-clause-reachable
+returns-in-Stopped-clause-reachable g c = λ w honest spelled from.
+    let led = returns-in-Stopped-clause-apart g c w honest spelled in
+    record { end = led.end; stands = led.stands; holds = leaves_reachable _ _ led.holds.0 from }

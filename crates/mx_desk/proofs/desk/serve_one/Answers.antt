@@ -1,5 +1,6 @@
-use Rattle.std.proofs.Common.{◌≡◌, List, [], refl, sym, ap, ◌∙◌, rules}
+use Rattle.std.proofs.Common.{[]}
 use Rattle.std.proofs.lemmas.Result.{err_from_is_err_and}
+use Rattle.mx_desk.proofs.ConservationLemmas.{leaves_reachable}
 use Rattle.mx_desk.proofs.LeavesLemmas.{leaves_one}
 use Rattle.mx_desk.proofs.RunLemmas.{flushed, unflushed}
 use Rattle.mx_desk.proofs.desk.serve_one.Goals as goal
@@ -51,3 +52,19 @@ pub returns-clause-apart : goal.returns-clause-apart
 returns-clause-apart g c = λ w honest spelled.
     let led = returns-clause-steps g c w honest spelled in
     record { end = led.end; stands = led.stands; holds = leaves_one g.B.Book.fails _ _ _ [] led.holds.1 }
+
+-- from a World that commands lead to the turn ends in such a World, however it ends
+pub returns-in_err-served-clause-reachable : goal.returns-in_err-served-clause-reachable
+returns-in_err-served-clause-reachable g c = λ w honest spelled from.
+    let led = returns-in_err-served-clause-apart g c w honest spelled in
+    record { end = led.end; stands = led.stands; holds = leaves_reachable _ _ led.holds.0 from }
+
+pub returns-in_err-flush_out-clause-reachable : goal.returns-in_err-flush_out-clause-reachable
+returns-in_err-flush_out-clause-reachable g c = λ w honest spelled from.
+    let led = returns-in_err-flush_out-clause-apart g c w honest spelled in
+    record { end = led.end; stands = led.stands; holds = leaves_reachable _ _ led.holds.0 from }
+
+pub returns-clause-reachable : goal.returns-clause-reachable
+returns-clause-reachable g c = λ w honest spelled from.
+    let led = returns-clause-apart g c w honest spelled in
+    record { end = led.end; stands = led.stands; holds = leaves_reachable _ _ led.holds.0 from }

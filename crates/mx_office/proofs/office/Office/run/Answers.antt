@@ -7,7 +7,8 @@ use Rattle.mx_office.specs.Step.{step}
 use Rattle.mx_office.proofs.OutcomeLemmas.{asked_more, run_replied_at, run_undone_at}
 use Rattle.mx_office.proofs.BalanceCommandLemmas.{reachable_balanced}
 use Rattle.mx_office.proofs.LawLemmas.{run_accounts, run_told}
-use Rattle.mx_office.proofs.ReachLemmas.{reachable_run}
+use Rattle.mx_office.proofs.ConservedLemmas.{reachable_conserved}
+use Rattle.mx_office.proofs.ReachLemmas.{reachable_run, never_full_run}
 use Rattle.mx_office.proofs.StepLemmas.{reachable_world}
 use Rattle.mx_office.proofs.office.Office.run.Goals as goal
 use Rattle.mx_office.proofs.office.Office.run.Goals.{in-Ok, in-Err}
@@ -52,7 +53,13 @@ returns-clause-reachable g c = λ w honest spelled reachable.
     let led = returns-clause-run g c w honest spelled in
     let values = subst (AllByRecursion IsAsked) (take_all c.loop-caller.caller-index c.args.commands.now (search rules)) c.loop-caller.invariant.values in
     let ends = reachable_run _ w led.end c.args.commands.now c.loop-caller.outcomes.items values led.run reachable in
-    record { end = led.end; stands = led.stands; reachable = ends; world = reachable_world led.end ends; balanced = reachable_balanced led.end ends }
+    record { end = led.end; stands = led.stands; reachable = ends; world = reachable_world led.end ends; balanced = reachable_balanced led.end ends; conserved = reachable_conserved led.end ends }
+
+pub returns-clause-never_full : goal.returns-clause-never_full
+returns-clause-never_full g c = λ w honest spelled reachable.
+    let led = returns-clause-run g c w honest spelled in
+    let values = subst (AllByRecursion IsAsked) (take_all c.loop-caller.caller-index c.args.commands.now (search rules)) c.loop-caller.invariant.values in
+    never_full_run _ w led.end c.args.commands.now c.loop-caller.outcomes.items values led.run reachable
 
 -- the holders are kept apart, since what stands is the World of the steps of what was answered
 pub returns-clause-accounts : goal.returns-clause-accounts

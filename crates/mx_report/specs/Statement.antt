@@ -1,0 +1,33 @@
+-- The statement of a purse, and its text: comma-separated values (RFC 4180), as the crate csv writes them, with a line
+-- feed after each record.
+use Rattle.std.specs.Prelude.{ℕ, List, [], ◌∷◌, ◌++◌, Option, codes, flat_map, option_map}
+use Rattle.std.specs.Fmt.{decimal}
+use Rattle.std.specs.FinMap as fmap
+use Rattle.csv.specs.Writing.{default_writer, row_text}
+use Rattle.mx_book.specs.declared.values.Line.{Line}
+use Rattle.mx_book.specs.Words.{kind_text, note_text}
+use Rattle.mx_book.specs.World.{World, Row, Name}
+
+-- the lines of a purse, where there is such a purse
+abbrev pub statement_of : World → Name → Option (List Line)
+statement_of w p = option_map (λ (r : Row). r.holding.lines) (fmap.get w.rows p)
+
+-- the text of a record
+abbrev pub record_text : List (List ℕ) → List ℕ
+record_text fields = row_text default_writer fields
+
+-- what the columns are called
+abbrev pub statement_header : List (List ℕ)
+statement_header = codes "number" ∷ codes "kind" ∷ codes "amount" ∷ codes "balance" ∷ codes "note" ∷ []
+
+-- the fields of a line
+abbrev pub line_fields : Line → List (List ℕ)
+line_fields l = decimal l.number ∷ kind_text l.kind ∷ decimal l.amount ∷ decimal l.balance ∷ note_text l.note ∷ []
+
+-- the records of lines
+abbrev pub lines_text : List Line → List ℕ
+lines_text lines = flat_map (λ l. record_text (line_fields l)) lines
+
+-- the text of a statement: the header, and a record for each line
+abbrev pub statement_text : List Line → List ℕ
+statement_text lines = record_text statement_header ++ lines_text lines

@@ -1,0 +1,213 @@
+//! Readers and writers that fail, first requests alone, and growths that are refused.
+use super::devices::{Page, Pieces};
+use super::empty_office;
+use mx_book::{Book, PlainBook};
+use mx_desk::desk::{Served, run, serve_one};
+use mx_desk::{Counted, DeskFault};
+use mx_office::Office;
+use mx_pay::{Name, Token};
+use mx_wire::Routes;
+use std::alloc::Global;
+use std::io::Read;
+use std::process::Abort;
+use std::test::Fail;
+
+/// A member, a holder and a purse, which is then shown.
+const FOUR_REQUESTS: &str =
+    "POST /members HTTP/1.1\r\npurse-token: 00000000000000000000000000000001\r\ncontent-length: 57\r\n\r\n{\"member\":\"m\",\"token\":\"00000000000000000000000000000002\"}POST /holders HTTP/1.1\r\npurse-token: 00000000000000000000000000000002\r\ncontent-length: 59\r\n\r\n{\"holder\":\"ann\",\"token\":\"0000000000000000000000000000000a\"}POST /purses HTTP/1.1\r\npurse-token: 00000000000000000000000000000002\r\ncontent-length: 29\r\n\r\n{\"purse\":\"p1\",\"holder\":\"ann\"}GET /purses/p1 HTTP/1.1\r\npurse-token: 0000000000000000000000000000000a\r\n\r\n";
+
+/// Their responses.
+const FOUR_RESPONSES: &str =
+    "HTTP/1.1 200 OK\r\ncontent-type: application/json\r\ncontent-length: 16\r\nconnection: close\r\n\r\n{\"done\":\"added\"}HTTP/1.1 200 OK\r\ncontent-type: application/json\r\ncontent-length: 16\r\nconnection: close\r\n\r\n{\"done\":\"added\"}HTTP/1.1 200 OK\r\ncontent-type: application/json\r\ncontent-length: 16\r\nconnection: close\r\n\r\n{\"done\":\"added\"}HTTP/1.1 200 OK\r\ncontent-type: application/json\r\ncontent-length: 53\r\nconnection: close\r\n\r\n{\"balance\":0,\"next\":0,\"purse\":\"p1\",\"status\":\"eaFrom\"}";
+
+/// How a run over these devices ends. None where there is no memory for routes.
+fn ended(
+    alloc: Global,
+    office: &mut Office<PlainBook>,
+    reader: &mut Counted<impl Read>,
+    writer: &mut Counted<Page>,
+) -> Option<Result<u64, DeskFault>> {
+    let routes = Routes::new(alloc).ok()?;
+    Some(run(alloc, reader, writer, &routes, office))
+}
+
+/// Whether a book has the member m and the holder ann. None where it can't be read.
+fn m_and_ann(alloc: Global, office: &mut Office<PlainBook>) -> Option<(bool, bool)> {
+    let (member, holder) = (Name::read("m")?, Name::read("ann")?);
+    let book = office.book();
+    let has_member = book.member(alloc, member).ok()?.is_some();
+    let has_holder = book.holder(alloc, holder).ok()?.is_some();
+    Some((has_member, has_holder))
+}
+
+/// Four requests, byte for byte.
+#[test]
+fn four_requests_from_bytes_to_bytes(rt: HostRuntime) -> Result<(), Fail> {
+    let mut office = empty_office(&rt)?;
+    let mut reader = Counted::new(FOUR_REQUESTS.as_bytes());
+    let mut writer = Counted::new(Page::new(4096));
+    let end = ended(rt.alloc(), &mut office, &mut reader, &mut writer);
+    assert_eq!(rt; end, Some(Ok(4)));
+    assert_eq!(rt; writer.into_inner().bytes(), FOUR_RESPONSES.as_bytes());
+    Ok(())
+}
+
+/// A writer that takes 10 bytes and then fails: the first request stands, and no other.
+#[test]
+fn write_that_fails_ends_the_run(rt: HostRuntime) -> Result<(), Fail> {
+    let mut office = empty_office(&rt)?;
+    let mut reader = Counted::new(FOUR_REQUESTS.as_bytes());
+    let mut writer = Counted::new(Page::new(10));
+    let end = ended(rt.alloc(), &mut office, &mut reader, &mut writer);
+    assert_eq!(rt; end, Some(Err(DeskFault::Write)));
+    assert_eq!(rt; writer.failures(), 1);
+    assert_eq!(rt; writer.into_inner().bytes(), b"HTTP/1.1 2".as_slice());
+    assert_eq!(rt; m_and_ann(rt.alloc(), &mut office), Some((true, false)));
+    Ok(())
+}
+
+/// Serves the first 40 bytes of four requests, so many at a time, and then a failure, and asserts that this takes so
+/// many reads.
+fn read_40_bytes(rt: &(impl Abort + AllocGlobal), size: usize, calls: u64) -> Result<(), Fail> {
+    let mut office = empty_office(rt)?;
+    let bytes = FOUR_REQUESTS.as_bytes().get(..40).unwrap_or(b"");
+    let mut reader = Counted::new(Pieces::cut(bytes, size));
+    let mut writer = Counted::new(Page::new(4096));
+    let end = ended(rt.alloc(), &mut office, &mut reader, &mut writer);
+    assert_eq!(rt; end, Some(Err(DeskFault::Read)));
+    assert_eq!(rt; (reader.calls(), reader.failures()), (calls, 1));
+    assert_eq!(rt; writer.into_inner().bytes().len(), 0);
+    assert_eq!(rt; m_and_ann(rt.alloc(), &mut office), Some((false, false)));
+    Ok(())
+}
+
+/// A reader that fails inside the first request: nothing is written, and nothing is there.
+#[test]
+fn read_that_fails_ends_the_run(rt: HostRuntime) -> Result<(), Fail> {
+    read_40_bytes(&rt, 1, 41)?;
+    read_40_bytes(&rt, 40, 2)
+}
+
+/// What `serve_one` makes of some bytes, and what it writes.
+fn served(alloc: Global, office: &mut Office<PlainBook>, bytes: &str) -> Option<(Served, Page)> {
+    let routes = Routes::new(alloc).ok()?;
+    let mut reader = Counted::new(bytes.as_bytes());
+    let mut writer = Counted::new(Page::new(4096));
+    let served = serve_one(alloc, &mut reader, &mut writer, &routes, office).ok()?;
+    Some((served, writer.into_inner()))
+}
+
+/// Whether `serve_one` makes this of some bytes, and writes that.
+fn is_served(
+    alloc: Global,
+    office: &mut Office<PlainBook>,
+    bytes: &str,
+    end: Served,
+    output: &str,
+) -> bool {
+    match served(alloc, office, bytes) {
+        Some((served, page)) => served == end && page.bytes() == output.as_bytes(),
+        None => false,
+    }
+}
+
+/// `serve_one` answers one request, whatever follows it.
+#[test]
+fn first_request_alone(rt: HostRuntime) -> Result<(), Fail> {
+    let alloc = rt.alloc();
+    let mut office = empty_office(&rt)?;
+    for (bytes, end, output) in [
+        ("", Served::Nothing, ""),
+        (FOUR_REQUESTS, Served::Answered, ADDED_BYTES),
+        ("GET /purses", Served::Stopped, BAD_HEAD_BYTES),
+    ] {
+        assert!(rt;
+            is_served(alloc, &mut office, bytes, end, output),
+            "{bytes}"
+        );
+    }
+    assert_eq!(rt; m_and_ann(alloc, &mut office), Some((true, false)));
+    Ok(())
+}
+
+const BAD_HEAD_BYTES: &str =
+    "HTTP/1.1 400 Bad Request\r\ncontent-type: application/json\r\ncontent-length: 20\r\nconnection: close\r\n\r\n{\"error\":\"bad head\"}";
+
+const UNAVAILABLE: &str =
+    "HTTP/1.1 503 Service Unavailable\r\ncontent-length: 0\r\nconnection: close\r\n\r\n";
+
+const NEW_MEMBER: &str =
+    "POST /members HTTP/1.1\r\npurse-token: 00000000000000000000000000000001\r\ncontent-length: 57\r\n\r\n{\"member\":\"m\",\"token\":\"00000000000000000000000000000002\"}";
+
+const NEW_HOLDER: &str =
+    "POST /holders HTTP/1.1\r\npurse-token: 00000000000000000000000000000002\r\ncontent-length: 59\r\n\r\n{\"holder\":\"ann\",\"token\":\"0000000000000000000000000000000a\"}";
+
+const NEW_PURSE: &str =
+    "POST /purses HTTP/1.1\r\npurse-token: 00000000000000000000000000000002\r\ncontent-length: 29\r\n\r\n{\"purse\":\"p1\",\"holder\":\"ann\"}";
+
+const SHOW: &str =
+    "GET /purses/p1 HTTP/1.1\r\npurse-token: 0000000000000000000000000000000a\r\n\r\n";
+
+const ADDED_BYTES: &str =
+    "HTTP/1.1 200 OK\r\ncontent-type: application/json\r\ncontent-length: 16\r\nconnection: close\r\n\r\n{\"done\":\"added\"}";
+
+const SHOWN_BYTES: &str =
+    "HTTP/1.1 200 OK\r\ncontent-type: application/json\r\ncontent-length: 53\r\nconnection: close\r\n\r\n{\"balance\":0,\"next\":0,\"purse\":\"p1\",\"status\":\"eaFrom\"}";
+
+/// What is written for one request. It takes no memory but the office's.
+fn page_of(
+    alloc: Global,
+    request: &str,
+    routes: &Routes,
+    office: &mut Office<PlainBook>,
+) -> Option<Page> {
+    let mut reader = Counted::new(request.as_bytes());
+    let mut writer = Counted::new(Page::new(4096));
+    let count = run(alloc, &mut reader, &mut writer, routes, office).ok()?;
+    if count != 1 {
+        return None;
+    }
+    Some(writer.into_inner())
+}
+
+/// Whether a request gets this response, or 503 and then, sent again, this response.
+fn answered_in_the_end(
+    alloc: Global,
+    request: &str,
+    routes: &Routes,
+    office: &mut Office<PlainBook>,
+    response: &str,
+) -> bool {
+    let Some(page) = page_of(alloc, request, routes, office) else {
+        return false;
+    };
+    if page.bytes() != UNAVAILABLE.as_bytes() {
+        return page.bytes() == response.as_bytes();
+    }
+    match page_of(alloc, request, routes, office) {
+        Some(page) => page.bytes() == response.as_bytes(),
+        None => false,
+    }
+}
+
+/// With every growth granted this says what the first worked input says. Run with one growth refused, it says that
+/// a response is the usual one or 503, and that the same request sent again has the usual one.
+#[test]
+fn refused_growth_is_unavailable_once(rt: HostRuntime) {
+    let alloc = rt.alloc();
+    let Ok(routes) = Routes::new(alloc) else {
+        return;
+    };
+    let Some(operator) = Token::read("00000000000000000000000000000001") else {
+        return;
+    };
+    let mut office = Office::new(PlainBook::new(alloc, operator));
+    for (request, response) in [
+        (NEW_MEMBER, ADDED_BYTES),
+        (NEW_HOLDER, ADDED_BYTES),
+        (NEW_PURSE, ADDED_BYTES),
+        (SHOW, SHOWN_BYTES),
+    ] {
+        assert!(rt; answered_in_the_end(alloc, request, &routes, &mut office, response));
+    }
+}

@@ -1,0 +1,202 @@
+//! A book that leaves one call out.
+ghost use Rattle.std.specs.Prelude.{◌≡◌};
+
+use mx_book::{
+    Account, Book, Caller, Edit, HolderRow, Line, MemberRow, MemberTotals, StoreFault, Totals,
+};
+use mx_pay::{Amount, Log, Name, PayDetails, Token};
+use mx_purse::Message;
+use std::alloc::Global;
+
+/// Passes calls on to a book, but for one, which it answers as a fault of the store.
+#[derive(Drop)]
+pub(super) struct Faulty<B> {
+    /// The book.
+    pub(super) book: B,
+    /// How many calls are passed on before the one that isn't. None is left out where there is none.
+    pub(super) left: Option<u64>,
+}
+
+impl<B> Faulty<B> {
+    /// Whether this call isn't passed on.
+    fn is_left_out(&mut self) -> bool
+        ensures { self.new.book ≡ self.old.book }
+    {
+        match self.left {
+            Some(0) => {
+                self.left = None;
+                true
+            }
+            Some(left) => {
+                self.left = Some(left - 1);
+                false
+            }
+            None => false,
+        }
+    }
+}
+
+impl<B: Book> Book for Faulty<B> {
+    ghost Rows = { B.Rows };
+
+    ghost rows = { λ b. B.rows b.book };
+
+    ghost spells = { B.spells };
+
+    ghost doubt = { λ b. B.doubt b.book };
+
+    ghost fails = { λ _. Unit {0} };
+
+    fn who(&mut self, alloc: Global, token: &Token) -> Result<Option<Caller>, StoreFault> {
+        if self.is_left_out() {
+            return Err(StoreFault::Store);
+        }
+        self.book.who(alloc, token)
+    }
+
+    fn member(&mut self, alloc: Global, name: Name) -> Result<Option<MemberRow>, StoreFault> {
+        if self.is_left_out() {
+            return Err(StoreFault::Store);
+        }
+        self.book.member(alloc, name)
+    }
+
+    fn holder(&mut self, alloc: Global, name: Name) -> Result<Option<HolderRow>, StoreFault> {
+        if self.is_left_out() {
+            return Err(StoreFault::Store);
+        }
+        self.book.holder(alloc, name)
+    }
+
+    fn purse(&mut self, alloc: Global, name: Name) -> Result<Option<Account>, StoreFault> {
+        if self.is_left_out() {
+            return Err(StoreFault::Store);
+        }
+        self.book.purse(alloc, name)
+    }
+
+    fn purses_of(&mut self, alloc: Global, holder: Name) -> Result<Vec<Name>, StoreFault> {
+        if self.is_left_out() {
+            return Err(StoreFault::Store);
+        }
+        self.book.purses_of(alloc, holder)
+    }
+
+    fn inbox(&mut self, alloc: Global, purse: Name) -> Result<Vec<(u64, Message)>, StoreFault> {
+        if self.is_left_out() {
+            return Err(StoreFault::Store);
+        }
+        self.book.inbox(alloc, purse)
+    }
+
+    fn message(
+        &mut self,
+        alloc: Global,
+        purse: Name,
+        number: u64,
+    ) -> Result<Option<Message>, StoreFault> {
+        if self.is_left_out() {
+            return Err(StoreFault::Store);
+        }
+        self.book.message(alloc, purse, number)
+    }
+
+    fn lines(
+        &mut self,
+        alloc: Global,
+        purse: Name,
+        after: u64,
+        most: u64,
+    ) -> Result<Vec<Line>, StoreFault> {
+        if self.is_left_out() {
+            return Err(StoreFault::Store);
+        }
+        self.book.lines(alloc, purse, after, most)
+    }
+
+    fn members(&mut self, alloc: Global) -> Result<Vec<Name>, StoreFault> {
+        if self.is_left_out() {
+            return Err(StoreFault::Store);
+        }
+        self.book.members(alloc)
+    }
+
+    fn archived(
+        &mut self,
+        alloc: Global,
+        purse: Name,
+        details: &PayDetails,
+    ) -> Result<bool, StoreFault> {
+        if self.is_left_out() {
+            return Err(StoreFault::Store);
+        }
+        self.book.archived(alloc, purse, details)
+    }
+
+    fn tray(&mut self, alloc: Global, purse: Name) -> Result<Log, StoreFault> {
+        if self.is_left_out() {
+            return Err(StoreFault::Store);
+        }
+        self.book.tray(alloc, purse)
+    }
+
+    fn load_of(
+        &mut self,
+        alloc: Global,
+        purse: Name,
+        reference: Name,
+    ) -> Result<Option<Amount>, StoreFault> {
+        if self.is_left_out() {
+            return Err(StoreFault::Store);
+        }
+        self.book.load_of(alloc, purse, reference)
+    }
+
+    fn redemption_of(
+        &mut self,
+        alloc: Global,
+        purse: Name,
+        reference: Name,
+    ) -> Result<Option<Amount>, StoreFault> {
+        if self.is_left_out() {
+            return Err(StoreFault::Store);
+        }
+        self.book.redemption_of(alloc, purse, reference)
+    }
+
+    fn uncollected(&mut self, alloc: Global, member: Name) -> Result<u128, StoreFault> {
+        if self.is_left_out() {
+            return Err(StoreFault::Store);
+        }
+        self.book.uncollected(alloc, member)
+    }
+
+    fn totals(&mut self, alloc: Global) -> Result<Totals, StoreFault> {
+        if self.is_left_out() {
+            return Err(StoreFault::Store);
+        }
+        self.book.totals(alloc)
+    }
+
+    fn member_totals(
+        &mut self,
+        alloc: Global,
+        member: Name,
+    ) -> Result<Option<MemberTotals>, StoreFault> {
+        if self.is_left_out() {
+            return Err(StoreFault::Store);
+        }
+        self.book.member_totals(alloc, member)
+    }
+
+    fn apply(&mut self, edits: &[Edit]) -> Result<(), StoreFault> {
+        if self.is_left_out() {
+            return Err(StoreFault::Store);
+        }
+        self.book.apply(edits)
+    }
+
+    ghost sound = { B.sound };
+
+    ghost single = { B.single };
+}

@@ -1,0 +1,503 @@
+//! Random commands, and what the books come to by a ledger of the test's own.
+use super::scripts::{name, token};
+use mx_book::{Caller, PlainBook, Totals};
+use mx_office::{Command, Office, Reply};
+use mx_pay::{Amount, Log, Name, PayDetails, Seq};
+use mx_purse::Handled;
+use std::alloc::Global;
+use std::process::Abort;
+use std::test::Fail;
+
+/// The purses, each with its holder.
+const PURSES: [(&str, &str); 5] = [
+    ("p0", "ann"),
+    ("p1", "ann"),
+    ("p2", "bob"),
+    ("q0", "cy"),
+    ("q1", "dan"),
+];
+
+/// The member of a purse's holder.
+fn member_of(purse: usize) -> &'static str {
+    if purse < 3 { "m" } else { "k" }
+}
+
+/// The place of the purse of that name.
+fn place_of(purse: Name) -> usize {
+    PURSES
+        .iter()
+        .position(|entry| entry.0 == purse.as_str())
+        .unwrap_or(0)
+}
+
+/// What the ledger keeps of a purse: what it holds, its next number, the payment whose value it waits for, the number of
+/// the next message to it, how many messages it has, and what it redeemed that isn't collected.
+#[derive(Clone, Copy)]
+struct Side {
+    balance: u64,
+    next: u64,
+    waits: Option<PayDetails>,
+    next_message: u64,
+    held: u64,
+    uncollected: u64,
+}
+
+/// The test's own books, kept by the replies alone.
+#[derive(Drop)]
+struct Ledger {
+    sides: [Side; 5],
+    issued: u64,
+    redeemed: u64,
+    collected: u64,
+    /// The payments whose value has left a purse and isn't received.
+    sent: Vec<PayDetails>,
+}
+
+/// What each member is granted.
+const GRANT: u64 = 100_000;
+
+impl Ledger {
+    fn new(alloc: Global) -> Ledger {
+        let side = Side {
+            balance: 0,
+            next: 0,
+            waits: None,
+            next_message: 0,
+            held: 0,
+            uncollected: 0,
+        };
+        Ledger {
+            sides: [side; 5],
+            issued: 0,
+            redeemed: 0,
+            collected: 0,
+            sent: Vec::new(alloc),
+        }
+    }
+
+    fn side(&mut self, purse: usize) -> &mut Side {
+        &mut self.sides[purse % 5]
+    }
+
+    /// A message to that purse, which vanishes where 32 wait.
+    fn put(&mut self, purse: usize) {
+        let side = self.side(purse);
+        if side.held < 32 {
+            side.held += 1;
+            side.next_message = side.next_message.saturating_add(1);
+        }
+    }
+
+    /// A payment is started, by a purse that is to pay.
+    fn start_from(&mut self, purse: usize) {
+        let side = self.side(purse);
+        side.next = side.next.saturating_add(1);
+        side.waits = None;
+    }
+
+    /// A payment is started, by a purse that waits for its value.
+    fn start_to(&mut self, purse: usize, details: &PayDetails) {
+        let side = self.side(purse);
+        side.next = side.next.saturating_add(1);
+        side.waits = Some(*details);
+        self.put(place_of(details.from()));
+    }
+
+    /// A value leaves a purse.
+    fn send(&mut self, purse: usize, details: &PayDetails) -> Result<(), Fail> {
+        let side = self.side(purse);
+        side.balance = side.balance.saturating_sub(details.value().get());
+        self.put(place_of(details.to()));
+        self.sent.push(*details)?;
+        Ok(())
+    }
+
+    /// A value is received.
+    fn receive(&mut self, purse: usize, details: &PayDetails) {
+        let side = self.side(purse);
+        side.balance = side.balance.saturating_add(details.value().get());
+        side.waits = None;
+        self.put(place_of(details.from()));
+        if let Some(place) = self.sent.iter().position(|sent| *sent == *details) {
+            self.sent.swap_remove(place);
+        }
+    }
+
+    /// A purse is loaded.
+    fn load(&mut self, purse: usize, amount: u64) {
+        let side = self.side(purse);
+        side.balance = side.balance.saturating_add(amount);
+        self.issued = self.issued.saturating_add(amount);
+    }
+
+    /// A purse is redeemed.
+    fn redeem(&mut self, purse: usize, amount: u64) {
+        let side = self.side(purse);
+        side.balance = side.balance.saturating_sub(amount);
+        side.uncollected = side.uncollected.saturating_add(amount);
+        side.waits = None;
+        self.redeemed = self.redeemed.saturating_add(amount);
+    }
+
+    /// What the purses of a member redeemed is collected.
+    fn collect(&mut self, member: &str) {
+        for (place, side) in self.sides.iter_mut().enumerate() {
+            if member_of(place) == member {
+                self.collected = self.collected.saturating_add(side.uncollected);
+                side.uncollected = 0;
+            }
+        }
+    }
+
+    /// Notes what a reply to a command on a purse says.
+    fn note(&mut self, purse: usize, command: &Command, reply: &Reply) -> Result<(), Fail> {
+        match (command, reply) {
+            (Command::StartFrom { .. }, Reply::Started(_)) => self.start_from(purse),
+            (Command::StartTo { .. }, Reply::Started(details)) => self.start_to(purse, details),
+            (_, Reply::Handled(Handled::Req(details))) => self.send(purse, details)?,
+            (_, Reply::Handled(Handled::Val(details))) => self.receive(purse, details),
+            (_, Reply::Handled(Handled::Cleared) | Reply::Aborted { .. } | Reply::Read(_)) => {
+                self.side(purse).waits = None;
+            }
+            (_, Reply::Discarded) => {
+                let side = self.side(purse);
+                side.held = side.held.saturating_sub(1);
+            }
+            (Command::Load { amount, .. }, Reply::Loaded) => self.load(purse, amount.get()),
+            (Command::Redeem { amount, .. }, Reply::Redeemed) => self.redeem(purse, amount.get()),
+            (_, Reply::Collected(_)) => self.collect(member_of(purse)),
+            (_, Reply::Sent) => self.put(purse),
+            _ => {}
+        }
+        Ok(())
+    }
+
+    /// What was sent and isn't received: the values of payments that are waited for, or those of the others.
+    fn sent_where(&self, waited_for: bool) -> u64 {
+        let mut sum: u64 = 0;
+        for details in self.sent.as_slice() {
+            let side = &self.sides[place_of(details.to()) % 5];
+            if (side.waits == Some(*details)) == waited_for {
+                sum = sum.saturating_add(details.value().get());
+            }
+        }
+        sum
+    }
+
+    /// The sum of the balances, and that of what isn't collected.
+    fn held(&self) -> (u64, u64) {
+        let mut balances: u64 = 0;
+        let mut uncollected: u64 = 0;
+        for side in &self.sides {
+            balances = balances.saturating_add(side.balance);
+            uncollected = uncollected.saturating_add(side.uncollected);
+        }
+        (balances, uncollected)
+    }
+
+    /// What the books are to come to, in the order of `figures`.
+    fn figures(&self) -> [u128; 8] {
+        let (balances, uncollected) = self.held();
+        let float = (2 * GRANT)
+            .saturating_sub(self.issued)
+            .saturating_add(self.collected);
+        [
+            2 * GRANT,
+            float,
+            uncollected,
+            self.issued,
+            self.redeemed,
+            balances,
+            self.sent_where(true),
+            self.sent_where(false),
+        ]
+        .map(|figure| figure as u128)
+    }
+}
+
+/// The sums of the scheme, in the order of `Totals`.
+fn figures(sums: &Totals) -> [u128; 8] {
+    [
+        sums.granted,
+        sums.float,
+        sums.uncollected,
+        sums.issued,
+        sums.redeemed,
+        sums.balances,
+        sums.transit,
+        sums.lost,
+    ]
+}
+
+/// Numbers that are always the same.
+#[derive(Drop)]
+struct Dice {
+    number: u64,
+}
+
+impl Dice {
+    /// A number below that one, which is above 0.
+    fn below(&mut self, most: u64) -> u64 {
+        self.number = self
+            .number
+            .wrapping_mul(6_364_136_223_846_793_005)
+            .wrapping_add(1_442_695_040_888_963_407);
+        (self.number >> 33) % most.max(1)
+    }
+}
+
+/// An office, and the ledger beside it.
+#[derive(Drop)]
+struct Trial {
+    office: Office<PlainBook>,
+    ledger: Ledger,
+    /// How many commands were asked.
+    asked: u64,
+}
+
+fn amount(number: u64) -> Result<Amount, Fail> {
+    Ok(Amount::new(number).ok_or("no amount")?)
+}
+
+fn seq(number: u64) -> Result<Seq, Fail> {
+    Ok(Seq::new(number).ok_or("no number")?)
+}
+
+/// A purse with its name and its holder.
+#[derive(Clone, Copy)]
+struct Own {
+    place: usize,
+    purse: Name,
+    holder: Caller,
+}
+
+fn purse_at(place: u64) -> Result<Own, Fail> {
+    let place = (place % 5) as usize;
+    let (purse, holder) = PURSES[place];
+    Ok(Own {
+        place,
+        purse: name(purse)?,
+        holder: Caller::Holder(name(holder)?),
+    })
+}
+
+impl Trial {
+    /// Asks a command on a purse, notes the reply, and after each twentieth compares the sums.
+    fn ask(
+        &mut self,
+        rt: &(impl Abort + AllocGlobal),
+        caller: Caller,
+        place: usize,
+        command: Command,
+    ) -> Result<Reply, Fail> {
+        let answer = self.office.answer(rt.alloc(), caller, &command);
+        let reply = answer.ok().ok_or("no answer")?;
+        self.ledger.note(place, &command, &reply)?;
+        self.asked = self.asked.wrapping_add(1);
+        if self.asked % 20 == 0 {
+            self.compare(rt)?;
+        }
+        Ok(reply)
+    }
+
+    /// Asserts that the books come to what the ledger says.
+    fn compare(&mut self, rt: &(impl Abort + AllocGlobal)) -> Result<(), Fail> {
+        let answer = self
+            .office
+            .answer(rt.alloc(), Caller::Operator, &Command::Reconcile);
+        let Ok(Reply::Reconciled(sums)) = answer else {
+            return Err(Fail::from("no sums"));
+        };
+        assert_eq!(rt; figures(&sums), self.ledger.figures(), "{}", self.asked);
+        Ok(())
+    }
+
+    /// A payment between two purses is started on both sides.
+    fn pay(&mut self, rt: &(impl Abort + AllocGlobal), dice: &mut Dice) -> Result<(), Fail> {
+        let (payer, payee) = (purse_at(dice.below(5))?, purse_at(dice.below(5))?);
+        let value = amount(dice.below(60))?;
+        let from_seq = seq(self.ledger.side(payer.place).next)?;
+        let to_seq = seq(self.ledger.side(payee.place).next)?;
+        let start_from = Command::StartFrom {
+            purse: payer.purse,
+            peer: payee.purse,
+            value,
+            seq: to_seq,
+        };
+        self.ask(rt, payer.holder, payer.place, start_from)?;
+        let start_to = Command::StartTo {
+            purse: payee.purse,
+            peer: payer.purse,
+            value,
+            seq: from_seq,
+        };
+        self.ask(rt, payee.holder, payee.place, start_to)?;
+        Ok(())
+    }
+
+    /// A message is handled, one of the last three: the last mostly, or a late or an earlier one.
+    fn handle(&mut self, rt: &(impl Abort + AllocGlobal), dice: &mut Dice) -> Result<(), Fail> {
+        let own = purse_at(dice.below(5))?;
+        let back = [1, 1, 1, 2, 3][dice.below(5) as usize % 5];
+        let next = self.ledger.side(own.place).next_message;
+        let handle = Command::Handle {
+            purse: own.purse,
+            number: seq(next.saturating_sub(back))?,
+        };
+        self.ask(rt, own.holder, own.place, handle)?;
+        Ok(())
+    }
+
+    /// A message is thrown away.
+    fn discard(&mut self, rt: &(impl Abort + AllocGlobal), dice: &mut Dice) -> Result<(), Fail> {
+        let own = purse_at(dice.below(5))?;
+        let next = self.ledger.side(own.place).next_message;
+        let discard = Command::Discard {
+            purse: own.purse,
+            number: seq(next.saturating_sub(dice.below(32)))?,
+        };
+        self.ask(rt, own.holder, own.place, discard)?;
+        Ok(())
+    }
+
+    /// The first entry of a log is read and archived, and the log cleared of it.
+    fn clear(&mut self, rt: &(impl Abort + AllocGlobal), dice: &mut Dice) -> Result<(), Fail> {
+        let own = purse_at(dice.below(5))?;
+        let purse = own.purse;
+        let read = Command::ReadLog { purse, place: 0 };
+        let mut details = Log::new();
+        if let Reply::Read(Some(entry)) = self.ask(rt, own.holder, own.place, read)? {
+            details.add(entry);
+        }
+        self.ask(rt, Caller::Operator, own.place, Command::Archive { purse })?;
+        self.ask(
+            rt,
+            Caller::Operator,
+            own.place,
+            Command::Clear { purse, details },
+        )?;
+        Ok(())
+    }
+
+    /// A purse is loaded or redeemed, under a reference of its own.
+    fn move_money(&mut self, rt: &(impl Abort + AllocGlobal), dice: &mut Dice) -> Result<(), Fail> {
+        let own = purse_at(dice.below(5))?;
+        let amount = amount(dice.below(90))?;
+        let text = format!(in rt.alloc(); "r{}", self.asked)?;
+        let (purse, reference) = (own.purse, name(text.as_str())?);
+        if dice.below(2) == 0 {
+            let clerk = Caller::Clerk(name(member_of(own.place))?);
+            let load = Command::Load {
+                purse,
+                amount,
+                reference,
+            };
+            self.ask(rt, clerk, own.place, load)?;
+        } else {
+            let redeem = Command::Redeem {
+                purse,
+                amount,
+                reference,
+            };
+            self.ask(rt, own.holder, own.place, redeem)?;
+        }
+        Ok(())
+    }
+
+    /// A purse aborts, or what a member's purses redeemed is collected.
+    fn settle(&mut self, rt: &(impl Abort + AllocGlobal), dice: &mut Dice) -> Result<(), Fail> {
+        let own = purse_at(dice.below(5))?;
+        if dice.below(2) == 0 {
+            let abort = Command::Abort { purse: own.purse };
+            self.ask(rt, own.holder, own.place, abort)?;
+        } else {
+            let clerk = Caller::Clerk(name(member_of(own.place))?);
+            self.ask(rt, clerk, own.place, Command::Collect)?;
+        }
+        Ok(())
+    }
+
+    fn act(&mut self, rt: &(impl Abort + AllocGlobal), dice: &mut Dice) -> Result<(), Fail> {
+        match dice.below(16) {
+            0..=3 => self.pay(rt, dice),
+            4..=10 => self.handle(rt, dice),
+            11 => self.discard(rt, dice),
+            12 => self.clear(rt, dice),
+            13 | 14 => self.move_money(rt, dice),
+            _ => self.settle(rt, dice),
+        }
+    }
+}
+
+/// Two members with what they are granted, and the purses of their holders.
+const OPENING: &[(&str, &str, &str)] = &[
+    ("m", "ann", "p0"),
+    ("m", "ann", "p1"),
+    ("m", "bob", "p2"),
+    ("k", "cy", "q0"),
+    ("k", "dan", "q1"),
+];
+
+/// An office with these purses, whose tokens don't count here, and its ledger.
+fn opened(rt: &(impl Abort + AllocGlobal)) -> Result<Trial, Fail> {
+    let alloc = rt.alloc();
+    let mut office = Office::new(PlainBook::new(alloc, token("1")?));
+    for (digit, (member, holder, purse)) in ["2", "3", "4", "5", "6"].iter().zip(OPENING) {
+        let clerk = Caller::Clerk(name(member)?);
+        let commands = [
+            (
+                Caller::Operator,
+                Command::NewMember {
+                    member: name(member)?,
+                    token: token(if *member == "m" { "a" } else { "b" })?,
+                },
+            ),
+            (
+                clerk,
+                Command::NewHolder {
+                    holder: name(holder)?,
+                    token: token(digit)?,
+                },
+            ),
+            (
+                clerk,
+                Command::NewPurse {
+                    purse: name(purse)?,
+                    holder: name(holder)?,
+                },
+            ),
+        ];
+        office.run(alloc, &commands)?;
+    }
+    for member in ["m", "k"] {
+        let grant = Command::Grant {
+            member: name(member)?,
+            amount: amount(GRANT)?,
+        };
+        office.run(alloc, &[(Caller::Operator, grant)])?;
+    }
+    Ok(Trial {
+        office,
+        ledger: Ledger::new(alloc),
+        asked: 0,
+    })
+}
+
+/// Payments that are broken off anywhere, messages handled twice and late, logs read, archived and cleared, loads,
+/// redemptions and collects: after each twentieth of two thousand commands the books come to what the ledger says.
+#[test]
+fn sums_of_two_thousand_random_commands(rt: HostRuntime) -> Result<(), Fail> {
+    for seed in 1..=4 {
+        let mut trial = opened(&rt)?;
+        let mut dice = Dice { number: seed };
+        // Each act asks one command or more.
+        for _ in 0..500 {
+            if trial.asked < 500 {
+                trial.act(&rt, &mut dice)?;
+            }
+        }
+        trial.compare(&rt)?;
+        assert!(rt; trial.ledger.sent_where(false) > 0, "{seed}");
+    }
+    Ok(())
+}
