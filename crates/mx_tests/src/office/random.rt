@@ -1,5 +1,6 @@
 //! Random commands, and what the books come to by a ledger of the test's own.
-use super::scripts::{name, token};
+use super::scripts::name;
+use super::{empty_book, tell};
 use mx_book::{Caller, PlainBook, Totals};
 use mx_office::{Command, Office, Reply};
 use mx_pay::{Amount, Log, Name, PayDetails, Seq};
@@ -430,55 +431,29 @@ impl Trial {
 }
 
 /// Two members with what they are granted, and the purses of their holders.
-const OPENING: &[(&str, &str, &str)] = &[
-    ("m", "ann", "p0"),
-    ("m", "ann", "p1"),
-    ("m", "bob", "p2"),
-    ("k", "cy", "q0"),
-    ("k", "dan", "q1"),
+const OPENING: &[(&str, &str)] = &[
+    ("operator new-member m 2", "added"),
+    ("operator new-member k 3", "added"),
+    ("clerk new-holder ann a", "added"),
+    ("clerk new-holder bob b", "added"),
+    ("clerk-of-k new-holder cy c", "added"),
+    ("clerk-of-k new-holder dan d", "added"),
+    ("clerk new-purse p0 ann", "added"),
+    ("clerk new-purse p1 ann", "added"),
+    ("clerk new-purse p2 bob", "added"),
+    ("clerk-of-k new-purse q0 cy", "added"),
+    ("clerk-of-k new-purse q1 dan", "added"),
+    ("operator grant m 100000", "granted"),
+    ("operator grant k 100000", "granted"),
 ];
 
-/// An office with these purses, whose tokens don't count here, and its ledger.
+/// An office with these purses, and its ledger.
 fn opened(rt: &(impl Abort + AllocGlobal)) -> Result<Trial, Fail> {
-    let alloc = rt.alloc();
-    let mut office = Office::new(PlainBook::new(alloc, token("1")?));
-    for (digit, (member, holder, purse)) in ["2", "3", "4", "5", "6"].iter().zip(OPENING) {
-        let clerk = Caller::Clerk(name(member)?);
-        let commands = [
-            (
-                Caller::Operator,
-                Command::NewMember {
-                    member: name(member)?,
-                    token: token(if *member == "m" { "a" } else { "b" })?,
-                },
-            ),
-            (
-                clerk,
-                Command::NewHolder {
-                    holder: name(holder)?,
-                    token: token(digit)?,
-                },
-            ),
-            (
-                clerk,
-                Command::NewPurse {
-                    purse: name(purse)?,
-                    holder: name(holder)?,
-                },
-            ),
-        ];
-        office.run(alloc, &commands)?;
-    }
-    for member in ["m", "k"] {
-        let grant = Command::Grant {
-            member: name(member)?,
-            amount: amount(GRANT)?,
-        };
-        office.run(alloc, &[(Caller::Operator, grant)])?;
-    }
+    let mut office = Office::new(empty_book(rt)?);
+    tell(rt, &mut office, OPENING)?;
     Ok(Trial {
         office,
-        ledger: Ledger::new(alloc),
+        ledger: Ledger::new(rt.alloc()),
         asked: 0,
     })
 }

@@ -51,11 +51,12 @@ fn seq(word: &str) -> Result<Seq, Fail> {
     Ok(Seq::new(number(word)?).ok_or("no sequence number")?)
 }
 
-/// Who asks: the operator, the clerk of m, or a holder.
+/// Who asks: the operator, the clerk of m or that of k, or a holder.
 fn caller(words: Words<'_>) -> Result<Caller, Fail> {
     match words.who {
         "operator" => Ok(Caller::Operator),
         "clerk" => Ok(Caller::Clerk(name("m")?)),
+        "clerk-of-k" => Ok(Caller::Clerk(name("k")?)),
         _ => Ok(Caller::Holder(name(words.who)?)),
     }
 }
