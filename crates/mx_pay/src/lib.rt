@@ -10,8 +10,6 @@ pub mod details;
 pub mod log;
 pub mod names;
 pub mod numbers;
-#[cfg(test)]
-mod tests;
 pub mod token;
 
 pub use codes::{code_text, push_entry, read_code, read_seq};

@@ -66,6 +66,7 @@ impl Token {
     /// The 32 hexadecimal digits of the token, with letters in lower case.
     pub fn text(&self) -> [u8; 32]
         ensures value { result ≡ encode_lower self.now }
+        ensures back { token_of result ≡ Some self.now }
         ensures length { length result ≡ 32 }
         ensures ascii { IsAscii result }
         ensures valid { IsToken self.now }

@@ -6,8 +6,6 @@ pub mod message;
 pub mod purse;
 pub mod refusals;
 pub mod status;
-#[cfg(test)]
-mod tests;
 
 pub use message::{Handled, Message};
 pub use purse::Purse;

@@ -1,12 +1,18 @@
-//! Tests of the wire, the office, the desk and the reports, by their public calls alone: what no contract says, worked
+//! Tests of all crates but the program, by their public calls alone: what no contract says, worked
 //! out by hand. They stand in a crate of their own, so that the crates that they test are proved once, and not again
 //! with their tests.
 #![tactic(auto)]
 
 #[cfg(test)]
+mod book;
+#[cfg(test)]
 mod desk;
 #[cfg(test)]
 mod office;
+#[cfg(test)]
+mod pay;
+#[cfg(test)]
+mod purse;
 #[cfg(test)]
 mod report;
 #[cfg(test)]

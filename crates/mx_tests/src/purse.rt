@@ -3,8 +3,8 @@ mod logs;
 mod money;
 mod operations;
 
-use crate::{Purse, Status};
 use mx_pay::{Log, Name, PayDetails, Seq, read_code};
+use mx_purse::{Purse, Status};
 use std::test::Fail;
 
 /// The log whose code text is `text`, which has to be one.

@@ -1,7 +1,7 @@
 //! Logs that are read and cleared, worked out by hand.
 use super::{details, log, made};
-use crate::{Handled, Message, Purse, Status};
 use mx_pay::{Log, PayDetails};
+use mx_purse::{Handled, Message, Purse, Status};
 use std::test::Fail;
 
 /// The purse `p1` with a balance of 40, which has paid 60 with its number 1, and logged a payment with its number 0.

@@ -1,7 +1,7 @@
 //! Loads and redemptions of the purse `p1`, worked out by hand.
 use super::{MOST, details, made};
-use crate::{LoadRefusal, Purse, RedeemRefusal, Status};
 use mx_pay::{Amount, Log, PayDetails};
+use mx_purse::{LoadRefusal, Purse, RedeemRefusal, Status};
 use std::test::Fail;
 
 /// The amount of that value, which has to be one.

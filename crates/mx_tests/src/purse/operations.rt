@@ -1,7 +1,7 @@
 //! Payments between the purses `p1` and `q1`, step by step, worked out by hand.
 use super::{MOST, details, filled, made};
-use crate::{Handled, Message, Purse, StartRefusal, Status};
 use mx_pay::{Amount, Log, Name, PayDetails, Seq};
+use mx_purse::{Handled, Message, Purse, StartRefusal, Status};
 use std::test::Fail;
 
 /// The name that is spelled `text`, which has to be one.

@@ -1,7 +1,7 @@
 use Rattle.std.proofs.Common.{refl}
 use Rattle.mx_book.specs.Shelves.{rows_of}
 use Rattle.mx_book.proofs.FirstLemmas.{four_fit_at}
-use Rattle.mx_book.proofs.tests.opened.Goals as goal
+use Rattle.mx_tests.proofs.book.opened.Goals as goal
 
 pub apply-requires : goal.apply-requires
 apply-requires c w sure spelled =

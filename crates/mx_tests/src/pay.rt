@@ -1,5 +1,5 @@
 //! Examples of each rule, worked out by hand: what no contract says.
-use crate::{Amount, Log, Name, PayDetails, Seq, Token, code_text, read_code};
+use mx_pay::{Amount, Log, Name, PayDetails, Seq, Token, code_text, read_code};
 use std::test::Fail;
 
 /// The name that is spelled `text`, which has to be one.
