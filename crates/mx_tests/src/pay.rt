@@ -53,22 +53,6 @@ fn other_texts_are_no_names(rt: HostRuntime) {
 }
 
 #[test]
-fn names_are_ordered_by_their_bytes(rt: HostRuntime) -> Result<(), Fail> {
-    for (low, high) in [
-        ("a", "a-"),
-        ("a-z", "a0"),
-        ("a9", "aa"),
-        ("a9z", "aa"),
-        ("az", "b"),
-    ] {
-        assert!(rt; name(low)? < name(high)?, "{low} {high}");
-        assert!(rt; name(low)? != name(high)?, "{low} {high}");
-    }
-    assert!(rt; name("a-b")? == name("a-b")?);
-    Ok(())
-}
-
-#[test]
 fn numbers_are_accepted_up_to_their_limits(rt: HostRuntime) {
     assert_eq!(rt; Amount::new(0).map(Amount::get), Some(0));
     assert_eq!(rt;
@@ -106,20 +90,6 @@ fn details_keep_their_fields_and_have_two_names(rt: HostRuntime) -> Result<(), F
 }
 
 #[test]
-fn details_are_ordered_field_by_field(rt: HostRuntime) -> Result<(), Fail> {
-    let rising = [
-        details("b", 1, 1, 1)?,
-        details("b", 1, 1, 2)?,
-        details("b", 1, 2, 0)?,
-        details("b", 2, 0, 0)?,
-        details("c", 0, 0, 0)?,
-    ];
-    assert!(rt; rising.is_sorted());
-    assert!(rt; details("b", 1, 1, 1)? < details("b", 1, 1, 2)?);
-    Ok(())
-}
-
-#[test]
 fn tokens_are_read_in_either_case_and_written_in_lower_case(rt: HostRuntime) -> Result<(), Fail> {
     let low = Token::read("0123456789abcdef0123456789abcdef").ok_or("no token")?;
     let high = Token::read("0123456789ABCDEF0123456789abcdEF").ok_or("no token")?;
@@ -150,81 +120,6 @@ fn other_texts_are_no_tokens(rt: HostRuntime) {
         assert!(rt; Token::read(text).is_none(), "{text}");
     }
     assert!(rt; Token::read_bytes(&[0xFF; 32]).is_none());
-}
-
-#[test]
-fn a_new_log_has_no_details(rt: HostRuntime) -> Result<(), Fail> {
-    let shown = format!(in rt.alloc(); "{:?}", Log::new())?;
-    assert!(rt; !shown.as_str().contains("Some"));
-    Ok(())
-}
-
-#[test]
-fn a_log_keeps_its_details_in_order(rt: HostRuntime) -> Result<(), Fail> {
-    let low = details("b", 1, 2, 0)?;
-    let middle = details("b", 2, 0, 0)?;
-    let high = details("c", 0, 1, 0)?;
-    let mut log = Log::new();
-    for added in [middle, high, low] {
-        assert!(rt; !log.has(&added));
-        assert!(rt; log.add(added));
-        assert!(rt; log.has(&added));
-        assert!(rt; !log.add(added));
-    }
-    assert_eq!(rt; log.len(), 3);
-    assert_eq!(rt; log.at(0), Some(low));
-    assert_eq!(rt; log.at(1), Some(middle));
-    assert_eq!(rt; log.at(2), Some(high));
-    assert_eq!(rt; log.at(3), None);
-    assert_eq!(rt; log.at(usize::MAX), None);
-    assert!(rt; !log.is_full());
-    Ok(())
-}
-
-#[test]
-fn a_log_has_at_most_16_details(rt: HostRuntime) -> Result<(), Fail> {
-    let mut log = Log::new();
-    for number in 0..16 {
-        assert!(rt; !log.is_full());
-        assert!(rt; log.add(details("b", 60, 15 - number, 0)?), "{number}");
-    }
-    assert!(rt; log.is_full());
-    assert!(rt; !log.add(details("b", 60, 16, 0)?));
-    assert!(rt; !log.add(details("b", 60, 0, 0)?));
-    assert_eq!(rt; log.len(), 16);
-    assert_eq!(rt; log.at(15), Some(details("b", 60, 15, 0)?));
-    Ok(())
-}
-
-#[test]
-fn logs_are_compared_as_sets(rt: HostRuntime) -> Result<(), Fail> {
-    let mut shorter = Log::new();
-    let mut longer = Log::new();
-    assert!(rt; shorter.add(details("b", 2, 0, 7)?));
-    assert!(rt; longer.add(details("c", 1, 3, 0)?) && longer.add(details("b", 2, 0, 7)?));
-    assert!(rt; shorter.is_within(&longer) && !longer.is_within(&shorter));
-    assert!(rt; !shorter.is_same(&longer));
-    assert!(rt; shorter.add(details("c", 1, 3, 0)?));
-    assert!(rt; shorter.is_same(&longer) && longer.is_within(&shorter));
-    Ok(())
-}
-
-#[test]
-fn details_of_a_purse_name_it_with_a_number_below_its_next(rt: HostRuntime) -> Result<(), Fail> {
-    let mut log = Log::new();
-    assert!(rt; log.add(details("b", 2, 3, 7)?));
-    for (purse, next, are) in [
-        ("a", 4, true),
-        ("a", 3, false),
-        ("b", 8, true),
-        ("b", 7, false),
-        ("c", 9, false),
-    ] {
-        let next = Seq::new(next).ok_or("no number")?;
-        assert_eq!(rt; log.are_of(&name(purse)?, next), are, "{purse}");
-    }
-    assert!(rt; Log::new().are_of(&name("c")?, Seq::zero()));
-    Ok(())
 }
 
 #[test]

@@ -1,10 +1,7 @@
-//! A new purse and a purse of given parts, read part by part, and each condition of a purse broken once.
-mod logs;
-mod money;
-mod operations;
-
+//! A new purse and a purse of given parts, read part by part, each condition of a purse broken once, and a payment from
+//! purse to purse.
 use mx_pay::{Log, Name, PayDetails, Seq, read_code};
-use mx_purse::{Purse, Status};
+use mx_purse::{Handled, Message, Purse, Status};
 use std::test::Fail;
 
 /// The log whose code text is `text`, which has to be one.
@@ -89,11 +86,18 @@ fn a_purse_of_given_parts_has_them(rt: HostRuntime) -> Result<(), Fail> {
 fn parts_at_their_limits_are_a_purse(rt: HostRuntime) -> Result<(), Fail> {
     let paid = details("p1,q1,0,999999999999999,0")?;
     let got = details("q1,p1,0,0,999999999999999")?;
-    assert!(rt; made(MOST, MOST, Status::EaFrom, filled(16)?, MOST + 2)?.is_some());
-    assert!(rt; made(MOST, MOST, Status::EaTo, filled(16)?, MOST + 2)?.is_some());
-    assert!(rt; made(0, MOST, Status::Epr(paid), filled(15)?, MOST)?.is_some());
-    assert!(rt; made(0, MOST, Status::Epv(got), filled(15)?, MOST)?.is_some());
-    assert!(rt; made(0, MOST, Status::Epa(paid), filled(15)?, MOST + 1)?.is_some());
+    for (balance, status, entries, lines) in [
+        (MOST, Status::EaFrom, 16, MOST + 2),
+        (MOST, Status::EaTo, 16, MOST + 2),
+        (0, Status::Epr(paid), 15, MOST),
+        (0, Status::Epv(got), 15, MOST),
+        (0, Status::Epa(paid), 15, MOST + 1),
+    ] {
+        assert!(rt;
+            made(balance, MOST, status, filled(entries)?, lines)?.is_some(),
+            "{lines}"
+        );
+    }
     Ok(())
 }
 
@@ -101,16 +105,21 @@ fn parts_at_their_limits_are_a_purse(rt: HostRuntime) -> Result<(), Fail> {
 fn no_purse_is_made_where_a_limit_is_passed(rt: HostRuntime) -> Result<(), Fail> {
     let paid = details("p1,q1,61,1,0")?;
     let got = details("q1,p1,61,0,1")?;
-    assert!(rt; made(MOST + 1, 0, Status::EaFrom, Log::new(), 0)?.is_none());
-    assert!(rt; made(0, 0, Status::EaFrom, Log::new(), MOST + 3)?.is_none());
-    assert!(rt; made(0, 0, Status::EaTo, Log::new(), MOST + 3)?.is_none());
-    assert!(rt; made(61, 2, Status::Epr(paid), Log::new(), MOST + 1)?.is_none());
-    assert!(rt; made(0, 2, Status::Epv(got), Log::new(), MOST + 1)?.is_none());
-    assert!(rt; made(0, 2, Status::Epa(paid), Log::new(), MOST + 2)?.is_none());
-    assert!(rt; made(60, 2, Status::Epr(paid), Log::new(), 0)?.is_none());
-    assert!(rt; made(61, 2, Status::Epr(paid), filled(16)?, 0)?.is_none());
-    assert!(rt; made(0, 2, Status::Epv(got), filled(16)?, 0)?.is_none());
-    assert!(rt; made(0, 2, Status::Epa(paid), filled(16)?, 0)?.is_none());
+    for (balance, status, entries, lines) in [
+        (MOST + 1, Status::EaFrom, 0, 0),
+        (0, Status::EaFrom, 0, MOST + 3),
+        (0, Status::EaTo, 0, MOST + 3),
+        (61, Status::Epr(paid), 0, MOST + 1),
+        (0, Status::Epv(got), 0, MOST + 1),
+        (0, Status::Epa(paid), 0, MOST + 2),
+        (60, Status::Epr(paid), 0, 0),
+        (61, Status::Epr(paid), 16, 0),
+        (0, Status::Epv(got), 16, 0),
+        (0, Status::Epa(paid), 16, 0),
+    ] {
+        let refused = made(balance, 2, status, filled(entries)?, lines)?.is_none();
+        assert!(rt; refused, "{balance} {entries} {lines}");
+    }
     Ok(())
 }
 
@@ -118,17 +127,72 @@ fn no_purse_is_made_where_a_limit_is_passed(rt: HostRuntime) -> Result<(), Fail>
 fn no_purse_is_made_where_details_are_not_its_own(rt: HostRuntime) -> Result<(), Fail> {
     let paid = details("p1,q1,61,1,0")?;
     let got = details("q1,p1,61,0,1")?;
-    assert!(rt; made(61, 2, Status::Epr(got), Log::new(), 0)?.is_none());
-    assert!(rt; made(0, 2, Status::Epv(paid), Log::new(), 0)?.is_none());
-    assert!(rt; made(0, 2, Status::Epa(got), Log::new(), 0)?.is_none());
-    assert!(rt; made(61, 1, Status::Epr(paid), Log::new(), 0)?.is_none());
-    assert!(rt; made(0, 1, Status::Epv(got), Log::new(), 0)?.is_none());
-    assert!(rt; made(0, 1, Status::Epa(paid), Log::new(), 0)?.is_none());
-    assert!(rt; made(61, 2, Status::Epr(paid), log("p1,q1,61,1,0")?, 0)?.is_none());
-    assert!(rt; made(0, 2, Status::Epv(got), log("q1,p1,61,0,1")?, 0)?.is_none());
-    assert!(rt; made(0, 2, Status::Epa(paid), log("p1,q1,61,1,0")?, 0)?.is_none());
-    assert!(rt; made(0, 1, Status::EaFrom, log("p1,q1,61,1,0")?, 0)?.is_none());
-    assert!(rt; made(0, 1, Status::EaFrom, log("q1,p1,61,0,1")?, 0)?.is_none());
-    assert!(rt; made(0, 9, Status::EaFrom, log("p2,q1,61,0,0")?, 0)?.is_none());
+    for (next, status, logged) in [
+        (2, Status::Epr(got), ""),
+        (2, Status::Epv(paid), ""),
+        (2, Status::Epa(got), ""),
+        (1, Status::Epr(paid), ""),
+        (1, Status::Epv(got), ""),
+        (1, Status::Epa(paid), ""),
+        (2, Status::Epr(paid), "p1,q1,61,1,0"),
+        (2, Status::Epv(got), "q1,p1,61,0,1"),
+        (2, Status::Epa(paid), "p1,q1,61,1,0"),
+        (1, Status::EaFrom, "p1,q1,61,1,0"),
+        (1, Status::EaFrom, "q1,p1,61,0,1"),
+        (9, Status::EaFrom, "p2,q1,61,0,0"),
+    ] {
+        let refused = made(61, next, status, log(logged)?, 0)?.is_none();
+        assert!(rt; refused, "{next} {logged}");
+    }
+    Ok(())
+}
+
+/// Where a purse stands, with the details of the payment under way.
+fn standing(purse: &Purse) -> (&'static str, Option<PayDetails>) {
+    match purse.status() {
+        Status::EaFrom => ("eaFrom", None),
+        Status::EaTo => ("eaTo", None),
+        Status::Epr(held) => ("epr", Some(held)),
+        Status::Epv(held) => ("epv", Some(held)),
+        Status::Epa(held) => ("epa", Some(held)),
+    }
+}
+
+/// Which message a purse accepts, with its details.
+fn taken(purse: &mut Purse, message: Message) -> (&'static str, Option<PayDetails>) {
+    match purse.handle(&message) {
+        Handled::Req(details) => ("req", Some(details)),
+        Handled::Val(details) => ("val", Some(details)),
+        Handled::Ack(details) => ("ack", Some(details)),
+        Handled::Cleared => ("cleared", None),
+        Handled::Ignored => ("ignored", None),
+    }
+}
+
+/// The balance, the next number, the entries of the log and the lines.
+fn figures(purse: &Purse) -> (u64, u64, usize, u64) {
+    let (balance, next) = (purse.balance(), purse.next().get());
+    (balance, next, purse.log().len(), purse.lines())
+}
+
+#[test]
+fn payment_in_five_steps(rt: HostRuntime) -> Result<(), Fail> {
+    let sixty = details("p1,q1,60,0,0")?;
+    let mut p1 = made(100, 0, Status::EaFrom, Log::new(), 1)?.ok_or("no purse")?;
+    let mut q1 = Purse::new(sixty.to());
+    let begun = p1.start_from(sixty.to(), sixty.value(), Seq::zero());
+    assert_eq!(rt; begun, Ok(sixty));
+    assert_eq!(rt; standing(&p1), ("epr", Some(sixty)));
+    let begun = q1.start_to(sixty.from(), sixty.value(), Seq::zero());
+    assert_eq!(rt; begun, Ok(sixty));
+    assert_eq!(rt; standing(&q1), ("epv", Some(sixty)));
+    assert_eq!(rt; taken(&mut p1, Message::Req(sixty)), ("req", Some(sixty)));
+    assert_eq!(rt; standing(&p1), ("epa", Some(sixty)));
+    assert_eq!(rt; taken(&mut q1, Message::Val(sixty)), ("val", Some(sixty)));
+    assert_eq!(rt; taken(&mut p1, Message::Ack(sixty)), ("ack", Some(sixty)));
+    assert_eq!(rt; figures(&p1), (40, 1, 0, 2));
+    assert_eq!(rt; standing(&p1), ("eaFrom", None));
+    assert_eq!(rt; figures(&q1), (60, 1, 0, 1));
+    assert_eq!(rt; standing(&q1), ("eaTo", None));
     Ok(())
 }
