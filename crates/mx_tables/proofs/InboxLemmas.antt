@@ -1,0 +1,124 @@
+-- The statements on inboxes.
+use Rattle.std.proofs.Common.{◌≡◌, inl, inr, ℕ, pos, Bool, true, false, not, cond, None, Option, Err, Result, IfOk, ◌&&◌, List, [], ◌∷◌, map, codes, Ok, refl, sym, ap, ap₂, ◌∙◌, arith, Less, Equal, Greater}
+use Rattle.std.specs.List.{AllByRecursion}
+use Rattle.std.specs.FinMap as fmap
+use Rattle.std.specs.declared.cmp.Ordering.{Ordering}
+use Rattle.std.specs.Ordering.{nat_cmp, is_eq, eq_by_cmp, ordering_then}
+use Rattle.std.specs.Cmp.{eq_by_cmp_equiv, nat_cmp_total}
+use Rattle.std.proofs.lemmas.Bool.{cases_Bool}
+use Rattle.std.proofs.lemmas.Bool.Decides.{eqb_tells}
+use Rattle.sqlite_value.specs.declared.value.Value.TheVariants.{Text}
+use Rattle.sqlite_value.specs.declared.keys.Collation.TheVariants.{Binary}
+use Rattle.sqlite_value.specs.Keys.{ascending}
+use Rattle.sqlite_value.specs.Order.{Row}
+use Rattle.sqlite_value.proofs.OrderLemmas.{value_cmp-Int, then-Equal}
+use Rattle.sqlite_trees.proofs.ListLemmas.{map-map}
+use Rattle.sqlite_schema.specs.declared.schema.Table.{Table}
+use Rattle.sqlite_sql.specs.Term.{col}
+use Rattle.sqlite.specs.State.{State, Shown, Executes}
+use Rattle.mx_pay.specs.Names.{name_cmp, is_name}
+use Rattle.mx_purse.specs.declared.message.Message.{Message}
+use Rattle.mx_purse.specs.Messages.{IsMessage}
+use Rattle.mx_book.specs.World.{Name}
+use Rattle.mx_book.specs.Rows.{Rows}
+use Rattle.mx_book.specs.RowReads.{row_inbox_of, of_name}
+use Rattle.mx_book.specs.Under.{pair_cmp}
+use Rattle.mx_book.proofs.NameLemmas.{same_name}
+use Rattle.mx_book.proofs.MapLemmas.{AllEntries, all_entries}
+use Rattle.mx_tables.specs.Schema.{office_schema, inbox}
+use Rattle.mx_tables.specs.Contents.{Contents}
+use Rattle.mx_tables.specs.Cells.{message_cells, number}
+use Rattle.mx_tables.specs.Holds.{Holds}
+use Rattle.mx_tables.specs.States.{Goes}
+use Rattle.mx_tables.specs.Answers.{message_row, first_three, AreMessages}
+use Rattle.mx_tables.proofs.Queries.{is_given}
+use Rattle.mx_tables.proofs.Texts.{select_inbox, select_inbox_is, delete_message, delete_message_is}
+use Rattle.mx_tables.proofs.StoredLemmas.{and_true, same_text, same_numbers, numbers_cmp}
+use Rattle.mx_tables.proofs.ReadLemmas.{turned, answers_in_order}
+use Rattle.mx_tables.proofs.WriteLemmas.{Place, drops, goes_as}
+use Rattle.mx_tables.proofs.KeptLemmas as kept
+use Rattle.mx_tables.proofs.MessageLemmas.{same_message_rows}
+
+-- under one first key, pairs are in the order of their second keys
+second_less : (a b : Ordering) → is_eq a ≡ true → ordering_then a b ≡ Less → b ≡ Less
+second_less Less b e h = absurd (cc)
+second_less Equal b e h = h
+second_less Greater b e h = absurd (cc)
+
+same_first : (p a b : Name) → is_name p a ≡ true → is_name p b ≡ true → is_eq (name_cmp a b) ≡ true
+same_first p a b s t = ap (λ n. is_name n b) (sym (same_name p a s)) ∙ t
+
+pub finds_inbox : (p : Name) (old new : State) (rows : List Row) → Shown select_inbox (Text p ∷ []) old new rows → (r : Rows) → Holds old.now r
+    → rows ≡ map message_row (row_inbox_of r p)
+finds_inbox p old new rows shown r h =
+    answers_in_order kept.inbox (is_given 1 0 ∷ []) (col 1 2 ∷ col 1 3 ∷ col 1 4 ∷ []) ((col 1 2, ascending Binary) ∷ []) (Text p ∷ []) (λ (e : (Name × ℕ) × Message). is_name p e.0.0)
+    (λ (e : (Name × ℕ) × Message). (number e.0.1 ∷ [], message_row (e.0.1, e.1)))
+    (λ id e. rw (same_text e.0.0 p) (and_true _ ∙ turned e.0.0 p)) (λ id e. refl)
+    (λ a b s t low. then-Equal _ ∙ value_cmp-Int (pos a.0.1) (pos b.0.1) ∙ numbers_cmp a.0.1 b.0.1 ∙ second_less _ _ (same_first p a.0.0 b.0.0 s t) low)
+    select_inbox (codes "number" ∷ codes "kind" ∷ codes "details" ∷ []) select_inbox_is old new rows shown r h
+    ∙ sym (map-map message_row (λ (e : (Name × ℕ) × Message). (e.0.1, e.1)) (of_name p (fmap.entries r.inbox)))
+
+-- the messages of a purse are within their limits
+abbrev AllMessages : List (ℕ × Message) → Type 0
+AllMessages = AllByRecursion (λ m. IsMessage m.1)
+
+all_of_purse : (p : Name) (es : List ((Name × ℕ) × Message)) → AllEntries (λ _ m. IsMessage m) es → AllMessages (map (λ (e : (Name × ℕ) × Message). (e.0.1, e.1)) (of_name p es))
+all_of_purse p [] h = tt
+all_of_purse p (e ∷ es) h = elim (cases_Bool (is_name p e.0.0)) [
+  | inl t ↦ rw t (h.0, all_of_purse p es h.1)
+  | inr f ↦ rw f (all_of_purse p es h.1)
+]
+
+pub inbox_read : (p : Name) (r : Rows) → AreMessages r → (rows : List Row) (ms : List (ℕ × Message)) → map first_three rows ≡ map message_row ms → AllMessages ms → rows ≡ map message_row (row_inbox_of r p) → ms ≡ row_inbox_of r p
+inbox_read p r valid rows ms read mine is =
+    same_message_rows ms (row_inbox_of r p) mine (all_of_purse p (fmap.entries r.inbox) (all_entries kept.pairs_total (λ _ m. IsMessage m) r.inbox valid))
+    (sym read ∙ ap (map first_three) is ∙ map-map first_three message_row (row_inbox_of r p))
+
+-- ---- writes
+
+abbrev inbox_table : Table
+inbox_table = record inbox { tree = 10 }
+
+abbrev with_list : List ((Name × ℕ) × Message) → Contents → Contents
+with_list l c = record c { inbox = l }
+
+place : Place (pair_cmp name_cmp nat_cmp) message_cells 5 inbox_table with_list (λ m r. record r { inbox = m })
+place = record {
+  found = refl;
+  uncounted = refl;
+  not_meta = λ e. omega (arith, e);
+  others = λ l c t other. elim (eqb_tells t 10) [ inl same ↦ absurd (other same.1) | inr differs ↦ rw differs.0 refl ];
+  placed = λ l c. refl;
+  tokens = λ l c h. record { operator = h.operator; tokens = h.tokens };
+  spelled = λ l c. refl;
+}
+
+eq_then : (a b : Ordering) → is_eq (ordering_then a b) ≡ (is_eq a && is_eq b)
+eq_then Less b = refl
+eq_then Equal b = refl
+eq_then Greater b = refl
+
+both_turned : (a b c d e f : Bool) → a ≡ c → b ≡ d → c ≡ e → d ≡ f → (a && (b && true)) ≡ (e && f)
+both_turned a b c d e f p q s t = ap₂ (λ x y. x && y) (p ∙ s) (and_true b ∙ q ∙ t)
+
+-- what is kept but one key is what is left where it is removed
+remove_is : (m : fmap.FinMap (pair_cmp name_cmp nat_cmp) Message) (k : Name × ℕ) → fmap.retain_keys m (λ j. not (eq_by_cmp (pair_cmp name_cmp nat_cmp) k j)) ≡ fmap.remove m k
+remove_is m k = fmap.same_map kept.pairs_total kept.pairs_exact _ _ (λ q.
+    fmap.get-retain_keys m (λ j. not (eq_by_cmp (pair_cmp name_cmp nat_cmp) k j)) q (λ x tie. ap (λ j. not (eq_by_cmp (pair_cmp name_cmp nat_cmp) k j)) (sym (kept.pairs_exact q x tie)))
+    ∙ either (eq_by_cmp (pair_cmp name_cmp nat_cmp) k q) (fmap.get m q) ∙ ap (λ b. cond b None (fmap.get m q)) ((eq_by_cmp_equiv kept.pairs_total).symm k q) ∙ sym (fmap.get-remove kept.pairs_total m k q))
+  where
+    either : (b : Bool) (o : Option Message) → cond (not b) o None ≡ cond b None o
+    either true o = refl
+    either false o = refl
+
+pub both_hold : {X E : Type 0} (r : Result X E) (P Q : X → Type 0) → IfOk r P → IfOk r Q → IfOk r (λ x. P x × Q x)
+both_hold (Ok x) P Q p q = (p, q)
+both_hold (Err e) P Q p q = tt
+
+pub drops_message : (p : Name) (n : ℕ) (old new : State) (count : ℕ) → old.now.schema ≡ office_schema → Executes delete_message (Text p ∷ number n ∷ []) old new (Ok count)
+    → Goes (λ r. record r { inbox = fmap.remove r.inbox (p, n) }) old new
+drops_message p n old new count has ran =
+    goes_as _ _ old new (λ r h. ap (λ m. record r { inbox = m }) (remove_is r.inbox (p, n)))
+    (drops kept.inbox place (λ l c. refl) delete_message _ _ delete_message_is (Text p ∷ number n ∷ []) (eq_by_cmp (pair_cmp name_cmp nat_cmp) (p, n))
+    (λ id e. both_turned _ _ (is_name e.0.0 p) (eq_by_cmp nat_cmp e.0.1 n) (is_name p e.0.0) (eq_by_cmp nat_cmp n e.0.1) (same_text e.0.0 p) (same_numbers e.0.1 n) (turned e.0.0 p) ((eq_by_cmp_equiv nat_cmp_total).symm e.0.1 n)
+    ∙ sym (eq_then (name_cmp p e.0.0) (nat_cmp n e.0.1))) (λ id e. refl) old new count has ran)

@@ -1,0 +1,169 @@
+-- What a statement leaves of the connection.
+use Rattle.std.proofs.Common.{◌≡◌, ◌⊎◌, inl, inr, ℕ, zero, suc, ◌≤◌, Bool, true, false, List, Ok, Err, Result, IfErr, OnOk, OnErr, IsTrue, Option, Some, None, refl, sym, ap, subst, ◌∙◌, arith}
+use Rattle.std.specs.Prelude.{if◌then◌else◌}
+use Rattle.sqlite_value.specs.Order.{Row}
+use Rattle.sqlite_trees.specs.View.{doubt}
+use Rattle.sqlite_schema.specs.declared.command.Returning.{Returning}
+use Rattle.sqlite_resolve.specs.declared.compiled.Compiled.{Compiled}
+use Rattle.sqlite.specs.declared.error.Error.{Error}
+use Rattle.sqlite.specs.Effect.{Database}
+use Rattle.sqlite.specs.Given.{IsPlain}
+use Rattle.sqlite.specs.Listing.{understood}
+use Rattle.sqlite.specs.State.{State, HasCleanDisk, IsUnchanged, IsRolledBack, FailsToQuery, FailsToShow, IsNotRun, Shown, ShowsRows, KeepsCommit, ExecutesInside}
+use Rattle.sqlite.specs.Steps.{FailsToCommit}
+use Rattle.mx_tables.specs.Schema.{office_schema}
+use Rattle.mx_book.specs.declared.contract.StoreFault.{StoreFault}
+use Rattle.mx_book.specs.Rows.{Rows}
+use Rattle.mx_tables.specs.States.{worry, IsOurs, IsText, Stays, Goes}
+
+-- a statement that fails changes nothing, or its transaction is rolled back
+abbrev pub Quits : State → State → Type 0
+Quits old new = IsUnchanged old new ⊎ IsRolledBack old new
+
+-- ---- worry
+
+sure_parts : (live clean : Bool) → (if live then doubt clean else 1) ≡ 0 → IsTrue live × (doubt clean ≡ 0)
+sure_parts true clean h = (refl, h)
+sure_parts false clean h = absurd (let e = h in omega arith)
+
+-- without worry the connection is open and its disk clean
+pub sure : (s : State) → worry s ≡ 0 → IsTrue s.is_open × HasCleanDisk s
+sure s h = sure_parts s.is_open s.is_clean h
+
+pub no_worry : (s : State) → IsTrue s.is_open → HasCleanDisk s → worry s ≡ 0
+no_worry s live clean = ap (λ b. if b then doubt s.is_clean else 1) live ∙ clean
+
+doubt_bound : (c : Bool) → doubt c ≤ 1
+unfolding doubt
+doubt_bound true = omega arith
+doubt_bound false = omega arith
+
+worry_bound : (o c : Bool) → (if o then doubt c else 1) ≤ 1
+worry_bound true c = doubt_bound c
+worry_bound false c = omega arith
+
+rises : (a b : ℕ) → a ≤ 1 → (b ≡ 0 → a ≡ 0) → a ≤ b
+rises a zero low h = let z = h refl in omega arith
+rises a (suc b) low h = omega arith
+
+pub worry_later : (old new : State) → doubt old.is_clean ≤ doubt new.is_clean → (HasCleanDisk new → IsTrue new.is_open → IsTrue old.is_open) → worry old ≤ worry new
+worry_later old new later opened = rises (worry old) (worry new) (worry_bound old.is_open old.is_clean) (λ h.
+    let now = sure new h in
+    no_worry old (opened now.1 now.0) (let e = now.1 in omega arith))
+
+pub sure_before : (old new : State) → worry old ≤ worry new → worry new ≡ 0 → worry old ≡ 0
+sure_before old new later h = omega arith
+
+-- ---- reads
+
+shows_quit : (old new : State) (sql : List ℕ) (c : Compiled) (params : Row) (e : Error) (what : Option Returning) → FailsToShow old new sql c params e what → Quits old new
+shows_quit old new sql c params e None h = inl h.3
+shows_quit old new sql c params e (Some what) (inl h) = inl h.1
+shows_quit old new sql c params e (Some what) (inr h) = inr h.3
+
+pub query_quits : (sql : List ℕ) (params : Row) (old new : State) (e : Error) → FailsToQuery sql params old new e → Quits old new
+unfolding FailsToQuery IsNotRun
+query_quits sql params old new e (inl (inl h)) = inl h.1
+query_quits sql params old new e (inl (inr h)) = inr h.3
+query_quits sql params old new e (inr h) = shows_quit old new sql h.0 _ e h.0.returning h.2
+
+rows_open : (old new : State) (sql : List ℕ) (c : Compiled) (params : Row) (rows : List Row) (what : Option Returning) → ShowsRows old new sql c params rows what → IsTrue old.is_open
+rows_open old new sql c params rows None h = h.3.0.was_open
+rows_open old new sql c params rows (Some what) h = h.1.shown.was_open
+
+pub shown_open : (sql : List ℕ) (params : Row) (old new : State) (rows : List Row) → Shown sql params old new rows → IsTrue old.is_open
+unfolding Shown
+shown_open sql params old new rows h = rows_open old new sql h.0 _ rows h.0.returning h.2
+
+pub shown_same : (sql : List ℕ) (params : Row) (old new : State) (rows : List Row) → IsText sql → old.now.schema ≡ office_schema → Shown sql params old new rows → IsUnchanged old new
+unfolding Shown
+shown_same sql params old new rows text has h =
+    let known = sym h.1.is ∙ ap (λ s. understood s sql) has in
+    let bare = subst IsPlain (sym known) text in
+    let it = rw bare.0 at h.2 in
+    it.3
+
+pub quits_open : (old new : State) → Quits old new → IsTrue new.is_open → IsTrue old.is_open
+quits_open old new (inl same) live = same.0.was_open
+quits_open old new (inr undone) live = undone.was_open live
+
+quits_now : (old new : State) → Quits old new → IsTrue new.is_open → old.committed ≡ old.now → (new.now ≡ old.now) × (new.committed ≡ old.now)
+quits_now old new (inl same) live settled = (same.0.now_is, same.0.committed_is ∙ settled)
+quits_now old new (inr undone) live settled = let it = undone.undone live in (it.0 ∙ settled, it.1 ∙ settled)
+
+pub stays : (old new : State) → IsOurs old → (old.in_transaction ≡ false → new.in_transaction ≡ false) → doubt old.is_clean ≤ doubt new.is_clean
+    → (HasCleanDisk new → IsTrue new.is_open → IsTrue old.is_open) → (worry new ≡ 0 → old.now.schema ≡ office_schema → Quits old new) → Stays old new
+stays old new ours mode clean opened quits =
+    let later = worry_later old new clean opened in
+    let both = λ (h : worry new ≡ 0).
+    let before = sure_before old new later h in
+    quits_now old new (quits h (ours.schema before)) (sure new h).0 (ours.settled before) in
+    record {
+      ours = record {
+        autocommit = mode ours.autocommit;
+        settled = λ h. (both h).1 ∙ sym (both h).0;
+        schema = λ h. ap (λ (d : Database). d.schema) (both h).0 ∙ ours.schema (sure_before old new later h);
+      };
+      later = later;
+      same = λ h. (both h).0;
+    }
+
+-- ---- writes in a transaction
+
+pub still : (old : State) → KeepsCommit old old
+still old = record { was_open = λ o. o; committed = λ o. refl }
+
+quits : (old new : State) → Quits old new → KeepsCommit old new
+quits old new (inl same) = record { was_open = λ _. same.0.was_open; committed = λ _. same.0.committed_is }
+quits old new (inr undone) = record { was_open = undone.was_open; committed = λ o. (undone.undone o).1 }
+
+-- inside a transaction no statement changes what is committed, whatever its text and the schema are
+pub inside_keeps : (sql : List ℕ) (params : Row) (old new : State) (r : Result ℕ Error) → ExecutesInside 0 sql params old new r → KeepsCommit old new
+inside_keeps sql params old new (Ok count) h = record { was_open = λ _. h.1.was_open; committed = λ _. h.1.committed_is }
+inside_keeps sql params old new (Err e) (inl h) = quits old new h.1
+inside_keeps sql params old new (Err e) (inr h) = quits old new (inl h.2)
+
+-- a commit that fails leaves what was committed
+pub unmade : (first old new : State) (r : Result (Unit {0}) Error) → KeepsCommit first old → IsTrue old.in_transaction → IfErr r (FailsToCommit old new)
+    → OnErr r (IsTrue new.is_open → (new.now ≡ first.committed) × (new.committed ≡ first.committed))
+unmade first old new (Ok x) kept inside h = tt
+unmade first old new (Err e) kept inside h = λ is_open. elim h [
+  | inl failed ↦
+      let undone = failed.3 in
+      let same = kept.committed (undone.was_open is_open) in
+      ((undone.undone is_open).0 ∙ same, (undone.undone is_open).1 ∙ same)
+  | inr ended ↦ absurd (let e = ended.1 in cc)
+]
+
+pub goes_on : (sql : List ℕ) (params : Row) (old new : State) (r : Result ℕ Error) → ExecutesInside 0 sql params old new r → OnOk r (IsTrue new.in_transaction)
+goes_on sql params old new (Ok count) h = h.1.mode
+goes_on sql params old new (Err e) h = tt
+
+-- ---- a transaction as a whole
+
+-- what a call that made all its changes, or none, leaves
+pub ours_after : {X : Type 0} (old new : State) (r : Result X StoreFault) (change : Rows → Rows) → IsOurs old → new.in_transaction ≡ false → worry old ≤ worry new
+    → (HasCleanDisk new → old.now.schema ≡ office_schema → OnOk r (Goes change old new × (new.committed ≡ new.now)))
+    → (HasCleanDisk new → OnErr r (IsTrue new.is_open → (new.now ≡ old.committed) × (new.committed ≡ old.committed)))
+    → IsOurs new
+ours_after old new (Ok x) change ours ended later done none = record {
+  autocommit = ended;
+  settled = λ h. (done (sure new h).1 (ours.schema (sure_before old new later h))).1;
+  schema = λ h. (done (sure new h).1 (ours.schema (sure_before old new later h))).0.schema;
+}
+ours_after old new (Err e) change ours ended later done none =
+    let left = λ (h : worry new ≡ 0). none (sure new h).1 (sure new h).0 in
+    record {
+      autocommit = ended;
+      settled = λ h. (left h).1 ∙ sym (left h).0;
+      schema = λ h. let before = sure_before old new later h in ap (λ (d : Database). d.schema) ((left h).0 ∙ ours.settled before) ∙ ours.schema before;
+    }
+
+pub left_as_was : {X : Type 0} (old new : State) (r : Result X StoreFault) → IsOurs old → worry old ≤ worry new
+    → (HasCleanDisk new → OnErr r (IsTrue new.is_open → (new.now ≡ old.committed) × (new.committed ≡ old.committed)))
+    → worry new ≡ 0 → OnErr r (new.now ≡ old.now)
+left_as_was old new (Ok x) ours later none h = tt
+left_as_was old new (Err e) ours later none h = (none (sure new h).1 (sure new h).0).0 ∙ ours.settled (sure_before old new later h)
+
+pub keeps_then : (a b c : State) → KeepsCommit a b → KeepsCommit b c → KeepsCommit a c
+keeps_then a b c one two = record { was_open = λ o. one.was_open (two.was_open o); committed = λ o. two.committed o ∙ one.committed (two.was_open o) }

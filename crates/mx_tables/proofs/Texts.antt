@@ -1,0 +1,140 @@
+-- The texts of the statements on members, tokens and holders, and their meaning.
+use Rattle.std.proofs.Common.{◌≡◌, ℕ, pos, List, [], ◌∷◌, codes, refl, false}
+use Rattle.sqlite_schema.specs.declared.command.Command.TheVariants.{Insert, Select, Update, Delete}
+use Rattle.sqlite_schema.specs.declared.command.Source.TheVariants.{Values}
+use Rattle.sqlite_tied.specs.Compute.{everything}
+use Rattle.sqlite.specs.Listing.{understood, reads_listing}
+use Rattle.sqlite.proofs.Callers.{command_of}
+use Rattle.sqlite_value.specs.declared.value.Value.TheVariants.{Null, Int, Text}
+use Rattle.sqlite_value.specs.declared.keys.Key.{Key}
+use Rattle.sqlite_value.specs.declared.keys.Collation.TheVariants.{Binary}
+use Rattle.sqlite_value.specs.Keys.{ascending}
+use Rattle.sqlite_sql.specs.declared.ops.BinaryOp.TheVariants.{Compare}
+use Rattle.sqlite_sql.specs.declared.ops.CompareOp.TheVariants.{Eq}
+use Rattle.sqlite_sql.specs.Term.{Term, lit, col, op2}
+use Rattle.mx_tables.specs.Schema.{office_schema}
+use Rattle.mx_tables.specs.States.{IsText}
+use Rattle.mx_tables.proofs.Queries.{scan, alone, is_given}
+
+-- the text is a query of the rows of one tree
+pub record IsSelect (sql : List ℕ) (tree : ℕ) (terms project : List Term) (order : List (Term × Key)) (names : List (List ℕ)) : Type 0 where
+  pub is : command_of (understood office_schema sql) ≡ Select (alone (scan tree terms project order)) names
+  pub plain : IsText sql
+  pub unlisted : reads_listing office_schema sql ≡ false
+
+-- the text is an INSERT of one row of the table at a place
+pub record IsInsert (sql : List ℕ) (at : ℕ) (terms : List Term) (width : ℕ) : Type 0 where
+  pub is : command_of (understood office_schema sql) ≡ Insert at (Values terms width)
+  pub plain : IsText sql
+
+-- the text is an UPDATE of the rows of one tree that pass the terms: the row number, and then the new row
+pub record IsUpdate (sql : List ℕ) (at tree : ℕ) (terms project : List Term) : Type 0 where
+  pub is : command_of (understood office_schema sql) ≡ Update at (alone (scan tree terms project []))
+  pub plain : IsText sql
+
+-- the text is a DELETE of the rows of one tree that pass the terms
+pub record IsDelete (sql : List ℕ) (at tree : ℕ) (terms project : List Term) : Type 0 where
+  pub is : command_of (understood office_schema sql) ≡ Delete at (alone (scan tree terms project []))
+  pub plain : IsText sql
+
+abbrev pub select_token : List ℕ
+select_token = codes "SELECT kind, name FROM token WHERE token = ?1"
+
+pub select_token_is : IsSelect select_token 3 (is_given 1 0 ∷ []) (col 1 2 ∷ col 1 3 ∷ []) [] (codes "kind" ∷ codes "name" ∷ [])
+unfolding understood everything
+select_token_is = record { is = refl; plain = (refl, refl); unlisted = refl }
+
+abbrev pub select_member : List ℕ
+select_member = codes "SELECT granted, unspent FROM member WHERE name = ?1"
+
+pub select_member_is : IsSelect select_member 1 (is_given 1 0 ∷ []) (col 1 2 ∷ col 1 3 ∷ []) [] (codes "granted" ∷ codes "unspent" ∷ [])
+unfolding understood everything
+select_member_is = record { is = refl; plain = (refl, refl); unlisted = refl }
+
+abbrev pub insert_token : List ℕ
+insert_token = codes "INSERT INTO token (token, kind, name) VALUES (?1, ?2, ?3)"
+
+pub insert_token_is : IsInsert insert_token 2 (lit Null ∷ col 0 0 ∷ col 0 1 ∷ col 0 2 ∷ []) 4
+unfolding understood everything
+insert_token_is = record { is = refl; plain = (refl, refl) }
+
+abbrev pub insert_member : List ℕ
+insert_member = codes "INSERT INTO member (name, granted, unspent) VALUES (?1, 0, 0)"
+
+pub insert_member_is : IsInsert insert_member 1 (lit Null ∷ col 0 0 ∷ lit (Int (pos 0)) ∷ lit (Int (pos 0)) ∷ []) 4
+unfolding understood everything
+insert_member_is = record { is = refl; plain = (refl, refl) }
+
+abbrev pub insert_holder : List ℕ
+insert_holder = codes "INSERT INTO holder (name, member) VALUES (?1, ?2)"
+
+pub insert_holder_is : IsInsert insert_holder 3 (lit Null ∷ col 0 0 ∷ col 0 1 ∷ []) 3
+unfolding understood everything
+insert_holder_is = record { is = refl; plain = (refl, refl) }
+
+abbrev pub select_holder : List ℕ
+select_holder = codes "SELECT member FROM holder WHERE name = ?1"
+
+pub select_holder_is : IsSelect select_holder 6 (is_given 1 0 ∷ []) (col 1 2 ∷ []) [] (codes "member" ∷ [])
+unfolding understood everything
+select_holder_is = record { is = refl; plain = (refl, refl); unlisted = refl }
+
+abbrev pub select_held : List ℕ
+select_held = codes "SELECT name FROM purse WHERE holder = ?1 ORDER BY name"
+
+pub select_held_is : IsSelect select_held 8 (is_given 2 0 ∷ []) (col 1 1 ∷ []) ((col 1 1, ascending Binary) ∷ []) (codes "name" ∷ [])
+unfolding understood everything
+select_held_is = record { is = refl; plain = (refl, refl); unlisted = refl }
+
+abbrev pub select_members : List ℕ
+select_members = codes "SELECT name FROM member ORDER BY name"
+
+pub select_members_is : IsSelect select_members 1 [] (col 1 1 ∷ []) ((col 1 1, ascending Binary) ∷ []) (codes "name" ∷ [])
+unfolding understood everything
+select_members_is = record { is = refl; plain = (refl, refl); unlisted = refl }
+
+abbrev pub update_member : List ℕ
+update_member = codes "UPDATE member SET granted = ?2, unspent = ?3 WHERE name = ?1"
+
+pub update_member_is : IsUpdate update_member 1 1 (is_given 1 0 ∷ []) (col 1 0 ∷ col 1 0 ∷ col 1 1 ∷ col 0 1 ∷ col 0 2 ∷ [])
+unfolding understood everything
+update_member_is = record { is = refl; plain = (refl, refl) }
+
+abbrev pub insert_meta : List ℕ
+insert_meta = codes "INSERT INTO meta (id, version) VALUES (1, 1)"
+
+pub insert_meta_is : IsInsert insert_meta 0 (lit (Int (pos 1)) ∷ lit Null ∷ lit (Int (pos 1)) ∷ []) 3
+unfolding understood everything
+insert_meta_is = record { is = refl; plain = (refl, refl) }
+
+-- the row's number is 1
+abbrev pub is_first : Term
+is_first = op2 (Compare Eq Binary) (col 1 0) (lit (Int (pos 1)))
+
+abbrev pub select_version : List ℕ
+select_version = codes "SELECT version FROM meta WHERE id = 1"
+
+pub select_version_is : IsSelect select_version 0 (is_first ∷ []) (col 1 2 ∷ []) [] (codes "version" ∷ [])
+unfolding understood everything
+select_version_is = record { is = refl; plain = (refl, refl); unlisted = refl }
+
+abbrev pub insert_purse : List ℕ
+insert_purse = codes "INSERT INTO purse (name, holder, balance, next_number, status, details, log, line_count, next_message) VALUES (?1, ?2, 0, 0, 'eaFrom', '', '', 0, 0)"
+
+pub insert_purse_is : IsInsert insert_purse 4 (lit Null ∷ col 0 0 ∷ col 0 1 ∷ lit (Int (pos 0)) ∷ lit (Int (pos 0)) ∷ lit (Text (codes "eaFrom")) ∷ lit (Text []) ∷ lit (Text []) ∷ lit (Int (pos 0)) ∷ lit (Int (pos 0)) ∷ []) 10
+unfolding understood everything
+insert_purse_is = record { is = refl; plain = (refl, refl) }
+
+abbrev pub select_inbox : List ℕ
+select_inbox = codes "SELECT number, kind, details FROM inbox WHERE purse = ?1 ORDER BY number"
+
+pub select_inbox_is : IsSelect select_inbox 10 (is_given 1 0 ∷ []) (col 1 2 ∷ col 1 3 ∷ col 1 4 ∷ []) ((col 1 2, ascending Binary) ∷ []) (codes "number" ∷ codes "kind" ∷ codes "details" ∷ [])
+unfolding understood everything
+select_inbox_is = record { is = refl; plain = (refl, refl); unlisted = refl }
+
+abbrev pub delete_message : List ℕ
+delete_message = codes "DELETE FROM inbox WHERE purse = ?1 AND number = ?2"
+
+pub delete_message_is : IsDelete delete_message 5 10 (is_given 1 0 ∷ is_given 2 1 ∷ []) (col 1 0 ∷ [])
+unfolding understood everything
+delete_message_is = record { is = refl; plain = (refl, refl) }

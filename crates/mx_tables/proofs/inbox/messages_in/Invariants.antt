@@ -1,0 +1,8 @@
+use Rattle.std.proofs.Common.{◌≡◌, map, take}
+use Rattle.std.specs.List.{AllByRecursion}
+use Rattle.mx_purse.specs.Messages.{IsMessage}
+use Rattle.mx_tables.specs.Answers.{first_three, message_row}
+use Rattle.mx_tables.proofs.inbox.messages_in.Given as goal
+
+abbrev pub invariant-loop-row : goal.invariant-loop-row
+invariant-loop-row l = (map first_three (take l.row-index l.rows) ≡ map message_row l.messages.items) × AllByRecursion (λ m. IsMessage m.1) l.messages.items

@@ -1,0 +1,52 @@
+-- How the tables are made.
+use Rattle.mx_tables.specs.Schema.{office_schema}
+use Rattle.mx_tables.specs.Holds.{meta_rows}
+use Rattle.mx_tables.specs.Cells.{number}
+use Rattle.sqlite_value.specs.Order.{Row, column}
+use Rattle.sqlite_trees.specs.Tree.{has_rowid}
+use Rattle.sqlite_rules.specs.Lists.{Has}
+use Rattle.sqlite.specs.Effect.{Database}
+use Rattle.std.specs.Prelude.{◌≡◌, ◌≢◌, pos, true, false, ◌∷◌, Ok, List, [], ℕ, IsTrue}
+use Rattle.std.specs.List.{AllByRecursion}
+use Rattle.sqlite_schema.specs.declared.schema.Schema.{Schema}
+use Rattle.sqlite_schema.specs.declared.schema.Table.{Table}
+use Rattle.sqlite_schema.specs.declared.command.Command.TheVariants.{CreateTable}
+use Rattle.sqlite_catalog.specs.Change.{created}
+use Rattle.sqlite.specs.Does.{lacks_sequence}
+use Rattle.sqlite.specs.Given.{IsPlain}
+use Rattle.sqlite.specs.Listing.{understood}
+use Rattle.sqlite.specs.State.{State}
+use Rattle.sqlite_resolve.specs.Compile.{table_defined_by}
+use Rattle.sqlite_resolve.specs.declared.compiled.Compiled.{Compiled}
+use Rattle.sqlite_resolve.specs.declared.error.CompileError.{CompileError}
+use Rattle.std.specs.Prelude.{Result, Err, slice_range}
+
+-- the text is that of one CREATE TABLE, and of nothing else
+abbrev pub Creates : List ℕ → Result Compiled CompileError → Type 0
+Creates sql (Ok c) = (c.command ≡ CreateTable) × (slice_range sql c.start c.end ≡ sql)
+Creates sql (Err e) = ⊥
+
+pub record IsCreate (schema : Schema) (sql : List ℕ) (table : Table) : Type 0 where
+  pub creates : Creates sql (understood schema sql)
+  pub plain : IsPlain (understood schema sql)
+  pub defined : table_defined_by sql ≡ Ok table
+  pub uncounted : lacks_sequence (created schema table) ≡ false
+
+-- a transaction is open, and sees the schema with no rows
+pub record Blank (schema : Schema) (s : State) : Type 0 where
+  pub schema_is : s.now.schema ≡ schema
+  pub empty : AllByRecursion (λ t. s.now.trees t.tree ≡ []) schema.tables
+  pub inside : IsTrue s.in_transaction
+
+-- a transaction is open, and sees the tables with no row but that of `meta`
+pub record Fresh (s : State) : Type 0 where
+  pub schema : s.now.schema ≡ office_schema
+  pub meta : s.now.trees 0 ≡ meta_rows
+  pub empty : AllByRecursion (λ (t : Table). t.tree ≢ 0 → s.now.trees t.tree ≡ []) office_schema.tables
+
+-- `meta` has a row of number 1 with version 1
+abbrev pub IsVersion1 : Database → Type 0
+IsVersion1 db = (r : Row) × Has (db.trees 0) r × (has_rowid (pos 1) r ≡ true) × (column r 2 ≡ number 1)
+
+abbrev pub version_shown : Row → Row
+version_shown r = column r 2 ∷ []

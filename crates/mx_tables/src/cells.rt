@@ -1,0 +1,88 @@
+//! The values of a row that was read.
+ghost use Rattle.std.specs.Prelude.{◌≡◌, pos, IfOk, IfSome};
+ghost use Rattle.sqlite_value.specs.Order.{column};
+ghost use Rattle.sqlite_value.specs.declared.value.Value.TheVariants.{Text, Int};
+ghost use Rattle.mx_pay.specs.Codes.{code, entry_text};
+ghost use Rattle.mx_pay.specs.Details.{IsDetails};
+ghost use Rattle.mx_pay.specs.Log.{IsLogValue};
+
+use mx_book::StoreFault;
+use mx_pay::{Log, Name, PayDetails, read_code};
+use sqlite::Row;
+use sqlite_value::value::ValueRef;
+
+/// The text in a column, if one is there.
+pub fn text_at(row: &Row, at: usize) -> Option<&str>
+    ensures { IfSome result (λ t. column row.now at ≡ Text t.now) }
+{
+    match row.get_ref(at) {
+        Ok(ValueRef::Text(text)) => match std::str::from_utf8(text) {
+            Ok(text) => Some(text),
+            Err(_) => None,
+        },
+        _ => None,
+    }
+}
+
+/// The name in a column. Store where another value is there.
+pub fn name_at(row: &Row, at: usize) -> Result<Name, StoreFault>
+    ensures { IfOk result (λ name. column row.now at ≡ Text name) }
+{
+    let Some(text) = text_at(row, at) else {
+        return Err(StoreFault::Store);
+    };
+    match Name::read(text) {
+        Some(name) => Ok(name),
+        None => Err(StoreFault::Store),
+    }
+}
+
+/// The number in a column. Store where another value is there.
+pub fn number_at(row: &Row, at: usize) -> Result<u64, StoreFault>
+    ensures { IfOk result (λ n. column row.now at ≡ Int (pos n)) }
+{
+    match row.get_ref(at) {
+        Ok(ValueRef::Int(n)) => match u64::try_from(n) {
+            Ok(n) => Ok(n),
+            Err(_) => Err(StoreFault::Store),
+        },
+        _ => Err(StoreFault::Store),
+    }
+}
+
+/// The log in a column. Store where another value is there.
+pub fn log_at(row: &Row, at: usize) -> Result<Log, StoreFault>
+    ensures shown { IfOk result (λ log. column row.now at ≡ Text (code log)) }
+    ensures valid { IfOk result IsLogValue }
+{
+    let Some(text) = text_at(row, at) else {
+        return Err(StoreFault::Store);
+    };
+    match read_code(text) {
+        Some(log) => Ok(log),
+        None => Err(StoreFault::Store),
+    }
+}
+
+/// The details of a log of one entry.
+fn only_entry(log: &Log) -> Option<PayDetails>
+    ensures shown { IfSome result (λ d. code log.now ≡ entry_text d) }
+    ensures valid { IfSome result IsDetails }
+{
+    if log.len() != 1 {
+        return None;
+    }
+    log.at(0)
+}
+
+/// The details in a column, as one entry. Store where another value is there.
+pub fn entry_at(row: &Row, at: usize) -> Result<PayDetails, StoreFault>
+    ensures shown { IfOk result (λ d. column row.now at ≡ Text (entry_text d)) }
+    ensures valid { IfOk result IsDetails }
+{
+    let log = log_at(row, at)?;
+    match only_entry(&log) {
+        Some(details) => Ok(details),
+        None => Err(StoreFault::Store),
+    }
+}

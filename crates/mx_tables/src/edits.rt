@@ -1,0 +1,101 @@
+//! The edits, each a few statements of a transaction.
+ghost use Rattle.std.specs.Prelude.{◌≡◌, ◌≤◌, fold, false, OnOk, OnErr, IsTrue};
+ghost use Rattle.sqlite_trees.specs.View.{doubt};
+ghost use Rattle.sqlite.specs.Held.{state};
+ghost use Rattle.sqlite.specs.State.{HasCleanDisk, KeepsCommit};
+ghost use Rattle.mx_book.specs.RowEdits.{rewritten};
+ghost use Rattle.mx_tables.specs.Schema.{office_schema};
+ghost use Rattle.mx_tables.specs.States.{Goes};
+
+use crate::asking::fault_of;
+use crate::holders::insert_holder;
+use crate::inbox::drop_message;
+use crate::members::{insert_member, update_member};
+use crate::purses::insert_purse;
+use crate::tokens::insert_token;
+use mx_book::{Caller, Edit, StoreFault};
+use mx_pay::{Name, Token};
+use sqlite::{Alter, Connection, Transaction};
+
+/// Adds a member and its clerk's token.
+fn add_member<S: Alter>(
+    tx: &mut Transaction<'_, S>,
+    member: Name,
+    clerk: Token,
+) -> Result<(), StoreFault>
+    ensures same_reference { tx.new.conn.ghost_name ≡ tx.old.conn.ghost_name }
+    ensures ok { HasCleanDisk (state S.Store tx.new.conn.now) → IsTrue tx.old.conn.now.in_transaction → (state S.Store tx.old.conn.now).now.schema ≡ office_schema
+        → OnOk result (Goes (λ r. rewritten r (Edit.NewMember member clerk)) (state S.Store tx.old.conn.now) (state S.Store tx.new.conn.now)) }
+    ensures inside { HasCleanDisk (state S.Store tx.new.conn.now) → IsTrue tx.old.conn.now.in_transaction → OnOk result (IsTrue tx.new.conn.now.in_transaction) }
+    ensures kept { HasCleanDisk (state S.Store tx.new.conn.now) → KeepsCommit (state S.Store tx.old.conn.now) (state S.Store tx.new.conn.now) }
+    ensures clean { doubt (state S.Store tx.old.conn.now).is_clean ≤ doubt (state S.Store tx.new.conn.now).is_clean }
+{
+    insert_member(tx, &member)?;
+    insert_token(tx, &clerk, &Caller::Clerk(member))
+}
+
+/// Adds a holder and the holder's token.
+fn add_holder<S: Alter>(
+    tx: &mut Transaction<'_, S>,
+    holder: Name,
+    member: Name,
+    token: Token,
+) -> Result<(), StoreFault>
+    ensures same_reference { tx.new.conn.ghost_name ≡ tx.old.conn.ghost_name }
+    ensures ok { HasCleanDisk (state S.Store tx.new.conn.now) → IsTrue tx.old.conn.now.in_transaction → (state S.Store tx.old.conn.now).now.schema ≡ office_schema
+        → OnOk result (Goes (λ r. rewritten r (Edit.NewHolder holder member token)) (state S.Store tx.old.conn.now) (state S.Store tx.new.conn.now)) }
+    ensures inside { HasCleanDisk (state S.Store tx.new.conn.now) → IsTrue tx.old.conn.now.in_transaction → OnOk result (IsTrue tx.new.conn.now.in_transaction) }
+    ensures kept { HasCleanDisk (state S.Store tx.new.conn.now) → KeepsCommit (state S.Store tx.old.conn.now) (state S.Store tx.new.conn.now) }
+    ensures clean { doubt (state S.Store tx.old.conn.now).is_clean ≤ doubt (state S.Store tx.new.conn.now).is_clean }
+{
+    insert_holder(tx, &holder, &member)?;
+    insert_token(tx, &token, &Caller::Holder(holder))
+}
+
+/// Makes one edit.
+fn edit_one<S: Alter>(tx: &mut Transaction<'_, S>, edit: Edit) -> Result<(), StoreFault>
+    ensures same_reference { tx.new.conn.ghost_name ≡ tx.old.conn.ghost_name }
+    ensures ok { HasCleanDisk (state S.Store tx.new.conn.now) → IsTrue tx.old.conn.now.in_transaction → (state S.Store tx.old.conn.now).now.schema ≡ office_schema
+        → OnOk result (Goes (λ r. rewritten r edit) (state S.Store tx.old.conn.now) (state S.Store tx.new.conn.now)) }
+    ensures inside { HasCleanDisk (state S.Store tx.new.conn.now) → IsTrue tx.old.conn.now.in_transaction → OnOk result (IsTrue tx.new.conn.now.in_transaction) }
+    ensures kept { HasCleanDisk (state S.Store tx.new.conn.now) → KeepsCommit (state S.Store tx.old.conn.now) (state S.Store tx.new.conn.now) }
+    ensures clean { doubt (state S.Store tx.old.conn.now).is_clean ≤ doubt (state S.Store tx.new.conn.now).is_clean }
+{
+    match edit {
+        Edit::NewMember { member, clerk } => add_member(tx, member, clerk),
+        Edit::SetMember {
+            member,
+            granted,
+            float,
+        } => update_member(tx, &member, granted, float),
+        Edit::NewHolder {
+            holder,
+            member,
+            token,
+        } => add_holder(tx, holder, member, token),
+        Edit::NewPurse { purse, holder } => insert_purse(tx, &purse, &holder),
+        Edit::DropMessage { purse, number } => drop_message(tx, &purse, number),
+        _ => Err(StoreFault::Store),
+    }
+}
+
+/// Makes these edits in order, all of them or none, in one transaction.
+pub fn edit_all<S: Alter>(conn: &mut Connection<S>, edits: &[Edit]) -> Result<(), StoreFault>
+    requires { conn.old.in_transaction ≡ false }
+    ensures done { HasCleanDisk (state S.Store conn.new) → (state S.Store conn.old).now.schema ≡ office_schema
+        → OnOk result (Goes (λ r. fold rewritten r edits.now) (state S.Store conn.old) (state S.Store conn.new) × ((state S.Store conn.new).committed ≡ (state S.Store conn.new).now)) }
+    ensures none { HasCleanDisk (state S.Store conn.new) → OnErr result (IsTrue (state S.Store conn.new).is_open
+        → ((state S.Store conn.new).now ≡ (state S.Store conn.old).committed) × ((state S.Store conn.new).committed ≡ (state S.Store conn.old).committed)) }
+    ensures ended { conn.new.in_transaction ≡ false }
+    ensures opens { HasCleanDisk (state S.Store conn.new) → IsTrue (state S.Store conn.new).is_open → IsTrue (state S.Store conn.old).is_open }
+    ensures clean { doubt (state S.Store conn.old).is_clean ≤ doubt (state S.Store conn.new).is_clean }
+{
+    let mut tx = conn.transaction();
+    for edit in edits {
+        edit_one(&mut tx, *edit)?;
+    }
+    match tx.commit() {
+        Ok(()) => Ok(()),
+        Err(error) => Err(fault_of(error)),
+    }
+}

@@ -1,0 +1,202 @@
+//! New tables, and tables that are there.
+ghost use Rattle.std.specs.Prelude.{◌≡◌, ◌≢◌, ◌⊎◌, None, codes, pos, map, filter, ◌≤◌, false, IfOk, IfErr, OnOk, OnErr, IsTrue};
+ghost use Rattle.sqlite_trees.specs.View.{doubt};
+ghost use Rattle.sqlite.specs.Held.{state};
+ghost use Rattle.sqlite.specs.State.{HasCleanDisk};
+ghost use Rattle.mx_tables.specs.Schema.{no_schema, office_schema};
+ghost use Rattle.mx_book.specs.Spells.{opening_rows};
+ghost use Rattle.mx_tables.specs.Holds.{Holds};
+ghost use Rattle.std.specs.List.Sorted.{IsPermutation};
+ghost use Rattle.sqlite_trees.specs.Tree.{has_rowid};
+ghost use Rattle.sqlite_schema.specs.Names.{table_named};
+ghost use Rattle.mx_tables.specs.States.{worry, IsOurs, Stays};
+ghost use Rattle.mx_tables.specs.Made.{IsVersion1, version_shown};
+ghost use Rattle.mx_tables.specs.declared.opening.OpenFault.TheVariants.{NotThisSchema};
+
+use crate::asking::ask;
+use crate::cells::number_at;
+use crate::making::{fill, make_tables};
+use crate::same::same_schema;
+use mx_book::StoreFault;
+use mx_pay::Token;
+use sqlite::{Alter, Connection, Error, ErrorCode, Row};
+use sqlite_schema::schema::Schema;
+use sqlite_trees::memory::MemStore;
+use std::alloc::Global;
+
+/// Why tables were not made or not opened.
+#[derive(Clone, Copy, Debug, PartialEq, Eq)]
+pub enum OpenFault {
+    /// There is no memory.
+    Memory,
+    /// The store refused a statement, or its schema is another one.
+    Store,
+    /// The tables can't be made beside those that are there, or `meta` has no row of id 1 with version 1.
+    NotThisSchema,
+}
+
+/// Why a store was refused, and the store.
+#[derive(Drop)]
+pub struct OpenRefused<S: Alter> {
+    /// Why.
+    pub fault: OpenFault,
+    /// The store, as it was.
+    pub store: Connection<S>,
+}
+
+/// The same cause, of a call that opens.
+fn open_fault(fault: StoreFault) -> OpenFault
+    ensures { result ≢ NotThisSchema }
+{
+    match fault {
+        StoreFault::Memory => OpenFault::Memory,
+        StoreFault::Store => OpenFault::Store,
+    }
+}
+
+/// Why a CREATE failed: a schema that isn't empty may refuse it.
+fn refused_create(blank: bool, error: Error) -> OpenFault
+    ensures { IsTrue blank → result ≢ NotThisSchema }
+{
+    match error {
+        Error::SqliteFailure(ErrorCode::OutOfMemory) => OpenFault::Memory,
+        Error::SqlInputError(_)
+        | Error::SqliteFailure(
+            ErrorCode::NameTaken
+            | ErrorCode::BadName
+            | ErrorCode::BadKey
+            | ErrorCode::BadText
+            | ErrorCode::SchemaTooBig,
+        ) if !blank => OpenFault::NotThisSchema,
+        _ => OpenFault::Store,
+    }
+}
+
+/// Whether there is nothing in a schema.
+fn is_blank(schema: &Schema) -> bool
+    ensures blank { IsTrue result → schema.now ≡ no_schema }
+    ensures other { result ≡ false → schema.now ≢ no_schema }
+{
+    schema.tables.is_empty() && schema.indexes.is_empty() && schema.views.is_empty()
+}
+
+/// Makes the tables, the row of `meta` and the operator's token in one transaction, or nothing.
+pub(crate) fn make_office<S: Alter>(
+    conn: &mut Connection<S>,
+    operator: &Token,
+) -> Result<(), OpenFault>
+    requires idle { conn.old.in_transaction ≡ false }
+    requires settled { IsTrue (state S.Store conn.old).is_open → (state S.Store conn.old).now ≡ (state S.Store conn.old).committed }
+    ensures done { HasCleanDisk (state S.Store conn.new) → OnOk result (Holds (state S.Store conn.new).now (opening_rows operator.now) × ((state S.Store conn.new).committed ≡ (state S.Store conn.new).now)) }
+    ensures none { HasCleanDisk (state S.Store conn.new) → OnErr result (IsTrue (state S.Store conn.new).is_open
+        → ((state S.Store conn.new).now ≡ (state S.Store conn.old).committed) × ((state S.Store conn.new).committed ≡ (state S.Store conn.old).committed)) }
+    ensures taken { IfErr result (λ fault. fault ≡ NotThisSchema → (state S.Store conn.old).now.schema ≢ no_schema) }
+    ensures ended { conn.new.in_transaction ≡ false }
+    ensures opens { HasCleanDisk (state S.Store conn.new) → IsTrue (state S.Store conn.new).is_open → IsTrue (state S.Store conn.old).is_open }
+    ensures clean { doubt (state S.Store conn.old).is_clean ≤ doubt (state S.Store conn.new).is_clean }
+{
+    let blank = is_blank(conn.schema());
+    let mut tx = conn.transaction();
+    if let Err(error) = make_tables(&mut tx) {
+        return Err(refused_create(blank, error));
+    }
+    if !blank {
+        return Err(OpenFault::Store);
+    }
+    if let Err(fault) = fill(&mut tx, operator) {
+        return Err(open_fault(fault));
+    }
+    match tx.commit() {
+        Ok(()) => Ok(()),
+        Err(error) => Err(refused_create(true, error)),
+    }
+}
+
+/// A connection in memory with the tables of the office and no row.
+fn model_of_office(alloc: Global) -> Result<Connection<MemStore>, OpenFault>
+    ensures schema { IfOk result (λ c. c.schema ≡ office_schema) }
+    ensures fault { IfErr result (λ fault. fault ≢ NotThisSchema) }
+{
+    let Ok(mut conn) = Connection::open_in_memory(alloc) else {
+        return Err(OpenFault::Memory);
+    };
+    let mut tx = conn.transaction();
+    if let Err(error) = make_tables(&mut tx) {
+        return Err(refused_create(true, error));
+    }
+    match tx.commit() {
+        Ok(()) => Ok(conn),
+        Err(error) => Err(refused_create(true, error)),
+    }
+}
+
+/// Whether a schema is that of the office.
+fn is_office(alloc: Global, schema: &Schema) -> Result<bool, OpenFault>
+    ensures same { IfOk result (λ same. IsTrue same → schema.now ≡ office_schema) }
+    ensures fault { IfErr result (λ fault. fault ≢ NotThisSchema) }
+{
+    let model = match model_of_office(alloc) {
+        Ok(model) => model,
+        Err(fault) => return Err(fault),
+    };
+    match same_schema(alloc, schema, model.schema()) {
+        Ok(same) => Ok(same),
+        Err(_) => Err(OpenFault::Memory),
+    }
+}
+
+/// The version that `meta` has, in the rows of id 1.
+fn version_rows<S: Alter>(conn: &mut Connection<S>) -> Result<Vec<Row>, StoreFault>
+    ensures stays { IsOurs (state S.Store conn.old) → Stays (state S.Store conn.old) (state S.Store conn.new) }
+    ensures rows { worry (state S.Store conn.new) ≡ 0 → (state S.Store conn.old).now.schema ≡ office_schema → IfOk result (λ rows. IsPermutation (map version_shown (filter (has_rowid (pos 1)) ((state S.Store conn.old).now.trees 0))) rows.items) }
+{
+    ask(conn, "SELECT version FROM meta WHERE id = 1", &[])
+}
+
+/// Whether the version is 1; NotThisSchema exactly where it isn't, or isn't there.
+fn check_version<S: Alter>(conn: &mut Connection<S>) -> Result<(), OpenFault>
+    ensures stays { IsOurs (state S.Store conn.old) → Stays (state S.Store conn.old) (state S.Store conn.new) }
+    ensures known { worry (state S.Store conn.new) ≡ 0 → (state S.Store conn.old).now.schema ≡ office_schema → OnOk result (IsVersion1 (state S.Store conn.old).now) }
+    ensures unknown { worry (state S.Store conn.new) ≡ 0 → (state S.Store conn.old).now.schema ≡ office_schema → IfErr result (λ fault. fault ≡ NotThisSchema → ¬ IsVersion1 (state S.Store conn.old).now) }
+{
+    let rows = match version_rows(conn) {
+        Ok(rows) => rows,
+        Err(fault) => return Err(open_fault(fault)),
+    };
+    match rows.as_slice() {
+        [] => Err(OpenFault::NotThisSchema),
+        [row] => match number_at(row, 0) {
+            Ok(1) => Ok(()),
+            Ok(_) => Err(OpenFault::NotThisSchema),
+            Err(fault) => Err(open_fault(fault)),
+        },
+        _ => Err(OpenFault::Store),
+    }
+}
+
+/// Whether a store has the tables of the office, and `meta` the version 1.
+pub(crate) fn check_office<S: Alter>(
+    alloc: Global,
+    conn: &mut Connection<S>,
+) -> Result<(), OpenFault>
+    requires idle { conn.old.in_transaction ≡ false }
+    requires settled { IsTrue (state S.Store conn.old).is_open → (state S.Store conn.old).now ≡ (state S.Store conn.old).committed }
+    ensures ours { OnOk result (IsOurs (state S.Store conn.new)) }
+    ensures later { worry (state S.Store conn.old) ≤ worry (state S.Store conn.new) }
+    ensures same { worry (state S.Store conn.new) ≡ 0 → (state S.Store conn.new).now ≡ (state S.Store conn.old).now }
+    ensures idle { conn.new.in_transaction ≡ false }
+    ensures known { worry (state S.Store conn.new) ≡ 0 → OnOk result (IsVersion1 (state S.Store conn.old).now) }
+    ensures unknown { worry (state S.Store conn.new) ≡ 0 → IfErr result (λ fault. fault ≡ NotThisSchema → (table_named (state S.Store conn.old).now.schema (codes "meta") ≡ None) ⊎ ¬ IsVersion1 (state S.Store conn.old).now) }
+{
+    let same = match is_office(alloc, conn.schema()) {
+        Ok(same) => same,
+        Err(fault) => return Err(fault),
+    };
+    if !same {
+        return match conn.schema().table_named("meta".as_bytes()) {
+            Some(_) => Err(OpenFault::Store),
+            None => Err(OpenFault::NotThisSchema),
+        };
+    }
+    check_version(conn)
+}
