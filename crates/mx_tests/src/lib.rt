@@ -1,4 +1,4 @@
-//! Tests of all crates but the program, by their public calls alone: what no contract says, worked
+//! Tests of all crates but the program and the tables, by their public calls alone: what no contract says, worked
 //! out by hand. They stand in a crate of their own, so that the crates that they test are proved once, and not again
 //! with their tests.
 #![tactic(auto)]

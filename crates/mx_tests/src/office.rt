@@ -3,7 +3,6 @@ mod faults;
 mod holders;
 mod random;
 mod scripts;
-mod sums;
 mod words;
 mod worn;
 

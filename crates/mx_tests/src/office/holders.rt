@@ -18,19 +18,6 @@ fn first_purse_of_an_office(rt: HostRuntime) -> Result<(), Fail> {
     )
 }
 
-/// Another holder's purse is answered as one that nobody has.
-#[test]
-fn another_holders_purse(rt: HostRuntime) -> Result<(), Fail> {
-    tell(
-        &rt,
-        &mut funded(&rt)?,
-        &[
-            ("bob show p1", "no such purse"),
-            ("bob show zz", "no such purse"),
-        ],
-    )
-}
-
 /// A holder is told the same, whatever other holders do, while they put nothing to the holder's purses.
 #[test]
 fn forty_commands_of_others(rt: HostRuntime) -> Result<(), Fail> {
