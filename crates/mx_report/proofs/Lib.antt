@@ -1,1 +1,7 @@
 pub mod StatementLemmas
+pub mod RollLemmas
+pub mod RowLemmas
+pub mod ReadingLemmas
+pub mod ImportLemmas
+pub mod StayLemmas
+pub mod KeptLemmas

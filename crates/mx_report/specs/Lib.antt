@@ -1,2 +1,5 @@
 pub mod Statement
 pub mod Reconciliation
+pub mod Roll
+pub mod Import
+pub mod Reading

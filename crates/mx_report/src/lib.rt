@@ -1,9 +1,15 @@
-//! Reports over any book: the statement of a purse and the reconciliation of the scheme, as values and as texts.
+//! Reports over any book: the statement of a purse and the reconciliation of the scheme, as values and as texts; and the
+//! import of rolls.
 #![tactic(auto)]
 
 pub mod reconciliation;
+mod roll_rows;
+pub mod rolls;
+pub mod rows;
 pub mod statements;
 mod texts;
 
 pub use reconciliation::{Report, reconcile, reconcile_text};
+pub use rolls::{RefusedRow, RollFault, RollFaultKind, RollReason, RollReport, import_roll};
+pub use rows::rows_stay;
 pub use statements::{statement, statement_text};

@@ -1,0 +1,350 @@
+//! Rolls: members, holders and purses that come as a list, and may come twice.
+ghost use Rattle.std.specs.Prelude.{◌≡◌, ◌≢◌, ◌≤◌, ◌<◌, ◌+◌, ◌^◌, ◌-◌, ◌∷◌, ◌⊎◌, [], ℕ, List, Some, None, option_map, IfOk, IfErr, OnOk, OnErr};
+ghost use Rattle.std.specs.Vec.{vec_len, vec_capacity};
+ghost use Rattle.csv.specs.Reading.{error_kind};
+ghost use Rattle.csv.specs.Records.{fields_of};
+ghost use Rattle.mx_book.specs.declared.contract.StoreFault.TheVariants as fault;
+ghost use Rattle.mx_book.specs.Keeps.{Keeps};
+ghost use Rattle.mx_book.specs.World.{World, is_of};
+ghost use Rattle.mx_office.specs.Reachable.{IsReachable, StandsBalanced};
+ghost use Rattle.mx_report.specs.declared.rolls.RollFaultKind.TheVariants.{NotRoll, Memory, Store};
+ghost use Rattle.mx_report.specs.Roll.{Fields, asker, is_clerk, is_holder, is_holders, is_same, roll_header};
+ghost use Rattle.mx_report.specs.Import.{IsRowImported, IsRecordImported, IsBroken, IsImported, HasNoHeader, IsNoRoll, IsRoll, outcome_of, no_rows, rows_counted, tallied, tally_of};
+ghost use Rattle.mx_report.specs.Reading.{HasGiven, book_fault, record_fault};
+
+use crate::roll_rows::{RollRow, is_roll_header, row_of};
+use csv::{ByteRecord, ByteRecordsIntoIter, Error, ErrorKind, ReaderBuilder};
+use mx_book::values::{Account, Caller, HolderRow};
+use mx_book::{Book, StoreFault};
+use mx_office::{Office, Refusal, Reply};
+use mx_pay::Name;
+use mx_pay::names::same_name;
+use std::alloc::Global;
+
+/// Why a row of a roll is refused.
+#[derive(Clone, Copy, Debug, PartialEq, Eq)]
+pub enum RollReason {
+    /// The row is of no form that a roll's rows have.
+    BadRow,
+    /// The office refused its command.
+    Refused(Refusal),
+}
+
+/// A row that was refused.
+#[derive(Clone, Copy, Debug)]
+pub struct RefusedRow {
+    /// The number of the row, counted from 1 after the header.
+    pub number: u64,
+    /// Why it was refused.
+    pub reason: RollReason,
+}
+
+/// What came of the rows of a roll.
+#[derive(Drop, Debug)]
+pub struct RollReport {
+    /// How many rows were added.
+    pub added: u64,
+    /// How many rows stood already, and changed nothing.
+    pub same: u64,
+    /// The rows that were refused, by number.
+    pub refused: Vec<RefusedRow>,
+}
+
+/// Why the import of a roll ended before the roll did.
+#[derive(Clone, Copy, Debug, PartialEq, Eq)]
+pub enum RollFaultKind {
+    /// The first record isn't `kind,name,of,token`, or there is none, or a record has another number of fields.
+    NotRoll,
+    /// There is no memory.
+    Memory,
+    /// The store refused a statement for another cause, or holds a row that isn't a value of the World.
+    Store,
+}
+
+/// An import that ended before its roll did.
+#[derive(Clone, Copy, Debug)]
+pub struct RollFault {
+    /// Why it ended.
+    pub kind: RollFaultKind,
+    /// How many rows came before. They stand, and no other does.
+    pub done: u64,
+}
+
+/// What came of a row.
+#[derive(Clone, Copy, Debug)]
+pub(crate) enum RowOutcome {
+    /// What it says was added.
+    Added,
+    /// What it says stood already.
+    Same,
+    /// It was refused.
+    Refused(RollReason),
+}
+
+impl RollReport {
+    /// The report of no rows.
+    fn new(alloc: Global) -> RollReport
+        ensures { tally_of result ≡ no_rows }
+    {
+        RollReport {
+            added: 0,
+            same: 0,
+            refused: Vec::new(alloc),
+        }
+    }
+
+    /// How many rows were counted.
+    fn rows(&self) -> u64
+        requires few { rows_counted (tally_of self.now) < 2 ^ 64 }
+        ensures { result ≡ rows_counted (tally_of self.now) }
+    {
+        self.added + self.same + self.refused.len() as u64
+    }
+
+    /// Counts one row more. There is room for it among the refused ones.
+    fn count(&mut self, outcome: RowOutcome)
+        requires few { rows_counted (tally_of self.old) < 2 ^ 64 - 1 }
+        requires room { vec_len self.old.refused < vec_capacity self.old.refused }
+        ensures { tally_of self.new ≡ tallied (tally_of self.old) outcome }
+    {
+        match outcome {
+            RowOutcome::Added => self.added += 1,
+            RowOutcome::Same => self.same += 1,
+            RowOutcome::Refused(reason) => {
+                let number = self.rows() + 1;
+                self.refused.push_reserved(RefusedRow { number, reason });
+            }
+        }
+    }
+}
+
+/// What a fault of the book is to the import of a roll.
+fn book_fault(fault: StoreFault) -> RollFaultKind
+    ensures { result ≡ book_fault fault }
+{
+    match fault {
+        StoreFault::Memory => RollFaultKind::Memory,
+        StoreFault::Store => RollFaultKind::Store,
+    }
+}
+
+/// What a record that csv refuses is to the import of a roll.
+fn record_fault(error: Error) -> RollFaultKind
+    ensures { result ≡ record_fault (error_kind error) }
+{
+    match error.kind() {
+        ErrorKind::UnequalLengths { .. } => RollFaultKind::NotRoll,
+        _ => RollFaultKind::Memory,
+    }
+}
+
+/// Whether a caller is the clerk of that member.
+fn is_clerk(member: &Name, caller: &Option<Caller>) -> bool
+    ensures { result ≡ is_clerk member.now caller.now }
+{
+    match caller {
+        Some(Caller::Clerk(name)) => same_name(member, name),
+        _ => false,
+    }
+}
+
+/// Whether a caller is that holder.
+fn is_holder(holder: &Name, caller: &Option<Caller>) -> bool
+    ensures { result ≡ is_holder holder.now caller.now }
+{
+    match caller {
+        Some(Caller::Holder(name)) => same_name(holder, name),
+        _ => false,
+    }
+}
+
+/// Whether a holder is there, and is that member's.
+fn is_of(member: &Name, holder: &Option<HolderRow>) -> bool
+    ensures { result ≡ is_of member.now (option_map (λ h. h.member) holder.now) }
+{
+    match holder {
+        Some(row) => same_name(member, &row.member),
+        None => false,
+    }
+}
+
+/// Whether a purse is there, and is that holder's.
+fn is_holders(holder: &Name, purse: &Option<Account>) -> bool
+    ensures { result ≡ is_holders holder.now (option_map (λ p. p.holder) purse.now) }
+{
+    match purse {
+        Some(account) => same_name(holder, &account.holder),
+        None => false,
+    }
+}
+
+/// Whether what a row says stands already.
+#[tactic(auto, unfolding(crate::specs::Roll::is_same))]
+fn is_same<B: Book>(book: &mut B, alloc: Global, row: &RollRow) -> Result<bool, StoreFault>
+    ensures keeps { Keeps B.doubt B.rows book.old book.new }
+    ensures value { (w : World) → B.doubt book.new ≡ 0 → B.spells (B.rows book.old) w → IfOk result (λ b. b ≡ is_same w row.now) }
+    ensures fault { IfErr result B.fails }
+{
+    match row {
+        RollRow::Member { member, token } => {
+            let who = book.who(alloc, token)?;
+            Ok(is_clerk(member, &who))
+        }
+        RollRow::Holder {
+            holder,
+            member,
+            token,
+        } => {
+            let kept = book.holder(alloc, *holder)?;
+            let who = book.who(alloc, token)?;
+            Ok(is_of(member, &kept) && is_holder(holder, &who))
+        }
+        RollRow::Purse { purse, holder } => {
+            let kept = book.purse(alloc, *purse)?;
+            Ok(is_holders(holder, &kept))
+        }
+    }
+}
+
+/// Who is to ask for what a row says: the operator for a member, the member's clerk for a holder, and the clerk of the
+/// holder's member for a purse. None where that holder isn't there.
+#[tactic(auto, unfolding(crate::specs::Roll::asker))]
+fn asker<B: Book>(book: &mut B, alloc: Global, row: &RollRow) -> Result<Option<Caller>, StoreFault>
+    ensures keeps { Keeps B.doubt B.rows book.old book.new }
+    ensures value { (w : World) → B.doubt book.new ≡ 0 → B.spells (B.rows book.old) w → IfOk result (λ o. o ≡ asker w row.now) }
+    ensures fault { IfErr result B.fails }
+{
+    match row {
+        RollRow::Member { .. } => Ok(Some(Caller::Operator)),
+        RollRow::Holder { member, .. } => Ok(Some(Caller::Clerk(*member))),
+        RollRow::Purse { holder, .. } => match book.holder(alloc, *holder)? {
+            Some(row) => Ok(Some(Caller::Clerk(row.member))),
+            None => Ok(None),
+        },
+    }
+}
+
+/// What a reply comes to: the command adds, or it is refused.
+fn outcome_of(reply: &Reply) -> RowOutcome
+    ensures { result ≡ outcome_of reply.now }
+{
+    match reply {
+        Reply::Refused(refusal) => RowOutcome::Refused(RollReason::Refused(*refusal)),
+        _ => RowOutcome::Added,
+    }
+}
+
+/// Imports a row: nothing where it is same, and else its command, which the office answers as it answers a request.
+fn import_row<B: Book>(
+    office: &mut Office<B>,
+    alloc: Global,
+    row: &RollRow,
+) -> Result<RowOutcome, StoreFault>
+    ensures later { B.doubt office.old.book ≤ B.doubt office.new.book }
+    ensures ok { (w : World) → B.doubt office.new.book ≡ 0 → B.spells (B.rows office.old.book) w → IfOk result (IsRowImported (B.spells (B.rows office.new.book)) w (Some row.now)) }
+    ensures err { B.doubt office.new.book ≡ 0 → OnErr result (B.rows office.new.book ≡ B.rows office.old.book) }
+    ensures fault { IfErr result (λ e. (e ≡ fault.Memory) ⊎ B.fails e) }
+{
+    if is_same(&mut office.book, alloc, row)? {
+        return Ok(RowOutcome::Same);
+    }
+    let Some(caller) = asker(&mut office.book, alloc, row)? else {
+        return Ok(RowOutcome::Refused(RollReason::Refused(Refusal::NoSuchHolder)));
+    };
+    let reply = office.answer(alloc, caller, &row.command())?;
+    Ok(outcome_of(&reply))
+}
+
+/// Imports the row that a record spells, and counts it. Room among the refused rows is made first, so that what was done
+/// is always counted.
+fn import_record<B: Book>(
+    office: &mut Office<B>,
+    alloc: Global,
+    entry: &ByteRecord,
+    report: &mut RollReport,
+) -> Result<(), StoreFault>
+    requires few { rows_counted (tally_of report.old) < 2 ^ 64 - 1 }
+    ensures later { B.doubt office.old.book ≤ B.doubt office.new.book }
+    ensures ok { (w : World) → B.doubt office.new.book ≡ 0 → B.spells (B.rows office.old.book) w → OnOk result (IsRecordImported (B.spells (B.rows office.new.book)) w (fields_of entry.now) (tally_of report.old) (tally_of report.new)) }
+    ensures counted { OnOk result (rows_counted (tally_of report.new) ≡ rows_counted (tally_of report.old) + 1) }
+    ensures err { B.doubt office.new.book ≡ 0 → OnErr result (B.rows office.new.book ≡ B.rows office.old.book) }
+    ensures uncounted { OnErr result (tally_of report.new ≡ tally_of report.old) }
+    ensures fault { IfErr result (λ e. (e ≡ fault.Memory) ⊎ B.fails e) }
+{
+    if report.refused.reserve(1).is_err() {
+        return Err(StoreFault::Memory);
+    }
+    let outcome = match row_of(entry) {
+        Some(row) => import_row(office, alloc, &row)?,
+        None => RowOutcome::Refused(RollReason::BadRow),
+    };
+    report.count(outcome);
+    Ok(())
+}
+
+/// Takes the header off a roll.
+fn take_header(records: &mut ByteRecordsIntoIter<&[u8]>) -> Result<(), RollFaultKind>
+    ensures ok { (text : List ℕ) → HasGiven text [] None records.old → OnOk result (HasGiven text (roll_header ∷ []) (Some 4) records.new) }
+    ensures err { (text : List ℕ) → HasGiven text [] None records.old → IfErr result (λ kind. (kind ≢ Store) × (kind ≡ NotRoll → HasNoHeader text 0)) }
+{
+    match records.next() {
+        Some(Ok(record)) => {
+            if is_roll_header(&record) {
+                Ok(())
+            } else {
+                Err(RollFaultKind::NotRoll)
+            }
+        }
+        Some(Err(error)) => Err(record_fault(error)),
+        None => Err(RollFaultKind::NotRoll),
+    }
+}
+
+/// Imports a roll: members, holders and purses in comma-separated values, with the header `kind,name,of,token`. The bytes
+/// EF BB BF before it are dropped. A row that stands already changes nothing and is counted as same; each other row is one
+/// command, by the operator for a member, and for a holder or a purse by the clerk of its member. A row that is refused, or
+/// is of no row's form, doesn't stop the import.
+///
+/// A fault is `NotRoll` where the first record isn't the header, or there is none, or where a record has another number of
+/// fields than four; `Memory`, also where csv refuses a record for want of it; or `Store`, where the book's own reads fail
+/// so. The rows before it stand, `done` of them, and no other.
+pub fn import_roll<B: Book>(
+    alloc: Global,
+    office: &mut Office<B>,
+    bytes: &[u8],
+) -> Result<RollReport, RollFault>
+    ensures later { B.doubt office.old.book ≤ B.doubt office.new.book }
+    ensures done { (w : World) → B.doubt office.new.book ≡ 0 → B.spells (B.rows office.old.book) w → IfOk result (λ report. IsImported (B.spells (B.rows office.new.book)) w bytes.now (tally_of report)) }
+    ensures broken { (w : World) → B.doubt office.new.book ≡ 0 → B.spells (B.rows office.old.book) w → IfErr result (λ f. IsBroken (B.spells (B.rows office.new.book)) w bytes.now f.done) }
+    ensures roll { IfOk result (λ _. (records : List Fields) × IsRoll bytes.now records) }
+    ensures not_roll { IfErr result (λ f. f.kind ≡ NotRoll → IsNoRoll bytes.now f.done) }
+    ensures store { IfErr result (λ f. f.kind ≡ Store → B.fails fault.Store) }
+    ensures reachable { (w : World) → B.doubt office.new.book ≡ 0 → B.spells (B.rows office.old.book) w → IsReachable w → StandsBalanced (B.spells (B.rows office.new.book)) }
+{
+    let reader = ReaderBuilder::new()
+        .has_headers(false)
+        .from_reader(alloc, bytes);
+    let mut records = reader.into_byte_records();
+    if let Err(kind) = take_header(&mut records) {
+        return Err(RollFault { kind, done: 0 });
+    }
+    let mut report = RollReport::new(alloc);
+    for record in records {
+        let record = match record {
+            Ok(record) => record,
+            Err(error) => {
+                return Err(RollFault {
+                    kind: record_fault(error),
+                    done: report.rows(),
+                });
+            }
+        };
+        if let Err(fault) = import_record(office, alloc, &record, &mut report) {
+            return Err(RollFault {
+                kind: book_fault(fault),
+                done: report.rows(),
+            });
+        }
+    }
+    Ok(report)
+}
