@@ -16,4 +16,6 @@ mod purse;
 #[cfg(test)]
 mod report;
 #[cfg(test)]
+mod rolls;
+#[cfg(test)]
 mod wire;
