@@ -1,5 +1,7 @@
 -- The statements on inboxes.
-use Rattle.std.proofs.Common.{◌≡◌, inl, inr, ℕ, pos, Bool, true, false, not, cond, None, Option, Err, Result, IfOk, ◌&&◌, List, [], ◌∷◌, map, codes, Ok, refl, sym, ap, ap₂, ◌∙◌, arith, Less, Equal, Greater}
+use Rattle.std.proofs.Common.{◌≡◌, inl, inr, ℕ, ℤ, pos, ◌+◌, Bool, true, false, not, cond, None, Some, Option, Err, Result, IfOk, ◌&&◌, List, [], ◌∷◌, map, codes, Ok, refl, sym, ap, ap₂, subst, ◌∙◌, arith, Less, Equal, Greater}
+use Rattle.std.specs.Prelude.{option_map}
+use Rattle.std.specs.List.Sorted.{IsPermutation}
 use Rattle.std.specs.List.{AllByRecursion}
 use Rattle.std.specs.FinMap as fmap
 use Rattle.std.specs.declared.cmp.Ordering.{Ordering}
@@ -7,45 +9,51 @@ use Rattle.std.specs.Ordering.{nat_cmp, is_eq, eq_by_cmp, ordering_then}
 use Rattle.std.specs.Cmp.{eq_by_cmp_equiv, nat_cmp_total}
 use Rattle.std.proofs.lemmas.Bool.{cases_Bool}
 use Rattle.std.proofs.lemmas.Bool.Decides.{eqb_tells}
-use Rattle.sqlite_value.specs.declared.value.Value.TheVariants.{Text}
+use Rattle.sqlite_value.specs.declared.value.Value.TheVariants.{Int, Text}
 use Rattle.sqlite_value.specs.declared.keys.Collation.TheVariants.{Binary}
 use Rattle.sqlite_value.specs.Keys.{ascending}
-use Rattle.sqlite_value.specs.Order.{Row}
+use Rattle.sqlite_value.specs.Order.{Row, column}
 use Rattle.sqlite_value.proofs.OrderLemmas.{value_cmp-Int, then-Equal}
 use Rattle.sqlite_trees.proofs.ListLemmas.{map-map}
 use Rattle.sqlite_schema.specs.declared.schema.Table.{Table}
 use Rattle.sqlite_sql.specs.Term.{col}
+use Rattle.sqlite.specs.Effect.{Database}
 use Rattle.sqlite.specs.State.{State, Shown, Executes}
 use Rattle.mx_pay.specs.Names.{name_cmp, is_name}
 use Rattle.mx_purse.specs.declared.message.Message.{Message}
 use Rattle.mx_purse.specs.Messages.{IsMessage}
 use Rattle.mx_book.specs.World.{Name}
 use Rattle.mx_book.specs.Rows.{Rows}
+use Rattle.mx_book.specs.RowEdits.{rewritten, on_purse}
+use Rattle.mx_book.specs.declared.edits.Edit.TheVariants.{AddMessage}
+use Rattle.mx_book.specs.declared.values.PurseRow.{PurseRow}
 use Rattle.mx_book.specs.RowReads.{row_inbox_of, of_name}
 use Rattle.mx_book.specs.Under.{pair_cmp}
 use Rattle.mx_book.proofs.NameLemmas.{same_name}
 use Rattle.mx_book.proofs.MapLemmas.{AllEntries, all_entries}
 use Rattle.mx_tables.specs.Schema.{office_schema, inbox}
 use Rattle.mx_tables.specs.Contents.{Contents}
-use Rattle.mx_tables.specs.Cells.{message_cells, number}
+use Rattle.mx_tables.specs.Cells.{message_cells, number, message_kind, message_details}
 use Rattle.mx_tables.specs.Holds.{Holds}
 use Rattle.mx_tables.specs.States.{Goes}
-use Rattle.mx_tables.specs.Answers.{message_row, first_three, AreMessages}
+use Rattle.mx_tables.specs.Answers.{at_key, message_row, message_shown, first_three, AreMessages}
 use Rattle.mx_tables.proofs.Queries.{is_given}
-use Rattle.mx_tables.proofs.Texts.{select_inbox, select_inbox_is, delete_message, delete_message_is}
-use Rattle.mx_tables.proofs.StoredLemmas.{and_true, same_text, same_numbers, numbers_cmp}
-use Rattle.mx_tables.proofs.ReadLemmas.{turned, answers_in_order}
-use Rattle.mx_tables.proofs.WriteLemmas.{Place, drops, goes_as}
+use Rattle.mx_tables.proofs.Texts.{select_inbox, select_inbox_is, select_message, select_message_is, insert_message, insert_message_is, delete_message, delete_message_is}
+use Rattle.mx_tables.proofs.Statements.{passes}
+use Rattle.mx_tables.proofs.StoredLemmas.{and_true, same_text, same_numbers, numbers_cmp, cast_int, cast_null}
+use Rattle.mx_tables.proofs.ReadLemmas.{turned, answers, answers_in_order}
+use Rattle.mx_tables.proofs.WriteLemmas.{Place, adds, drops, goes_as}
 use Rattle.mx_tables.proofs.KeptLemmas as kept
-use Rattle.mx_tables.proofs.MessageLemmas.{same_message_rows}
+use Rattle.mx_tables.proofs.MessageLemmas.{same_message, same_message_rows}
+use Rattle.mx_tables.proofs.ValueLemmas.{same_text as same_words}
 
 -- under one first key, pairs are in the order of their second keys
-second_less : (a b : Ordering) → is_eq a ≡ true → ordering_then a b ≡ Less → b ≡ Less
+pub second_less : (a b : Ordering) → is_eq a ≡ true → ordering_then a b ≡ Less → b ≡ Less
 second_less Less b e h = absurd (cc)
 second_less Equal b e h = h
 second_less Greater b e h = absurd (cc)
 
-same_first : (p a b : Name) → is_name p a ≡ true → is_name p b ≡ true → is_eq (name_cmp a b) ≡ true
+pub same_first : (p a b : Name) → is_name p a ≡ true → is_name p b ≡ true → is_eq (name_cmp a b) ≡ true
 same_first p a b s t = ap (λ n. is_name n b) (sym (same_name p a s)) ∙ t
 
 pub finds_inbox : (p : Name) (old new : State) (rows : List Row) → Shown select_inbox (Text p ∷ []) old new rows → (r : Rows) → Holds old.now r
@@ -74,6 +82,29 @@ inbox_read p r valid rows ms read mine is =
     same_message_rows ms (row_inbox_of r p) mine (all_of_purse p (fmap.entries r.inbox) (all_entries kept.pairs_total (λ _ m. IsMessage m) r.inbox valid))
     (sym read ∙ ap (map first_three) is ∙ map-map first_three message_row (row_inbox_of r p))
 
+pub eq_then : (a b : Ordering) → is_eq (ordering_then a b) ≡ (is_eq a && is_eq b)
+eq_then Less b = refl
+eq_then Equal b = refl
+eq_then Greater b = refl
+
+pub both_turned : (a b c d e f : Bool) → a ≡ c → b ≡ d → c ≡ e → d ≡ f → (a && (b && true)) ≡ (e && f)
+both_turned a b c d e f p q s t = ap₂ (λ x y. x && y) (p ∙ s) (and_true b ∙ q ∙ t)
+
+-- the test on both columns of the key
+at_message : (p : Name) (n : ℕ) (id : ℤ) (e : (Name × ℕ) × Message) → passes (is_given 1 0 ∷ is_given 2 1 ∷ []) (Text p ∷ number n ∷ []) (Int id ∷ message_cells e) ≡ eq_by_cmp (pair_cmp name_cmp nat_cmp) (p, n) e.0
+at_message p n id e =
+    both_turned _ _ (is_name e.0.0 p) (eq_by_cmp nat_cmp e.0.1 n) (is_name p e.0.0) (eq_by_cmp nat_cmp n e.0.1) (same_text e.0.0 p) (same_numbers e.0.1 n) (turned e.0.0 p) ((eq_by_cmp_equiv nat_cmp_total).symm e.0.1 n)
+    ∙ sym (eq_then (name_cmp p e.0.0) (nat_cmp n e.0.1))
+
+pub finds_message : (p : Name) (n : ℕ) (old new : State) (rows : List Row) → Shown select_message (Text p ∷ number n ∷ []) old new rows → (r : Rows) → Holds old.now r
+    → IsPermutation (map (λ (e : (Name × ℕ) × Message). message_shown e.1) (at_key (pair_cmp name_cmp nat_cmp) (p, n) (fmap.entries r.inbox))) rows
+finds_message p n =
+    answers kept.inbox select_message _ _ _ select_message_is (Text p ∷ number n ∷ []) (λ (e : (Name × ℕ) × Message). eq_by_cmp (pair_cmp name_cmp nat_cmp) (p, n) e.0) (λ (e : (Name × ℕ) × Message). message_shown e.1)
+    (at_message p n) (λ id e. refl)
+
+pub message_back : (v m : Message) (row : Row) → IsMessage v → IsMessage m → message_shown v ≡ row → column row 0 ≡ Text (message_kind m) → column row 1 ≡ Text (message_details m) → m ≡ v
+message_back v m row one two is a b = sym (same_message v m one two (same_words _ _ (ap (λ r. column r 0) is ∙ a)) (same_words _ _ (ap (λ r. column r 1) is ∙ b)))
+
 -- ---- writes
 
 abbrev inbox_table : Table
@@ -92,14 +123,6 @@ place = record {
   tokens = λ l c h. record { operator = h.operator; tokens = h.tokens };
   spelled = λ l c. refl;
 }
-
-eq_then : (a b : Ordering) → is_eq (ordering_then a b) ≡ (is_eq a && is_eq b)
-eq_then Less b = refl
-eq_then Equal b = refl
-eq_then Greater b = refl
-
-both_turned : (a b c d e f : Bool) → a ≡ c → b ≡ d → c ≡ e → d ≡ f → (a && (b && true)) ≡ (e && f)
-both_turned a b c d e f p q s t = ap₂ (λ x y. x && y) (p ∙ s) (and_true b ∙ q ∙ t)
 
 -- what is kept but one key is what is left where it is removed
 remove_is : (m : fmap.FinMap (pair_cmp name_cmp nat_cmp) Message) (k : Name × ℕ) → fmap.retain_keys m (λ j. not (eq_by_cmp (pair_cmp name_cmp nat_cmp) k j)) ≡ fmap.remove m k
@@ -120,5 +143,24 @@ pub drops_message : (p : Name) (n : ℕ) (old new : State) (count : ℕ) → old
 drops_message p n old new count has ran =
     goes_as _ _ old new (λ r h. ap (λ m. record r { inbox = m }) (remove_is r.inbox (p, n)))
     (drops kept.inbox place (λ l c. refl) delete_message _ _ delete_message_is (Text p ∷ number n ∷ []) (eq_by_cmp (pair_cmp name_cmp nat_cmp) (p, n))
-    (λ id e. both_turned _ _ (is_name e.0.0 p) (eq_by_cmp nat_cmp e.0.1 n) (is_name p e.0.0) (eq_by_cmp nat_cmp n e.0.1) (same_text e.0.0 p) (same_numbers e.0.1 n) (turned e.0.0 p) ((eq_by_cmp_equiv nat_cmp_total).symm e.0.1 n)
-    ∙ sym (eq_then (name_cmp p e.0.0) (nat_cmp n e.0.1))) (λ id e. refl) old new count has ran)
+    (at_message p n) (λ id e. refl) old new count has ran)
+
+pub adds_message : (p : Name) (n : ℕ) (m : Message) (old new : State) (count : ℕ) → old.now.schema ≡ office_schema
+    → Executes insert_message (Text p ∷ number n ∷ Text (message_kind m) ∷ Text (message_details m) ∷ []) old new (Ok count) → Goes (λ r. record r { inbox = fmap.insert r.inbox (p, n) m }) old new
+adds_message p n m =
+    adds kept.inbox place (λ l c. refl) insert_message _ _ insert_message_is (Text p ∷ number n ∷ Text (message_kind m) ∷ Text (message_details m) ∷ []) ((p, n), m) (rw (cast_null, cast_int (pos n)) refl)
+
+-- a message under the next number of its purse, which rises
+pub delivers : (p : Name) (m : Message) (n : ℕ) (a b c d : State) → b.now ≡ a.now → ((r : Rows) → Holds a.now r → option_map (λ (x : PurseRow). x.next_message) (fmap.get r.purses p) ≡ Some n)
+    → Goes (λ r. record r { inbox = fmap.insert r.inbox (p, n) m }) b c → Goes (λ r. on_purse (fmap.get r.purses p) r (λ x. record r { purses = fmap.insert r.purses p (record x { next_message = n + 1 }) })) c d
+    → Goes (λ r. rewritten r (AddMessage p m)) a d
+delivers p m n a b c d same at one two = record {
+  schema = two.schema;
+  rows = λ r holds. subst (Holds d.now) (is r (fmap.get r.purses p) (at r holds)) (two.rows _ (one.rows r (subst (λ (db : Database). Holds db r) (sym same) holds)));
+}
+  where
+    is : (r : Rows) (o : Option PurseRow) → option_map (λ (x : PurseRow). x.next_message) o ≡ Some n
+        → on_purse o (record r { inbox = fmap.insert r.inbox (p, n) m }) (λ x. record r { inbox = fmap.insert r.inbox (p, n) m; purses = fmap.insert r.purses p (record x { next_message = n + 1 }) })
+        ≡ on_purse o r (λ x. record r { purses = fmap.insert r.purses p (record x { next_message = x.next_message + 1 }); inbox = fmap.insert r.inbox (p, x.next_message) m })
+    is r None e = absurd (cc)
+    is r (Some x) e = let number : x.next_message ≡ n = cc in rw number refl

@@ -24,3 +24,14 @@ pub mod EditLemmas
 pub mod MessageLemmas
 pub mod InboxLemmas
 pub mod SoundLemmas
+pub mod LineLemmas
+pub mod Permuted
+pub mod PageLemmas
+pub mod ResultLemmas
+pub mod MoneyTexts
+pub mod LoadLemmas
+pub mod RedemptionLemmas
+pub mod CountLemmas
+pub mod CountedSums
+pub mod CollectLemmas
+pub mod SingleLemmas

@@ -36,7 +36,7 @@ finds_member name =
     answers members select_member _ _ _ select_member_is (Text name ∷ []) (λ (e : Name × MemberRow). is_name name e.0) (λ (e : Name × MemberRow). member_shown e.1)
     (λ id e. rw (same_text e.0 name) (and_true _ ∙ turned e.0 name)) (λ id e. refl)
 
-filter_everything : {X : Type 0} (xs : List X) → filter (λ _. true) xs ≡ xs
+pub filter_everything : {X : Type 0} (xs : List X) → filter (λ _. true) xs ≡ xs
 filter_everything [] = refl
 filter_everything (x ∷ xs) = ap (λ ys. x ∷ ys) (filter_everything xs)
 

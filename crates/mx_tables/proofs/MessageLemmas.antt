@@ -51,14 +51,14 @@ pub only_valid : (log : Entries) (o : Option Details) → IsLogValue log → log
 only_valid log None valid one at = tt
 only_valid log (Some d) valid one at = (one_entry log d valid one (sym at)).1
 
-same_number : (m n : ℕ) → number m ≡ number n → m ≡ n
+pub same_number : (m n : ℕ) → number m ≡ number n → m ≡ n
 same_number m n e = cc
 
 abbrev first : List ℕ → ℕ
 first [] = 0
 first (b ∷ bs) = b
 
-same_message : (a b : Message) → IsMessage a → IsMessage b → message_kind a ≡ message_kind b → message_details a ≡ message_details b → a ≡ b
+pub same_message : (a b : Message) → IsMessage a → IsMessage b → message_kind a ≡ message_kind b → message_details a ≡ message_details b → a ≡ b
 same_message (Req d) (Req e) one two k t = ap Req (same_entry d e one two t)
 same_message (Val d) (Val e) one two k t = ap Val (same_entry d e one two t)
 same_message (Ack d) (Ack e) one two k t = ap Ack (same_entry d e one two t)

@@ -1,38 +1,51 @@
--- The statements on purses.
-use Rattle.std.proofs.Common.{◌≡◌, inl, inr, ℕ, pos, List, [], ◌∷◌, map, codes, Ok, refl, sym, ap, ◌∙◌, arith}
+-- The statements on purses, and what they show.
+use Rattle.std.proofs.Common.{◌≡◌, inl, inr, ℕ, ℤ, pos, List, [], ◌∷◌, map, drop, codes, Ok, Option, Some, None, IfSome, refl, sym, ap, ap₂, ◌∙◌, arith, if◌then◌else◌}
+use Rattle.std.specs.Prelude.{◌==◌}
+use Rattle.std.specs.List.Sorted.{IsPermutation}
 use Rattle.std.specs.FinMap as fmap
-use Rattle.sqlite_value.specs.declared.value.Value.TheVariants.{Null, Text}
+use Rattle.sqlite_value.specs.declared.value.Value.TheVariants.{Null, Int, Text}
 use Rattle.sqlite_value.specs.declared.keys.Collation.TheVariants.{Binary}
 use Rattle.sqlite_value.specs.Keys.{ascending}
-use Rattle.sqlite_value.specs.Order.{Row}
+use Rattle.sqlite_value.specs.Order.{Row, column}
 use Rattle.sqlite_value.proofs.OrderLemmas.{value_cmp-Text, then-Equal}
+use Rattle.sqlite_trees.specs.Tree.{rowid}
 use Rattle.sqlite_trees.proofs.ListLemmas.{map-map}
-use Rattle.sqlite_sql.specs.Term.{col}
+use Rattle.sqlite_rules.specs.Cast.{cast_row}
+use Rattle.sqlite_sql.specs.Term.{Term, col, eval_all}
 use Rattle.std.proofs.lemmas.Bool.Decides.{eqb_tells}
 use Rattle.sqlite_schema.specs.declared.schema.Table.{Table}
 use Rattle.sqlite.specs.State.{State, Shown, Executes}
 use Rattle.mx_pay.specs.Names.{name_cmp, is_name}
 use Rattle.mx_pay.specs.Codes.{code, entry_texts}
+use Rattle.mx_pay.specs.Details.{Details, IsDetails}
 use Rattle.mx_pay.specs.Log.{none_logged}
+use Rattle.mx_pay.specs.Reading.{entry_of}
 use Rattle.mx_pay.proofs.CodeLemmas.{none_is}
-use Rattle.mx_purse.specs.State.{new_purse}
+use Rattle.mx_pay.proofs.EntryLemmas.{entry_again}
+use Rattle.mx_purse.specs.State.{new_purse, IsPurse, details_of, State as Purse}
+use Rattle.mx_purse.specs.declared.status.Status.{Status}
+use Rattle.mx_purse.specs.declared.status.Status.TheVariants.{EaFrom, EaTo, Epr, Epv, Epa}
 use Rattle.mx_book.specs.World.{Name}
-use Rattle.mx_book.specs.RowEdits.{rewritten}
-use Rattle.mx_book.specs.declared.edits.Edit.TheVariants.{NewPurse}
+use Rattle.mx_book.specs.RowEdits.{rewritten, on_purse}
+use Rattle.mx_book.specs.declared.edits.Edit.TheVariants.{NewPurse, SetPurse}
 use Rattle.mx_book.specs.Rows.{Rows}
 use Rattle.mx_book.specs.RowReads.{row_purses_of, purse_rows_of}
 use Rattle.mx_book.specs.declared.values.PurseRow.{PurseRow}
+use Rattle.mx_book.proofs.NameLemmas.{names_total, names_exact}
 use Rattle.mx_tables.specs.Schema.{office_schema, purse}
 use Rattle.mx_tables.specs.Contents.{Contents}
-use Rattle.mx_tables.specs.Cells.{purse_cells, number}
+use Rattle.mx_tables.specs.Cells.{purse_cells, number, status_text, details_text}
 use Rattle.mx_tables.specs.Holds.{Holds}
 use Rattle.mx_tables.specs.States.{Goes}
-use Rattle.mx_tables.specs.Answers.{text_shown}
+use Rattle.mx_tables.specs.Answers.{at_key, text_shown, state_shown, state_columns, purse_shown, purse_columns, next_shown}
 use Rattle.mx_tables.proofs.Queries.{is_given}
-use Rattle.mx_tables.proofs.Texts.{select_held, select_held_is, insert_purse, insert_purse_is}
+use Rattle.mx_tables.proofs.Texts.{IsUpdate, select_held, select_held_is, insert_purse, insert_purse_is, select_purse, select_purse_is, update_purse, update_purse_is, select_next, select_next_is, update_next, update_next_is}
+use Rattle.mx_tables.proofs.Statements.{env}
 use Rattle.mx_tables.proofs.StoredLemmas.{and_true, same_text, cast_int, cast_null}
-use Rattle.mx_tables.proofs.ReadLemmas.{turned, answers_in_order}
-use Rattle.mx_tables.proofs.WriteLemmas.{Place, adds}
+use Rattle.mx_tables.proofs.ReadLemmas.{turned, answers, answers_in_order}
+use Rattle.mx_tables.proofs.WriteLemmas.{Place, adds, alters, counts, goes_as, remake_some, one_passes}
+use Rattle.mx_tables.proofs.MessageLemmas.{same_code, same_number}
+use Rattle.mx_tables.proofs.ValueLemmas.{same_text as same_words}
 use Rattle.mx_tables.proofs.KeptLemmas.{purses}
 
 pub finds_held : (holder : Name) (old new : State) (rows : List Row) → Shown select_held (Text holder ∷ []) old new rows → (r : Rows) → Holds old.now r
@@ -42,6 +55,18 @@ finds_held holder old new rows shown r h =
     (λ id e. rw (same_text e.1.holder holder) (and_true _ ∙ turned e.1.holder holder)) (λ id e. refl)
     (λ a b _ _ low. then-Equal _ ∙ value_cmp-Text a.0 b.0 ∙ low) select_held (codes "name" ∷ []) select_held_is old new rows shown r h
     ∙ sym (map-map text_shown (λ (e : Name × PurseRow). e.0) (purse_rows_of holder (fmap.entries r.purses)))
+
+pub finds_purse : (p : Name) (old new : State) (rows : List Row) → Shown select_purse (Text p ∷ []) old new rows → (r : Rows) → Holds old.now r
+    → IsPermutation (map (λ (e : Name × PurseRow). purse_shown e.1) (at_key name_cmp p (fmap.entries r.purses))) rows
+finds_purse p =
+    answers purses select_purse _ _ _ select_purse_is (Text p ∷ []) (λ (e : Name × PurseRow). is_name p e.0) (λ (e : Name × PurseRow). purse_shown e.1)
+    (λ id e. rw (same_text e.0 p) (and_true _ ∙ turned e.0 p)) (λ id e. refl)
+
+pub finds_next : (p : Name) (old new : State) (rows : List Row) → Shown select_next (Text p ∷ []) old new rows → (r : Rows) → Holds old.now r
+    → IsPermutation (map (λ (e : Name × PurseRow). next_shown e.1) (at_key name_cmp p (fmap.entries r.purses))) rows
+finds_next p =
+    answers purses select_next _ _ _ select_next_is (Text p ∷ []) (λ (e : Name × PurseRow). is_name p e.0) (λ (e : Name × PurseRow). next_shown e.1)
+    (λ id e. rw (same_text e.0 p) (and_true _ ∙ turned e.0 p)) (λ id e. refl)
 
 -- ---- writes
 
@@ -75,3 +100,77 @@ pub adds_purse : (p h : Name) (old new : State) (count : ℕ) → old.now.schema
 adds_purse p h =
     adds purses place (λ l c. refl) insert_purse _ _ insert_purse_is (Text p ∷ Text h ∷ []) (p, record { holder = h; purse = new_purse p; next_message = 0 })
     (rw (cast_null, cast_int (pos 0)) (ap (blank_cells p h) (sym none_coded)))
+
+-- an UPDATE of one purse
+module _ (sql : List ℕ) (project : List Term) (text : IsUpdate sql 4 8 (is_given 1 0 ∷ []) project) (p : Name) (more : Row) (g : PurseRow → PurseRow)
+    (first : (id : ℤ) (e : Name × PurseRow) → rowid (eval_all project (env (Text p ∷ more) (Int id ∷ purse_cells e))) ≡ Int id)
+    (forms : (id : ℤ) (e : Name × PurseRow) → cast_row purse_table (drop 1 (eval_all project (env (Text p ∷ more) (Int id ∷ purse_cells e)))) ≡ Int id ∷ purse_cells (e.0, g e.1))
+    (old new : State) (has : old.now.schema ≡ office_schema) (ran : Executes sql (Text p ∷ more) old new (Ok 1)) where
+  abbrev change : PurseRow → Rows → Rows
+  change x r = record r { purses = fmap.insert r.purses p (g x) }
+
+  one_purse : Goes (λ r. on_purse (fmap.get r.purses p) r (λ x. change x r)) old new
+  one_purse =
+      goes_as _ _ old new
+      (λ r h.
+      let there = one_passes name_cmp names_total p r.purses (counts purses place (λ l c. refl) sql _ _ text (Text p ∷ more) (λ k. is_name k p) (λ _ x. g x) (λ id e. rw (same_text e.0 p) (and_true _)) first forms old new 1 has ran r h) in
+      ap (λ t. record r { purses = t }) (remake_some names_total names_exact r.purses p g there.0 there.1) ∙ ap (λ o. on_purse o r (λ x. change x r)) (sym there.1))
+      (alters purses place (λ l c. refl) sql _ _ text (Text p ∷ more) (λ k. is_name k p) (λ _ x. g x) (λ id e. rw (same_text e.0 p) (and_true _)) first forms old new 1 has ran)
+
+abbrev purse_params : Purse → Row
+purse_params q = number q.balance ∷ number q.next ∷ Text (status_text q.status) ∷ Text (details_text q.status) ∷ Text (code q.log) ∷ number q.lines ∷ []
+
+pub sets_purse : (q : Purse) (old new : State) → old.now.schema ≡ office_schema → Executes update_purse (Text q.name ∷ purse_params q) old new (Ok 1) → Goes (λ r. rewritten r (SetPurse q)) old new
+sets_purse q = one_purse update_purse _ update_purse_is q.name (purse_params q) (λ x. record x { purse = q }) (λ id e. refl)
+    (λ id e. rw (cast_int id, cast_int (pos q.balance), cast_int (pos q.next), cast_int (pos q.lines), cast_int (pos e.1.next_message)) refl)
+
+pub sets_next : (p : Name) (n : ℕ) (old new : State) → old.now.schema ≡ office_schema → Executes update_next (Text p ∷ number n ∷ []) old new (Ok 1)
+    → Goes (λ r. on_purse (fmap.get r.purses p) r (λ x. record r { purses = fmap.insert r.purses p (record x { next_message = n }) })) old new
+sets_next p n = one_purse update_next _ update_next_is p (number n ∷ []) (λ x. record x { next_message = n }) (λ id e. refl)
+    (λ id e. rw (cast_int id, cast_int (pos e.1.purse.balance), cast_int (pos e.1.purse.next), cast_int (pos e.1.purse.lines), cast_int (pos n)) refl)
+
+-- ---- a purse that was read
+
+abbrev with_details : Option Details → (Details → Status) → Status
+with_details None f = EaFrom
+with_details (Some d) f = f d
+
+-- the status of a word's last letter and details
+abbrev status_of : ℕ → Option Details → Status
+status_of c o = if c == 109 then EaFrom else if c == 111 then EaTo else if c == 114 then with_details o Epr else if c == 118 then with_details o Epv else with_details o Epa
+
+abbrev last : List ℕ → ℕ
+last [] = 0
+last (c ∷ []) = c
+last (c ∷ d ∷ cs) = last (d ∷ cs)
+
+again : (s : Status) → IfSome (details_of s) IsDetails → status_of (last (status_text s)) (entry_of (details_text s)) ≡ s
+again EaFrom h = refl
+again EaTo h = refl
+again (Epr d) h = ap (λ o. with_details o Epr) (entry_again d h)
+again (Epv d) h = ap (λ o. with_details o Epv) (entry_again d h)
+again (Epa d) h = ap (λ o. with_details o Epa) (entry_again d h)
+
+same_status : (s u : Status) → IfSome (details_of s) IsDetails → IfSome (details_of u) IsDetails → status_text s ≡ status_text u → details_text s ≡ details_text u → s ≡ u
+same_status s u one two k t = sym (again s one) ∙ ap₂ (λ w d. status_of (last w) (entry_of d)) k t ∙ again u two
+
+-- purses of one name that show the same are the same
+same_state : (a b : Purse) → IsPurse a → IsPurse b → a.name ≡ b.name → state_shown a ≡ state_shown b → a ≡ b
+same_state a b one two named h =
+    let balance = same_number a.balance b.balance (ap (λ r. column r 0) h) in
+    let next = same_number a.next b.next (ap (λ r. column r 1) h) in
+    let status = same_status a.status b.status one.details two.details (same_words _ _ (ap (λ r. column r 2) h)) (same_words _ _ (ap (λ r. column r 3) h)) in
+    let log = same_code a.log b.log one.log two.log (same_words _ _ (ap (λ r. column r 4) h)) in
+    let lines = same_number a.lines b.lines (ap (λ r. column r 5) h) in
+    λ i. record { name = named i; balance = balance i; next = next i; status = status i; log = log i; lines = lines i }
+
+pub purse_back : (v x : PurseRow) (row : Row) → IsPurse v.purse → IsPurse x.purse → v.purse.name ≡ x.purse.name → purse_shown v ≡ row → purse_columns row ≡ purse_shown x → x ≡ v
+purse_back v x row one two named is shown =
+    let h : purse_shown v ≡ purse_shown x = ap purse_columns is ∙ shown in
+    let holder = same_words _ _ (ap (λ r. column r 0) h) in
+    let purse = same_state v.purse x.purse one two named (ap state_columns h) in
+    let next = same_number v.next_message x.next_message (ap (λ r. column r 7) h) in
+    λ i. record { holder = sym holder i; purse = sym purse i; next_message = sym next i }
+
+pub next_back : (x : PurseRow) (n : ℕ) (row : Row) → next_shown x ≡ row → column row 0 ≡ number n → x.next_message ≡ n
+next_back x n row is shown = same_number x.next_message n (ap (λ r. column r 0) is ∙ shown)

@@ -9,7 +9,8 @@ use Rattle.sqlite.specs.declared.error.Error.{Error}
 use Rattle.sqlite.specs.Effect.{Database}
 use Rattle.sqlite.specs.Given.{IsPlain}
 use Rattle.sqlite.specs.Listing.{understood}
-use Rattle.sqlite.specs.State.{State, HasCleanDisk, IsUnchanged, IsRolledBack, FailsToQuery, FailsToShow, IsNotRun, Shown, ShowsRows, KeepsCommit, ExecutesInside}
+use Rattle.sqlite.specs.State.{State, HasCleanDisk, IsUnchanged, IsRolledBack, FailsToQuery, FailsToShow, IsNotRun, Shown, ShowsRows, KeepsCommit, ExecutesInside, IsTooLate}
+use Rattle.mx_tables.specs.Holds.{Holds}
 use Rattle.sqlite.specs.Steps.{FailsToCommit}
 use Rattle.mx_tables.specs.Schema.{office_schema}
 use Rattle.mx_book.specs.declared.contract.StoreFault.{StoreFault}
@@ -113,7 +114,7 @@ stays old new ours mode clean opened quits =
 pub still : (old : State) → KeepsCommit old old
 still old = record { was_open = λ o. o; committed = λ o. refl }
 
-quits : (old new : State) → Quits old new → KeepsCommit old new
+pub quits : (old new : State) → Quits old new → KeepsCommit old new
 quits old new (inl same) = record { was_open = λ _. same.0.was_open; committed = λ _. same.0.committed_is }
 quits old new (inr undone) = record { was_open = undone.was_open; committed = λ o. (undone.undone o).1 }
 
@@ -138,6 +139,20 @@ unmade first old new (Err e) kept inside h = λ is_open. elim h [
 pub goes_on : (sql : List ℕ) (params : Row) (old new : State) (r : Result ℕ Error) → ExecutesInside 0 sql params old new r → OnOk r (IsTrue new.in_transaction)
 goes_on sql params old new (Ok count) h = h.1.mode
 goes_on sql params old new (Err e) h = tt
+
+-- ---- reads in a transaction
+
+rows_keep : (old new : State) (sql : List ℕ) (c : Compiled) (params : Row) (rows : List Row) (what : Option Returning) → IsTrue old.in_transaction → ShowsRows old new sql c params rows what → KeepsCommit old new × IsTrue new.in_transaction
+rows_keep old new sql c params rows None inside h = (quits old new (inl h.3), subst IsTrue (sym h.3.0.mode) inside)
+rows_keep old new sql c params rows (Some what) inside h = let shown = rw inside at h.1.shown in (record { was_open = λ _. shown.was_open; committed = λ _. shown.committed_is }, shown.mode)
+
+pub shown_keeps : (sql : List ℕ) (params : Row) (old new : State) (rows : List Row) → IsTrue old.in_transaction → Shown sql params old new rows → KeepsCommit old new × IsTrue new.in_transaction
+unfolding Shown
+shown_keeps sql params old new rows inside h = rows_keep old new sql h.0 _ rows h.0.returning inside h.2
+
+pub refused_keeps : (sql : List ℕ) (params : Row) (old new : State) (e : Error) → FailsToQuery sql params old new e ⊎ IsTooLate sql params old new e → KeepsCommit old new
+refused_keeps sql params old new e (inl failed) = quits old new (query_quits sql params old new e failed)
+refused_keeps sql params old new e (inr late) = quits old new (inl late.5)
 
 -- ---- a transaction as a whole
 
@@ -167,3 +182,9 @@ left_as_was old new (Err e) ours later none h = (none (sure new h).1 (sure new h
 
 pub keeps_then : (a b c : State) → KeepsCommit a b → KeepsCommit b c → KeepsCommit a c
 keeps_then a b c one two = record { was_open = λ o. one.was_open (two.was_open o); committed = λ o. two.committed o ∙ one.committed (two.was_open o) }
+
+-- a query of rows of the office leaves them
+pub still_goes : (sql : List ℕ) (params : Row) (old new : State) (rows : List Row) → IsText sql → old.now.schema ≡ office_schema → Shown sql params old new rows → Goes (λ r. r) old new
+still_goes sql params old new rows text has shown =
+    let same : new.now ≡ old.now = (shown_same sql params old new rows text has shown).0.now_is in
+    record { schema = ap (λ (d : Database). d.schema) same ∙ has; rows = λ r holds. subst (λ (d : Database). Holds d r) (sym same) holds }

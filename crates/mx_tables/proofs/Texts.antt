@@ -138,3 +138,46 @@ delete_message = codes "DELETE FROM inbox WHERE purse = ?1 AND number = ?2"
 pub delete_message_is : IsDelete delete_message 5 10 (is_given 1 0 ∷ is_given 2 1 ∷ []) (col 1 0 ∷ [])
 unfolding understood everything
 delete_message_is = record { is = refl; plain = (refl, refl) }
+
+abbrev pub select_purse : List ℕ
+select_purse = codes "SELECT holder, balance, next_number, status, details, log, line_count, next_message FROM purse WHERE name = ?1"
+
+pub select_purse_is : IsSelect select_purse 8 (is_given 1 0 ∷ []) (col 1 2 ∷ col 1 3 ∷ col 1 4 ∷ col 1 5 ∷ col 1 6 ∷ col 1 7 ∷ col 1 8 ∷ col 1 9 ∷ []) []
+    (codes "holder" ∷ codes "balance" ∷ codes "next_number" ∷ codes "status" ∷ codes "details" ∷ codes "log" ∷ codes "line_count" ∷ codes "next_message" ∷ [])
+unfolding understood everything
+select_purse_is = record { is = refl; plain = (refl, refl); unlisted = refl }
+
+abbrev pub update_purse : List ℕ
+update_purse = codes "UPDATE purse SET balance = ?2, next_number = ?3, status = ?4, details = ?5, log = ?6, line_count = ?7 WHERE name = ?1"
+
+pub update_purse_is : IsUpdate update_purse 4 8 (is_given 1 0 ∷ []) (col 1 0 ∷ col 1 0 ∷ col 1 1 ∷ col 1 2 ∷ col 0 1 ∷ col 0 2 ∷ col 0 3 ∷ col 0 4 ∷ col 0 5 ∷ col 0 6 ∷ col 1 9 ∷ [])
+unfolding understood everything
+update_purse_is = record { is = refl; plain = (refl, refl) }
+
+abbrev pub select_next : List ℕ
+select_next = codes "SELECT next_message FROM purse WHERE name = ?1"
+
+pub select_next_is : IsSelect select_next 8 (is_given 1 0 ∷ []) (col 1 9 ∷ []) [] (codes "next_message" ∷ [])
+unfolding understood everything
+select_next_is = record { is = refl; plain = (refl, refl); unlisted = refl }
+
+abbrev pub update_next : List ℕ
+update_next = codes "UPDATE purse SET next_message = ?2 WHERE name = ?1"
+
+pub update_next_is : IsUpdate update_next 4 8 (is_given 1 0 ∷ []) (col 1 0 ∷ col 1 0 ∷ col 1 1 ∷ col 1 2 ∷ col 1 3 ∷ col 1 4 ∷ col 1 5 ∷ col 1 6 ∷ col 1 7 ∷ col 1 8 ∷ col 0 1 ∷ [])
+unfolding understood everything
+update_next_is = record { is = refl; plain = (refl, refl) }
+
+abbrev pub select_message : List ℕ
+select_message = codes "SELECT kind, details FROM inbox WHERE purse = ?1 AND number = ?2"
+
+pub select_message_is : IsSelect select_message 10 (is_given 1 0 ∷ is_given 2 1 ∷ []) (col 1 3 ∷ col 1 4 ∷ []) [] (codes "kind" ∷ codes "details" ∷ [])
+unfolding understood everything
+select_message_is = record { is = refl; plain = (refl, refl); unlisted = refl }
+
+abbrev pub insert_message : List ℕ
+insert_message = codes "INSERT INTO inbox (purse, number, kind, details) VALUES (?1, ?2, ?3, ?4)"
+
+pub insert_message_is : IsInsert insert_message 5 (lit Null ∷ col 0 0 ∷ col 0 1 ∷ col 0 2 ∷ col 0 3 ∷ []) 5
+unfolding understood everything
+insert_message_is = record { is = refl; plain = (refl, refl) }

@@ -39,7 +39,7 @@ use Rattle.mx_tables.proofs.WriteLemmas.{has_then, no_actions, goes}
 use Rattle.mx_tables.proofs.KeptLemmas.{token_rows}
 
 -- a token's text is read as it
-token_back : (t : Token) → IsToken t → token_of (encode_lower t) ≡ Some t
+pub token_back : (t : Token) → IsToken t → token_of (encode_lower t) ≡ Some t
 token_back t h = ap result_ok (decode_sized-encode_lower t token_bytes h.count h.bytes)
 
 same_tests : {X : Type 0} (p q : X → Bool) (xs : List X) → AllByRecursion (λ x. p x ≡ q x) xs → filter p xs ≡ filter q xs

@@ -6,13 +6,17 @@ use Rattle.sqlite_value.specs.Order.{Row, column}
 use Rattle.sqlite_value.specs.declared.value.Value.TheVariants.{Text}
 use Rattle.mx_book.specs.declared.values.Caller.{Caller}
 use Rattle.mx_book.specs.declared.values.MemberRow.{MemberRow}
-use Rattle.std.specs.Prelude.{◌≡◌, Some}
+use Rattle.std.specs.Prelude.{◌≡◌, ◌≤◌, Some}
 use Rattle.std.specs.FinMap as fmap
 use Rattle.mx_purse.specs.declared.message.Message.{Message}
 use Rattle.mx_purse.specs.Messages.{IsMessage}
 use Rattle.mx_book.specs.World.{Name}
 use Rattle.mx_book.specs.Rows.{Rows}
-use Rattle.mx_tables.specs.Cells.{number, kind_text, owner_text, message_kind, message_details}
+use Rattle.mx_pay.specs.Limits.{most_number}
+use Rattle.mx_pay.specs.Codes.{code}
+use Rattle.mx_purse.specs.State.{State, IsPurse}
+use Rattle.mx_book.specs.declared.values.PurseRow.{PurseRow}
+use Rattle.mx_tables.specs.Cells.{number, kind_text, owner_text, message_kind, message_details, status_text, details_text}
 
 -- the entries at a key
 abbrev pub at_key : {K V : Type 0} → (K → K → Ordering) → K → List (K × V) → List (K × V)
@@ -27,6 +31,9 @@ member_shown m = number m.granted ∷ number m.float ∷ []
 abbrev pub text_shown : List ℕ → Row
 text_shown t = Text t ∷ []
 
+abbrev pub amount_shown : ℕ → Row
+amount_shown n = number n ∷ []
+
 -- the first three columns of a row
 abbrev pub first_three : Row → Row
 first_three r = column r 0 ∷ column r 1 ∷ column r 2 ∷ []
@@ -37,3 +44,32 @@ message_row e = number e.0 ∷ Text (message_kind e.1) ∷ Text (message_details
 -- each message is within its limits
 abbrev pub AreMessages : Rows → Type 0
 AreMessages r = (k : Name × ℕ) (m : Message) → fmap.get r.inbox k ≡ Some m → IsMessage m
+
+-- each message has a number up to 10^15
+abbrev pub HaveNumbers : Rows → Type 0
+HaveNumbers r = (k : Name × ℕ) (m : Message) → fmap.get r.inbox k ≡ Some m → k.1 ≤ most_number
+
+-- what a row of a purse shows of the purse, but for its name
+abbrev pub state_shown : State → Row
+state_shown p = number p.balance ∷ number p.next ∷ Text (status_text p.status) ∷ Text (details_text p.status) ∷ Text (code p.log) ∷ number p.lines ∷ []
+
+-- the columns of the purse in a row of a purse
+abbrev pub state_columns : Row → Row
+state_columns r = column r 1 ∷ column r 2 ∷ column r 3 ∷ column r 4 ∷ column r 5 ∷ column r 6 ∷ []
+
+-- the columns of a row of a purse
+abbrev pub purse_columns : Row → Row
+purse_columns r = column r 0 ∷ column r 1 ∷ column r 2 ∷ column r 3 ∷ column r 4 ∷ column r 5 ∷ column r 6 ∷ column r 7 ∷ []
+
+abbrev pub purse_shown : PurseRow → Row
+purse_shown x = Text x.holder ∷ number x.purse.balance ∷ number x.purse.next ∷ Text (status_text x.purse.status) ∷ Text (details_text x.purse.status) ∷ Text (code x.purse.log) ∷ number x.purse.lines ∷ number x.next_message ∷ []
+
+abbrev pub next_shown : PurseRow → Row
+next_shown x = number x.next_message ∷ []
+
+abbrev pub message_shown : Message → Row
+message_shown m = Text (message_kind m) ∷ Text (message_details m) ∷ []
+
+-- each purse is one, under its name
+abbrev pub ArePurses : Rows → Type 0
+ArePurses r = (p : Name) (x : PurseRow) → fmap.get r.purses p ≡ Some x → (x.purse.name ≡ p) × IsPurse x.purse

@@ -5,4 +5,7 @@ pub mod Holds
 pub mod Rows
 pub mod States
 pub mod Answers
+pub mod Pages
 pub mod Made
+pub mod Results
+pub mod Counted

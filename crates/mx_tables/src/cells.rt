@@ -7,7 +7,7 @@ ghost use Rattle.mx_pay.specs.Details.{IsDetails};
 ghost use Rattle.mx_pay.specs.Log.{IsLogValue};
 
 use mx_book::StoreFault;
-use mx_pay::{Log, Name, PayDetails, read_code};
+use mx_pay::{Amount, Log, Name, PayDetails, read_code};
 use sqlite::Row;
 use sqlite_value::value::ValueRef;
 
@@ -47,6 +47,16 @@ pub fn number_at(row: &Row, at: usize) -> Result<u64, StoreFault>
             Err(_) => Err(StoreFault::Store),
         },
         _ => Err(StoreFault::Store),
+    }
+}
+
+/// The amount in a column. Store where another value is there.
+pub fn amount_at(row: &Row, at: usize) -> Result<Amount, StoreFault>
+    ensures { IfOk result (λ n. column row.now at ≡ Int (pos n)) }
+{
+    match Amount::new(number_at(row, at)?) {
+        Some(amount) => Ok(amount),
+        None => Err(StoreFault::Store),
     }
 }
 

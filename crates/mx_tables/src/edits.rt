@@ -8,14 +8,21 @@ ghost use Rattle.mx_tables.specs.Schema.{office_schema};
 ghost use Rattle.mx_tables.specs.States.{Goes};
 
 use crate::asking::fault_of;
+use crate::collecting::collect;
 use crate::holders::insert_holder;
-use crate::inbox::drop_message;
+use crate::inbox::{drop_message, insert_message};
+use crate::lines::insert_line;
+use crate::loads::insert_load;
 use crate::members::{insert_member, update_member};
-use crate::purses::insert_purse;
+use crate::purses::{insert_purse, next_number, set_next, set_purse};
+use crate::redemptions::insert_redemption;
+use crate::results::{archive_tray, insert_tray};
 use crate::tokens::insert_token;
 use mx_book::{Caller, Edit, StoreFault};
-use mx_pay::{Name, Token};
+use mx_pay::{MOST_NUMBER, Name, Token};
+use mx_purse::Message;
 use sqlite::{Alter, Connection, Transaction};
+use std::alloc::Global;
 
 /// Adds a member and its clerk's token.
 fn add_member<S: Alter>(
@@ -52,13 +59,40 @@ fn add_holder<S: Alter>(
     insert_token(tx, &token, &Caller::Holder(holder))
 }
 
+/// Puts a message into the inbox of a purse under its next message number, which rises by one. Store where there is
+/// no such purse, or that number is 10^15.
+fn add_message<S: Alter>(
+    tx: &mut Transaction<'_, S>,
+    alloc: Global,
+    purse: &Name,
+    message: &Message,
+) -> Result<(), StoreFault>
+    ensures same_reference { tx.new.conn.ghost_name ≡ tx.old.conn.ghost_name }
+    ensures ok { HasCleanDisk (state S.Store tx.new.conn.now) → IsTrue tx.old.conn.now.in_transaction → (state S.Store tx.old.conn.now).now.schema ≡ office_schema
+        → OnOk result (Goes (λ r. rewritten r (Edit.AddMessage purse.now message.now)) (state S.Store tx.old.conn.now) (state S.Store tx.new.conn.now)) }
+    ensures inside { HasCleanDisk (state S.Store tx.new.conn.now) → IsTrue tx.old.conn.now.in_transaction → OnOk result (IsTrue tx.new.conn.now.in_transaction) }
+    ensures kept { HasCleanDisk (state S.Store tx.new.conn.now) → IsTrue tx.old.conn.now.in_transaction → KeepsCommit (state S.Store tx.old.conn.now) (state S.Store tx.new.conn.now) }
+    ensures clean { doubt (state S.Store tx.old.conn.now).is_clean ≤ doubt (state S.Store tx.new.conn.now).is_clean }
+{
+    let number = next_number(tx, purse)?;
+    if number >= MOST_NUMBER {
+        return Err(StoreFault::Store);
+    }
+    insert_message(tx, alloc, purse, number, message)?;
+    set_next(tx, purse, number + 1)
+}
+
 /// Makes one edit.
-fn edit_one<S: Alter>(tx: &mut Transaction<'_, S>, edit: Edit) -> Result<(), StoreFault>
+fn edit_one<S: Alter>(
+    tx: &mut Transaction<'_, S>,
+    alloc: Global,
+    edit: Edit,
+) -> Result<(), StoreFault>
     ensures same_reference { tx.new.conn.ghost_name ≡ tx.old.conn.ghost_name }
     ensures ok { HasCleanDisk (state S.Store tx.new.conn.now) → IsTrue tx.old.conn.now.in_transaction → (state S.Store tx.old.conn.now).now.schema ≡ office_schema
         → OnOk result (Goes (λ r. rewritten r edit) (state S.Store tx.old.conn.now) (state S.Store tx.new.conn.now)) }
     ensures inside { HasCleanDisk (state S.Store tx.new.conn.now) → IsTrue tx.old.conn.now.in_transaction → OnOk result (IsTrue tx.new.conn.now.in_transaction) }
-    ensures kept { HasCleanDisk (state S.Store tx.new.conn.now) → KeepsCommit (state S.Store tx.old.conn.now) (state S.Store tx.new.conn.now) }
+    ensures kept { HasCleanDisk (state S.Store tx.new.conn.now) → IsTrue tx.old.conn.now.in_transaction → KeepsCommit (state S.Store tx.old.conn.now) (state S.Store tx.new.conn.now) }
     ensures clean { doubt (state S.Store tx.old.conn.now).is_clean ≤ doubt (state S.Store tx.new.conn.now).is_clean }
 {
     match edit {
@@ -74,13 +108,32 @@ fn edit_one<S: Alter>(tx: &mut Transaction<'_, S>, edit: Edit) -> Result<(), Sto
             token,
         } => add_holder(tx, holder, member, token),
         Edit::NewPurse { purse, holder } => insert_purse(tx, &purse, &holder),
+        Edit::SetPurse { purse } => set_purse(tx, alloc, &purse),
+        Edit::AddMessage { purse, message } => add_message(tx, alloc, &purse, &message),
         Edit::DropMessage { purse, number } => drop_message(tx, &purse, number),
-        _ => Err(StoreFault::Store),
+        Edit::AddLine { purse, line } => insert_line(alloc, tx, &purse, &line),
+        Edit::AddTray { purse, details } => insert_tray(alloc, tx, &purse, &details),
+        Edit::ArchiveTray { purse } => archive_tray(tx, &purse),
+        Edit::AddLoad {
+            purse,
+            reference,
+            amount,
+        } => insert_load(tx, &purse, &reference, amount),
+        Edit::AddRedemption {
+            purse,
+            reference,
+            amount,
+        } => insert_redemption(tx, &purse, &reference, amount),
+        Edit::Collect { member } => collect(tx, &member),
     }
 }
 
 /// Makes these edits in order, all of them or none, in one transaction.
-pub fn edit_all<S: Alter>(conn: &mut Connection<S>, edits: &[Edit]) -> Result<(), StoreFault>
+pub fn edit_all<S: Alter>(
+    alloc: Global,
+    conn: &mut Connection<S>,
+    edits: &[Edit],
+) -> Result<(), StoreFault>
     requires { conn.old.in_transaction ≡ false }
     ensures done { HasCleanDisk (state S.Store conn.new) → (state S.Store conn.old).now.schema ≡ office_schema
         → OnOk result (Goes (λ r. fold rewritten r edits.now) (state S.Store conn.old) (state S.Store conn.new) × ((state S.Store conn.new).committed ≡ (state S.Store conn.new).now)) }
@@ -92,7 +145,7 @@ pub fn edit_all<S: Alter>(conn: &mut Connection<S>, edits: &[Edit]) -> Result<()
 {
     let mut tx = conn.transaction();
     for edit in edits {
-        edit_one(&mut tx, *edit)?;
+        edit_one(&mut tx, alloc, *edit)?;
     }
     match tx.commit() {
         Ok(()) => Ok(()),

@@ -12,7 +12,7 @@ ghost use Rattle.mx_tables.specs.States.{worry, IsOurs, Stays, Goes};
 ghost use Rattle.mx_tables.specs.Holds.{Holds};
 ghost use Rattle.mx_tables.specs.Answers.{at_key, text_shown};
 
-use crate::asking::{ask, run};
+use crate::asking::{ask, ask_inside, run};
 use crate::cells::name_at;
 use crate::purses::count_held;
 use mx_book::{HolderRow, StoreFault};
@@ -83,4 +83,44 @@ pub fn read_holder<S: Alter>(
     };
     let purses = count_held(conn, name)?;
     Ok(Some(HolderRow { member, purses }))
+}
+
+/// The member of a holder, in the rows of that name, inside a transaction.
+fn select_holder_inside<S: Alter>(
+    tx: &mut Transaction<'_, S>,
+    name: &Name,
+) -> Result<Vec<Row>, StoreFault>
+    ensures same_reference { tx.new.conn.ghost_name ≡ tx.old.conn.ghost_name }
+    ensures rows { HasCleanDisk (state S.Store tx.new.conn.now) → (r : _) → Holds (state S.Store tx.old.conn.now).now r → IfOk result (λ rows. IsPermutation (map (λ e. text_shown e.1) (at_key name_cmp name.now (fmap.entries r.holders))) rows.items) }
+    ensures same { HasCleanDisk (state S.Store tx.new.conn.now) → (state S.Store tx.old.conn.now).now.schema ≡ office_schema → OnOk result ((state S.Store tx.new.conn.now).now ≡ (state S.Store tx.old.conn.now).now) }
+    ensures inside { HasCleanDisk (state S.Store tx.new.conn.now) → IsTrue tx.old.conn.now.in_transaction → OnOk result (IsTrue tx.new.conn.now.in_transaction) }
+    ensures kept { HasCleanDisk (state S.Store tx.new.conn.now) → IsTrue tx.old.conn.now.in_transaction → KeepsCommit (state S.Store tx.old.conn.now) (state S.Store tx.new.conn.now) }
+    ensures clean { doubt (state S.Store tx.old.conn.now).is_clean ≤ doubt (state S.Store tx.new.conn.now).is_clean }
+{
+    let name = name.as_str();
+    ask_inside(
+        tx,
+        "SELECT member FROM holder WHERE name = ?1",
+        params![name],
+    )
+}
+
+/// The member of a holder, or None where there is no such holder, inside a transaction.
+pub fn find_holder_inside<S: Alter>(
+    tx: &mut Transaction<'_, S>,
+    name: &Name,
+) -> Result<Option<Name>, StoreFault>
+    ensures same_reference { tx.new.conn.ghost_name ≡ tx.old.conn.ghost_name }
+    ensures value { HasCleanDisk (state S.Store tx.new.conn.now) → (r : _) → Holds (state S.Store tx.old.conn.now).now r → IfOk result (λ v. v ≡ fmap.get r.holders name.now) }
+    ensures same { HasCleanDisk (state S.Store tx.new.conn.now) → (state S.Store tx.old.conn.now).now.schema ≡ office_schema → OnOk result ((state S.Store tx.new.conn.now).now ≡ (state S.Store tx.old.conn.now).now) }
+    ensures inside { HasCleanDisk (state S.Store tx.new.conn.now) → IsTrue tx.old.conn.now.in_transaction → OnOk result (IsTrue tx.new.conn.now.in_transaction) }
+    ensures kept { HasCleanDisk (state S.Store tx.new.conn.now) → IsTrue tx.old.conn.now.in_transaction → KeepsCommit (state S.Store tx.old.conn.now) (state S.Store tx.new.conn.now) }
+    ensures clean { doubt (state S.Store tx.old.conn.now).is_clean ≤ doubt (state S.Store tx.new.conn.now).is_clean }
+{
+    let rows = select_holder_inside(tx, name)?;
+    match rows.as_slice() {
+        [] => Ok(None),
+        [row] => Ok(Some(name_at(row, 0)?)),
+        _ => Err(StoreFault::Store),
+    }
 }

@@ -3,14 +3,22 @@
 
 mod asking;
 mod cells;
+mod codes;
+mod collecting;
 mod edits;
+mod given;
 mod holders;
 mod inbox;
+mod lines;
+mod loads;
 mod making;
 mod members;
 pub mod opening;
 mod purses;
+mod redemptions;
+mod results;
 mod same;
+mod sums;
 pub mod tables;
 mod tokens;
 

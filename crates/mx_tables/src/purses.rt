@@ -1,21 +1,33 @@
 //! Purses.
-ghost use Rattle.std.specs.Prelude.{◌≡◌, ◌≤◌, map, length, IfOk, OnOk, IsTrue};
+ghost use Rattle.std.specs.Prelude.{◌≡◌, ◌≤◌, ◌^◌, ◌∷◌, [], codes, map, length, option_map, Ok, Some, IfOk, IfSome, OnOk, IsTrue};
+ghost use Rattle.std.specs.List.Sorted.{IsPermutation};
 ghost use Rattle.std.specs.FinMap as fmap;
 ghost use Rattle.sqlite_trees.specs.View.{doubt};
 ghost use Rattle.sqlite.specs.Held.{state};
-ghost use Rattle.sqlite.specs.State.{HasCleanDisk, KeepsCommit};
-ghost use Rattle.mx_book.specs.declared.edits.Edit.TheVariants.{NewPurse};
-ghost use Rattle.mx_book.specs.RowEdits.{rewritten};
-ghost use Rattle.mx_book.specs.RowReads.{row_purses_of};
+ghost use Rattle.sqlite.specs.State.{HasCleanDisk, Executes, KeepsCommit};
+ghost use Rattle.sqlite_value.specs.Order.{column};
+ghost use Rattle.sqlite_value.specs.declared.value.Value.TheVariants.{Text};
+ghost use Rattle.mx_pay.specs.Names.{name_cmp};
+ghost use Rattle.mx_pay.specs.Details.{IsDetails};
+ghost use Rattle.mx_purse.specs.State.{IsPurse, details_of};
+ghost use Rattle.mx_book.specs.declared.edits.Edit.TheVariants.{NewPurse, SetPurse};
+ghost use Rattle.mx_book.specs.RowEdits.{rewritten, on_purse};
+ghost use Rattle.mx_book.specs.RowReads.{row_purses_of, row_account_of};
 ghost use Rattle.mx_tables.specs.Schema.{office_schema};
 ghost use Rattle.mx_tables.specs.States.{worry, IsOurs, Stays, Goes};
 ghost use Rattle.mx_tables.specs.Holds.{Holds};
-ghost use Rattle.mx_tables.specs.Answers.{text_shown};
+ghost use Rattle.mx_tables.specs.Answers.{at_key, text_shown, state_shown, state_columns, purse_shown, purse_columns, next_shown, ArePurses};
+ghost use Rattle.mx_tables.specs.Cells.{number, status_text, details_text};
 
-use crate::asking::{ask, run};
+use crate::asking::{ask, ask_inside, run, run_one};
+use crate::cells::{entry_at, log_at, name_at, number_at, text_at};
+use crate::codes::{log_code, status_code, status_word};
+use crate::holders::find_holder;
+use crate::inbox::count_messages;
 use crate::members::names_in;
-use mx_book::StoreFault;
-use mx_pay::Name;
+use mx_book::{Account, PurseRow, StoreFault};
+use mx_pay::{Name, Seq};
+use mx_purse::{Purse, Status};
 use sqlite::{Alter, Connection, Row, Transaction, params};
 use std::alloc::Global;
 
@@ -74,4 +86,224 @@ pub fn insert_purse<S: Alter>(
         "INSERT INTO purse (name, holder, balance, next_number, status, details, log, line_count, next_message) VALUES (?1, ?2, 0, 0, 'eaFrom', '', '', 0, 0)",
         params![name, holder],
     )
+}
+
+/// What is kept of a purse, in the rows of that name.
+fn select_purse<S: Alter>(conn: &mut Connection<S>, name: &Name) -> Result<Vec<Row>, StoreFault>
+    ensures stays { IsOurs (state S.Store conn.old) → Stays (state S.Store conn.old) (state S.Store conn.new) }
+    ensures rows { worry (state S.Store conn.new) ≡ 0 → (r : _) → Holds (state S.Store conn.old).now r → IfOk result (λ rows. IsPermutation (map (λ e. purse_shown e.1) (at_key name_cmp name.now (fmap.entries r.purses))) rows.items) }
+{
+    let name = name.as_str();
+    ask(
+        conn,
+        "SELECT holder, balance, next_number, status, details, log, line_count, next_message FROM purse WHERE name = ?1",
+        params![name],
+    )
+}
+
+/// The status that a row of a purse shows.
+fn status_in(row: &Row) -> Result<Status, StoreFault>
+    ensures shown { IfOk result (λ s. (column row.now 3 ≡ Text (status_text s)) × (column row.now 4 ≡ Text (details_text s))) }
+    ensures valid { IfOk result (λ s. IfSome (details_of s) IsDetails) }
+{
+    match (text_at(row, 3), text_at(row, 4)) {
+        (Some("eaFrom"), Some("")) => Ok(Status::EaFrom),
+        (Some("eaTo"), Some("")) => Ok(Status::EaTo),
+        (Some("epr"), _) => Ok(Status::Epr(entry_at(row, 4)?)),
+        (Some("epv"), _) => Ok(Status::Epv(entry_at(row, 4)?)),
+        (Some("epa"), _) => Ok(Status::Epa(entry_at(row, 4)?)),
+        _ => Err(StoreFault::Store),
+    }
+}
+
+/// The purse of that name that a row shows.
+fn state_in(name: &Name, row: &Row) -> Result<Purse, StoreFault>
+    ensures shown { IfOk result (λ p. state_columns row.now ≡ state_shown p) }
+    ensures valid { IfOk result IsPurse }
+    ensures named { IfOk result (λ p. p.name ≡ name.now) }
+{
+    let balance = number_at(row, 1)?;
+    let Some(next) = Seq::new(number_at(row, 2)?) else {
+        return Err(StoreFault::Store);
+    };
+    let status = status_in(row)?;
+    let log = log_at(row, 5)?;
+    let lines = number_at(row, 6)?;
+    match Purse::from_parts(*name, balance, next, status, log, lines) {
+        Some(purse) => Ok(purse),
+        None => Err(StoreFault::Store),
+    }
+}
+
+/// What a row says of the purse of that name.
+fn purse_in(name: &Name, row: &Row) -> Result<PurseRow, StoreFault>
+    ensures shown { IfOk result (λ x. purse_columns row.now ≡ purse_shown x) }
+    ensures valid { IfOk result (λ x. IsPurse x.purse) }
+    ensures named { IfOk result (λ x. x.purse.name ≡ name.now) }
+{
+    let holder = name_at(row, 0)?;
+    let purse = state_in(name, row)?;
+    let next_message = number_at(row, 7)?;
+    Ok(PurseRow {
+        holder,
+        purse,
+        next_message,
+    })
+}
+
+/// What is kept of a purse, or None where there is no such purse.
+fn find_purse<S: Alter>(
+    conn: &mut Connection<S>,
+    name: &Name,
+) -> Result<Option<PurseRow>, StoreFault>
+    ensures stays { IsOurs (state S.Store conn.old) → Stays (state S.Store conn.old) (state S.Store conn.new) }
+    ensures value { worry (state S.Store conn.new) ≡ 0 → (r : _) → Holds (state S.Store conn.old).now r → ArePurses r → IfOk result (λ v. v ≡ fmap.get r.purses name.now) }
+{
+    let rows = select_purse(conn, name)?;
+    match rows.as_slice() {
+        [] => Ok(None),
+        [row] => Ok(Some(purse_in(name, row)?)),
+        _ => Err(StoreFault::Store),
+    }
+}
+
+/// A purse with its holder and the holder's member, how many messages it holds and the number of its next one, or
+/// None where there is no such purse.
+pub fn read_account<S: Alter>(
+    conn: &mut Connection<S>,
+    name: &Name,
+) -> Result<Option<Account>, StoreFault>
+    ensures stays { IsOurs (state S.Store conn.old) → Stays (state S.Store conn.old) (state S.Store conn.new) }
+    ensures value { IsOurs (state S.Store conn.old) → worry (state S.Store conn.new) ≡ 0 → (r : _) → Holds (state S.Store conn.old).now r → ArePurses r → IfOk result (λ v. v ≡ row_account_of r name.now) }
+{
+    let Some(row) = find_purse(conn, name)? else {
+        return Ok(None);
+    };
+    let Some(member) = find_holder(conn, &row.holder)? else {
+        return Ok(None);
+    };
+    let held = count_messages(conn, name)?;
+    Ok(Some(Account {
+        holder: row.holder,
+        member,
+        purse: row.purse,
+        held,
+        next_message: row.next_message,
+    }))
+}
+
+/// Runs the UPDATE of one purse.
+fn change_purse<S: Alter>(
+    tx: &mut Transaction<'_, S>,
+    purse: &Purse,
+    details: &str,
+    log: &str,
+) -> Result<(), StoreFault>
+    ensures same_reference { tx.new.conn.ghost_name ≡ tx.old.conn.ghost_name }
+    ensures ran { HasCleanDisk (state S.Store tx.new.conn.now) → IsTrue tx.old.conn.now.in_transaction → OnOk result (Executes (codes "UPDATE purse SET balance = ?2, next_number = ?3, status = ?4, details = ?5, log = ?6, line_count = ?7 WHERE name = ?1") (Text purse.now.name ∷ number purse.now.balance ∷ number purse.now.next ∷ Text (status_text purse.now.status) ∷ Text details.now ∷ Text log.now ∷ number purse.now.lines ∷ []) (state S.Store tx.old.conn.now) (state S.Store tx.new.conn.now) (Ok 1)) }
+    ensures inside { HasCleanDisk (state S.Store tx.new.conn.now) → IsTrue tx.old.conn.now.in_transaction → OnOk result (IsTrue tx.new.conn.now.in_transaction) }
+    ensures kept { HasCleanDisk (state S.Store tx.new.conn.now) → KeepsCommit (state S.Store tx.old.conn.now) (state S.Store tx.new.conn.now) }
+    ensures clean { doubt (state S.Store tx.old.conn.now).is_clean ≤ doubt (state S.Store tx.new.conn.now).is_clean }
+{
+    let name = purse.name();
+    let name = name.as_str();
+    let balance = purse.balance() as i64;
+    let next = purse.next().get() as i64;
+    let status = status_word(&purse.status());
+    let lines = purse.lines() as i64;
+    run_one(
+        tx,
+        "UPDATE purse SET balance = ?2, next_number = ?3, status = ?4, details = ?5, log = ?6, line_count = ?7 WHERE name = ?1",
+        params![name, balance, next, status, details, log, lines],
+    )
+}
+
+/// Sets the purse of that name, which is there.
+pub fn set_purse<S: Alter>(
+    tx: &mut Transaction<'_, S>,
+    alloc: Global,
+    purse: &Purse,
+) -> Result<(), StoreFault>
+    ensures same_reference { tx.new.conn.ghost_name ≡ tx.old.conn.ghost_name }
+    ensures ok { HasCleanDisk (state S.Store tx.new.conn.now) → IsTrue tx.old.conn.now.in_transaction → (state S.Store tx.old.conn.now).now.schema ≡ office_schema
+        → OnOk result (Goes (λ r. rewritten r (SetPurse purse.now)) (state S.Store tx.old.conn.now) (state S.Store tx.new.conn.now)) }
+    ensures inside { HasCleanDisk (state S.Store tx.new.conn.now) → IsTrue tx.old.conn.now.in_transaction → OnOk result (IsTrue tx.new.conn.now.in_transaction) }
+    ensures kept { HasCleanDisk (state S.Store tx.new.conn.now) → KeepsCommit (state S.Store tx.old.conn.now) (state S.Store tx.new.conn.now) }
+    ensures clean { doubt (state S.Store tx.old.conn.now).is_clean ≤ doubt (state S.Store tx.new.conn.now).is_clean }
+{
+    let details = status_code(alloc, &purse.status())?;
+    let log = log_code(alloc, &purse.log())?;
+    change_purse(tx, purse, details.as_str(), log.as_str())
+}
+
+/// The number of a purse's next message, in the rows of that name.
+fn select_next<S: Alter>(tx: &mut Transaction<'_, S>, name: &Name) -> Result<Vec<Row>, StoreFault>
+    ensures same_reference { tx.new.conn.ghost_name ≡ tx.old.conn.ghost_name }
+    ensures rows { HasCleanDisk (state S.Store tx.new.conn.now) → (r : _) → Holds (state S.Store tx.old.conn.now).now r → IfOk result (λ rows. IsPermutation (map (λ e. next_shown e.1) (at_key name_cmp name.now (fmap.entries r.purses))) rows.items) }
+    ensures same { HasCleanDisk (state S.Store tx.new.conn.now) → (state S.Store tx.old.conn.now).now.schema ≡ office_schema
+        → OnOk result ((state S.Store tx.new.conn.now).now ≡ (state S.Store tx.old.conn.now).now) }
+    ensures inside { HasCleanDisk (state S.Store tx.new.conn.now) → IsTrue tx.old.conn.now.in_transaction → OnOk result (IsTrue tx.new.conn.now.in_transaction) }
+    ensures kept { HasCleanDisk (state S.Store tx.new.conn.now) → IsTrue tx.old.conn.now.in_transaction → KeepsCommit (state S.Store tx.old.conn.now) (state S.Store tx.new.conn.now) }
+    ensures clean { doubt (state S.Store tx.old.conn.now).is_clean ≤ doubt (state S.Store tx.new.conn.now).is_clean }
+{
+    let name = name.as_str();
+    ask_inside(
+        tx,
+        "SELECT next_message FROM purse WHERE name = ?1",
+        params![name],
+    )
+}
+
+/// The number of a purse's next message. Store where there is no such purse.
+pub fn next_number<S: Alter>(tx: &mut Transaction<'_, S>, name: &Name) -> Result<u64, StoreFault>
+    ensures same_reference { tx.new.conn.ghost_name ≡ tx.old.conn.ghost_name }
+    ensures value { HasCleanDisk (state S.Store tx.new.conn.now) → (r : _) → Holds (state S.Store tx.old.conn.now).now r → IfOk result (λ n. option_map (λ x. x.next_message) (fmap.get r.purses name.now) ≡ Some n) }
+    ensures same { HasCleanDisk (state S.Store tx.new.conn.now) → (state S.Store tx.old.conn.now).now.schema ≡ office_schema
+        → OnOk result ((state S.Store tx.new.conn.now).now ≡ (state S.Store tx.old.conn.now).now) }
+    ensures inside { HasCleanDisk (state S.Store tx.new.conn.now) → IsTrue tx.old.conn.now.in_transaction → OnOk result (IsTrue tx.new.conn.now.in_transaction) }
+    ensures kept { HasCleanDisk (state S.Store tx.new.conn.now) → IsTrue tx.old.conn.now.in_transaction → KeepsCommit (state S.Store tx.old.conn.now) (state S.Store tx.new.conn.now) }
+    ensures clean { doubt (state S.Store tx.old.conn.now).is_clean ≤ doubt (state S.Store tx.new.conn.now).is_clean }
+{
+    let rows = select_next(tx, name)?;
+    match rows.as_slice() {
+        [row] => number_at(row, 0),
+        _ => Err(StoreFault::Store),
+    }
+}
+
+/// Runs the UPDATE of the number of one purse's next message.
+fn change_next<S: Alter>(
+    tx: &mut Transaction<'_, S>,
+    name: &str,
+    next: u64,
+) -> Result<(), StoreFault>
+    requires { next ≤ 10 ^ 15 }
+    ensures same_reference { tx.new.conn.ghost_name ≡ tx.old.conn.ghost_name }
+    ensures ran { HasCleanDisk (state S.Store tx.new.conn.now) → IsTrue tx.old.conn.now.in_transaction → OnOk result (Executes (codes "UPDATE purse SET next_message = ?2 WHERE name = ?1") (Text name.now ∷ number next ∷ []) (state S.Store tx.old.conn.now) (state S.Store tx.new.conn.now) (Ok 1)) }
+    ensures inside { HasCleanDisk (state S.Store tx.new.conn.now) → IsTrue tx.old.conn.now.in_transaction → OnOk result (IsTrue tx.new.conn.now.in_transaction) }
+    ensures kept { HasCleanDisk (state S.Store tx.new.conn.now) → KeepsCommit (state S.Store tx.old.conn.now) (state S.Store tx.new.conn.now) }
+    ensures clean { doubt (state S.Store tx.old.conn.now).is_clean ≤ doubt (state S.Store tx.new.conn.now).is_clean }
+{
+    run_one(
+        tx,
+        "UPDATE purse SET next_message = ?2 WHERE name = ?1",
+        params![name, next as i64],
+    )
+}
+
+/// Sets the number of the next message of a purse that is there.
+pub fn set_next<S: Alter>(
+    tx: &mut Transaction<'_, S>,
+    name: &Name,
+    next: u64,
+) -> Result<(), StoreFault>
+    requires { next ≤ 10 ^ 15 }
+    ensures same_reference { tx.new.conn.ghost_name ≡ tx.old.conn.ghost_name }
+    ensures ok { HasCleanDisk (state S.Store tx.new.conn.now) → IsTrue tx.old.conn.now.in_transaction → (state S.Store tx.old.conn.now).now.schema ≡ office_schema
+        → OnOk result (Goes (λ r. on_purse (fmap.get r.purses name.now) r (λ x. record r { purses = fmap.insert r.purses name.now (record x { next_message = next }) })) (state S.Store tx.old.conn.now) (state S.Store tx.new.conn.now)) }
+    ensures inside { HasCleanDisk (state S.Store tx.new.conn.now) → IsTrue tx.old.conn.now.in_transaction → OnOk result (IsTrue tx.new.conn.now.in_transaction) }
+    ensures kept { HasCleanDisk (state S.Store tx.new.conn.now) → KeepsCommit (state S.Store tx.old.conn.now) (state S.Store tx.new.conn.now) }
+    ensures clean { doubt (state S.Store tx.old.conn.now).is_clean ≤ doubt (state S.Store tx.new.conn.now).is_clean }
+{
+    change_next(tx, name.as_str(), next)
 }

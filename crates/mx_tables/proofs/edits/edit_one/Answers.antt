@@ -14,3 +14,27 @@ returns-in-NewPurse-clause-ok g c = rw c.in-NewPurse.is c.insert_purse.ensures.o
 
 pub returns-in-DropMessage-clause-ok : goal.returns-in-DropMessage-clause-ok
 returns-in-DropMessage-clause-ok g c = rw c.in-DropMessage.is c.drop_message.ensures.ok
+
+pub returns-in-SetPurse-clause-ok : goal.returns-in-SetPurse-clause-ok
+returns-in-SetPurse-clause-ok g c = rw c.in-SetPurse.is c.set_purse.ensures.ok
+
+pub returns-in-AddMessage-clause-ok : goal.returns-in-AddMessage-clause-ok
+returns-in-AddMessage-clause-ok g c = rw c.in-AddMessage.is c.add_message.ensures.ok
+
+pub returns-in-AddLine-clause-ok : goal.returns-in-AddLine-clause-ok
+returns-in-AddLine-clause-ok g c = rw c.in-AddLine.is c.insert_line.ensures.ok
+
+pub returns-in-AddTray-clause-ok : goal.returns-in-AddTray-clause-ok
+returns-in-AddTray-clause-ok g c = rw c.in-AddTray.is c.insert_tray.ensures.ok
+
+pub returns-in-ArchiveTray-clause-ok : goal.returns-in-ArchiveTray-clause-ok
+returns-in-ArchiveTray-clause-ok g c = rw c.in-ArchiveTray.is c.archive_tray.ensures.ok
+
+pub returns-in-AddLoad-clause-ok : goal.returns-in-AddLoad-clause-ok
+returns-in-AddLoad-clause-ok g c = rw c.in-AddLoad.is c.insert_load.ensures.ok
+
+pub returns-in-AddRedemption-clause-ok : goal.returns-in-AddRedemption-clause-ok
+returns-in-AddRedemption-clause-ok g c = rw c.in-AddRedemption.is c.insert_redemption.ensures.ok
+
+pub returns-in-Collect-clause-ok : goal.returns-in-Collect-clause-ok
+returns-in-Collect-clause-ok g c = rw c.in-Collect.is c.collect.ensures.ok

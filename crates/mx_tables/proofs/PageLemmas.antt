@@ -1,0 +1,177 @@
+-- What is read of the lines of a purse.
+use Rattle.std.proofs.Common.{◌≡◌, inl, inr, ℕ, zero, suc, pos, ◌+◌, ◌≤◌, Bool, true, false, ◌&&◌, List, [], ◌∷◌, map, filter, take, length, codes, refl, sym, ap, ap₂, ◌∙◌, arith, Some, None, Option}
+use Rattle.std.specs.Prelude.{nat_lt, ◌==◌, if◌then◌else◌}
+use Rattle.std.specs.List.{AllByRecursion, take-map}
+use Rattle.std.specs.FinMap as fmap
+use Rattle.std.specs.Ordering.{nat_cmp, is_gt}
+use Rattle.std.proofs.lemmas.Bool.{cases_Bool}
+use Rattle.std.proofs.lemmas.Bool.Decides.{nat_tests}
+use Rattle.sqlite_value.specs.declared.value.Value.{Value}
+use Rattle.sqlite_value.specs.declared.value.Value.TheVariants.{Int, Text}
+use Rattle.sqlite_value.specs.declared.keys.Collation.TheVariants.{Binary}
+use Rattle.sqlite_value.specs.Keys.{ascending}
+use Rattle.sqlite_value.specs.Order.{Row}
+use Rattle.sqlite_value.proofs.OrderLemmas.{value_cmp-Int, then-Equal}
+use Rattle.sqlite_trees.proofs.ListLemmas.{map-map, filter_none}
+use Rattle.sqlite_sql.specs.declared.ops.BinaryOp.TheVariants.{Compare}
+use Rattle.sqlite_sql.specs.declared.ops.CompareOp.TheVariants.{Gt}
+use Rattle.sqlite_sql.specs.Ops.{binary, is_true}
+use Rattle.sqlite_sql.specs.Term.{Term, col, op2}
+use Rattle.sqlite.specs.State.{State, Shown}
+use Rattle.sqlite.specs.Listing.{understood}
+use Rattle.sqlite_tied.specs.Compute.{everything}
+use Rattle.mx_pay.specs.Names.{is_name, is_name_text}
+use Rattle.mx_pay.specs.Reading.{entry_of}
+use Rattle.mx_pay.specs.Details as pay
+use Rattle.mx_pay.specs.Limits.{most_number}
+use Rattle.mx_pay.proofs.EntryLemmas.{entry_again, cut_none, name_lacks}
+use Rattle.mx_book.specs.World.{Name}
+use Rattle.mx_book.specs.Rows.{Rows}
+use Rattle.mx_book.specs.RowReads.{row_lines_of, line_of_row}
+use Rattle.mx_book.specs.Words.{kind_text, note_text}
+use Rattle.mx_book.specs.Conditions.{IsNote}
+use Rattle.mx_book.specs.declared.values.Line.{Line}
+use Rattle.mx_book.specs.declared.values.LineRow.{LineRow}
+use Rattle.mx_book.specs.declared.values.LineKind.{LineKind}
+use Rattle.mx_book.specs.declared.values.LineKind.TheVariants.{Loaded, Redeemed, Sent, Received, Logged}
+use Rattle.mx_book.specs.declared.values.Note.{Note}
+use Rattle.mx_book.specs.declared.values.Note.TheVariants.{Reference, Details}
+use Rattle.mx_book.proofs.MapLemmas.{AllEntries, all_entries}
+use Rattle.mx_tables.specs.Cells.{number}
+use Rattle.mx_tables.specs.Holds.{Holds}
+use Rattle.mx_tables.specs.Pages.{line_shown, first_five, lines_above, AreLines}
+use Rattle.mx_tables.proofs.Queries.{is_given}
+use Rattle.mx_tables.proofs.Texts.{IsSelect}
+use Rattle.mx_tables.proofs.StoredLemmas.{and_true, same_text, if_truth, numbers_cmp}
+use Rattle.mx_tables.proofs.ReadLemmas.{turned, answers_in_order}
+use Rattle.mx_tables.proofs.MessageLemmas.{same_entry}
+use Rattle.mx_tables.proofs.InboxLemmas.{second_less, same_first}
+use Rattle.mx_tables.proofs.KeptLemmas as kept
+
+abbrev pub select_lines : List ℕ
+select_lines = codes "SELECT number, kind, amount, balance, note FROM line WHERE purse = ?1 AND number > ?2 ORDER BY number"
+
+-- the number of the row is above the parameter
+abbrev is_above : Term
+is_above = op2 (Compare Gt Binary) (col 1 2) (col 0 1)
+
+pub select_lines_is : IsSelect select_lines 12 (is_given 1 0 ∷ is_above ∷ []) (col 1 2 ∷ col 1 3 ∷ col 1 4 ∷ col 1 5 ∷ col 1 6 ∷ []) ((col 1 2, ascending Binary) ∷ []) (codes "number" ∷ codes "kind" ∷ codes "amount" ∷ codes "balance" ∷ codes "note" ∷ [])
+unfolding understood everything
+select_lines_is = record { is = refl; plain = (refl, refl); unlisted = refl }
+
+greater : (m n : ℕ) → is_gt (nat_cmp m n) ≡ nat_lt n m
+greater m n = grind (arith, nat_tests)
+
+above_is : (m n : ℕ) → is_true (binary (Compare Gt Binary) (Int (pos m)) (Int (pos n))) ≡ nat_lt n m
+unfolding binary
+above_is m n = if_truth _ ∙ ap is_gt (value_cmp-Int (pos m) (pos n) ∙ numbers_cmp m n) ∙ greater m n
+
+of_both : (a b : Bool) → (a && b) ≡ true → a ≡ true
+of_both true b h = refl
+of_both false b h = h
+
+pub finds_lines : (p : Name) (after : ℕ) (old new : State) (rows : List Row) → Shown select_lines (Text p ∷ number after ∷ []) old new rows → (r : Rows) → Holds old.now r
+    → rows ≡ map (λ e. line_shown (line_of_row e)) (lines_above p after r)
+finds_lines p after old new rows shown r h =
+    answers_in_order kept.lines (is_given 1 0 ∷ is_above ∷ []) (col 1 2 ∷ col 1 3 ∷ col 1 4 ∷ col 1 5 ∷ col 1 6 ∷ []) ((col 1 2, ascending Binary) ∷ []) (Text p ∷ number after ∷ [])
+    (λ (e : (Name × ℕ) × LineRow). is_name p e.0.0 && nat_lt after e.0.1) (λ (e : (Name × ℕ) × LineRow). (number e.0.1 ∷ [], line_shown (line_of_row e)))
+    (λ id e. ap₂ (λ a b. a && b) (same_text e.0.0 p ∙ turned e.0.0 p) (and_true _ ∙ above_is e.0.1 after)) (λ id e. refl)
+    (λ a b s t low. then-Equal _ ∙ value_cmp-Int (pos a.0.1) (pos b.0.1) ∙ numbers_cmp a.0.1 b.0.1 ∙ second_less _ _ (same_first p a.0.0 b.0.0 (of_both (is_name p a.0.0) (nat_lt after a.0.1) s) (of_both (is_name p b.0.0) (nat_lt after b.0.1) t)) low)
+    select_lines _ select_lines_is old new rows shown r h
+
+-- ---- lines that show the same rows are the same
+
+third : List ℕ → ℕ
+third (a ∷ b ∷ c ∷ t) = c
+third t = 0
+
+kind_by : ℕ → LineKind
+kind_by c = if c == 97 then Loaded else if c == 100 then Redeemed else if c == 110 then Sent else if c == 99 then Received else Logged
+
+kind_back : (k : LineKind) → kind_by (third (kind_text k)) ≡ k
+unfolding kind_by third
+kind_back Loaded = refl
+kind_back Redeemed = refl
+kind_back Sent = refl
+kind_back Received = refl
+kind_back Logged = refl
+
+pub same_kind : (k l : LineKind) → kind_text k ≡ kind_text l → k ≡ l
+same_kind k l h = sym (kind_back k) ∙ ap (λ t. kind_by (third t)) h ∙ kind_back l
+
+no_entry : (n : Name) → is_name_text n ≡ true → entry_of n ≡ None
+unfolding entry_of
+no_entry n valid = rw (cut_none 44 n (name_lacks 44 refl n valid)) refl
+
+apart : (n : Name) (d : pay.Details) → is_name_text n ≡ true → pay.IsDetails d → n ≡ note_text (Details d) → ⊥
+apart n d named valid h = let it : ◌≡◌ {A = Option pay.Details} (Some d) None = sym (entry_again d valid) ∙ ap entry_of (sym h) ∙ no_entry n named in absurd (cc)
+
+pub same_note : (a b : Note) → IsNote a → IsNote b → note_text a ≡ note_text b → a ≡ b
+same_note (Reference m) (Reference n) one two h = ap Reference h
+same_note (Reference m) (Details e) one two h = absurd (apart m e one two h)
+same_note (Details d) (Reference n) one two h = absurd (apart n d two one (sym h))
+same_note (Details d) (Details e) one two h = ap Details (same_entry d e one two h)
+
+abbrev Noted : Line → Type 0
+Noted l = IsNote l.note
+
+same_line : (a b : Line) → Noted a → Noted b → line_shown a ≡ line_shown b → a ≡ b
+same_line a b one two h =
+    let n : number a.number ≡ number b.number = cc in
+    let k : ◌≡◌ {A = Value} (Text (kind_text a.kind)) (Text (kind_text b.kind)) = cc in
+    let m : number a.amount ≡ number b.amount = cc in
+    let l : number a.balance ≡ number b.balance = cc in
+    let t : ◌≡◌ {A = Value} (Text (note_text a.note)) (Text (note_text b.note)) = cc in
+    let count : a.number ≡ b.number = cc in
+    let word : kind_text a.kind ≡ kind_text b.kind = cc in
+    let amount : a.amount ≡ b.amount = cc in
+    let balance : a.balance ≡ b.balance = cc in
+    let text : note_text a.note ≡ note_text b.note = cc in
+    let kind = same_kind a.kind b.kind word in
+    let note = same_note a.note b.note one two text in
+    λ i. record { number = count i; kind = kind i; amount = amount i; balance = balance i; note = note i }
+
+same_lines : (ls ms : List Line) → AllByRecursion Noted ls → AllByRecursion Noted ms → map line_shown ls ≡ map line_shown ms → ls ≡ ms
+same_lines [] [] one two h = refl
+same_lines [] (m ∷ ms) one two h = absurd (let k = ap length h in omega (arith, k))
+same_lines (l ∷ ls) [] one two h = absurd (let k = ap length h in omega (arith, k))
+same_lines (l ∷ ls) (m ∷ ms) one two h =
+    let here : line_shown l ≡ line_shown m = cc in
+    let rest : map line_shown ls ≡ map line_shown ms = cc in
+    ap₂ ◌∷◌ (same_line l m one.0 two.0 here) (same_lines ls ms one.1 two.1 rest)
+
+-- ---- a page of lines
+
+abbrev Kept : Name × ℕ → LineRow → Type 0
+Kept k x = (k.1 ≤ most_number + 2) × IsNote x.note
+
+noted : (q : (Name × ℕ) × LineRow → Bool) (n : ℕ) (es : List ((Name × ℕ) × LineRow)) → AllEntries Kept es → AllByRecursion Noted (map line_of_row (take n (filter q es)))
+noted q zero es h = tt
+noted q (suc n) [] h = tt
+noted q (suc n) (e ∷ es) h = elim (cases_Bool (q e)) [
+  | inl t ↦ rw t (h.0.1, noted q n es h.1)
+  | inr f ↦ rw f (noted q (suc n) es h.1)
+]
+
+pub page_read : (p : Name) (after most : ℕ) (r : Rows) → AreLines r → (rows : List Row) (ls : List Line) → map first_five (take most rows) ≡ map line_shown ls → AllByRecursion (λ l. IsNote l.note) ls
+    → rows ≡ map (λ e. line_shown (line_of_row e)) (lines_above p after r) → ls ≡ row_lines_of r p after most
+page_read p after most r valid rows ls read mine is =
+    let found = take most (lines_above p after r) in
+    let page : map first_five (take most rows) ≡ map line_shown (map line_of_row found) =
+    ap (λ rs. map first_five (take most rs)) is ∙ ap (map first_five) (take-map (λ e. line_shown (line_of_row e)) most (lines_above p after r))
+    ∙ map-map first_five (λ e. line_shown (line_of_row e)) found ∙ sym (map-map line_shown line_of_row found) in
+    same_lines ls (map line_of_row found) mine (noted _ most (fmap.entries r.lines) (all_entries kept.pairs_total Kept r.lines valid)) (sym read ∙ page)
+
+below : (p : Name) (after : ℕ) → most_number + 2 ≤ after → (es : List ((Name × ℕ) × LineRow)) → AllEntries Kept es → AllByRecursion (λ (e : (Name × ℕ) × LineRow). (is_name p e.0.0 && nat_lt after e.0.1) ≡ false) es
+below p after high [] h = tt
+below p after high (e ∷ es) h = (grind (arith, nat_tests, h.0.0, high), below p after high es h.1)
+
+none_taken : {X : Type 0} (n : ℕ) → ◌≡◌ {A = List X} (take n []) []
+none_taken zero = refl
+none_taken (suc n) = refl
+
+-- no line is numbered above the most
+pub no_page : (p : Name) (after most : ℕ) (r : Rows) → AreLines r → most_number + 2 ≤ after → row_lines_of r p after most ≡ []
+no_page p after most r valid high =
+    ap (λ es. map line_of_row (take most es)) (filter_none _ (fmap.entries r.lines) (below p after high (fmap.entries r.lines) (all_entries kept.pairs_total Kept r.lines valid)))
+    ∙ ap (map line_of_row) (none_taken most)

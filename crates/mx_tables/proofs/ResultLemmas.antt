@@ -1,0 +1,374 @@
+-- The statements on the tray and the archive.
+use Rattle.std.proofs.Common.{◌≡◌, inl, inr, ℕ, zero, suc, pos, ◌+◌, ◌<◌, ◌≤◌, Bool, true, false, if◌then◌else◌, ◌&&◌, ◌||◌, List, [], ◌∷◌, ◌++◌, map, filter, take, length, get_or, codes, Ok, refl, sym, ap, ap₂, subst, ◌∙◌, arith, is_some, Option, is_eq}
+use Rattle.std.specs.List.{AllByRecursion, list_any}
+use Rattle.std.specs.List.Sorted.{IsPermutation}
+use Rattle.std.specs.FinMap as fmap
+use Rattle.std.specs.FinSet.{FinSet}
+use Rattle.std.specs.Ordering.{eq_by_cmp, nat_cmp}
+use Rattle.std.specs.declared.cmp.Ordering.{Ordering}
+use Rattle.std.specs.Cmp.Lexicographic.{slice_cmp}
+use Rattle.std.proofs.lemmas.Cmp.{tied_itself}
+use Rattle.std.proofs.lemmas.Bool.{cases_Bool}
+use Rattle.std.proofs.lemmas.Bool.Decides.{eqb_tells}
+use Rattle.std.proofs.lemmas.List.{take_more, length-map, map-append}
+use Rattle.std.proofs.lemmas.List.Sorted.{list_any-IsPermutation}
+use Rattle.sqlite_value.specs.declared.value.Value.{Value}
+use Rattle.sqlite_value.specs.declared.value.Value.TheVariants.{Null, Int, Text}
+use Rattle.sqlite_value.specs.Order.{Row, column}
+use Rattle.sqlite_trees.proofs.ListLemmas.{map-map, all-permutation}
+use Rattle.sqlite_schema.specs.declared.schema.Table.{Table}
+use Rattle.sqlite_sql.specs.Term.{col, lit}
+use Rattle.sqlite.specs.State.{State, Shown, Executes}
+use Rattle.sqlite.specs.Listing.{understood}
+use Rattle.sqlite_tied.specs.Compute.{everything}
+use Rattle.mx_pay.specs.Names.{is_name}
+use Rattle.mx_pay.specs.Details.{Details, IsDetails, is_details}
+use Rattle.mx_pay.specs.Codes.{entry_text}
+use Rattle.mx_pay.specs.Log.{Entries, has_logged, none_logged, with_entry}
+use Rattle.mx_pay.specs.Orders.{details_exact}
+use Rattle.mx_pay.proofs.LogLemmas.{details_total}
+use Rattle.mx_pay.proofs.SameLemmas.{has-none_logged}
+use Rattle.mx_pay.proofs.TestLemmas.{is_equal}
+use Rattle.mx_book.specs.World.{Name, result_cmp, results_of, results_but, and_results}
+use Rattle.mx_book.specs.Rows.{Rows}
+use Rattle.mx_book.specs.RowReads.{of_name}
+use Rattle.mx_book.specs.RowEdits.{row_tray_of, rewritten}
+use Rattle.mx_book.specs.declared.edits.Edit.TheVariants.{ArchiveTray}
+use Rattle.mx_book.proofs.NameLemmas.{same_name, name_itself}
+use Rattle.mx_book.proofs.MapLemmas.{AllEntries, all_entries}
+use Rattle.mx_book.proofs.LogLemmas.{same_members, has_kept, under_has}
+use Rattle.mx_book.proofs.ResultLemmas.{has-both}
+use Rattle.mx_tables.specs.Schema.{office_schema, tray, archive}
+use Rattle.mx_tables.specs.Contents.{Contents}
+use Rattle.mx_tables.specs.Cells.{result_cells, number}
+use Rattle.mx_tables.specs.Holds.{Holds}
+use Rattle.mx_tables.specs.States.{Goes}
+use Rattle.mx_tables.specs.Answers.{at_key}
+use Rattle.mx_tables.specs.Results.{details_shown, first_one, AreDetails, Shows, and_details}
+use Rattle.mx_tables.proofs.Queries.{is_given}
+use Rattle.mx_tables.proofs.Texts.{IsInsert, IsSelect, IsDelete}
+use Rattle.mx_tables.proofs.StoredLemmas.{and_true, same_text, cast_null}
+use Rattle.mx_tables.proofs.ReadLemmas.{turned, answers, got_one}
+use Rattle.mx_tables.proofs.WriteLemmas.{Place, adds, drops, no_actions}
+use Rattle.mx_tables.proofs.Statements.{inserted}
+use Rattle.mx_tables.proofs.MessageLemmas.{same_entry}
+use Rattle.mx_tables.proofs.Permuted.{unmapped}
+use Rattle.mx_tables.proofs.KeptLemmas as kept
+
+abbrev Result : Type 0
+Result = (Name × Details) × Unit {0}
+
+-- ---- the texts
+
+abbrev pub insert_tray : List ℕ
+insert_tray = codes "INSERT INTO tray (purse, details) VALUES (?1, ?2)"
+
+pub insert_tray_is : IsInsert insert_tray 7 (lit Null ∷ col 0 0 ∷ col 0 1 ∷ []) 3
+unfolding understood everything
+insert_tray_is = record { is = refl; plain = (refl, refl) }
+
+abbrev pub insert_archive : List ℕ
+insert_archive = codes "INSERT INTO archive (purse, details) VALUES (?1, ?2)"
+
+pub insert_archive_is : IsInsert insert_archive 8 (lit Null ∷ col 0 0 ∷ col 0 1 ∷ []) 3
+unfolding understood everything
+insert_archive_is = record { is = refl; plain = (refl, refl) }
+
+abbrev pub delete_tray : List ℕ
+delete_tray = codes "DELETE FROM tray WHERE purse = ?1"
+
+pub delete_tray_is : IsDelete delete_tray 7 14 (is_given 1 0 ∷ []) (col 1 0 ∷ [])
+unfolding understood everything
+delete_tray_is = record { is = refl; plain = (refl, refl) }
+
+abbrev pub select_tray : List ℕ
+select_tray = codes "SELECT details FROM tray WHERE purse = ?1"
+
+pub select_tray_is : IsSelect select_tray 14 (is_given 1 0 ∷ []) (col 1 2 ∷ []) [] (codes "details" ∷ [])
+unfolding understood everything
+select_tray_is = record { is = refl; plain = (refl, refl); unlisted = refl }
+
+abbrev pub select_archived : List ℕ
+select_archived = codes "SELECT 1 FROM archive WHERE purse = ?1 AND details = ?2"
+
+pub select_archived_is : IsSelect select_archived 16 (is_given 1 0 ∷ is_given 2 1 ∷ []) (lit (Int (pos 1)) ∷ []) [] (codes "1" ∷ [])
+unfolding understood everything
+select_archived_is = record { is = refl; plain = (refl, refl); unlisted = refl }
+
+-- ---- writes
+
+abbrev tray_table : Table
+tray_table = record tray { tree = 14 }
+
+abbrev with_tray : List Result → Contents → Contents
+with_tray l c = record c { tray = l }
+
+tray_place : Place result_cmp result_cells 7 tray_table with_tray (λ m r. record r { tray = m })
+tray_place = record {
+  found = refl;
+  uncounted = refl;
+  not_meta = λ e. omega (arith, e);
+  others = λ l c t other. elim (eqb_tells t 14) [ inl same ↦ absurd (other same.1) | inr differs ↦ rw differs.0 refl ];
+  placed = λ l c. refl;
+  tokens = λ l c h. record { operator = h.operator; tokens = h.tokens };
+  spelled = λ l c. refl;
+}
+
+abbrev archive_table : Table
+archive_table = record archive { tree = 16 }
+
+abbrev with_archive : List Result → Contents → Contents
+with_archive l c = record c { archive = l }
+
+archive_place : Place result_cmp result_cells 8 archive_table with_archive (λ m r. record r { archive = m })
+archive_place = record {
+  found = refl;
+  uncounted = refl;
+  not_meta = λ e. omega (arith, e);
+  others = λ l c t other. elim (eqb_tells t 16) [ inl same ↦ absurd (other same.1) | inr differs ↦ rw differs.0 refl ];
+  placed = λ l c. refl;
+  tokens = λ l c h. record { operator = h.operator; tokens = h.tokens };
+  spelled = λ l c. refl;
+}
+
+pub adds_tray : (p : Name) (d : Details) (old new : State) (count : ℕ) → old.now.schema ≡ office_schema → Executes insert_tray (Text p ∷ Text (entry_text d) ∷ []) old new (Ok count)
+    → Goes (λ r. record r { tray = fmap.insert r.tray (p, d) tt }) old new
+adds_tray p d = adds kept.tray tray_place (λ l c. refl) insert_tray _ _ insert_tray_is (Text p ∷ Text (entry_text d) ∷ []) ((p, d), tt) (rw cast_null refl)
+
+pub adds_archive : (p : Name) (d : Details) (old new : State) (count : ℕ) → old.now.schema ≡ office_schema → Executes insert_archive (Text p ∷ Text (entry_text d) ∷ []) old new (Ok count)
+    → Goes (λ r. record r { archive = fmap.insert r.archive (p, d) tt }) old new
+adds_archive p d = adds kept.archive archive_place (λ l c. refl) insert_archive _ _ insert_archive_is (Text p ∷ Text (entry_text d) ∷ []) ((p, d), tt) (rw cast_null refl)
+
+pub adds_schema : (p text : List ℕ) (old new : State) (count : ℕ) → old.now.schema ≡ office_schema → Executes insert_archive (Text p ∷ Text text ∷ []) old new (Ok count) → new.now.schema ≡ office_schema
+adds_schema p text old new count has ran =
+    (inserted office_schema 8 archive_table refl (no_actions archive_table) insert_archive (Text p ∷ Text text ∷ []) old new has insert_archive_is.plain count ran (lit Null ∷ col 0 0 ∷ col 0 1 ∷ []) 3 (Text p ∷ Text text ∷ []) insert_archive_is.is refl (rw cast_null refl)).schema_is
+
+pub drops_tray : (p : Name) (old new : State) (count : ℕ) → old.now.schema ≡ office_schema → Executes delete_tray (Text p ∷ []) old new (Ok count)
+    → Goes (λ r. record r { tray = results_but p r.tray }) old new
+drops_tray p = drops kept.tray tray_place (λ l c. refl) delete_tray _ _ delete_tray_is (Text p ∷ []) (λ (k : Name × Details). is_name p k.0)
+    (λ id e. rw (same_text e.0.0 p) (and_true _ ∙ turned e.0.0 p)) (λ id e. refl)
+
+-- ---- reads
+
+pub finds_tray : (p : Name) (old new : State) (rows : List Row) → Shown select_tray (Text p ∷ []) old new rows → (r : Rows) → Holds old.now r
+    → IsPermutation (map (λ (e : Result). details_shown e.0.1) (of_name p (fmap.entries r.tray))) rows
+finds_tray p = answers kept.tray select_tray _ _ _ select_tray_is (Text p ∷ []) (λ (e : Result). is_name p e.0.0) (λ (e : Result). details_shown e.0.1)
+    (λ id e. rw (same_text e.0.0 p) (and_true _ ∙ turned e.0.0 p)) (λ id e. refl)
+
+-- texts of details within their limits are the same where the details are
+same_texts : (d e : Details) → IsDetails d → IsDetails e → eq_by_cmp (slice_cmp nat_cmp) (entry_text e) (entry_text d) ≡ is_details d e
+same_texts d e one two = elim (cases_Bool (eq_by_cmp (slice_cmp nat_cmp) (entry_text e) (entry_text d))) [
+  | inl t ↦
+      let same : d ≡ e = same_entry d e one two (same_name (entry_text d) (entry_text e) (turned (entry_text d) (entry_text e) ∙ t)) in
+      t ∙ sym (ap (is_details d) (sym same) ∙ ap is_eq (tied_itself details_total d))
+  | inr f ↦ f ∙ sym (elim (cases_Bool (is_details d e)) [
+    | inl u ↦
+        let same : d ≡ e = details_exact d e (is_equal _ u) in
+        absurd (let it : true ≡ false = sym (name_itself (entry_text e)) ∙ ap (λ (x : Details). eq_by_cmp (slice_cmp nat_cmp) (entry_text e) (entry_text x)) (sym same) ∙ f in cc)
+    | inr g ↦ g
+  ])
+]
+
+pair_eq : (p : Name) (d : Details) (k : Name × Details) → eq_by_cmp result_cmp (p, d) k ≡ (is_name p k.0 && is_details d k.1)
+pair_eq p d k = grind arith
+
+abbrev Valid : Name × Details → Unit {0} → Type 0
+Valid k x = IsDetails k.1
+
+same_found : (p : Name) (d : Details) → IsDetails d → (es : List Result) → AllEntries Valid es
+    → filter (λ (e : Result). is_name p e.0.0 && eq_by_cmp (slice_cmp nat_cmp) (entry_text e.0.1) (entry_text d)) es ≡ at_key result_cmp (p, d) es
+same_found p d valid [] h = refl
+same_found p d valid (e ∷ es) h =
+    let here : (is_name p e.0.0 && eq_by_cmp (slice_cmp nat_cmp) (entry_text e.0.1) (entry_text d)) ≡ eq_by_cmp result_cmp (p, d) e.0 =
+    ap (λ b. is_name p e.0.0 && b) (same_texts d e.0.1 valid h.0) ∙ sym (pair_eq p d e.0) in
+    let more = same_found p d valid es h.1 in
+    elim (cases_Bool (eq_by_cmp result_cmp (p, d) e.0)) [
+      | inl t ↦ rw (here, t) (ap (λ xs. e ∷ xs) more)
+      | inr f ↦ rw (here, f) more
+    ]
+
+pub finds_archived : (p : Name) (d : Details) → IsDetails d → (old new : State) (rows : List Row) → Shown select_archived (Text p ∷ Text (entry_text d) ∷ []) old new rows → (r : Rows) → Holds old.now r → AreDetails r.archive
+    → IsPermutation (map (λ (e : Result). number 1 ∷ []) (at_key result_cmp (p, d) (fmap.entries r.archive))) rows
+finds_archived p d valid old new rows shown r h each =
+    subst (λ es. IsPermutation (map (λ (e : Result). number 1 ∷ []) es) rows) (same_found p d valid (fmap.entries r.archive) (all_entries kept.results_total Valid r.archive each))
+    (answers kept.archive select_archived _ _ _ select_archived_is (Text p ∷ Text (entry_text d) ∷ []) (λ (e : Result). is_name p e.0.0 && eq_by_cmp (slice_cmp nat_cmp) (entry_text e.0.1) (entry_text d)) (λ (e : Result). number 1 ∷ [])
+    (λ id e. ap₂ (λ a b. a && b) (same_text e.0.0 p ∙ turned e.0.0 p) (and_true _ ∙ same_text (entry_text e.0.1) (entry_text d))) (λ id e. refl) old new rows shown r h)
+
+-- ---- a result among those of a purse
+
+module _ (p : Name) (k : Name × Details) where
+  abbrev of_purse : Result → Bool
+  of_purse e = eq_by_cmp result_cmp k (p, e.0.1)
+
+  among : (es : List Result) → list_any of_purse (of_name p es) ≡ (is_some (fmap.find result_cmp k es) && is_name p k.0)
+  among [] = refl
+  among (e ∷ es) =
+      let more = among es in
+      elim (cases_Bool (is_name p e.0.0)) [
+        | inl t ↦
+            let same : ◌≡◌ {A = Name × Details} (p, e.0.1) e.0 = ap (λ n. (n, e.0.1)) (same_name p e.0.0 t) in
+            let here : of_purse e ≡ eq_by_cmp result_cmp k e.0 = ap (eq_by_cmp result_cmp k) same in
+            elim (cases_Bool (eq_by_cmp result_cmp k e.0)) [
+              | inl u ↦
+                  let at : k ≡ e.0 = kept.results_exact k e.0 (is_equal _ u) in
+                  let own : is_name p k.0 ≡ true = ap (λ (x : Name × Details). is_name p x.0) at ∙ t in
+                  rw (t, here, u, own) refl
+              | inr f ↦ rw (t, here, f) more
+            ]
+        | inr n ↦ elim (cases_Bool (eq_by_cmp result_cmp k e.0)) [
+          | inl u ↦
+              let at : k ≡ e.0 = kept.results_exact k e.0 (is_equal _ u) in
+              let other : is_name p k.0 ≡ false = ap (λ (x : Name × Details). is_name p x.0) at ∙ n in
+              rw (n, u) (more ∙ rw other (none (is_some (fmap.find result_cmp k es)) ∙ refl))
+          | inr f ↦ rw (n, f) more
+        ]
+      ]
+    where
+      none : (b : Bool) → (b && false) ≡ false
+      none true = refl
+      none false = refl
+
+  pub among_tray : (s : FinSet result_cmp) (zs : List Result) → IsPermutation (of_name p (fmap.entries s)) zs → list_any of_purse zs ≡ (fmap.contains_key s k && is_name p k.0)
+  among_tray s zs same =
+      sym (list_any-IsPermutation of_purse _ _ same) ∙ among (fmap.entries s) ∙ ap (λ (o : Option (Unit {0})). is_some o && is_name p k.0) (sym (fmap.get-entries s k))
+
+-- ---- the tray as a log
+
+pub added_is : (b : Bool) (new old : Entries) (d : Details) → b ≡ true → new ≡ (if b then with_entry old d else old) → new ≡ with_entry old d
+added_is true new old d h is = is
+added_is false new old d h is = absurd (cc)
+
+pub shows_none : (rows : List Row) (log : Entries) → log ≡ none_logged → Shows log (take 0 rows)
+shows_none rows log is = record { details = []; shown = refl; valid = tt; has = λ d. ap (λ l. has_logged l d) is ∙ has-none_logged d }
+
+all_last : (ds : List Details) (d : Details) → AllByRecursion IsDetails ds → IsDetails d → AllByRecursion IsDetails (ds ++ d ∷ [])
+all_last [] d h one = (one, tt)
+all_last (e ∷ es) d h one = (h.0, all_last es d h.1 one)
+
+one_of : (d e : Details) (ds : List Details) → list_any (is_details d) (ds ++ e ∷ []) ≡ (is_details d e || list_any (is_details d) ds)
+one_of d e [] = refl
+one_of d e (x ∷ ds) = grind (arith, one_of d e ds)
+
+pub shows_more : (rows : List Row) (at : ℕ) (row : Row) (old new : Entries) (d : Details) → at < length rows → row ≡ get_or rows at row → column row 0 ≡ Text (entry_text d) → IsDetails d → new ≡ with_entry old d
+    → Shows old (take at rows) → Shows new (take (at + 1) rows)
+shows_more rows at row old new d within is shown valid made h = record {
+  details = h.details ++ d ∷ [];
+  shown = ap (map first_one) (take_more rows at row within ∙ ap (λ r. take at rows ++ r ∷ []) (sym is)) ∙ map-append first_one (take at rows) (row ∷ [])
+      ∙ ap₂ (λ xs v. xs ++ (v ∷ []) ∷ []) h.shown shown ∙ sym (map-append details_shown h.details (d ∷ []));
+  valid = all_last h.details d h.valid valid;
+  has = λ e. ap (λ l. has_logged l e) made ∙ added e ∙ ap (λ b. is_details e d || b) (h.has e) ∙ sym (one_of e d h.details);
+}
+  where
+    added : (e : Details) → has_logged (with_entry old d) e ≡ (is_details e d || has_logged old e)
+    added e = grind (arith, fmap.get-insert details_total old d tt e)
+
+same_details : (ds es : List Details) → AllByRecursion IsDetails ds → AllByRecursion IsDetails es → map details_shown ds ≡ map details_shown es → ds ≡ es
+same_details [] [] one two h = refl
+same_details [] (e ∷ es) one two h = absurd (let k = ap length h in omega (arith, k))
+same_details (d ∷ ds) [] one two h = absurd (let k = ap length h in omega (arith, k))
+same_details (d ∷ ds) (e ∷ es) one two h =
+    let here : ◌≡◌ {A = Value} (Text (entry_text d)) (Text (entry_text e)) = cc in
+    let rest : map details_shown ds ≡ map details_shown es = cc in
+    let text : entry_text d ≡ entry_text e = cc in
+    ap₂ ◌∷◌ (same_entry d e one.0 two.0 text) (same_details ds es one.1 two.1 rest)
+
+abbrev second : Result → Details
+second e = e.0.1
+
+all_second : (p : Name) (es : List Result) → AllEntries Valid es → AllByRecursion (λ (e : Result). IsDetails (second e)) (of_name p es)
+all_second p [] h = tt
+all_second p (e ∷ es) h = elim (cases_Bool (is_name p e.0.0)) [
+  | inl t ↦ rw t (h.0, all_second p es h.1)
+  | inr f ↦ rw f (all_second p es h.1)
+]
+
+all_mapped : (es : List Result) → AllByRecursion (λ (e : Result). IsDetails (second e)) es → AllByRecursion IsDetails (map second es)
+all_mapped [] h = tt
+all_mapped (e ∷ es) h = (h.0, all_mapped es h.1)
+
+any_second : (p : Name) (d : Details) (zs : List Result) → list_any (is_details d) (map second zs) ≡ list_any (of_purse p (p, d)) zs
+any_second p d [] = refl
+any_second p d (z ∷ zs) = ap₂ (λ a b. a || b) (sym (pair_eq p d (p, second z) ∙ ap (λ b. b && is_details d (second z)) (name_itself p))) (any_second p d zs)
+
+pub tray_read : (p : Name) (r : Rows) → AreDetails r.tray → (rows items : List Row) (log : Entries) → Shows log rows → rows ≡ items → IsPermutation (map (λ (e : Result). details_shown e.0.1) (of_name p (fmap.entries r.tray))) items
+    → log ≡ row_tray_of r p
+tray_read p r each rows items log h is same =
+    let of = unmapped (λ (e : Result). details_shown e.0.1) (of_name p (fmap.entries r.tray)) items same in
+    let zs = of.0 in
+    let valid = all_mapped zs (all-permutation (λ (e : Result). IsDetails (second e)) (of_name p (fmap.entries r.tray)) zs of.1 (all_second p (fmap.entries r.tray) (all_entries kept.results_total Valid r.tray each))) in
+    let again : map first_one rows ≡ map details_shown (map second zs) =
+    ap (map first_one) (is ∙ sym of.2) ∙ map-map first_one (λ (e : Result). details_shown e.0.1) zs ∙ sym (map-map details_shown second zs) in
+    let found : h.details ≡ map second zs = same_details h.details (map second zs) h.valid valid (sym h.shown ∙ again) in
+    same_members details_total details_exact log (row_tray_of r p) (λ d.
+    h.has d ∙ ap (list_any (is_details d)) found ∙ any_second p d zs ∙ among_tray p (p, d) r.tray zs of.1
+    ∙ ap (λ b. fmap.contains_key r.tray (p, d) && b) (name_itself p) ∙ with_true (fmap.contains_key r.tray (p, d)) ∙ sym (under_has p r.tray d))
+  where
+    with_true : (b : Bool) → (b && true) ≡ b
+    with_true true = refl
+    with_true false = refl
+
+-- ---- the tray in the archive
+
+has_details : (p : Name) (k : Name × Details) (s : FinSet result_cmp) (ds : List Details) → fmap.contains_key (and_details p s ds) k ≡ (fmap.contains_key s k || list_any (λ d. eq_by_cmp result_cmp k (p, d)) ds)
+has_details p k s [] = grind arith
+has_details p k s (d ∷ ds) = grind (arith, has_details p k (fmap.insert s (p, d) tt) ds, fmap.get-insert kept.results_total s (p, d) tt k)
+
+any_mapped : (p : Name) (k : Name × Details) (zs : List Result) → list_any (λ d. eq_by_cmp result_cmp k (p, d)) (map second zs) ≡ list_any (of_purse p k) zs
+any_mapped p k [] = refl
+any_mapped p k (z ∷ zs) = ap (λ b. of_purse p k z || b) (any_mapped p k zs)
+
+pub archive_all : (p : Name) (tray archive : FinSet result_cmp) (zs : List Result) → IsPermutation (of_name p (fmap.entries tray)) zs
+    → and_details p archive (map second zs) ≡ and_results archive (fmap.keys (results_of p tray))
+archive_all p tray archive zs same =
+    same_members kept.results_total kept.results_exact _ _ (λ k.
+    has_details p k archive (map second zs)
+    ∙ ap (λ b. fmap.contains_key archive k || b) (any_mapped p k zs ∙ among_tray p k tray zs same ∙ sym (has_kept kept.results_exact tray (λ result. is_name p result.0) k))
+    ∙ sym (has-both archive (results_of p tray) k))
+
+details_last : (p : Name) (s : FinSet result_cmp) (ds : List Details) (d : Details) → and_details p s (ds ++ d ∷ []) ≡ fmap.insert (and_details p s ds) (p, d) tt
+details_last p s [] d = refl
+details_last p s (e ∷ ds) d = details_last p (fmap.insert s (p, e) tt) ds d
+
+abbrev nobody : Details
+nobody = record { from = []; to = []; value = 0; from_seq = 0; to_seq = 0 }
+
+at_shown : (ds : List Details) (i : ℕ) (row : Row) → i < length ds → get_or (map details_shown ds) i row ≡ details_shown (get_or ds i nobody)
+at_shown [] i row low = absurd (omega (arith, low))
+at_shown (d ∷ ds) zero row low = refl
+at_shown (d ∷ ds) (suc i) row low = at_shown ds i row (omega (arith, low))
+
+-- one row more goes to the archive
+pub archive_more : (p : Name) (rows : List Row) (at : ℕ) (row : Row) (text : List ℕ) (ds : List Details) → at < length rows → row ≡ get_or rows at row → column row 0 ≡ Text text → map details_shown ds ≡ rows
+    → (d : Details) × (text ≡ entry_text d) × ((s : FinSet result_cmp) → fmap.insert (and_details p s (take at ds)) (p, d) tt ≡ and_details p s (take (at + 1) ds))
+archive_more p rows at row text ds within is shows from =
+    let size : length ds ≡ length rows = sym (length-map ds details_shown) ∙ ap length from in
+    let low : at < length ds = omega (arith, within, size) in
+    let d = get_or ds at nobody in
+    let shown : row ≡ details_shown d = is ∙ ap (λ rs. get_or rs at row) (sym from) ∙ at_shown ds at row low in
+    let cell : ◌≡◌ {A = Value} (Text text) (Text (entry_text d)) = sym shows ∙ ap (λ (r : Row). column r 0) shown in
+    (d, cc, λ s. sym (ap (and_details p s) (take_more ds at nobody low) ∙ details_last p s (take at ds) d))
+
+-- what is read of a tray, added to the archive and dropped from the tray, has moved
+pub archives : (p : Name) (rows items : List Row) (first read put last : State) → rows ≡ items
+    → Goes (λ r. r) first read × ((r : Rows) → Holds first.now r → IsPermutation (map (λ (e : Result). details_shown e.0.1) (of_name p (fmap.entries r.tray))) items)
+    → (put.now.schema ≡ office_schema) × ((ds : List Details) → map details_shown ds ≡ rows → Goes (λ r. record r { archive = and_details p r.archive ds }) read put)
+    → Goes (λ r. record r { tray = results_but p r.tray }) put last → Goes (λ r. rewritten r (ArchiveTray p)) first last
+archives p rows items first read put last is found moved emptied = record {
+  schema = emptied.schema;
+  rows = λ r holds.
+      let of = unmapped (λ (e : Result). details_shown e.0.1) (of_name p (fmap.entries r.tray)) items (found.1 r holds) in
+      let moves = moved.1 (map second of.0) (map-map details_shown second of.0 ∙ of.2 ∙ sym is) in
+      let after = emptied.rows _ (moves.rows r (found.0.rows r holds)) in
+      subst (λ s. Holds last.now (record r { tray = results_but p r.tray; archive = s })) (archive_all p r.tray r.archive of.0 of.1) after;
+}
+
+-- where a row is found for a key, the key is there
+pub one_there : {K V : Type 0} (R : K → K → Ordering) (shown : Row) (q : K) (m : fmap.FinMap R V) (rows items : List Row) → IsPermutation (map (λ (e : K × V). shown) (at_key R q (fmap.entries m))) items → rows ≡ items → 1 ≤ length rows → length rows < 2
+    → fmap.contains_key m q ≡ true
+one_there R shown q m rows items same is some few =
+    let one = got_one R (λ _. shown) q m rows items (get_or rows 0 []) same is some few (first rows some) in
+    ap is_some one.1
+  where
+    first : (xs : List Row) → 1 ≤ length xs → get_or xs 0 [] ≡ get_or xs 0 (get_or xs 0 [])
+    first [] h = refl
+    first (x ∷ xs) h = refl

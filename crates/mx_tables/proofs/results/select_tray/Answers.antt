@@ -1,0 +1,11 @@
+use Rattle.std.proofs.lemmas.Result.{IfOk-weaker}
+use Rattle.sqlite.specs.Held.{state}
+use Rattle.mx_tables.proofs.ResultLemmas.{finds_tray, select_tray_is}
+use Rattle.mx_tables.proofs.results.select_tray.Goals as goal
+
+pub returns-clause-stays : goal.returns-clause-stays
+returns-clause-stays g c = c.ask.ensures.stays select_tray_is.plain
+
+pub returns-clause-rows : goal.returns-clause-rows
+returns-clause-rows g c sure kept holds =
+    IfOk-weaker c.ask.result _ _ (λ rows shown. finds_tray c.args.purse.now (state g.S.Store c.args.conn.now) (state g.S.Store c.ask.new.conn) rows.items (rw (c.text.ensures, c.as_str.ensures.text) at shown) kept holds) (c.ask.ensures.shown sure)

@@ -1,0 +1,12 @@
+use Rattle.std.proofs.lemmas.Result.{IfOk-weaker}
+use Rattle.sqlite.specs.Held.{state}
+use Rattle.mx_tables.proofs.MoneyTexts.{select_redeemed_is}
+use Rattle.mx_tables.proofs.CountLemmas.{finds_redeemed}
+use Rattle.mx_tables.proofs.sums.select_redeemed.Goals as goal
+
+pub returns-clause-stays : goal.returns-clause-stays
+returns-clause-stays g c = c.ask.ensures.stays select_redeemed_is.plain
+
+pub returns-clause-rows : goal.returns-clause-rows
+returns-clause-rows g c sure kept holds =
+    IfOk-weaker c.ask.result _ _ (λ rows shown. finds_redeemed (state g.S.Store c.args.conn.now) (state g.S.Store c.ask.new.conn) rows.items shown kept holds) (c.ask.ensures.shown sure)

@@ -1,0 +1,8 @@
+use Rattle.std.proofs.Common.{◌≡◌, take}
+use Rattle.std.specs.Prelude.{sum_by}
+use Rattle.sqlite_value.specs.Order.{column}
+use Rattle.mx_tables.specs.Counted.{number_of}
+use Rattle.mx_tables.proofs.sums.sum_column.Given as goal
+
+abbrev pub invariant-loop-row : goal.invariant-loop-row
+invariant-loop-row l = l.sum ≡ sum_by (λ row. number_of (column row l.at)) (take l.row-index l.rows)

@@ -1,0 +1,29 @@
+-- What the statements on lines answer from the typed rows.
+use Rattle.std.specs.Prelude.{◌≡◌, ℕ, ◌≤◌, ◌+◌, ◌&&◌, nat_lt, List, [], ◌∷◌, filter, Some}
+use Rattle.std.specs.FinMap as fmap
+use Rattle.sqlite_value.specs.Order.{Row, column}
+use Rattle.sqlite_value.specs.declared.value.Value.TheVariants.{Text}
+use Rattle.mx_pay.specs.Limits.{most_number}
+use Rattle.mx_pay.specs.Names.{is_name}
+use Rattle.mx_book.specs.World.{Name}
+use Rattle.mx_book.specs.Rows.{Rows}
+use Rattle.mx_book.specs.Conditions.{IsNote}
+use Rattle.mx_book.specs.Words.{kind_text, note_text}
+use Rattle.mx_book.specs.declared.values.Line.{Line}
+use Rattle.mx_book.specs.declared.values.LineRow.{LineRow}
+use Rattle.mx_tables.specs.Cells.{number}
+
+abbrev pub line_shown : Line → Row
+line_shown l = number l.number ∷ Text (kind_text l.kind) ∷ number l.amount ∷ number l.balance ∷ Text (note_text l.note) ∷ []
+
+-- the first five columns of a row
+abbrev pub first_five : Row → Row
+first_five r = column r 0 ∷ column r 1 ∷ column r 2 ∷ column r 3 ∷ column r 4 ∷ []
+
+-- the rows of the lines of a purse that are numbered above `after`
+abbrev pub lines_above : Name → ℕ → Rows → List ((Name × ℕ) × LineRow)
+lines_above p after r = filter (λ (e : (Name × ℕ) × LineRow). is_name p e.0.0 && nat_lt after e.0.1) (fmap.entries r.lines)
+
+-- each line has a number of a line, and refers to something within its limits
+abbrev pub AreLines : Rows → Type 0
+AreLines r = (k : Name × ℕ) (x : LineRow) → fmap.get r.lines k ≡ Some x → (k.1 ≤ most_number + 2) × IsNote x.note

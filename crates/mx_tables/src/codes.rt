@@ -1,0 +1,79 @@
+//! The texts of messages, statuses and logs, as they are stored.
+ghost use Rattle.std.specs.Prelude.{◌≡◌, string_bytes, IfOk};
+ghost use Rattle.mx_pay.specs.Codes.{code, entry_text};
+ghost use Rattle.mx_tables.specs.Cells.{message_kind, message_details, status_text, details_text};
+
+use mx_book::StoreFault;
+use mx_pay::{Log, PayDetails, code_text, push_entry};
+use mx_purse::{Message, Status};
+use std::alloc::Global;
+
+/// The text of a log.
+pub fn log_code(alloc: Global, log: &Log) -> Result<String, StoreFault>
+    ensures { IfOk result (λ text. string_bytes text ≡ code log.now) }
+{
+    match code_text(alloc, log) {
+        Ok(text) => Ok(text),
+        Err(_) => Err(StoreFault::Memory),
+    }
+}
+
+/// The text of details.
+pub fn entry_code(alloc: Global, details: &PayDetails) -> Result<String, StoreFault>
+    ensures { IfOk result (λ text. string_bytes text ≡ entry_text details.now) }
+{
+    let mut text = String::new(alloc);
+    match push_entry(&mut text, details) {
+        Ok(()) => Ok(text),
+        Err(_) => Err(StoreFault::Memory),
+    }
+}
+
+/// The word of a kind of message.
+pub fn message_word(message: &Message) -> &'static str
+    ensures { result.now ≡ message_kind message.now }
+{
+    match message {
+        Message::Req(_) => "req",
+        Message::Val(_) => "val",
+        Message::Ack(_) => "ack",
+        Message::Clear(_) => "clear",
+    }
+}
+
+/// The text of the details of a message, or of the set to be cleared.
+pub fn message_code(alloc: Global, message: &Message) -> Result<String, StoreFault>
+    ensures { IfOk result (λ text. string_bytes text ≡ message_details message.now) }
+{
+    match message {
+        Message::Req(details) | Message::Val(details) | Message::Ack(details) => {
+            entry_code(alloc, details)
+        }
+        Message::Clear(log) => log_code(alloc, log),
+    }
+}
+
+/// The word of a status.
+pub fn status_word(status: &Status) -> &'static str
+    ensures { result.now ≡ status_text status.now }
+{
+    match status {
+        Status::EaFrom => "eaFrom",
+        Status::EaTo => "eaTo",
+        Status::Epr(_) => "epr",
+        Status::Epv(_) => "epv",
+        Status::Epa(_) => "epa",
+    }
+}
+
+/// The text of the details of the payment under way, empty at rest.
+pub fn status_code(alloc: Global, status: &Status) -> Result<String, StoreFault>
+    ensures { IfOk result (λ text. string_bytes text ≡ details_text status.now) }
+{
+    match status {
+        Status::EaFrom | Status::EaTo => Ok(String::new(alloc)),
+        Status::Epr(details) | Status::Epv(details) | Status::Epa(details) => {
+            entry_code(alloc, details)
+        }
+    }
+}

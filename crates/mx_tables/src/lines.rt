@@ -1,0 +1,189 @@
+//! The lines of the statements of purses.
+ghost use Rattle.std.specs.Prelude.{◌≡◌, ◌≤◌, ◌<◌, ◌^◌, map, take, string_bytes, IfOk, OnOk, IsTrue};
+ghost use Rattle.std.specs.List.{AllByRecursion};
+ghost use Rattle.std.specs.FinMap as fmap;
+ghost use Rattle.sqlite_value.specs.Order.{column};
+ghost use Rattle.sqlite_value.specs.declared.value.Value.TheVariants.{Text};
+ghost use Rattle.sqlite_trees.specs.View.{doubt};
+ghost use Rattle.sqlite.specs.Held.{state};
+ghost use Rattle.sqlite.specs.State.{HasCleanDisk, KeepsCommit};
+ghost use Rattle.mx_book.specs.Conditions.{IsNote};
+ghost use Rattle.mx_book.specs.Rows.{line_row};
+ghost use Rattle.mx_book.specs.RowReads.{row_lines_of, line_of_row};
+ghost use Rattle.mx_book.specs.Words as words;
+ghost use Rattle.mx_tables.specs.Schema.{office_schema};
+ghost use Rattle.mx_tables.specs.States.{worry, IsOurs, Stays, Goes};
+ghost use Rattle.mx_tables.specs.Holds.{Holds};
+ghost use Rattle.mx_tables.specs.Cells.{number as cell};
+ghost use Rattle.mx_tables.specs.Pages.{line_shown, first_five, lines_above, AreLines};
+
+use crate::asking::{ask, run};
+use crate::cells::{entry_at, number_at, text_at};
+use crate::given::{self, MOST_KEPT};
+use mx_book::words::{kind_text, push_note};
+use mx_book::{Line, LineKind, Note, StoreFault};
+use mx_pay::{Amount, Name};
+use sqlite::{Alter, Connection, Row, Transaction, params};
+use std::alloc::Global;
+
+/// The text of what a line refers to.
+fn text_of(alloc: Global, note: &Note) -> Result<String, StoreFault>
+    ensures { IfOk result (λ text. string_bytes text ≡ words.note_text note.now) }
+{
+    let mut text = String::new(alloc);
+    match push_note(&mut text, note) {
+        Ok(()) => Ok(text),
+        Err(_) => Err(StoreFault::Memory),
+    }
+}
+
+/// Adds a line of a purse. Store where its number or its balance is above 2^63 - 1.
+pub fn insert_line<S: Alter>(
+    alloc: Global,
+    tx: &mut Transaction<'_, S>,
+    purse: &Name,
+    line: &Line,
+) -> Result<(), StoreFault>
+    ensures same_reference { tx.new.conn.ghost_name ≡ tx.old.conn.ghost_name }
+    ensures ok { HasCleanDisk (state S.Store tx.new.conn.now) → IsTrue tx.old.conn.now.in_transaction → (state S.Store tx.old.conn.now).now.schema ≡ office_schema
+        → OnOk result (Goes (λ r. record r { lines = fmap.insert r.lines (purse.now, line.now.number) (line_row line.now) }) (state S.Store tx.old.conn.now) (state S.Store tx.new.conn.now)) }
+    ensures inside { HasCleanDisk (state S.Store tx.new.conn.now) → IsTrue tx.old.conn.now.in_transaction → OnOk result (IsTrue tx.new.conn.now.in_transaction) }
+    ensures kept { HasCleanDisk (state S.Store tx.new.conn.now) → KeepsCommit (state S.Store tx.old.conn.now) (state S.Store tx.new.conn.now) }
+    ensures clean { doubt (state S.Store tx.old.conn.now).is_clean ≤ doubt (state S.Store tx.new.conn.now).is_clean }
+{
+    if line.number > MOST_KEPT || line.balance > MOST_KEPT {
+        return Err(StoreFault::Store);
+    }
+    let note = text_of(alloc, &line.note)?;
+    run(
+        tx,
+        "INSERT INTO line (purse, number, kind, amount, balance, note) VALUES (?1, ?2, ?3, ?4, ?5, ?6)",
+        &[
+            given::text(purse.as_str()),
+            given::number(line.number),
+            given::text(kind_text(line.kind)),
+            given::number(line.amount.get()),
+            given::number(line.balance),
+            given::text(&note),
+        ],
+    )
+}
+
+/// The lines of a purse that are numbered above a number, by number.
+fn select_lines<S: Alter>(
+    conn: &mut Connection<S>,
+    purse: &Name,
+    after: u64,
+) -> Result<Vec<Row>, StoreFault>
+    requires { after < 2 ^ 63 }
+    ensures stays { IsOurs (state S.Store conn.old) → Stays (state S.Store conn.old) (state S.Store conn.new) }
+    ensures rows { worry (state S.Store conn.new) ≡ 0 → (r : _) → Holds (state S.Store conn.old).now r → IfOk result (λ rows. rows.items ≡ map (λ e. line_shown (line_of_row e)) (lines_above purse.now after r)) }
+{
+    ask(
+        conn,
+        "SELECT number, kind, amount, balance, note FROM line WHERE purse = ?1 AND number > ?2 ORDER BY number",
+        &[given::text(purse.as_str()), given::number(after)],
+    )
+}
+
+/// The kind of line in a column. Store where another value is there.
+fn kind_at(row: &Row, at: usize) -> Result<LineKind, StoreFault>
+    ensures { IfOk result (λ kind. column row.now at ≡ Text (words.kind_text kind)) }
+{
+    match text_at(row, at) {
+        Some("loaded") => Ok(LineKind::Loaded),
+        Some("redeemed") => Ok(LineKind::Redeemed),
+        Some("sent") => Ok(LineKind::Sent),
+        Some("received") => Ok(LineKind::Received),
+        Some("logged") => Ok(LineKind::Logged),
+        _ => Err(StoreFault::Store),
+    }
+}
+
+/// The amount in a column. Store where another value is there.
+fn amount_at(row: &Row, at: usize) -> Result<Amount, StoreFault>
+    ensures { IfOk result (λ amount. column row.now at ≡ cell amount) }
+{
+    match Amount::new(number_at(row, at)?) {
+        Some(amount) => Ok(amount),
+        None => Err(StoreFault::Store),
+    }
+}
+
+/// What the text in a column refers to: a reference or details. Store where another value is there.
+fn note_at(row: &Row, at: usize) -> Result<Note, StoreFault>
+    ensures shown { IfOk result (λ note. column row.now at ≡ Text (words.note_text note)) }
+    ensures valid { IfOk result IsNote }
+{
+    let Some(text) = text_at(row, at) else {
+        return Err(StoreFault::Store);
+    };
+    if let Some(reference) = Name::read(text) {
+        return Ok(Note::Reference(reference));
+    }
+    Ok(Note::Details(entry_at(row, at)?))
+}
+
+/// The line that a row shows, which refers to this.
+fn line_in(row: &Row, note: Note) -> Result<Line, StoreFault>
+    requires { column row.now 4 ≡ Text (words.note_text note) }
+    ensures shown { IfOk result (λ line. first_five row.now ≡ line_shown line) }
+    ensures noted { IfOk result (λ line. line.note ≡ note) }
+{
+    let number = number_at(row, 0)?;
+    let kind = kind_at(row, 1)?;
+    let amount = amount_at(row, 2)?;
+    let balance = number_at(row, 3)?;
+    Ok(Line {
+        number,
+        kind,
+        amount,
+        balance,
+        note,
+    })
+}
+
+/// The lines that rows show.
+fn lines_in(alloc: Global, rows: &[Row]) -> Result<Vec<Line>, StoreFault>
+    ensures shown { IfOk result (λ lines. map first_five rows.now ≡ map line_shown lines.items) }
+    ensures valid { IfOk result (λ lines. AllByRecursion (λ line. IsNote line.note) lines.items) }
+{
+    let mut lines = Vec::new(alloc);
+    for row in rows {
+        let note = note_at(row, 4)?;
+        let line = line_in(row, note)?;
+        if lines.push(line).is_err() {
+            return Err(StoreFault::Memory);
+        }
+    }
+    Ok(lines)
+}
+
+/// The first rows, at most so many.
+fn first_rows(rows: &[Row], most: u64) -> &[Row]
+    ensures { result.now ≡ take most rows.now }
+{
+    if most < rows.len() as u64 {
+        &rows[..most as usize]
+    } else {
+        rows
+    }
+}
+
+/// The first `most` lines of a purse that are numbered above `after`, by number.
+pub fn list_lines<S: Alter>(
+    alloc: Global,
+    conn: &mut Connection<S>,
+    purse: &Name,
+    after: u64,
+    most: u64,
+) -> Result<Vec<Line>, StoreFault>
+    ensures stays { IsOurs (state S.Store conn.old) → Stays (state S.Store conn.old) (state S.Store conn.new) }
+    ensures value { worry (state S.Store conn.new) ≡ 0 → (r : _) → Holds (state S.Store conn.old).now r → AreLines r → IfOk result (λ v. v.items ≡ row_lines_of r purse.now after most) }
+{
+    if after > MOST_KEPT {
+        return Ok(Vec::new(alloc));
+    }
+    let rows = select_lines(conn, purse, after)?;
+    lines_in(alloc, first_rows(rows.as_slice(), most))
+}
