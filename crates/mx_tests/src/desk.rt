@@ -2,7 +2,6 @@
 mod apart;
 mod devices;
 mod faults;
-mod faulty;
 mod framing;
 mod limits;
 mod logs;
@@ -14,7 +13,7 @@ mod scripts;
 mod sums;
 
 use self::devices::Pieces;
-use self::scripts::{ADDED, Exchange, token};
+use self::scripts::{Exchange, token};
 use mx_book::{Book, PlainBook};
 use mx_desk::Counted;
 use mx_desk::desk::run;
@@ -25,44 +24,32 @@ use std::process::Abort;
 use std::test::Fail;
 
 /// The member m, and its holders: ann with the purse p1, and bob with q1.
-const STANDING: &[(&str, &str)] = &[
-    (
-        "operator POST /members {\"member\":\"m\",\"token\":\"00000000000000000000000000000002\"}",
-        ADDED,
-    ),
-    (
-        "clerk POST /holders {\"holder\":\"ann\",\"token\":\"0000000000000000000000000000000a\"}",
-        ADDED,
-    ),
-    (
-        "clerk POST /holders {\"holder\":\"bob\",\"token\":\"0000000000000000000000000000000b\"}",
-        ADDED,
-    ),
-    (
-        "clerk POST /purses {\"purse\":\"p1\",\"holder\":\"ann\"}",
-        ADDED,
-    ),
-    (
-        "clerk POST /purses {\"purse\":\"q1\",\"holder\":\"bob\"}",
-        ADDED,
-    ),
-];
+const STANDING: &str = r#"
+operator POST /members {"member":"m","token":"00000000000000000000000000000002"} -> 200 {"done":"added"}
+clerk POST /holders {"holder":"ann","token":"0000000000000000000000000000000a"} -> 200 {"done":"added"}
+clerk POST /holders {"holder":"bob","token":"0000000000000000000000000000000b"} -> 200 {"done":"added"}
+clerk POST /purses {"purse":"p1","holder":"ann"} -> 200 {"done":"added"}
+clerk POST /purses {"purse":"q1","holder":"bob"} -> 200 {"done":"added"}
+"#;
 
 /// m is granted 1000, of which p1 is loaded with 100 by the reference a1.
-const FUNDED: &[(&str, &str)] = &[
-    (
-        "operator POST /members/m/grant {\"amount\":1000}",
-        "200 {\"done\":\"granted\"}",
-    ),
-    (
-        "clerk POST /purses/p1/load {\"amount\":100,\"ref\":\"a1\"}",
-        "200 {\"done\":\"loaded\"}",
-    ),
-];
+const FUNDED: &str = r#"
+operator POST /members/m/grant {"amount":1000} -> 200 {"done":"granted"}
+clerk POST /purses/p1/load {"amount":100,"ref":"a1"} -> 200 {"done":"loaded"}
+"#;
 
 /// An office in which nothing is, for the operator of the scripts.
 fn empty_office(rt: &impl AllocGlobal) -> Result<Office<PlainBook>, Fail> {
     Ok(Office::new(PlainBook::new(rt.alloc(), token("1")?)))
+}
+
+/// Serves scripts in an office in which nothing is, each in a run of its own.
+fn played(rt: &(impl Abort + AllocGlobal), scripts: &[&str]) -> Result<(), Fail> {
+    let mut office = empty_office(rt)?;
+    for script in scripts {
+        tell(rt, &mut office, script)?;
+    }
+    Ok(())
 }
 
 /// The office after `STANDING`.
@@ -106,11 +93,11 @@ fn serve(
     serve_from(rt, office, exchange.input().as_bytes(), exchange)
 }
 
-/// Serves requests, which stand before their responses, in one run, and asserts that each gets its response.
+/// Serves the requests of a script in one run, and asserts that each gets its response.
 fn tell(
     rt: &(impl Abort + AllocGlobal),
     office: &mut Office<impl Book>,
-    script: &[(&str, &str)],
+    script: &str,
 ) -> Result<(), Fail> {
     let exchange = Exchange::of(rt.alloc(), script)?;
     serve(rt, office, &exchange)
@@ -121,7 +108,7 @@ fn tell_in_pieces(
     rt: &(impl Abort + AllocGlobal),
     office: &mut Office<impl Book>,
     size: usize,
-    script: &[(&str, &str)],
+    script: &str,
 ) -> Result<(), Fail> {
     let exchange = Exchange::of(rt.alloc(), script)?;
     let reader = Pieces::new(exchange.input().as_bytes(), size);

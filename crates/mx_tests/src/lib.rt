@@ -8,6 +8,8 @@ mod book;
 #[cfg(test)]
 mod desk;
 #[cfg(test)]
+mod faulty;
+#[cfg(test)]
 mod office;
 #[cfg(test)]
 mod pay;

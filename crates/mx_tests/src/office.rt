@@ -6,7 +6,7 @@ mod scripts;
 mod words;
 mod worn;
 
-use self::scripts::{read_script, token};
+use self::scripts::{read_command, read_script, token};
 use self::words::outcome_words;
 use mx_book::{Book, PlainBook};
 use mx_office::{Office, Refusal};
@@ -14,19 +14,19 @@ use std::process::Abort;
 use std::test::Fail;
 
 /// The member m, and its holders: ann with the purse p1, and bob with q1.
-const STANDING: &[(&str, &str)] = &[
-    ("operator new-member m 2", "added"),
-    ("clerk new-holder ann a", "added"),
-    ("clerk new-holder bob b", "added"),
-    ("clerk new-purse p1 ann", "added"),
-    ("clerk new-purse q1 bob", "added"),
-];
+const STANDING: &str = "
+operator new-member m 2 -> added
+clerk new-holder ann a -> added
+clerk new-holder bob b -> added
+clerk new-purse p1 ann -> added
+clerk new-purse q1 bob -> added
+";
 
 /// m is granted 1000, of which p1 is loaded with 100 by the reference a1.
-const FUNDED: &[(&str, &str)] = &[
-    ("operator grant m 1000", "granted"),
-    ("clerk load p1 100 a1", "loaded"),
-];
+const FUNDED: &str = "
+operator grant m 1000 -> granted
+clerk load p1 100 a1 -> loaded
+";
 
 /// A new book, with nothing but the operator's token.
 fn empty_book(rt: &impl AllocGlobal) -> Result<PlainBook, Fail> {
@@ -47,18 +47,22 @@ fn funded(rt: &(impl Abort + AllocGlobal)) -> Result<Office<PlainBook>, Fail> {
     Ok(office)
 }
 
-/// Runs commands, which stand before their replies, and asserts that each gets its reply.
+/// Runs the commands of a script, and asserts that each gets its reply.
 fn tell(
     rt: &(impl Abort + AllocGlobal),
     office: &mut Office<impl Book>,
-    script: &[(&str, &str)],
+    script: &str,
 ) -> Result<(), Fail> {
     let commands = read_script(rt.alloc(), script)?;
     let outcomes = office.run(rt.alloc(), commands.as_slice())?;
-    assert_eq!(rt; outcomes.len(), script.len());
-    for (outcome, (command, reply)) in outcomes.iter().zip(script) {
-        let words = outcome_words(rt.alloc(), outcome)?;
-        assert_eq!(rt; words.as_str(), *reply, "{command}");
+    assert_eq!(rt; outcomes.len(), commands.len());
+    let mut outcomes = outcomes.iter();
+    for line in script.lines() {
+        if let Some((command, reply)) = line.split_once(" -> ") {
+            let outcome = outcomes.next().ok_or("no outcome")?;
+            let words = outcome_words(rt.alloc(), outcome)?;
+            assert_eq!(rt; words.as_str(), reply, "{command}");
+        }
     }
     Ok(())
 }
@@ -70,9 +74,9 @@ fn repeat(
     times: usize,
     command: &str,
 ) -> Result<(), Fail> {
-    let commands = read_script(rt.alloc(), &[(command, "")])?;
+    let asked = [read_command(command)?];
     for _ in 0..times {
-        office.run(rt.alloc(), commands.as_slice())?;
+        office.run(rt.alloc(), &asked)?;
     }
     Ok(())
 }
@@ -83,13 +87,13 @@ pub(super) fn funded_and_paid(rt: &(impl Abort + AllocGlobal)) -> Result<PlainBo
     tell(
         rt,
         &mut office,
-        &[
-            ("ann start-from p1 q1 60 0", "started p1,q1,60,0,0"),
-            ("bob start-to q1 p1 60 0", "started p1,q1,60,0,0"),
-            ("ann handle p1 0", "value-sent"),
-            ("bob handle q1 0", "received"),
-            ("ann handle p1 1", "finished"),
-        ],
+        "
+ann start-from p1 q1 60 0 -> started p1,q1,60,0,0
+bob start-to q1 p1 60 0 -> started p1,q1,60,0,0
+ann handle p1 0 -> value-sent
+bob handle q1 0 -> received
+ann handle p1 1 -> finished
+",
     )?;
     Ok(office.into_book())
 }
@@ -107,14 +111,20 @@ pub(super) fn funded_and_loaded(rt: &(impl Abort + AllocGlobal)) -> Result<Plain
 /// An empty list of commands has an empty list of replies.
 #[test]
 fn an_empty_list_has_no_replies(rt: HostRuntime) -> Result<(), Fail> {
-    tell(&rt, &mut standing(&rt)?, &[])
+    tell(&rt, &mut standing(&rt)?, "")
 }
 
 /// An office gives up the book that it holds.
 #[test]
 fn an_office_gives_its_book_up_whole(rt: HostRuntime) -> Result<(), Fail> {
     let mut office = Office::new(standing(&rt)?.into_book());
-    tell(&rt, &mut office, &[("ann purses", "purses p1")])
+    tell(
+        &rt,
+        &mut office,
+        "
+ann purses -> purses p1
+",
+    )
 }
 
 /// Each refusal has its words.

@@ -142,3 +142,36 @@ fn a_field_that_is_no_text(rt: HostRuntime) -> Result<(), Fail> {
     );
     Ok(())
 }
+
+/// The report of a roll that is imported, or imported again where there is no memory at first.
+fn report_again(
+    alloc: Global,
+    office: &mut Office<PlainBook>,
+    roll: &str,
+) -> Result<RollReport, Fail> {
+    match import_roll(alloc, office, roll.as_bytes()) {
+        Ok(report) => Ok(report),
+        Err(fault) => {
+            if !matches!(fault.kind, RollFaultKind::Memory) {
+                return Err("another fault")?;
+            }
+            let again = import_roll(alloc, office, roll.as_bytes());
+            Ok(again.ok().ok_or("a fault twice")?)
+        }
+    }
+}
+
+/// Rolls into books that begin empty: however far the first import of a roll came, with the second all of its rows stand.
+#[test]
+fn rolls_with_a_growth_refused(rt: HostRuntime) -> Result<(), Fail> {
+    let operator = Token::read("00000000000000000000000000000001").ok_or("no token")?;
+    let mut office = Office::new(PlainBook::new(rt.alloc(), operator));
+    for (roll, rows, refused) in [(STANDING, 5, 0), (SECOND, 3, 1), (SECOND, 3, 1)] {
+        let report = report_again(rt.alloc(), &mut office, roll)?;
+        assert_eq!(rt; report.added.saturating_add(report.same), rows);
+        assert_eq!(rt; report.refused.len(), refused);
+    }
+    let report = report_again(rt.alloc(), &mut office, SECOND)?;
+    assert_eq!(rt; (report.added, report.same), (0, 3));
+    Ok(())
+}

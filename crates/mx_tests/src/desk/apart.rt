@@ -1,7 +1,7 @@
 //! What a holder is told, whatever others do.
-use super::faulty::Faulty;
-use super::scripts::{ADDED, Exchange, GIVEN_UP, token};
+use super::scripts::{Exchange, token};
 use super::{FUNDED, STANDING, funded, serve, tell};
+use crate::faulty::Faulty;
 use mx_book::PlainBook;
 use mx_desk::Counted;
 use mx_desk::desk::run;
@@ -12,34 +12,21 @@ use std::process::Abort;
 use std::test::Fail;
 
 /// A third holder, cy with the purse c1.
-const THIRD: &[(&str, &str)] = &[
-    (
-        "clerk POST /holders {\"holder\":\"cy\",\"token\":\"0000000000000000000000000000000c\"}",
-        ADDED,
-    ),
-    (
-        "clerk POST /purses {\"purse\":\"c1\",\"holder\":\"cy\"}",
-        ADDED,
-    ),
-];
+const THIRD: &str = r#"
+clerk POST /holders {"holder":"cy","token":"0000000000000000000000000000000c"} -> 200 {"done":"added"}
+clerk POST /purses {"purse":"c1","holder":"cy"} -> 200 {"done":"added"}
+"#;
 
 /// What ann asks first, and is told.
-const BEFORE: &[(&str, &str)] = &[
-    (
-        "ann GET /purses/p1",
-        "200 {\"balance\":100,\"next\":0,\"purse\":\"p1\",\"status\":\"eaFrom\"}",
-    ),
-    (
-        "ann POST /purses/p1/start-from {\"peer\":\"q1\",\"value\":60,\"seq\":0}",
-        "200 {\"details\":\"p1,q1,60,0,0\",\"done\":\"started\"}",
-    ),
-];
+const BEFORE: &str = r#"
+ann GET /purses/p1 -> 200 {"balance":100,"next":0,"purse":"p1","status":"eaFrom"}
+ann POST /purses/p1/start-from {"peer":"q1","value":60,"seq":0} -> 200 {"details":"p1,q1,60,0,0","done":"started"}
+"#;
 
 /// And then.
-const AFTER: &[(&str, &str)] = &[(
-    "ann GET /purses/p1",
-    "200 {\"balance\":100,\"next\":1,\"purse\":\"p1\",\"status\":\"epr\"}",
-)];
+const AFTER: &str = r#"
+ann GET /purses/p1 -> 200 {"balance":100,"next":1,"purse":"p1","status":"epr"}
+"#;
 
 /// An office with the three holders, over a book that leaves out what it is told to.
 fn among(rt: &(impl Abort + AllocGlobal)) -> Result<Office<Faulty<PlainBook>>, Fail> {
@@ -79,7 +66,17 @@ fn turn_of_others(alloc: Global, number: u64) -> Result<Exchange, AllocError> {
     Ok(exchange)
 }
 
-/// Ann's requests, with forty of the others between; a fourth of these is bob's look at p1, which is answered so.
+/// Bob's look at p1.
+const UNSEEN: &str = r#"
+bob GET /purses/p1 -> 404 {"error":"no such purse"}
+"#;
+
+/// The same, where the book fails.
+const LEFT_OUT: &str = r#"
+bob GET /purses/p1 -> 503
+"#;
+
+/// Ann's requests, with forty of the others between; a fourth of these is bob's look at p1.
 fn tell_among(
     rt: &(impl Abort + AllocGlobal),
     office: &mut Office<Faulty<PlainBook>>,
@@ -88,11 +85,11 @@ fn tell_among(
     tell(rt, office, BEFORE)?;
     for number in 0..10 {
         serve(rt, office, &turn_of_others(rt.alloc(), number)?)?;
-        if look == GIVEN_UP {
+        if look == LEFT_OUT {
             // The caller is looked for in vain, or the purse.
             office.book().left = Some(number % 2);
         }
-        tell(rt, office, &[("bob GET /purses/p1", look)])?;
+        tell(rt, office, look)?;
     }
     tell(rt, office, AFTER)
 }
@@ -103,52 +100,48 @@ fn forty_requests_of_others(rt: HostRuntime) -> Result<(), Fail> {
     let mut alone = among(&rt)?;
     tell(&rt, &mut alone, BEFORE)?;
     tell(&rt, &mut alone, AFTER)?;
-    tell_among(&rt, &mut among(&rt)?, "404 {\"error\":\"no such purse\"}")
+    tell_among(&rt, &mut among(&rt)?, UNSEEN)
 }
 
 /// And so where the book fails at ten of them.
 #[test]
 fn forty_requests_of_others_of_which_ten_are_given_up(rt: HostRuntime) -> Result<(), Fail> {
-    tell_among(&rt, &mut among(&rt)?, GIVEN_UP)
+    tell_among(&rt, &mut among(&rt)?, LEFT_OUT)
 }
 
 /// What ann asks.
-const ANN: &[&str] = &[
-    "ann GET /purses/p1",
-    "ann POST /purses/p1/start-from {\"peer\":\"q1\",\"value\":60,\"seq\":0}",
-    "ann GET /purses/p1",
-    "ann POST /purses/p1/start-to {\"peer\":\"nobody\",\"value\":5,\"seq\":3}",
-    "ann POST /purses/p1/read-log {\"place\":0}",
-    "ann POST /purses/p1/redeem {\"amount\":10,\"ref\":\"r1\"}",
-    "ann POST /purses/p1/redeem {\"amount\":11,\"ref\":\"r1\"}",
-    "ann GET /purses/p1/inbox",
-    "ann GET /purses/q1",
-    "ann GET /purses",
-    "ann POST /nowhere",
-    "ann POST /collect",
-    "ann POST /purses/p1/handle {\"number\":\"0\"}",
-    "ann POST /purses/p1/handle {\"number\":0}",
-    "ann GET /purses/p1",
-];
+const ANN: &str = r#"ann GET /purses/p1
+ann POST /purses/p1/start-from {"peer":"q1","value":60,"seq":0}
+ann GET /purses/p1
+ann POST /purses/p1/start-to {"peer":"nobody","value":5,"seq":3}
+ann POST /purses/p1/read-log {"place":0}
+ann POST /purses/p1/redeem {"amount":10,"ref":"r1"}
+ann POST /purses/p1/redeem {"amount":11,"ref":"r1"}
+ann GET /purses/p1/inbox
+ann GET /purses/q1
+ann GET /purses
+ann POST /nowhere
+ann POST /collect
+ann POST /purses/p1/handle {"number":"0"}
+ann POST /purses/p1/handle {"number":0}
+ann GET /purses/p1"#;
 
 /// What others ask, which puts nothing to ann's purse.
-const OTHERS: &[&str] = &[
-    "bob GET /purses/p1",
-    "bob POST /purses/q1/start-from {\"peer\":\"p1\",\"value\":0,\"seq\":0}",
-    "bob POST /purses/q1/abort",
-    "bob POST /purses/q1/start-to {\"peer\":\"nobody\",\"value\":5,\"seq\":0}",
-    "bob POST /purses/q1/read-log {\"place\":0}",
-    "operator POST /archive/p1",
-    "operator POST /archive/q1",
-    "operator POST /clear/q1 {\"details\":\"nobody,q1,5,0,1\"}",
-    "bob POST /purses/q1/handle {\"number\":0}",
-    "operator POST /members/m/grant {\"amount\":5}",
-    "clerk POST /collect",
-    "clerk POST /purses/q1/load {\"amount\":7,\"ref\":\"a1\"}",
-    "bob POST /purses/q1/redeem {\"amount\":7,\"ref\":\"r1\"}",
-    "nobody GET /purses/p1",
-    "bob GET /purses",
-];
+const OTHERS: &str = r#"bob GET /purses/p1
+bob POST /purses/q1/start-from {"peer":"p1","value":0,"seq":0}
+bob POST /purses/q1/abort
+bob POST /purses/q1/start-to {"peer":"nobody","value":5,"seq":0}
+bob POST /purses/q1/read-log {"place":0}
+operator POST /archive/p1
+operator POST /archive/q1
+operator POST /clear/q1 {"details":"nobody,q1,5,0,1"}
+bob POST /purses/q1/handle {"number":0}
+operator POST /members/m/grant {"amount":5}
+clerk POST /collect
+clerk POST /purses/q1/load {"amount":7,"ref":"a1"}
+bob POST /purses/q1/redeem {"amount":7,"ref":"r1"}
+nobody GET /purses/p1
+bob GET /purses"#;
 
 /// Serves one request, and adds the response to what was told.
 fn serve_alone(
@@ -158,7 +151,8 @@ fn serve_alone(
     request: &str,
     told: &mut String,
 ) -> Result<(), Fail> {
-    let exchange = Exchange::of(alloc, &[(request, "")])?;
+    let mut exchange = Exchange::new(alloc);
+    exchange.add(request, "")?;
     let mut reader = Counted::new(exchange.input().as_bytes());
     let mut writer = Counted::new(Vec::new(alloc));
     run(alloc, &mut reader, &mut writer, routes, office)?;
@@ -179,13 +173,13 @@ fn next_number(number: u64) -> u64 {
 fn told_to_ann(
     rt: &(impl Abort + AllocGlobal),
     routes: &Routes,
-    others: &[&str],
+    others: &str,
     seed: u64,
 ) -> Result<String, Fail> {
     let alloc = rt.alloc();
     let mut office = funded(rt)?;
     let (mut told, mut unheard) = (String::new(alloc), String::new(alloc));
-    let (mut own, mut other) = (ANN.iter(), others.iter());
+    let (mut own, mut other) = (ANN.lines(), others.lines());
     let mut number = seed;
     for _ in 0..100 {
         number = next_number(number);
@@ -205,7 +199,7 @@ fn told_to_ann(
 #[test]
 fn two_hundred_interleavings(rt: HostRuntime) -> Result<(), Fail> {
     let routes = Routes::new(rt.alloc())?;
-    let alone = told_to_ann(&rt, &routes, &[], 0)?;
+    let alone = told_to_ann(&rt, &routes, "", 0)?;
     for seed in 0..200 {
         let among = told_to_ann(&rt, &routes, OTHERS, seed)?;
         assert_eq!(rt; among.as_str(), alone.as_str(), "{seed}");

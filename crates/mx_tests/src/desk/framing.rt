@@ -1,6 +1,6 @@
 //! Heads, lengths and bodies, and what ends a run.
-use super::scripts::{ADDED, Exchange};
-use super::{STANDING, empty_office, serve, standing, tell};
+use super::scripts::Exchange;
+use super::{empty_office, serve, standing, tell};
 use mx_book::PlainBook;
 use mx_office::Office;
 use std::alloc::{AllocError, Global};
@@ -24,9 +24,15 @@ fn tell_bytes(rt: &(impl Abort + AllocGlobal), bytes: &str, response: &str) -> R
     serve_bytes(rt, &mut standing(rt)?, bytes, response)
 }
 
-/// Two requests, and the first bytes of a third.
+/// The member and a holder, and then the first bytes of a third request.
 fn two_and_a_cut_head(alloc: Global) -> Result<Exchange, AllocError> {
-    let mut exchange = Exchange::of(alloc, &STANDING[..2])?;
+    let mut exchange = Exchange::of(
+        alloc,
+        r#"
+operator POST /members {"member":"m","token":"00000000000000000000000000000002"} -> 200 {"done":"added"}
+clerk POST /holders {"holder":"ann","token":"0000000000000000000000000000000a"} -> 200 {"done":"added"}
+"#,
+    )?;
     exchange.add_bytes("POST /purs", "400 {\"error\":\"bad head\"}")?;
     Ok(exchange)
 }
@@ -36,25 +42,20 @@ fn two_and_a_cut_head(alloc: Global) -> Result<Exchange, AllocError> {
 fn head_cut_short(rt: HostRuntime) -> Result<(), Fail> {
     let mut office = empty_office(&rt)?;
     serve(&rt, &mut office, &two_and_a_cut_head(rt.alloc())?)?;
-    tell(
-        &rt,
-        &mut office,
-        &[
-            ("ann GET /purses", "200 {\"purses\":[]}"),
-            (
-                "clerk POST /purses {\"purse\":\"p1\",\"holder\":\"ann\"}",
-                ADDED,
-            ),
-        ],
-    )
+    let end = r#"
+ann GET /purses -> 200 {"purses":[]}
+clerk POST /purses {"purse":"p1","holder":"ann"} -> 200 {"done":"added"}
+"#;
+    tell(&rt, &mut office, end)
 }
 
 #[test]
 fn body_cut_short(rt: HostRuntime) -> Result<(), Fail> {
-    tell_bytes(
+    framed(
         &rt,
-        "POST /members HTTP/1.1\r\ncontent-length: 57\r\n\r\n{\"member\":",
-        "400 {\"error\":\"body cut\"}",
+        r#"
+POST /members HTTP/1.1|content-length: 57||{"member": -> 400 {"error":"body cut"}
+"#,
     )
 }
 
@@ -73,92 +74,93 @@ fn large_array(alloc: Global) -> Result<String, AllocError> {
 /// A body has 4,096 bytes at most, and is an object.
 #[test]
 fn body_too_large_and_body_that_is_an_array(rt: HostRuntime) -> Result<(), Fail> {
-    tell_bytes(
+    framed(
         &rt,
-        "POST /members HTTP/1.1\r\npurse-token: 00000000000000000000000000000001\r\ncontent-length: 4097\r\n\r\n",
-        "413 {\"error\":\"body too large\"}",
+        r#"
+POST /members HTTP/1.1|purse-token: 00000000000000000000000000000001|content-length: 4097|| -> 413 {"error":"body too large"}
+"#,
     )?;
     let array = large_array(rt.alloc())?;
     tell_bytes(&rt, array.as_str(), "400 {\"error\":\"bad body\"}")
 }
 
+/// Serves what comes to an office of its own each: a line, `BYTES -> RESPONSE`, in which `|` stands for the end of a line.
+fn framed(rt: &(impl Abort + AllocGlobal), script: &str) -> Result<(), Fail> {
+    for line in script.lines() {
+        if let Some((bytes, response)) = line.split_once(" -> ") {
+            let bytes = unfolded(rt.alloc(), bytes)?;
+            tell_bytes(rt, bytes.as_str(), response)?;
+        }
+    }
+    Ok(())
+}
+
+/// The text with a line end in place of each `|`.
+fn unfolded(alloc: Global, line: &str) -> Result<String, AllocError> {
+    let mut text = String::new(alloc);
+    for character in line.chars() {
+        if character == '|' {
+            text.push_str("\r\n")?;
+        } else {
+            text.push(character)?;
+        }
+    }
+    Ok(text)
+}
+
 /// A transfer coding is said before anything of the lengths.
 #[test]
 fn transfer_coding_and_lengths(rt: HostRuntime) -> Result<(), Fail> {
-    for (bytes, response) in [
-        (
-            "POST /members HTTP/1.1\r\nTransfer-Encoding: chunked\r\ncontent-length: x\r\n\r\n",
-            "501 {\"error\":\"transfer coding\"}",
-        ),
-        (
-            "HEAD /members HTTP/1.1\r\ntransfer-encoding: chunked\r\n\r\n",
-            "501 {\"error\":\"transfer coding\"}",
-        ),
-        (
-            "POST /members HTTP/1.1\r\ncontent-length: 57\r\nContent-Length: 57\r\n\r\n",
-            "400 {\"error\":\"bad content length\"}",
-        ),
-        (
-            "POST /members HTTP/1.1\r\ncontent-length: +1\r\n\r\n",
-            "400 {\"error\":\"bad content length\"}",
-        ),
-        (
-            "POST /members HTTP/1.1\r\ncontent-length: 1,1\r\n\r\n",
-            "400 {\"error\":\"bad content length\"}",
-        ),
-        (
-            "POST /members HTTP/1.1\r\ncontent-length:\r\n\r\n",
-            "400 {\"error\":\"bad content length\"}",
-        ),
-        (
-            "POST /members HTTP/1.1\r\ncontent-length: 1111111111111111111111111111111111111111\r\n\r\n",
-            "413 {\"error\":\"body too large\"}",
-        ),
-    ] {
-        tell_bytes(&rt, bytes, response)?;
-    }
-    Ok(())
+    framed(
+        &rt,
+        r#"
+POST /members HTTP/1.1|Transfer-Encoding: chunked|content-length: x|| -> 501 {"error":"transfer coding"}
+HEAD /members HTTP/1.1|transfer-encoding: chunked|| -> 501 {"error":"transfer coding"}
+POST /members HTTP/1.1|content-length: 57|Content-Length: 57|| -> 400 {"error":"bad content length"}
+POST /members HTTP/1.1|content-length: +1|| -> 400 {"error":"bad content length"}
+POST /members HTTP/1.1|content-length: 1,1|| -> 400 {"error":"bad content length"}
+POST /members HTTP/1.1|content-length:|| -> 400 {"error":"bad content length"}
+POST /members HTTP/1.1|content-length: 1111111111111111111111111111111111111111|| -> 413 {"error":"body too large"}
+"#,
+    )
 }
 
 /// Spaces and tabs round a value don't count, nor the case of a field's name or of a token, nor zeros before a length.
 #[test]
 fn values_in_other_forms(rt: HostRuntime) -> Result<(), Fail> {
-    tell_bytes(
+    framed(
         &rt,
-        "POST /purses HTTP/1.0\r\nPURSE-TOKEN: \t 00000000000000000000000000000002 \t\r\ncontent-length:  0029 \r\n\r\n{\"purse\":\"p2\",\"holder\":\"ann\"}",
-        ADDED,
-    )?;
-    tell_bytes(
-        &rt,
-        "GET /purses HTTP/1.1\r\npurse-token: 0000000000000000000000000000000A\r\n\r\n",
-        "200 {\"purses\":[\"p1\"]}",
+        "
+POST /purses HTTP/1.0|PURSE-TOKEN: \t 00000000000000000000000000000002 \t|content-length:  0029 ||{\"purse\":\"p2\",\"holder\":\"ann\"} -> 200 {\"done\":\"added\"}
+GET /purses HTTP/1.1|purse-token: 0000000000000000000000000000000A|| -> 200 {\"purses\":[\"p1\"]}
+",
     )
 }
 
 /// A token that stands twice, or that isn't one, is a token not known.
 #[test]
 fn tokens_that_are_not_known(rt: HostRuntime) -> Result<(), Fail> {
-    for bytes in [
-        "GET /purses HTTP/1.1\r\npurse-token: 0000000000000000000000000000000a\r\npurse-token: 0000000000000000000000000000000a\r\n\r\n",
-        "GET /purses HTTP/1.1\r\npurse-token: 000000000000000000000000000000a\r\n\r\n",
-        "GET /purses HTTP/1.1\r\npurse-token: 0000000000000000000000000000000c\r\n\r\n",
-        "GET /purses HTTP/1.1\r\npurse-token:\r\n\r\n",
-    ] {
-        tell_bytes(&rt, bytes, "403 {\"error\":\"token not known\"}")?;
-    }
-    Ok(())
+    framed(
+        &rt,
+        r#"
+GET /purses HTTP/1.1|purse-token: 0000000000000000000000000000000a|purse-token: 0000000000000000000000000000000a|| -> 403 {"error":"token not known"}
+GET /purses HTTP/1.1|purse-token: 000000000000000000000000000000a|| -> 403 {"error":"token not known"}
+GET /purses HTTP/1.1|purse-token: 0000000000000000000000000000000c|| -> 403 {"error":"token not known"}
+GET /purses HTTP/1.1|purse-token:|| -> 403 {"error":"token not known"}
+"#,
+    )
 }
 
 /// Bytes that begin no head end the run.
 #[test]
 fn bytes_that_are_no_head(rt: HostRuntime) -> Result<(), Fail> {
-    for bytes in [
-        "\r",
-        "GET\r\n\r\n",
-        "GET /purses HTTP/2.0\r\n\r\n",
-        "GET /purses HTTP/1.1\r\npurse token: 1\r\n\r\n",
-    ] {
-        tell_bytes(&rt, bytes, "400 {\"error\":\"bad head\"}")?;
-    }
-    Ok(())
+    framed(
+        &rt,
+        r#"
+GET|| -> 400 {"error":"bad head"}
+GET /purses HTTP/2.0|| -> 400 {"error":"bad head"}
+GET /purses HTTP/1.1|purse token: 1|| -> 400 {"error":"bad head"}
+"#,
+    )?;
+    tell_bytes(&rt, "\r", "400 {\"error\":\"bad head\"}")
 }

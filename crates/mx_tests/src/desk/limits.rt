@@ -54,45 +54,35 @@ fn assert_next_is_32(
 }
 
 /// A 33rd message, and the inbox, from which it isn't.
-fn tell_33rd(rt: &(impl Abort + AllocGlobal), office: &mut Office<PlainBook>) -> Result<(), Fail> {
-    let inbox = inbox_of_32(rt.alloc())?;
-    tell(
-        rt,
-        office,
-        &[
-            (
-                "bob POST /purses/q3/start-to {\"peer\":\"p1\",\"value\":1,\"seq\":0}",
-                "200 {\"details\":\"p1,q3,1,0,0\",\"done\":\"started\"}",
-            ),
-            ("ann GET /purses/p1/inbox", inbox.as_str()),
-            (
-                "bob POST /purses/q1/start-to {\"peer\":\"p1\",\"value\":1,\"seq\":0}",
-                "409 {\"error\":\"log full\"}",
-            ),
-        ],
-    )
+fn thirty_third(alloc: Global) -> Result<Exchange, AllocError> {
+    let inbox = inbox_of_32(alloc)?;
+    let mut exchange = Exchange::of(
+        alloc,
+        r#"
+bob POST /purses/q3/start-to {"peer":"p1","value":1,"seq":0} -> 200 {"details":"p1,q3,1,0,0","done":"started"}
+bob POST /purses/q1/start-to {"peer":"p1","value":1,"seq":0} -> 409 {"error":"log full"}
+"#,
+    )?;
+    exchange.add("ann GET /purses/p1/inbox", inbox.as_str())?;
+    Ok(exchange)
 }
+
+/// Two purses more for bob.
+const TWO_PURSES: &str = r#"
+clerk POST /purses {"purse":"q2","holder":"bob"} -> 200 {"done":"added"}
+clerk POST /purses {"purse":"q3","holder":"bob"} -> 200 {"done":"added"}
+"#;
 
 /// An inbox holds 32 messages. A 33rd vanishes and takes no number; its sender is told as ever. A log has 16 entries
 /// at most, and a purse starts no payment that could need a 17th.
 #[test]
 fn thirty_third_message(rt: HostRuntime) -> Result<(), Fail> {
     let mut office = funded(&rt)?;
-    let purses = [
-        (
-            "clerk POST /purses {\"purse\":\"q2\",\"holder\":\"bob\"}",
-            ADDED,
-        ),
-        (
-            "clerk POST /purses {\"purse\":\"q3\",\"holder\":\"bob\"}",
-            ADDED,
-        ),
-    ];
-    tell(&rt, &mut office, &purses)?;
+    tell(&rt, &mut office, TWO_PURSES)?;
     for purse in ["q1", "q2"] {
         serve(&rt, &mut office, &sixteen_starts(rt.alloc(), purse)?)?;
     }
-    tell_33rd(&rt, &mut office)?;
+    serve(&rt, &mut office, &thirty_third(rt.alloc())?)?;
     assert_next_is_32(&rt, &mut office)
 }
 
@@ -116,44 +106,17 @@ fn fifteen_aborts(alloc: Global) -> Result<Exchange, AllocError> {
 fn full_log(rt: HostRuntime) -> Result<(), Fail> {
     let mut office = funded(&rt)?;
     serve(&rt, &mut office, &fifteen_aborts(rt.alloc())?)?;
-    tell(
-        &rt,
-        &mut office,
-        &[
-            (
-                "ann POST /purses/p1/start-from {\"peer\":\"q1\",\"value\":60,\"seq\":0}",
-                "200 {\"details\":\"p1,q1,60,15,0\",\"done\":\"started\"}",
-            ),
-            (
-                "bob POST /purses/q1/start-to {\"peer\":\"p1\",\"value\":60,\"seq\":15}",
-                "200 {\"details\":\"p1,q1,60,15,0\",\"done\":\"started\"}",
-            ),
-            (
-                "ann POST /purses/p1/handle {\"number\":0}",
-                "200 {\"done\":\"value-sent\"}",
-            ),
-            (
-                "ann POST /purses/p1/start-from {\"peer\":\"q1\",\"value\":1,\"seq\":1}",
-                "409 {\"error\":\"log full\"}",
-            ),
-            (
-                "ann GET /purses/p1",
-                "200 {\"balance\":40,\"next\":16,\"purse\":\"p1\",\"status\":\"epa\"}",
-            ),
-            (
-                "ann POST /purses/p1/abort",
-                "200 {\"done\":\"aborted\",\"logged\":true}",
-            ),
-            (
-                "ann POST /purses/p1/abort",
-                "200 {\"done\":\"aborted\",\"logged\":false}",
-            ),
-            (
-                "ann POST /purses/p1/start-from {\"peer\":\"q1\",\"value\":1,\"seq\":1}",
-                "409 {\"error\":\"log full\"}",
-            ),
-        ],
-    )
+    let end = r#"
+ann POST /purses/p1/start-from {"peer":"q1","value":60,"seq":0} -> 200 {"details":"p1,q1,60,15,0","done":"started"}
+bob POST /purses/q1/start-to {"peer":"p1","value":60,"seq":15} -> 200 {"details":"p1,q1,60,15,0","done":"started"}
+ann POST /purses/p1/handle {"number":0} -> 200 {"done":"value-sent"}
+ann POST /purses/p1/start-from {"peer":"q1","value":1,"seq":1} -> 409 {"error":"log full"}
+ann GET /purses/p1 -> 200 {"balance":40,"next":16,"purse":"p1","status":"epa"}
+ann POST /purses/p1/abort -> 200 {"done":"aborted","logged":true}
+ann POST /purses/p1/abort -> 200 {"done":"aborted","logged":false}
+ann POST /purses/p1/start-from {"peer":"q1","value":1,"seq":1} -> 409 {"error":"log full"}
+"#;
+    tell(&rt, &mut office, end)
 }
 
 /// Sixty-four purses more for ann, of which the last is one too many: with p1 the purses a2 to a64 are 64.

@@ -1,36 +1,23 @@
 //! Grants, loads, redemptions and collects.
-use super::scripts::{Exchange, LOADED};
-use super::{funded, serve, standing, tell};
+use super::scripts::Exchange;
+use super::{STANDING, funded, played, serve};
 use std::alloc::{AllocError, Global};
 use std::test::Fail;
 
 /// A load that is sent again loads once; another amount under its reference is refused.
 #[test]
 fn load_sent_again(rt: HostRuntime) -> Result<(), Fail> {
-    tell(
+    played(
         &rt,
-        &mut standing(&rt)?,
         &[
-            (
-                "operator POST /members/m/grant {\"amount\":1000}",
-                "200 {\"done\":\"granted\"}",
-            ),
-            (
-                "clerk POST /purses/p1/load {\"amount\":100,\"ref\":\"a1\"}",
-                LOADED,
-            ),
-            (
-                "clerk POST /purses/p1/load {\"amount\":100,\"ref\":\"a1\"}",
-                LOADED,
-            ),
-            (
-                "ann GET /purses/p1",
-                "200 {\"balance\":100,\"next\":0,\"purse\":\"p1\",\"status\":\"eaFrom\"}",
-            ),
-            (
-                "clerk POST /purses/p1/load {\"amount\":90,\"ref\":\"a1\"}",
-                "409 {\"error\":\"reference reused\"}",
-            ),
+            STANDING,
+            r#"
+operator POST /members/m/grant {"amount":1000} -> 200 {"done":"granted"}
+clerk POST /purses/p1/load {"amount":100,"ref":"a1"} -> 200 {"done":"loaded"}
+clerk POST /purses/p1/load {"amount":100,"ref":"a1"} -> 200 {"done":"loaded"}
+ann GET /purses/p1 -> 200 {"balance":100,"next":0,"purse":"p1","status":"eaFrom"}
+clerk POST /purses/p1/load {"amount":90,"ref":"a1"} -> 409 {"error":"reference reused"}
+"#,
         ],
     )
 }
@@ -38,45 +25,23 @@ fn load_sent_again(rt: HostRuntime) -> Result<(), Fail> {
 /// A redemption asks nothing of the float; a collect brings it back, once.
 #[test]
 fn float_that_is_spent_and_collected(rt: HostRuntime) -> Result<(), Fail> {
-    tell(
+    played(
         &rt,
-        &mut standing(&rt)?,
         &[
-            (
-                "operator POST /members/m/grant {\"amount\":100}",
-                "200 {\"done\":\"granted\"}",
-            ),
-            (
-                "clerk POST /purses/p1/load {\"amount\":100,\"ref\":\"a1\"}",
-                LOADED,
-            ),
-            (
-                "clerk POST /purses/p1/load {\"amount\":1,\"ref\":\"a2\"}",
-                "409 {\"error\":\"float too small\"}",
-            ),
-            (
-                "ann POST /purses/p1/redeem {\"amount\":100,\"ref\":\"r1\"}",
-                "200 {\"done\":\"redeemed\"}",
-            ),
-            (
-                "ann POST /purses/p1/redeem {\"amount\":100,\"ref\":\"r1\"}",
-                "200 {\"done\":\"redeemed\"}",
-            ),
-            (
-                "ann GET /purses/p1",
-                "200 {\"balance\":0,\"next\":0,\"purse\":\"p1\",\"status\":\"eaFrom\"}",
-            ),
-            ("clerk POST /collect", "200 {\"collected\":\"100\"}"),
-            ("clerk POST /collect", "200 {\"collected\":\"0\"}"),
-            // The float is 100 again.
-            (
-                "clerk POST /purses/p1/load {\"amount\":101,\"ref\":\"a3\"}",
-                "409 {\"error\":\"float too small\"}",
-            ),
-            (
-                "clerk POST /purses/p1/load {\"amount\":100,\"ref\":\"a3\"}",
-                LOADED,
-            ),
+            STANDING,
+            r#"
+operator POST /members/m/grant {"amount":100} -> 200 {"done":"granted"}
+clerk POST /purses/p1/load {"amount":100,"ref":"a1"} -> 200 {"done":"loaded"}
+clerk POST /purses/p1/load {"amount":1,"ref":"a2"} -> 409 {"error":"float too small"}
+ann POST /purses/p1/redeem {"amount":100,"ref":"r1"} -> 200 {"done":"redeemed"}
+ann POST /purses/p1/redeem {"amount":100,"ref":"r1"} -> 200 {"done":"redeemed"}
+ann GET /purses/p1 -> 200 {"balance":0,"next":0,"purse":"p1","status":"eaFrom"}
+clerk POST /collect -> 200 {"collected":"100"}
+clerk POST /collect -> 200 {"collected":"0"}
+# The float is 100 again.
+clerk POST /purses/p1/load {"amount":101,"ref":"a3"} -> 409 {"error":"float too small"}
+clerk POST /purses/p1/load {"amount":100,"ref":"a3"} -> 200 {"done":"loaded"}
+"#,
         ],
     )
 }

@@ -1,17 +1,18 @@
 //! What holders see, and who may ask what.
-use super::scripts::ADDED;
-use super::{STANDING, empty_office, funded, standing, tell};
+use super::{FUNDED, STANDING, played};
 use std::test::Fail;
 
 /// A purse of another holder is answered as one that isn't there.
 #[test]
 fn another_holders_purse(rt: HostRuntime) -> Result<(), Fail> {
-    tell(
+    played(
         &rt,
-        &mut standing(&rt)?,
         &[
-            ("bob GET /purses/p1", "404 {\"error\":\"no such purse\"}"),
-            ("bob GET /purses/zz", "404 {\"error\":\"no such purse\"}"),
+            STANDING,
+            r#"
+bob GET /purses/p1 -> 404 {"error":"no such purse"}
+bob GET /purses/zz -> 404 {"error":"no such purse"}
+"#,
         ],
     )
 }
@@ -19,15 +20,16 @@ fn another_holders_purse(rt: HostRuntime) -> Result<(), Fail> {
 /// The response to HEAD is the head of the one to GET.
 #[test]
 fn head_of_a_purse(rt: HostRuntime) -> Result<(), Fail> {
-    let shown = "200 {\"balance\":0,\"next\":0,\"purse\":\"p1\",\"status\":\"eaFrom\"}";
-    tell(
+    played(
         &rt,
-        &mut standing(&rt)?,
         &[
-            ("ann HEAD /purses/p1", shown),
-            ("ann GET /purses/p1", shown),
-            ("bob HEAD /purses/p1", "404 {\"error\":\"no such purse\"}"),
-            ("- HEAD /nowhere", "404 {\"error\":\"no route\"}"),
+            STANDING,
+            r#"
+ann HEAD /purses/p1 -> 200 {"balance":0,"next":0,"purse":"p1","status":"eaFrom"}
+ann GET /purses/p1 -> 200 {"balance":0,"next":0,"purse":"p1","status":"eaFrom"}
+bob HEAD /purses/p1 -> 404 {"error":"no such purse"}
+- HEAD /nowhere -> 404 {"error":"no route"}
+"#,
         ],
     )
 }
@@ -35,18 +37,18 @@ fn head_of_a_purse(rt: HostRuntime) -> Result<(), Fail> {
 /// The route is looked at before the token, the token before the caller's class, and that before the body.
 #[test]
 fn what_is_looked_at_first(rt: HostRuntime) -> Result<(), Fail> {
-    tell(
+    played(
         &rt,
-        &mut funded(&rt)?,
         &[
-            ("- GET /nowhere", "404 {\"error\":\"no route\"}"),
-            ("- GET /purses", "403 {\"error\":\"token not known\"}"),
-            (
-                "ann POST /members []",
-                "403 {\"error\":\"not for this caller\"}",
-            ),
-            ("operator POST /members []", "400 {\"error\":\"bad body\"}"),
-            ("ann GET /purses", "200 {\"purses\":[\"p1\"]}"),
+            STANDING,
+            FUNDED,
+            r#"
+- GET /nowhere -> 404 {"error":"no route"}
+- GET /purses -> 403 {"error":"token not known"}
+ann POST /members [] -> 403 {"error":"not for this caller"}
+operator POST /members [] -> 400 {"error":"bad body"}
+ann GET /purses -> 200 {"purses":["p1"]}
+"#,
         ],
     )
 }
@@ -54,27 +56,17 @@ fn what_is_looked_at_first(rt: HostRuntime) -> Result<(), Fail> {
 /// Names and tokens are taken once.
 #[test]
 fn names_and_tokens_taken(rt: HostRuntime) -> Result<(), Fail> {
-    tell(
+    played(
         &rt,
-        &mut standing(&rt)?,
         &[
-            (
-                "operator POST /members {\"member\":\"m\",\"token\":\"0000000000000000000000000000000f\"}",
-                "409 {\"error\":\"name taken\"}",
-            ),
-            (
-                "clerk POST /holders {\"holder\":\"cy\",\"token\":\"00000000000000000000000000000001\"}",
-                "409 {\"error\":\"token taken\"}",
-            ),
-            (
-                "clerk POST /purses {\"purse\":\"p2\",\"holder\":\"cy\"}",
-                "404 {\"error\":\"no such holder\"}",
-            ),
-            (
-                "clerk POST /purses {\"purse\":\"p2\",\"holder\":\"ann\"}",
-                ADDED,
-            ),
-            ("ann GET /purses", "200 {\"purses\":[\"p1\",\"p2\"]}"),
+            STANDING,
+            r#"
+operator POST /members {"member":"m","token":"0000000000000000000000000000000f"} -> 409 {"error":"name taken"}
+clerk POST /holders {"holder":"cy","token":"00000000000000000000000000000001"} -> 409 {"error":"token taken"}
+clerk POST /purses {"purse":"p2","holder":"cy"} -> 404 {"error":"no such holder"}
+clerk POST /purses {"purse":"p2","holder":"ann"} -> 200 {"done":"added"}
+ann GET /purses -> 200 {"purses":["p1","p2"]}
+"#,
         ],
     )
 }
@@ -82,6 +74,5 @@ fn names_and_tokens_taken(rt: HostRuntime) -> Result<(), Fail> {
 /// No input, no output.
 #[test]
 fn nothing_in_nothing_out(rt: HostRuntime) -> Result<(), Fail> {
-    tell(&rt, &mut empty_office(&rt)?, &[])?;
-    tell(&rt, &mut empty_office(&rt)?, STANDING)
+    played(&rt, &["", STANDING])
 }

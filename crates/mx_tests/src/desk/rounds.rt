@@ -67,12 +67,8 @@ fn payments(alloc: Global, count: u32) -> Result<Exchange, AllocError> {
 fn two_hundred_and_fifty_payments(rt: HostRuntime) -> Result<(), Fail> {
     let mut office = funded(&rt)?;
     serve(&rt, &mut office, &payments(rt.alloc(), 250)?)?;
-    tell(
-        &rt,
-        &mut office,
-        &[(
-            "ann GET /purses/p1",
-            "200 {\"balance\":100,\"next\":250,\"purse\":\"p1\",\"status\":\"eaFrom\"}",
-        )],
-    )
+    let end = r#"
+ann GET /purses/p1 -> 200 {"balance":100,"next":250,"purse":"p1","status":"eaFrom"}
+"#;
+    tell(&rt, &mut office, end)
 }

@@ -1,4 +1,5 @@
-//! Scripts: requests in words, each with its response in words, and the bytes of both.
+//! Scripts: requests in words, each with its response in words, and the bytes of both, as a line `WHO METHOD PATH BODY ->
+//! STATUS BODY`.
 use mx_pay::Token;
 use std::alloc::{AllocError, Global};
 use std::test::Fail;
@@ -6,15 +7,9 @@ use std::test::Fail;
 /// The response to a member, a holder or a purse that is added.
 pub(super) const ADDED: &str = "200 {\"done\":\"added\"}";
 
-/// The response to a request that is given up.
-pub(super) const GIVEN_UP: &str = "503";
-
-/// Its bytes.
+/// The bytes of `503`, the response to a request that is given up.
 const UNAVAILABLE: &str =
     "HTTP/1.1 503 Service Unavailable\r\ncontent-length: 0\r\nconnection: close\r\n\r\n";
-
-/// The response to a load.
-pub(super) const LOADED: &str = "200 {\"done\":\"loaded\"}";
 
 /// The token whose 32 digits are zeros but for the last, which is the word.
 pub(super) fn token(word: &str) -> Result<Token, Fail> {
@@ -67,11 +62,13 @@ impl Exchange {
         }
     }
 
-    /// The requests of a script, which stand before their responses.
-    pub(super) fn of(alloc: Global, script: &[(&str, &str)]) -> Result<Exchange, AllocError> {
+    /// The requests of a script: a line each, `REQUEST -> RESPONSE`. Any other line says nothing.
+    pub(super) fn of(alloc: Global, script: &str) -> Result<Exchange, AllocError> {
         let mut exchange = Exchange::new(alloc);
-        for (request, response) in script {
-            exchange.add(request, response)?;
+        for line in script.lines() {
+            if let Some((request, response)) = line.split_once(" -> ") {
+                exchange.add(request, response)?;
+            }
         }
         Ok(exchange)
     }
@@ -119,7 +116,7 @@ impl Exchange {
 
     fn push_response(&mut self, response: &str, head_only: bool) -> Result<(), AllocError> {
         self.count = self.count.saturating_add(1);
-        if response == GIVEN_UP {
+        if response == "503" {
             return self.output.push_str(UNAVAILABLE);
         }
         let (status, body) = response.split_once(' ').unwrap_or((response, ""));

@@ -1,16 +1,10 @@
 //! What stands where a growth is refused, and where the book answers a fault.
-ghost use Rattle.std.specs.Prelude.{◌≡◌};
-
 use super::scripts::{name, read_command};
 use super::words::outcome_words;
 use super::{empty_book, tell};
-use mx_book::{
-    Account, Book, Caller, Edit, HolderRow, Line, MemberRow, MemberTotals, PlainBook, StoreFault,
-    Totals,
-};
+use crate::faulty::Faulty;
+use mx_book::{Book, Caller, PlainBook};
 use mx_office::{Command, Office, Outcome};
-use mx_pay::{Amount, Log, Name, PayDetails, Token};
-use mx_purse::Message;
 use mx_report::{reconcile, reconcile_text, statement, statement_text};
 use std::alloc::{AllocError, Global};
 use std::process::Abort;
@@ -95,17 +89,19 @@ fn words_again(alloc: Global, outcome: &Outcome) -> Result<String, AllocError> {
     }
 }
 
-/// Runs commands, which stand before their replies, one by one, and asserts that each gets its reply, at the second
+/// Runs the commands of a script one by one, and asserts that each gets its reply, at the second
 /// time where it gets none at first.
 fn tell_again(
     rt: &(impl Abort + AllocGlobal),
     office: &mut Office<PlainBook>,
-    script: &[(&str, &str)],
+    script: &str,
 ) -> Result<(), Fail> {
-    for (command, reply) in script {
-        let outcome = run_again(office, rt.alloc(), &read_command(command)?)?;
-        let words = words_again(rt.alloc(), &outcome)?;
-        assert_eq!(rt; words.as_str(), *reply, "{command}");
+    for line in script.lines() {
+        if let Some((command, reply)) = line.split_once(" -> ") {
+            let outcome = run_again(office, rt.alloc(), &read_command(command)?)?;
+            let words = words_again(rt.alloc(), &outcome)?;
+            assert_eq!(rt; words.as_str(), reply, "{command}");
+        }
     }
     Ok(())
 }
@@ -117,25 +113,22 @@ fn payment_with_a_growth_refused(rt: HostRuntime) -> Result<(), Fail> {
     tell_again(
         &rt,
         &mut office,
-        &[
-            ("operator new-member m 2", "added"),
-            ("clerk new-holder ann a", "added"),
-            ("clerk new-holder bob b", "added"),
-            ("clerk new-purse p1 ann", "added"),
-            ("clerk new-purse q1 bob", "added"),
-            ("operator grant m 1000", "granted"),
-            ("clerk load p1 100 a1", "loaded"),
-            ("ann start-from p1 q1 60 0", "started p1,q1,60,0,0"),
-            ("bob start-to q1 p1 60 0", "started p1,q1,60,0,0"),
-            ("ann handle p1 0", "value-sent"),
-            ("bob handle q1 0", "received"),
-            ("ann handle p1 1", "finished"),
-            (
-                "ann statement p1 0",
-                "statement 1 loaded 100 100 a1 2 sent 60 40 p1,q1,60,0,0",
-            ),
-            ("operator reconcile", "1000 900 0 100 0, 100 0 0"),
-        ],
+        "
+operator new-member m 2 -> added
+clerk new-holder ann a -> added
+clerk new-holder bob b -> added
+clerk new-purse p1 ann -> added
+clerk new-purse q1 bob -> added
+operator grant m 1000 -> granted
+clerk load p1 100 a1 -> loaded
+ann start-from p1 q1 60 0 -> started p1,q1,60,0,0
+bob start-to q1 p1 60 0 -> started p1,q1,60,0,0
+ann handle p1 0 -> value-sent
+bob handle q1 0 -> received
+ann handle p1 1 -> finished
+ann statement p1 0 -> statement 1 loaded 100 100 a1 2 sent 60 40 p1,q1,60,0,0
+operator reconcile -> 1000 900 0 100 0, 100 0 0
+",
     )?;
     let held = Held {
         granted: 1000,
@@ -182,13 +175,13 @@ fn reports_with_a_growth_refused(rt: HostRuntime) -> Result<(), Fail> {
     tell_again(
         &rt,
         &mut office,
-        &[
-            ("operator new-member m 2", "added"),
-            ("clerk new-holder ann a", "added"),
-            ("clerk new-purse p1 ann", "added"),
-            ("operator grant m 1000", "granted"),
-            ("clerk load p1 100 a1", "loaded"),
-        ],
+        "
+operator new-member m 2 -> added
+clerk new-holder ann a -> added
+clerk new-purse p1 ann -> added
+operator grant m 1000 -> granted
+clerk load p1 100 a1 -> loaded
+",
     )?;
     let mut book = office.into_book();
     let text = statement_again(&rt, &mut book)?;
@@ -211,28 +204,28 @@ fn log_with_a_growth_refused(rt: HostRuntime) -> Result<(), Fail> {
     tell_again(
         &rt,
         &mut office,
-        &[
-            ("operator new-member m 2", "added"),
-            ("clerk new-holder ann a", "added"),
-            ("clerk new-holder bob b", "added"),
-            ("clerk new-purse p1 ann", "added"),
-            ("clerk new-purse q1 bob", "added"),
-            ("operator grant m 1000", "granted"),
-            ("clerk load p1 100 a1", "loaded"),
-            ("bob start-to q1 p1 60 0", "started p1,q1,60,0,0"),
-            ("bob abort q1", "aborted true"),
-            ("ann start-from p1 q1 60 0", "started p1,q1,60,0,0"),
-            ("ann handle p1 0", "value-sent"),
-            ("bob handle q1 0", "ignored"),
-            ("ann read-log p1 0", "read p1,q1,60,0,0"),
-            ("ann read-log p1 16", "read nothing"),
-            ("operator clear p1 p1,q1,60,0,0", "not archived"),
-            ("operator archive p1", "archived 1"),
-            ("operator archive p1", "archived 0"),
-            ("operator clear p1 p1,q1,60,0,0", "sent"),
-            ("ann handle p1 1", "cleared"),
-            ("ann read-log p1 0", "read nothing"),
-        ],
+        "
+operator new-member m 2 -> added
+clerk new-holder ann a -> added
+clerk new-holder bob b -> added
+clerk new-purse p1 ann -> added
+clerk new-purse q1 bob -> added
+operator grant m 1000 -> granted
+clerk load p1 100 a1 -> loaded
+bob start-to q1 p1 60 0 -> started p1,q1,60,0,0
+bob abort q1 -> aborted true
+ann start-from p1 q1 60 0 -> started p1,q1,60,0,0
+ann handle p1 0 -> value-sent
+bob handle q1 0 -> ignored
+ann read-log p1 0 -> read p1,q1,60,0,0
+ann read-log p1 16 -> read nothing
+operator clear p1 p1,q1,60,0,0 -> not archived
+operator archive p1 -> archived 1
+operator archive p1 -> archived 0
+operator clear p1 p1,q1,60,0,0 -> sent
+ann handle p1 1 -> cleared
+ann read-log p1 0 -> read nothing
+",
     )?;
     let held = Held {
         granted: 1000,
@@ -253,19 +246,19 @@ fn float_with_a_growth_refused(rt: HostRuntime) -> Result<(), Fail> {
     tell_again(
         &rt,
         &mut office,
-        &[
-            ("operator new-member m 2", "added"),
-            ("clerk new-holder ann a", "added"),
-            ("clerk new-purse p1 ann", "added"),
-            ("operator grant m 100", "granted"),
-            ("clerk load p1 100 a1", "loaded"),
-            ("ann redeem p1 100 r1", "redeemed"),
-            ("ann redeem p1 100 r1", "redeemed"),
-            ("clerk collect", "collected 100"),
-            ("clerk collect", "collected 0"),
-            ("clerk load p1 100 a2", "loaded"),
-            ("clerk load p1 1 a3", "float too small"),
-        ],
+        "
+operator new-member m 2 -> added
+clerk new-holder ann a -> added
+clerk new-purse p1 ann -> added
+operator grant m 100 -> granted
+clerk load p1 100 a1 -> loaded
+ann redeem p1 100 r1 -> redeemed
+ann redeem p1 100 r1 -> redeemed
+clerk collect -> collected 100
+clerk collect -> collected 0
+clerk load p1 100 a2 -> loaded
+clerk load p1 1 a3 -> float too small
+",
     )?;
     let held = Held {
         granted: 100,
@@ -279,205 +272,13 @@ fn float_with_a_growth_refused(rt: HostRuntime) -> Result<(), Fail> {
     Ok(())
 }
 
-/// Passes calls on to a book, but for one, which it answers as a fault of the store.
-#[derive(Drop)]
-struct Faulty<B> {
-    book: B,
-    /// How many calls are passed on before the one that isn't. It stays where none is left out any more.
-    left: Option<u64>,
-}
-
-impl<B> Faulty<B> {
-    /// Whether this call isn't passed on.
-    fn is_left_out(&mut self) -> bool
-        ensures { self.new.book ≡ self.old.book }
-    {
-        match self.left {
-            Some(0) => {
-                self.left = None;
-                true
-            }
-            Some(left) => {
-                self.left = Some(left - 1);
-                false
-            }
-            None => false,
-        }
-    }
-}
-
-impl<B: Book> Book for Faulty<B> {
-    ghost Rows = { B.Rows };
-
-    ghost rows = { λ b. B.rows b.book };
-
-    ghost spells = { B.spells };
-
-    ghost doubt = { λ b. B.doubt b.book };
-
-    ghost fails = { λ _. Unit {0} };
-
-    fn who(&mut self, alloc: Global, token: &Token) -> Result<Option<Caller>, StoreFault> {
-        if self.is_left_out() {
-            return Err(StoreFault::Store);
-        }
-        self.book.who(alloc, token)
-    }
-
-    fn member(&mut self, alloc: Global, name: Name) -> Result<Option<MemberRow>, StoreFault> {
-        if self.is_left_out() {
-            return Err(StoreFault::Store);
-        }
-        self.book.member(alloc, name)
-    }
-
-    fn holder(&mut self, alloc: Global, name: Name) -> Result<Option<HolderRow>, StoreFault> {
-        if self.is_left_out() {
-            return Err(StoreFault::Store);
-        }
-        self.book.holder(alloc, name)
-    }
-
-    fn purse(&mut self, alloc: Global, name: Name) -> Result<Option<Account>, StoreFault> {
-        if self.is_left_out() {
-            return Err(StoreFault::Store);
-        }
-        self.book.purse(alloc, name)
-    }
-
-    fn purses_of(&mut self, alloc: Global, holder: Name) -> Result<Vec<Name>, StoreFault> {
-        if self.is_left_out() {
-            return Err(StoreFault::Store);
-        }
-        self.book.purses_of(alloc, holder)
-    }
-
-    fn inbox(&mut self, alloc: Global, purse: Name) -> Result<Vec<(u64, Message)>, StoreFault> {
-        if self.is_left_out() {
-            return Err(StoreFault::Store);
-        }
-        self.book.inbox(alloc, purse)
-    }
-
-    fn message(
-        &mut self,
-        alloc: Global,
-        purse: Name,
-        number: u64,
-    ) -> Result<Option<Message>, StoreFault> {
-        if self.is_left_out() {
-            return Err(StoreFault::Store);
-        }
-        self.book.message(alloc, purse, number)
-    }
-
-    fn lines(
-        &mut self,
-        alloc: Global,
-        purse: Name,
-        after: u64,
-        most: u64,
-    ) -> Result<Vec<Line>, StoreFault> {
-        if self.is_left_out() {
-            return Err(StoreFault::Store);
-        }
-        self.book.lines(alloc, purse, after, most)
-    }
-
-    fn members(&mut self, alloc: Global) -> Result<Vec<Name>, StoreFault> {
-        if self.is_left_out() {
-            return Err(StoreFault::Store);
-        }
-        self.book.members(alloc)
-    }
-
-    fn archived(
-        &mut self,
-        alloc: Global,
-        purse: Name,
-        details: &PayDetails,
-    ) -> Result<bool, StoreFault> {
-        if self.is_left_out() {
-            return Err(StoreFault::Store);
-        }
-        self.book.archived(alloc, purse, details)
-    }
-
-    fn tray(&mut self, alloc: Global, purse: Name) -> Result<Log, StoreFault> {
-        if self.is_left_out() {
-            return Err(StoreFault::Store);
-        }
-        self.book.tray(alloc, purse)
-    }
-
-    fn load_of(
-        &mut self,
-        alloc: Global,
-        purse: Name,
-        reference: Name,
-    ) -> Result<Option<Amount>, StoreFault> {
-        if self.is_left_out() {
-            return Err(StoreFault::Store);
-        }
-        self.book.load_of(alloc, purse, reference)
-    }
-
-    fn redemption_of(
-        &mut self,
-        alloc: Global,
-        purse: Name,
-        reference: Name,
-    ) -> Result<Option<Amount>, StoreFault> {
-        if self.is_left_out() {
-            return Err(StoreFault::Store);
-        }
-        self.book.redemption_of(alloc, purse, reference)
-    }
-
-    fn uncollected(&mut self, alloc: Global, member: Name) -> Result<u128, StoreFault> {
-        if self.is_left_out() {
-            return Err(StoreFault::Store);
-        }
-        self.book.uncollected(alloc, member)
-    }
-
-    fn totals(&mut self, alloc: Global) -> Result<Totals, StoreFault> {
-        if self.is_left_out() {
-            return Err(StoreFault::Store);
-        }
-        self.book.totals(alloc)
-    }
-
-    fn member_totals(
-        &mut self,
-        alloc: Global,
-        member: Name,
-    ) -> Result<Option<MemberTotals>, StoreFault> {
-        if self.is_left_out() {
-            return Err(StoreFault::Store);
-        }
-        self.book.member_totals(alloc, member)
-    }
-
-    fn apply(&mut self, edits: &[Edit]) -> Result<(), StoreFault> {
-        if self.is_left_out() {
-            return Err(StoreFault::Store);
-        }
-        self.book.apply(edits)
-    }
-
-    ghost sound = { B.sound };
-
-    ghost single = { B.single };
-}
-
 /// Runs commands after those of `opening` over a book that leaves one call out, after so many that it passes on, and
 /// asserts that each gets its reply.
 fn tell_with_fault(
     rt: &(impl Abort + AllocGlobal),
     passed: u64,
-    opening: &[(&str, &str)],
-    script: &[(&str, &str)],
+    opening: &str,
+    script: &str,
 ) -> Result<(), Fail> {
     let mut office = Office::new(Faulty {
         book: empty_book(rt)?,
@@ -492,22 +293,22 @@ fn tell_with_fault(
 fn fault_in_one_command(rt: HostRuntime) -> Result<(), Fail> {
     // A new member takes 3 calls of the book and a new holder 4, so the 8th is the first of the new purse's 3. The
     // show takes 2. Of each command's calls the last is apply.
-    let opening = [
-        ("operator new-member m 2", "added"),
-        ("clerk new-holder ann a", "added"),
-    ];
-    let script = [
-        ("clerk new-purse p1 ann", "unavailable"),
-        ("ann show p1", "no such purse"),
-    ];
-    tell_with_fault(&rt, 7, &opening, &script)?;
-    tell_with_fault(&rt, 9, &opening, &script)?;
-    let script = [
-        ("clerk new-purse p1 ann", "added"),
-        ("ann show p1", "unavailable"),
-        ("ann show p1", "p1 0 0 eaFrom"),
-    ];
-    tell_with_fault(&rt, 10, &opening, &script)
+    let opening = "
+operator new-member m 2 -> added
+clerk new-holder ann a -> added
+";
+    let script = "
+clerk new-purse p1 ann -> unavailable
+ann show p1 -> no such purse
+";
+    tell_with_fault(&rt, 7, opening, script)?;
+    tell_with_fault(&rt, 9, opening, script)?;
+    let script = "
+clerk new-purse p1 ann -> added
+ann show p1 -> unavailable
+ann show p1 -> p1 0 0 eaFrom
+";
+    tell_with_fault(&rt, 10, opening, script)
 }
 
 /// The same of commands that move money.
@@ -515,38 +316,38 @@ fn fault_in_one_command(rt: HostRuntime) -> Result<(), Fail> {
 fn fault_in_one_command_of_money(rt: HostRuntime) -> Result<(), Fail> {
     // What is added takes 10 calls of the book, a grant to the only member 4, a load 4, a redemption 3 and a collect
     // 3. Of each command's calls the last is apply, and it is the one that fails: the 14th, 18th, 21st and 24th.
-    let opening = [
-        ("operator new-member m 2", "added"),
-        ("clerk new-holder ann a", "added"),
-        ("clerk new-purse p1 ann", "added"),
-    ];
-    let script = [
-        ("operator grant m 100", "unavailable"),
-        ("clerk load p1 100 a1", "float too small"),
-    ];
-    tell_with_fault(&rt, 13, &opening, &script)?;
-    let script = [
-        ("operator grant m 100", "granted"),
-        ("clerk load p1 100 a1", "unavailable"),
-        ("ann redeem p1 60 r1", "not enough"),
-    ];
-    tell_with_fault(&rt, 17, &opening, &script)?;
-    let script = [
-        ("operator grant m 100", "granted"),
-        ("clerk load p1 100 a1", "loaded"),
-        ("ann redeem p1 60 r1", "unavailable"),
-        ("clerk collect", "collected 0"),
-        ("ann show p1", "p1 100 0 eaFrom"),
-    ];
-    tell_with_fault(&rt, 20, &opening, &script)?;
-    let script = [
-        ("operator grant m 100", "granted"),
-        ("clerk load p1 100 a1", "loaded"),
-        ("ann redeem p1 60 r1", "redeemed"),
-        ("clerk collect", "unavailable"),
-        ("clerk collect", "collected 60"),
-    ];
-    tell_with_fault(&rt, 23, &opening, &script)
+    let opening = "
+operator new-member m 2 -> added
+clerk new-holder ann a -> added
+clerk new-purse p1 ann -> added
+";
+    let script = "
+operator grant m 100 -> unavailable
+clerk load p1 100 a1 -> float too small
+";
+    tell_with_fault(&rt, 13, opening, script)?;
+    let script = "
+operator grant m 100 -> granted
+clerk load p1 100 a1 -> unavailable
+ann redeem p1 60 r1 -> not enough
+";
+    tell_with_fault(&rt, 17, opening, script)?;
+    let script = "
+operator grant m 100 -> granted
+clerk load p1 100 a1 -> loaded
+ann redeem p1 60 r1 -> unavailable
+clerk collect -> collected 0
+ann show p1 -> p1 100 0 eaFrom
+";
+    tell_with_fault(&rt, 20, opening, script)?;
+    let script = "
+operator grant m 100 -> granted
+clerk load p1 100 a1 -> loaded
+ann redeem p1 60 r1 -> redeemed
+clerk collect -> unavailable
+clerk collect -> collected 60
+";
+    tell_with_fault(&rt, 23, opening, script)
 }
 
 /// The same of commands that only tell something.
@@ -554,23 +355,23 @@ fn fault_in_one_command_of_money(rt: HostRuntime) -> Result<(), Fail> {
 fn fault_in_one_command_that_tells(rt: HostRuntime) -> Result<(), Fail> {
     // What is added takes 10 calls of the book, a grant to the only member 4, a load 4, a reconciliation 1 and a
     // statement 2. The calls that fail are the 19th, the 20th and the 21st.
-    let opening = [
-        ("operator new-member m 2", "added"),
-        ("clerk new-holder ann a", "added"),
-        ("clerk new-purse p1 ann", "added"),
-        ("operator grant m 100", "granted"),
-        ("clerk load p1 40 a1", "loaded"),
-    ];
-    let script = [
-        ("operator reconcile", "unavailable"),
-        ("ann statement p1 0", "statement 1 loaded 40 40 a1"),
-    ];
-    tell_with_fault(&rt, 18, &opening, &script)?;
-    let script = [
-        ("operator reconcile", "100 60 0 40 0, 40 0 0"),
-        ("ann statement p1 0", "unavailable"),
-        ("ann statement p1 0", "statement 1 loaded 40 40 a1"),
-    ];
-    tell_with_fault(&rt, 19, &opening, &script)?;
-    tell_with_fault(&rt, 20, &opening, &script)
+    let opening = "
+operator new-member m 2 -> added
+clerk new-holder ann a -> added
+clerk new-purse p1 ann -> added
+operator grant m 100 -> granted
+clerk load p1 40 a1 -> loaded
+";
+    let script = "
+operator reconcile -> unavailable
+ann statement p1 0 -> statement 1 loaded 40 40 a1
+";
+    tell_with_fault(&rt, 18, opening, script)?;
+    let script = "
+operator reconcile -> 100 60 0 40 0, 40 0 0
+ann statement p1 0 -> unavailable
+ann statement p1 0 -> statement 1 loaded 40 40 a1
+";
+    tell_with_fault(&rt, 19, opening, script)?;
+    tell_with_fault(&rt, 20, opening, script)
 }

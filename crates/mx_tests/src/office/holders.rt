@@ -9,33 +9,35 @@ fn first_purse_of_an_office(rt: HostRuntime) -> Result<(), Fail> {
     tell(
         &rt,
         &mut Office::new(empty_book(&rt)?),
-        &[
-            ("operator new-member m 2", "added"),
-            ("clerk new-holder ann a", "added"),
-            ("clerk new-purse p1 ann", "added"),
-            ("ann show p1", "p1 0 0 eaFrom"),
-        ],
+        "
+operator new-member m 2 -> added
+clerk new-holder ann a -> added
+clerk new-purse p1 ann -> added
+ann show p1 -> p1 0 0 eaFrom
+",
     )
 }
 
 /// A holder is told the same, whatever other holders do, while they put nothing to the holder's purses.
 #[test]
 fn forty_commands_of_others(rt: HostRuntime) -> Result<(), Fail> {
-    let before = [
-        ("ann show p1", "p1 100 0 eaFrom"),
-        ("ann start-from p1 q1 60 0", "started p1,q1,60,0,0"),
-    ];
-    let after = [("ann show p1", "p1 100 1 epr")];
+    let before = "
+ann show p1 -> p1 100 0 eaFrom
+ann start-from p1 q1 60 0 -> started p1,q1,60,0,0
+";
+    let after = "
+ann show p1 -> p1 100 1 epr
+";
     let mut alone = funded(&rt)?;
-    tell(&rt, &mut alone, &before)?;
-    tell(&rt, &mut alone, &after)?;
+    tell(&rt, &mut alone, before)?;
+    tell(&rt, &mut alone, after)?;
     let mut among = funded(&rt)?;
-    let cy = [
-        ("clerk new-holder cy c", "added"),
-        ("clerk new-purse c1 cy", "added"),
-    ];
-    tell(&rt, &mut among, &cy)?;
-    tell(&rt, &mut among, &before)?;
+    let cy = "
+clerk new-holder cy c -> added
+clerk new-purse c1 cy -> added
+";
+    tell(&rt, &mut among, cy)?;
+    tell(&rt, &mut among, before)?;
     // 40 commands: 10 times each of these 4.
     for command in [
         "bob start-to q1 c1 5 0",
@@ -45,5 +47,5 @@ fn forty_commands_of_others(rt: HostRuntime) -> Result<(), Fail> {
     ] {
         repeat(&rt, &mut among, 10, command)?;
     }
-    tell(&rt, &mut among, &after)
+    tell(&rt, &mut among, after)
 }

@@ -431,21 +431,21 @@ impl Trial {
 }
 
 /// Two members with what they are granted, and the purses of their holders.
-const OPENING: &[(&str, &str)] = &[
-    ("operator new-member m 2", "added"),
-    ("operator new-member k 3", "added"),
-    ("clerk new-holder ann a", "added"),
-    ("clerk new-holder bob b", "added"),
-    ("clerk-of-k new-holder cy c", "added"),
-    ("clerk-of-k new-holder dan d", "added"),
-    ("clerk new-purse p0 ann", "added"),
-    ("clerk new-purse p1 ann", "added"),
-    ("clerk new-purse p2 bob", "added"),
-    ("clerk-of-k new-purse q0 cy", "added"),
-    ("clerk-of-k new-purse q1 dan", "added"),
-    ("operator grant m 100000", "granted"),
-    ("operator grant k 100000", "granted"),
-];
+const OPENING: &str = "
+operator new-member m 2 -> added
+operator new-member k 3 -> added
+clerk new-holder ann a -> added
+clerk new-holder bob b -> added
+clerk-of-k new-holder cy c -> added
+clerk-of-k new-holder dan d -> added
+clerk new-purse p0 ann -> added
+clerk new-purse p1 ann -> added
+clerk new-purse p2 bob -> added
+clerk-of-k new-purse q0 cy -> added
+clerk-of-k new-purse q1 dan -> added
+operator grant m 100000 -> granted
+operator grant k 100000 -> granted
+";
 
 /// An office with these purses, and its ledger.
 fn opened(rt: &(impl Abort + AllocGlobal)) -> Result<Trial, Fail> {

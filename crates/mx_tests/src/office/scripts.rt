@@ -1,4 +1,4 @@
-//! Scripts: commands in words, each with the words of its reply.
+//! Scripts: commands in words, each with the words of its reply, as a line `COMMAND -> REPLY`.
 use mx_book::Caller;
 use mx_office::Command;
 use mx_pay::{Amount, Name, Seq, Token, read_code};
@@ -155,14 +155,13 @@ pub(super) fn read_command(text: &str) -> Result<(Caller, Command), Fail> {
     }
 }
 
-/// The commands of a script.
-pub(super) fn read_script(
-    alloc: Global,
-    script: &[(&str, &str)],
-) -> Result<Vec<(Caller, Command)>, Fail> {
+/// The commands of a script: a line each, `COMMAND -> REPLY`.
+pub(super) fn read_script(alloc: Global, script: &str) -> Result<Vec<(Caller, Command)>, Fail> {
     let mut commands = Vec::new(alloc);
-    for (command, _) in script {
-        commands.push(read_command(command)?)?;
+    for line in script.lines() {
+        if let Some((command, _)) = line.split_once(" -> ") {
+            commands.push(read_command(command)?)?;
+        }
     }
     Ok(commands)
 }

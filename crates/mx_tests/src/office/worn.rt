@@ -114,12 +114,12 @@ fn worn_purse(rt: HostRuntime) -> Result<(), Fail> {
     tell(
         &rt,
         &mut Office::new(book),
-        &[
-            ("ann show p1", "p1 0 1000000000000000 eaFrom"),
-            ("ann start-from p1 q1 1 0", "not enough"),
-            ("ann start-from p1 q1 0 0", "purse worn"),
-            ("ann start-to p1 q1 1 0", "purse worn"),
-            ("ann abort p1", "aborted false"),
-        ],
+        "
+ann show p1 -> p1 0 1000000000000000 eaFrom
+ann start-from p1 q1 1 0 -> not enough
+ann start-from p1 q1 0 0 -> purse worn
+ann start-to p1 q1 1 0 -> purse worn
+ann abort p1 -> aborted false
+",
     )
 }
