@@ -24,9 +24,9 @@ use mx_pay::names::same_name;
 use mx_pay::{Amount, Log, Name, PayDetails};
 use mx_purse::status::Status;
 
-/// Whose purses count.
+/// Whose purses count in a sum.
 #[derive(Clone, Copy)]
-pub(crate) enum Scope {
+pub enum Scope {
     /// Those of the whole scheme.
     Scheme,
     /// Those of the holders of this member.
@@ -173,8 +173,16 @@ fn has_sent(purses: &Table<Name, PurseRow>, purse: Name, details: &PayDetails) -
 {
     match purses.get(purse) {
         None => false,
-        Some(row) => waits(row.purse.status(), details) || row.purse.log().has(details),
+        Some(row) => is_sent_by(row, details),
     }
+}
+
+/// Whether the purse of a row waits for the acknowledgement of details, or has them in its log: then it has sent
+/// their value, as long as the details are the purse's own.
+pub fn is_sent_by(row: &PurseRow, details: &PayDetails) -> bool
+    ensures { result ≡ has_sent (Some row.now) details.now }
+{
+    waits(row.purse.status(), details) || row.purse.log().has(details)
 }
 
 /// Whether a purse of this status waits for the acknowledgement of details.

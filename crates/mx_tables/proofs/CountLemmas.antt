@@ -38,7 +38,7 @@ finds_uncollected =
     (λ id e. and_true _ ∙ same_numbers (if e.1.collected then 1 else 0) 0 ∙ uncollected_flag e.1.collected) (λ id e. refl)
 
 -- all rows of a table
-all_of : {X : Type 0} (show : X → Row) (xs : List X) (rows : List Row) → IsPermutation (map show (filter (λ _. true) xs)) rows → IsPermutation (map show xs) rows
+pub all_of : {X : Type 0} (show : X → Row) (xs : List X) (rows : List Row) → IsPermutation (map show (filter (λ _. true) xs)) rows → IsPermutation (map show xs) rows
 all_of show xs rows h = subst (λ ys. IsPermutation (map show ys) rows) (filter_everything xs) h
 
 pub finds_redeemed : (old new : State) (rows : List Row) → Shown select_redeemed [] old new rows → (r : Rows) → Holds old.now r

@@ -11,14 +11,14 @@ use Rattle.sqlite.specs.Effect.{Database}
 use Rattle.mx_book.specs.World.{Name}
 use Rattle.mx_book.specs.Rows.{Rows}
 use Rattle.mx_book.specs.Sums.{sum_entries, sum_values}
-use Rattle.mx_book.specs.RowReads.{uncollected_amount}
+use Rattle.mx_book.specs.RowReads.{is_counted, counted_of, uncollected_amount}
 use Rattle.mx_book.specs.declared.values.MemberRow.{MemberRow}
 use Rattle.mx_book.specs.declared.values.PurseRow.{PurseRow}
 use Rattle.mx_book.specs.declared.values.Redemption.{Redemption}
 use Rattle.mx_book.proofs.NameLemmas.{names_total}
 use Rattle.mx_book.proofs.SumLemmas.{total_is, total_entries}
-use Rattle.mx_tables.specs.declared.sums.Scope.{Scope}
-use Rattle.mx_tables.specs.Counted.{number_of, owed_shown, is_counted, counted_of, counted_row, row_sums}
+use Rattle.mx_book.specs.declared.totals.Scope.{Scope}
+use Rattle.mx_tables.specs.Counted.{number_of, owed_shown, counted_row, row_sums}
 use Rattle.mx_tables.specs.Answers.{member_shown}
 use Rattle.mx_tables.specs.Holds.{Holds}
 use Rattle.mx_tables.specs.States.{Stays, worry}

@@ -35,3 +35,4 @@ pub mod CountLemmas
 pub mod CountedSums
 pub mod CollectLemmas
 pub mod SingleLemmas
+pub mod BetweenLemmas

@@ -9,7 +9,7 @@ use Rattle.std.specs.FinMap.{IsAntisymmetric}
 use Rattle.std.proofs.lemmas.Bool.{cases_Bool}
 use Rattle.hex.specs.Hex.{encode_lower}
 use Rattle.sqlite_value.specs.declared.value.Value.{Value}
-use Rattle.sqlite_value.specs.declared.value.Value.TheVariants.{Int, Text}
+use Rattle.sqlite_value.specs.declared.value.Value.TheVariants.{Text}
 use Rattle.sqlite_value.specs.Order.{Row}
 use Rattle.sqlite.specs.Effect.{Database}
 use Rattle.mx_pay.specs.Tokens.{token_of, IsToken}
@@ -33,7 +33,7 @@ use Rattle.mx_book.specs.declared.values.PurseRow.{PurseRow}
 use Rattle.mx_book.specs.declared.values.Redemption.{Redemption}
 use Rattle.mx_tables.specs.Contents.{Contents}
 use Rattle.mx_tables.specs.Cells.{number, kind_text, owner_text, token_cells, member_cells, holder_cells, purse_cells, message_cells, line_cells, result_cells, load_cells, redemption_cells, message_kind, message_details, tokens_of}
-use Rattle.mx_tables.specs.Holds.{HaveCells, HasContents, Holds, Spells}
+use Rattle.mx_tables.specs.Holds.{HaveCells, HasContents, Holds, Spells, SpellsOne}
 use Rattle.mx_tables.specs.Rows.{rows_of}
 use Rattle.mx_tables.proofs.MapLists.{AreDistinct}
 use Rattle.mx_tables.proofs.KeptLemmas.{Kept, members, token_rows, holders, purses, inbox, lines, tray, archive, loads, redemptions}
@@ -226,7 +226,7 @@ other_tokens [] = []
 other_tokens (e ∷ es) = es
 
 -- a database spells one World at most
-pub one_spelled : (db : Database) (v w : World) → Spells db v → Spells db w → v ≡ w
+one_spelled : (db : Database) (v w : World) → Spells db v → Spells db w → v ≡ w
 one_spelled db v w h g =
     let r = h.rows in
     let s = g.rows in
@@ -257,3 +257,7 @@ one_spelled db v w h g =
     } in
     let same : r ≡ s = sym h.holds.rows ∙ ap rows_of contents ∙ g.holds.rows in
     one_world s v w (subst (λ (x : Rows). book.Spells x v) same h.spells) g.spells
+
+-- so one that it spells is the only one
+pub spelled_one : {db : Database} {w : World} → Spells db w → SpellsOne db w
+spelled_one {db} {w} h = record { spelled = h; only = λ v g. one_spelled db v w g h }

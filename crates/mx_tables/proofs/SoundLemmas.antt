@@ -2,7 +2,6 @@
 use Rattle.std.proofs.Common.{◌≡◌, inl, inr, ℕ, ◌+◌, ◌<◌, ◌≤◌, true, is_some, List, [], ◌∷◌, map, length, refl, Some, None, Option, sym, ap, subst, ◌∙◌, arith}
 use Rattle.std.specs.Prelude.{option_map}
 use Rattle.std.specs.FinMap as fmap
-use Rattle.mx_pay.specs.Details.{Details, IsDetails}
 use Rattle.mx_purse.specs.Messages.{IsMessage}
 use Rattle.std.specs.Ordering.{nat_cmp}
 use Rattle.mx_pay.specs.Limits.{most_number}

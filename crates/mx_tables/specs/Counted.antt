@@ -1,5 +1,5 @@
 -- What rows that were read add to sums, and which purses they are of.
-use Rattle.std.specs.Prelude.{ℕ, pos, negsuc, Bool, true, Option, Some, ◌&&◌, ◌||◌, List, [], ◌∷◌, if◌then◌else◌}
+use Rattle.std.specs.Prelude.{ℕ, pos, negsuc, Bool, ◌&&◌, ◌||◌, List, [], ◌∷◌, if◌then◌else◌}
 use Rattle.std.specs.FinMap as fmap
 use Rattle.sqlite_value.specs.declared.value.Value.{Value}
 use Rattle.sqlite_value.specs.declared.value.Value.TheVariants.{Null, Int, Real, Text, Blob}
@@ -7,14 +7,12 @@ use Rattle.sqlite_value.specs.Order.{Row, column}
 use Rattle.mx_pay.specs.Names.{name_cmp, is_name}
 use Rattle.mx_book.specs.World.{Name, is_of}
 use Rattle.mx_book.specs.Rows.{Rows}
-use Rattle.mx_book.specs.RowEdits.{member_at}
-use Rattle.mx_book.specs.RowReads.{uncollected_amount}
-use Rattle.mx_book.specs.Sums.{sum_entries, sum_values}
+use Rattle.mx_book.specs.RowReads.{is_counted, row_uncollected_of}
+use Rattle.mx_book.specs.RowTotals.{row_issued_of, row_redeemed_of, row_balances_of}
 use Rattle.mx_book.specs.declared.values.PurseRow.{PurseRow}
 use Rattle.mx_book.specs.declared.values.Redemption.{Redemption}
-use Rattle.mx_tables.specs.declared.sums.Scope.{Scope}
+use Rattle.mx_book.specs.declared.totals.Scope.{Scope}
 use Rattle.mx_tables.specs.declared.sums.Sums.{Sums}
-use Rattle.mx_tables.specs.declared.sums.Scope.TheVariants.{Scheme, Member}
 use Rattle.mx_tables.specs.Cells.{number}
 
 -- a name and a number
@@ -41,15 +39,6 @@ number_of (Real x) = 0
 number_of (Text t) = 0
 number_of (Blob b) = 0
 
--- whether a purse counts: each for the whole scheme, and for a member those of its holders
-abbrev pub is_counted : fmap.FinMap name_cmp Name → Scope → Option PurseRow → Bool
-is_counted holders Scheme x = true
-is_counted holders (Member m) x = is_of m (member_at holders x)
-
--- a number of a row of a purse, where the purse counts
-abbrev pub counted_of : {V : Type 0} → fmap.FinMap name_cmp PurseRow → fmap.FinMap name_cmp Name → Scope → (V → ℕ) → Name × Name → V → ℕ
-counted_of purses holders scope f key x = if is_counted holders scope (fmap.get purses key.0) then f x else 0
-
 -- the number of a row, where the purse that it names counts
 abbrev pub counted_row : fmap.FinMap name_cmp PurseRow → fmap.FinMap name_cmp Name → Scope → Row → ℕ
 counted_row purses holders scope row = if is_counted holders scope (fmap.get purses (text_of (column row 0))) then number_of (column row 1) else 0
@@ -65,8 +54,8 @@ collected_where passes key x = record x { collected = x.collected || passes key.
 -- the sums of the purses that count
 abbrev pub row_sums : Rows → Scope → Sums
 row_sums r scope = record {
-  uncollected = sum_entries (counted_of r.purses r.holders scope uncollected_amount) r.redemptions;
-  issued = sum_entries (counted_of r.purses r.holders scope (λ n. n)) r.loads;
-  redeemed = sum_entries (counted_of r.purses r.holders scope (λ (x : Redemption). x.amount)) r.redemptions;
-  balances = sum_values (λ (x : PurseRow). if is_counted r.holders scope (Some x) then x.purse.balance else 0) r.purses;
+  uncollected = row_uncollected_of r scope;
+  issued = row_issued_of r scope;
+  redeemed = row_redeemed_of r scope;
+  balances = row_balances_of r scope;
 }

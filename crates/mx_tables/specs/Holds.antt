@@ -51,3 +51,8 @@ pub record Spells (db : Database) (w : World) : Type 0 where
   pub rows : Rows
   pub holds : Holds db rows
   pub spells : book.Spells rows w
+
+-- it does, and spells no other World
+pub record SpellsOne (db : Database) (w : World) : Type 0 where
+  pub spelled : Spells db w
+  pub only : (v : World) → Spells db v → v ≡ w

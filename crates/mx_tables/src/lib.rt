@@ -2,6 +2,7 @@
 #![tactic(auto)]
 
 mod asking;
+mod between;
 mod cells;
 mod codes;
 mod collecting;

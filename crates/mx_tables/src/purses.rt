@@ -152,7 +152,7 @@ fn purse_in(name: &Name, row: &Row) -> Result<PurseRow, StoreFault>
 }
 
 /// What is kept of a purse, or None where there is no such purse.
-fn find_purse<S: Alter>(
+pub fn find_purse<S: Alter>(
     conn: &mut Connection<S>,
     name: &Name,
 ) -> Result<Option<PurseRow>, StoreFault>

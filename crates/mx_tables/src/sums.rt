@@ -7,35 +7,30 @@ ghost use Rattle.mx_pay.specs.Names.{name_cmp};
 ghost use Rattle.sqlite_value.specs.Order.{column};
 ghost use Rattle.mx_book.specs.Sums.{sum_values};
 ghost use Rattle.mx_book.specs.RowEdits.{member_at};
-ghost use Rattle.mx_book.specs.RowTotals.{row_member_totals_of};
+ghost use Rattle.mx_book.specs.RowReads.{is_counted};
+ghost use Rattle.mx_book.specs.RowTotals.{row_member_totals_of, row_totals_of};
 ghost use Rattle.mx_tables.specs.States.{worry, IsOurs, Stays};
 ghost use Rattle.mx_tables.specs.Holds.{Holds};
-ghost use Rattle.mx_tables.specs.Answers.{at_key, member_shown, text_shown};
-ghost use Rattle.mx_tables.specs.Counted.{number_of, owed_shown, is_counted, counted_row, row_sums};
+ghost use Rattle.mx_tables.specs.Answers.{at_key, member_shown, text_shown, ArePurses};
+ghost use Rattle.mx_tables.specs.Results.{AreDetails};
+ghost use Rattle.mx_tables.specs.Counted.{number_of, owed_shown, counted_row, row_sums};
 
 use crate::asking::ask;
+use crate::between::{sum_lost, sum_transit};
 use crate::cells::{name_at, number_at};
 use crate::holders::find_holder;
 use crate::members::find_member;
-use mx_book::{MemberTotals, StoreFault};
+use mx_book::{MemberTotals, Scope, StoreFault, Totals};
 use mx_pay::Name;
 use mx_pay::names::same_name;
 use sqlite::{Alter, Connection, Row, params};
-
-/// Whose purses count.
-#[derive(Clone, Copy)]
-pub enum Scope {
-    /// Those of the whole scheme.
-    Scheme,
-    /// Those of the holders of this member.
-    Member(Name),
-}
+use std::alloc::Global;
 
 /// The sum with a number more. Store where it is too large.
-fn plus(sum: u128, more: u64) -> Result<u128, StoreFault>
+pub fn plus(sum: u128, more: u128) -> Result<u128, StoreFault>
     ensures { IfOk result (λ n. n ≡ sum + more) }
 {
-    match sum.checked_add(more as u128) {
+    match sum.checked_add(more) {
         Some(sum) => Ok(sum),
         None => Err(StoreFault::Store),
     }
@@ -104,14 +99,14 @@ fn count_row<S: Alter>(
     conn: &mut Connection<S>,
     scope: &Scope,
     row: &Row,
-) -> Result<u64, StoreFault>
+) -> Result<u128, StoreFault>
     ensures stays { IsOurs (state S.Store conn.old) → Stays (state S.Store conn.old) (state S.Store conn.new) }
     ensures value { IsOurs (state S.Store conn.old) → worry (state S.Store conn.new) ≡ 0 → (r : _) → Holds (state S.Store conn.old).now r → IfOk result (λ n. n ≡ counted_row r.purses r.holders scope.now row.now) }
 {
     let purse = name_at(row, 0)?;
     let number = number_at(row, 1)?;
     if counts(conn, scope, &purse)? {
-        Ok(number)
+        Ok(number as u128)
     } else {
         Ok(0)
     }
@@ -268,7 +263,7 @@ fn sum_column(rows: &[Row], at: usize) -> Result<u128, StoreFault>
     let mut sum = 0;
     for row in rows {
         let more = number_at(row, at)?;
-        sum = plus(sum, more)?;
+        sum = plus(sum, more as u128)?;
     }
     Ok(sum)
 }
@@ -282,7 +277,7 @@ fn select_grants<S: Alter>(conn: &mut Connection<S>) -> Result<Vec<Row>, StoreFa
 }
 
 /// The sum of all grants, and that of all floats.
-pub fn sum_grants<S: Alter>(conn: &mut Connection<S>) -> Result<(u128, u128), StoreFault>
+fn sum_grants<S: Alter>(conn: &mut Connection<S>) -> Result<(u128, u128), StoreFault>
     ensures stays { IsOurs (state S.Store conn.old) → Stays (state S.Store conn.old) (state S.Store conn.new) }
     ensures value { worry (state S.Store conn.new) ≡ 0 → (r : _) → Holds (state S.Store conn.old).now r → IfOk result (λ sums. (sums.0 ≡ sum_values (λ m. m.granted) r.members) × (sums.1 ≡ sum_values (λ m. m.float) r.members)) }
 {
@@ -291,4 +286,25 @@ pub fn sum_grants<S: Alter>(conn: &mut Connection<S>) -> Result<(u128, u128), St
     let granted = sum_column(rows, 0)?;
     let float = sum_column(rows, 1)?;
     Ok((granted, float))
+}
+
+/// What the books come to for the whole scheme.
+pub fn sum_scheme<S: Alter>(alloc: Global, conn: &mut Connection<S>) -> Result<Totals, StoreFault>
+    ensures stays { IsOurs (state S.Store conn.old) → Stays (state S.Store conn.old) (state S.Store conn.new) }
+    ensures value { IsOurs (state S.Store conn.old) → worry (state S.Store conn.new) ≡ 0 → (r : _) → Holds (state S.Store conn.old).now r → ArePurses r → AreDetails r.archive → IfOk result (λ v. v ≡ row_totals_of r) }
+{
+    let (granted, float) = sum_grants(conn)?;
+    let sums = sum_all(conn, &Scope::Scheme)?;
+    let transit = sum_transit(alloc, conn)?;
+    let lost = sum_lost(alloc, conn)?;
+    Ok(Totals {
+        granted,
+        float,
+        uncollected: sums.uncollected,
+        issued: sums.issued,
+        redeemed: sums.redeemed,
+        balances: sums.balances,
+        transit,
+        lost,
+    })
 }

@@ -1,17 +1,14 @@
 //! The book on tables.
-ghost use Rattle.std.specs.Prelude.{◌≡◌, ◌≢◌, ◌≤◌, ◌⊎◌, None, codes, false, IfOk, IfErr, OnOk, OnErr, MatchResult};
+ghost use Rattle.std.specs.Prelude.{◌≡◌, ◌≢◌, ◌≤◌, ◌⊎◌, None, codes, false, IfOk, IfErr, MatchResult};
 ghost use Rattle.sqlite.specs.Held.{state};
-ghost use Rattle.mx_book.specs.World.{World, opening};
-ghost use Rattle.mx_book.specs.Keeps.{Keeps};
-ghost use Rattle.mx_book.specs.Reads.{who_of, member_of, holder_of, account_of, members_of, purses_of, inbox_of, message_of, lines_of, is_archived, tray_of, load_of, redemption_of, uncollected_of};
-ghost use Rattle.mx_book.specs.Totals.{member_totals_of};
-ghost use Rattle.mx_book.specs.Edits.{Fits, all_edited};
+ghost use Rattle.mx_book.specs.World.{opening};
 ghost use Rattle.mx_tables.specs.Schema.{no_schema};
 ghost use Rattle.mx_tables.specs.declared.opening.OpenFault.TheVariants.{NotThisSchema};
 ghost use Rattle.sqlite_schema.specs.Names.{table_named};
 ghost use Rattle.mx_tables.specs.Made.{IsVersion1};
 ghost use Rattle.mx_tables.specs.States.{worry};
-ghost use Rattle.mx_tables.specs.Holds.{Spells};
+ghost use Rattle.sqlite.specs.Effect.{Database};
+ghost use Rattle.mx_tables.specs.Holds.{SpellsOne};
 
 use crate::edits::edit_all;
 use crate::holders::read_holder;
@@ -23,9 +20,12 @@ use crate::opening::{OpenFault, OpenRefused, check_office, make_office};
 use crate::purses::{list_held, read_account};
 use crate::redemptions::find_redemption;
 use crate::results::{find_archived, list_tray};
-use crate::sums::{Scope, sum_member, sum_uncollected};
+use crate::sums::{sum_member, sum_scheme, sum_uncollected};
 use crate::tokens::find_caller;
-use mx_book::{Account, Caller, Edit, HolderRow, Line, MemberRow, MemberTotals, StoreFault};
+use mx_book::{
+    Account, Book, Caller, Edit, HolderRow, Line, MemberRow, MemberTotals, Scope, StoreFault,
+    Totals,
+};
 use mx_pay::{Amount, Log, Name, PayDetails, Token};
 use mx_purse::Message;
 use sqlite::{Alter, Connection};
@@ -62,7 +62,7 @@ impl<S: Alter> Tables<S> {
         operator: Token,
     ) -> Result<Tables<S>, OpenRefused<S>>
         ensures later { MatchResult result (λ t. worry (state S.Store store) ≤ worry (state S.Store t)) (λ e. worry (state S.Store store) ≤ worry (state S.Store e.store)) }
-        ensures opens { IfOk result (λ t. worry (state S.Store t) ≡ 0 → Spells (state S.Store t).now (opening operator)) }
+        ensures opens { IfOk result (λ t. worry (state S.Store t) ≡ 0 → SpellsOne (state S.Store t).now (opening operator)) }
         ensures left { IfErr result (λ e. worry (state S.Store e.store) ≡ 0 → (state S.Store e.store).now ≡ (state S.Store store).now) }
         ensures idle { store.in_transaction ≡ false → IfErr result (λ e. e.store.in_transaction ≡ false) }
         ensures taken { IfErr result (λ e. e.fault ≡ NotThisSchema → (state S.Store store).now.schema ≢ no_schema) }
@@ -110,169 +110,118 @@ impl<S: Alter> Tables<S> {
         let Tables { conn, .. } = self;
         conn
     }
+}
 
-    /// Whose token it is, or None where it is nobody's.
-    pub fn who(&mut self, _alloc: Global, token: &Token) -> Result<Option<Caller>, StoreFault>
-        ensures keeps { Keeps (λ t. worry (state S.Store t)) (λ t. (state S.Store t).now) self.old self.new }
-        ensures value { (w : World) → worry (state S.Store self.new) ≡ 0 → Spells (state S.Store self.old).now w → IfOk result (λ r. r ≡ who_of w token.now) }
-    {
+impl<S: Alter> Book for Tables<S> {
+    ghost Rows = { Database };
+
+    ghost rows = { λ t. (state S.Store t).now };
+
+    ghost spells = { SpellsOne };
+
+    ghost doubt = { λ t. worry (state S.Store t) };
+
+    ghost fails = { λ _. Unit {0} };
+
+    fn who(&mut self, _alloc: Global, token: &Token) -> Result<Option<Caller>, StoreFault> {
         find_caller(&mut self.conn, token)
     }
 
-    /// The grants and the float of a member, or None where there is no such member.
-    pub fn member(&mut self, _alloc: Global, name: Name) -> Result<Option<MemberRow>, StoreFault>
-        ensures keeps { Keeps (λ t. worry (state S.Store t)) (λ t. (state S.Store t).now) self.old self.new }
-        ensures value { (w : World) → worry (state S.Store self.new) ≡ 0 → Spells (state S.Store self.old).now w → IfOk result (λ r. r ≡ member_of w name) }
-    {
+    fn member(&mut self, _alloc: Global, name: Name) -> Result<Option<MemberRow>, StoreFault> {
         find_member(&mut self.conn, &name)
     }
 
-    /// Makes these edits in order, all of them, or none where it answers a fault. Where a World is spelled
-    /// they fit it.
-    pub fn apply(&mut self, edits: &[Edit]) -> Result<(), StoreFault>
-        requires { (w : World) → worry (state S.Store self.old) ≡ 0 → Spells (state S.Store self.old).now w → Fits w edits.now }
-        ensures later { worry (state S.Store self.old) ≤ worry (state S.Store self.new) }
-        ensures ok { (w : World) → worry (state S.Store self.new) ≡ 0 → Spells (state S.Store self.old).now w → OnOk result (Spells (state S.Store self.new).now (all_edited w edits.now)) }
-        ensures err { worry (state S.Store self.new) ≡ 0 → OnErr result ((state S.Store self.new).now ≡ (state S.Store self.old).now) }
-    {
+    fn apply(&mut self, edits: &[Edit]) -> Result<(), StoreFault> {
         edit_all(self.alloc, &mut self.conn, edits)
     }
 
-    /// The member of a holder and how many purses the holder has, or None where there is no such holder.
-    pub fn holder(&mut self, _alloc: Global, name: Name) -> Result<Option<HolderRow>, StoreFault>
-        ensures keeps { Keeps (λ t. worry (state S.Store t)) (λ t. (state S.Store t).now) self.old self.new }
-        ensures value { (w : World) → worry (state S.Store self.new) ≡ 0 → Spells (state S.Store self.old).now w → IfOk result (λ r. r ≡ holder_of w name) }
-    {
+    fn holder(&mut self, _alloc: Global, name: Name) -> Result<Option<HolderRow>, StoreFault> {
         read_holder(&mut self.conn, &name)
     }
 
-    /// The names of the members, in order.
-    pub fn members(&mut self, alloc: Global) -> Result<Vec<Name>, StoreFault>
-        ensures keeps { Keeps (λ t. worry (state S.Store t)) (λ t. (state S.Store t).now) self.old self.new }
-        ensures value { (w : World) → worry (state S.Store self.new) ≡ 0 → Spells (state S.Store self.old).now w → IfOk result (λ r. r.items ≡ members_of w) }
-    {
+    fn members(&mut self, alloc: Global) -> Result<Vec<Name>, StoreFault> {
         list_members(alloc, &mut self.conn)
     }
 
-    /// A purse with its holder and the holder's member, how many messages it holds and the number of its next
-    /// one, or None where there is no such purse.
-    pub fn purse(&mut self, _alloc: Global, name: Name) -> Result<Option<Account>, StoreFault>
-        ensures keeps { Keeps (λ t. worry (state S.Store t)) (λ t. (state S.Store t).now) self.old self.new }
-        ensures value { (w : World) → worry (state S.Store self.new) ≡ 0 → Spells (state S.Store self.old).now w → IfOk result (λ r. r ≡ account_of w name) }
-    {
+    fn purse(&mut self, _alloc: Global, name: Name) -> Result<Option<Account>, StoreFault> {
         read_account(&mut self.conn, &name)
     }
 
-    /// The names of a holder's purses, in order; none where there is no such holder.
-    pub fn purses_of(&mut self, alloc: Global, holder: Name) -> Result<Vec<Name>, StoreFault>
-        ensures keeps { Keeps (λ t. worry (state S.Store t)) (λ t. (state S.Store t).now) self.old self.new }
-        ensures value { (w : World) → worry (state S.Store self.new) ≡ 0 → Spells (state S.Store self.old).now w → IfOk result (λ r. r.items ≡ purses_of w holder) }
-    {
+    fn purses_of(&mut self, alloc: Global, holder: Name) -> Result<Vec<Name>, StoreFault> {
         list_held(alloc, &mut self.conn, &holder)
     }
 
-    /// The messages in the inbox of a purse with their numbers, by number; none where there is no such purse.
-    pub fn inbox(&mut self, alloc: Global, purse: Name) -> Result<Vec<(u64, Message)>, StoreFault>
-        ensures keeps { Keeps (λ t. worry (state S.Store t)) (λ t. (state S.Store t).now) self.old self.new }
-        ensures value { (w : World) → worry (state S.Store self.new) ≡ 0 → Spells (state S.Store self.old).now w → IfOk result (λ r. r.items ≡ inbox_of w purse) }
-    {
+    fn inbox(&mut self, alloc: Global, purse: Name) -> Result<Vec<(u64, Message)>, StoreFault> {
         list_inbox(alloc, &mut self.conn, &purse)
     }
 
-    /// The message of that number in the inbox of a purse, or None where there is none.
-    pub fn message(
+    fn message(
         &mut self,
         _alloc: Global,
         purse: Name,
         number: u64,
-    ) -> Result<Option<Message>, StoreFault>
-        ensures keeps { Keeps (λ t. worry (state S.Store t)) (λ t. (state S.Store t).now) self.old self.new }
-        ensures value { (w : World) → worry (state S.Store self.new) ≡ 0 → Spells (state S.Store self.old).now w → IfOk result (λ r. r ≡ message_of w purse number) }
-    {
+    ) -> Result<Option<Message>, StoreFault> {
         find_message(&mut self.conn, &purse, number)
     }
 
-    /// The first `most` lines of a purse that are numbered above `after`, by number; all of them where there are
-    /// fewer, and none where there is no such purse.
-    pub fn lines(
+    fn lines(
         &mut self,
         alloc: Global,
         purse: Name,
         after: u64,
         most: u64,
-    ) -> Result<Vec<Line>, StoreFault>
-        ensures keeps { Keeps (λ t. worry (state S.Store t)) (λ t. (state S.Store t).now) self.old self.new }
-        ensures value { (w : World) → worry (state S.Store self.new) ≡ 0 → Spells (state S.Store self.old).now w → IfOk result (λ r. r.items ≡ lines_of w purse after most) }
-    {
+    ) -> Result<Vec<Line>, StoreFault> {
         list_lines(alloc, &mut self.conn, &purse, after, most)
     }
 
-    /// Whether details are archived for a purse; false where there is no such purse.
-    pub fn archived(
+    fn archived(
         &mut self,
         alloc: Global,
         purse: Name,
         details: &PayDetails,
-    ) -> Result<bool, StoreFault>
-        ensures keeps { Keeps (λ t. worry (state S.Store t)) (λ t. (state S.Store t).now) self.old self.new }
-        ensures value { (w : World) → worry (state S.Store self.new) ≡ 0 → Spells (state S.Store self.old).now w → IfOk result (λ b. b ≡ is_archived w purse details.now) }
-    {
+    ) -> Result<bool, StoreFault> {
         find_archived(alloc, &mut self.conn, &purse, details)
     }
 
-    /// The results of read log of a purse that were sent and aren't archived; none where there is no such purse.
-    pub fn tray(&mut self, _alloc: Global, purse: Name) -> Result<Log, StoreFault>
-        ensures keeps { Keeps (λ t. worry (state S.Store t)) (λ t. (state S.Store t).now) self.old self.new }
-        ensures value { (w : World) → worry (state S.Store self.new) ≡ 0 → Spells (state S.Store self.old).now w → IfOk result (λ log. log ≡ tray_of w purse) }
-    {
+    fn tray(&mut self, _alloc: Global, purse: Name) -> Result<Log, StoreFault> {
         list_tray(&mut self.conn, &purse)
     }
 
-    /// The amount of the load of a purse with that reference, or None where there is none.
-    pub fn load_of(
+    fn load_of(
         &mut self,
         _alloc: Global,
         purse: Name,
         reference: Name,
-    ) -> Result<Option<Amount>, StoreFault>
-        ensures keeps { Keeps (λ t. worry (state S.Store t)) (λ t. (state S.Store t).now) self.old self.new }
-        ensures value { (w : World) → worry (state S.Store self.new) ≡ 0 → Spells (state S.Store self.old).now w → IfOk result (λ r. r ≡ load_of w purse reference) }
-    {
+    ) -> Result<Option<Amount>, StoreFault> {
         find_load(&mut self.conn, &purse, &reference)
     }
 
-    /// The amount of the redemption of a purse with that reference, or None where there is none.
-    pub fn redemption_of(
+    fn redemption_of(
         &mut self,
         _alloc: Global,
         purse: Name,
         reference: Name,
-    ) -> Result<Option<Amount>, StoreFault>
-        ensures keeps { Keeps (λ t. worry (state S.Store t)) (λ t. (state S.Store t).now) self.old self.new }
-        ensures value { (w : World) → worry (state S.Store self.new) ≡ 0 → Spells (state S.Store self.old).now w → IfOk result (λ r. r ≡ redemption_of w purse reference) }
-    {
+    ) -> Result<Option<Amount>, StoreFault> {
         find_redemption(&mut self.conn, &purse, &reference)
     }
 
-    /// The sum of the redemptions of the purses of a member's holders that aren't collected; 0 where there is
-    /// no such member.
-    pub fn uncollected(&mut self, _alloc: Global, member: Name) -> Result<u128, StoreFault>
-        ensures keeps { Keeps (λ t. worry (state S.Store t)) (λ t. (state S.Store t).now) self.old self.new }
-        ensures value { (w : World) → worry (state S.Store self.new) ≡ 0 → Spells (state S.Store self.old).now w → IfOk result (λ r. r ≡ uncollected_of w member) }
-    {
+    fn uncollected(&mut self, _alloc: Global, member: Name) -> Result<u128, StoreFault> {
         sum_uncollected(&mut self.conn, &Scope::Member(member))
     }
 
-    /// What the books come to for a member and the purses of the member's holders, or None where there is no such
-    /// member.
-    pub fn member_totals(
+    fn member_totals(
         &mut self,
         _alloc: Global,
         member: Name,
-    ) -> Result<Option<MemberTotals>, StoreFault>
-        ensures keeps { Keeps (λ t. worry (state S.Store t)) (λ t. (state S.Store t).now) self.old self.new }
-        ensures value { (w : World) → worry (state S.Store self.new) ≡ 0 → Spells (state S.Store self.old).now w → IfOk result (λ r. r ≡ member_totals_of w member) }
-    {
+    ) -> Result<Option<MemberTotals>, StoreFault> {
         sum_member(&mut self.conn, &member)
     }
+
+    fn totals(&mut self, alloc: Global) -> Result<Totals, StoreFault> {
+        sum_scheme(alloc, &mut self.conn)
+    }
+
+    ghost sound = { λ db w h. h.spelled.spells.sound };
+
+    ghost single = { λ db v w h g. g.only v h.spelled };
 }

@@ -1,0 +1,16 @@
+use Rattle.std.proofs.Common.{◌∙◌}
+use Rattle.std.proofs.lemmas.Result.{IfOk-weaker}
+use Rattle.sqlite.specs.Held.{state}
+use Rattle.mx_tables.proofs.StateLemmas.{sure_before}
+use Rattle.mx_tables.proofs.CountedSums.{still_holds}
+use Rattle.mx_tables.proofs.BetweenLemmas.{results_summed}
+use Rattle.mx_tables.proofs.between.sum_results.Goals as goal
+
+pub returns-clause-value : goal.returns-clause-value
+returns-clause-value g c ours sure kept holds purses archive =
+    let mid = state g.S.Store c.select_results.new.conn in
+    let first = c.in_ok-rows.ensures.stays ours in
+    let second = c.lose_results.ensures.stays first.ours in
+    let calm = sure_before mid (state g.S.Store c.lose_results.new.conn) second.later sure in
+    IfOk-weaker c.lose_results.result _ _ (λ n is. is ∙ results_summed kept c.as_slice.result.now c.in_ok-rows.rows.items c.as_slice.ensures.value archive (c.in_ok-rows.ensures.rows calm kept holds))
+    (c.lose_results.ensures.value first.ours sure kept (still_holds (state g.S.Store c.args.conn.now) mid kept first calm holds) purses archive)

@@ -1,0 +1,12 @@
+use Rattle.std.proofs.Common.{◌∙◌}
+use Rattle.std.proofs.lemmas.Result.{IfOk-weaker}
+use Rattle.sqlite.specs.Held.{state}
+use Rattle.mx_book.proofs.SpellLemmas.{inbox_at}
+use Rattle.mx_tables.specs.Holds.{Holds}
+use Rattle.mx_tables.proofs.SoundLemmas.{messages_valid}
+use Rattle.mx_tables.proofs.tables.TablesBook.inbox.Goals as goal
+
+pub returns-clause-value : goal.returns-clause-value
+returns-clause-value g c w sure h =
+    let holds : Holds (state g.S.Store c.self.inside.conn).now h.spelled.rows = rw c.self.view_is h.spelled.holds in
+    IfOk-weaker c.list_inbox.result _ _ (λ r is. is ∙ inbox_at h.spelled.rows w c.args.purse h.spelled.spells) (c.list_inbox.ensures.value sure h.spelled.rows holds (messages_valid h.spelled.rows w h.spelled.spells))

@@ -1,0 +1,11 @@
+use Rattle.std.proofs.Common.{◌∙◌}
+use Rattle.std.proofs.lemmas.Result.{IfOk-weaker}
+use Rattle.sqlite.specs.Held.{state}
+use Rattle.mx_book.proofs.SpellLemmas.{load_at}
+use Rattle.mx_tables.specs.Holds.{Holds}
+use Rattle.mx_tables.proofs.tables.TablesBook.load_of.Goals as goal
+
+pub returns-clause-value : goal.returns-clause-value
+returns-clause-value g c w sure h =
+    let holds : Holds (state g.S.Store c.self.inside.conn).now h.spelled.rows = rw c.self.view_is h.spelled.holds in
+    IfOk-weaker c.find_load.result _ _ (λ r is. is ∙ load_at h.spelled.rows w c.args.purse c.args.reference h.spelled.spells) (c.find_load.ensures.value sure h.spelled.rows holds)

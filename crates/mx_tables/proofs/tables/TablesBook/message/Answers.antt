@@ -1,0 +1,12 @@
+use Rattle.std.proofs.Common.{◌∙◌}
+use Rattle.std.proofs.lemmas.Result.{IfOk-weaker}
+use Rattle.sqlite.specs.Held.{state}
+use Rattle.mx_book.proofs.SpellLemmas.{message_at}
+use Rattle.mx_tables.specs.Holds.{Holds}
+use Rattle.mx_tables.proofs.SoundLemmas.{messages_valid, numbers_valid}
+use Rattle.mx_tables.proofs.tables.TablesBook.message.Goals as goal
+
+pub returns-clause-value : goal.returns-clause-value
+returns-clause-value g c w sure h =
+    let holds : Holds (state g.S.Store c.self.inside.conn).now h.spelled.rows = rw c.self.view_is h.spelled.holds in
+    IfOk-weaker c.find_message.result _ _ (λ r is. is ∙ message_at h.spelled.rows w c.args.purse c.args.number h.spelled.spells) (c.find_message.ensures.value sure h.spelled.rows holds (messages_valid h.spelled.rows w h.spelled.spells) (numbers_valid h.spelled.rows w h.spelled.spells))
