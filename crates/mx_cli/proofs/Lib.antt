@@ -1,2 +1,4 @@
 pub mod CommandLemmas
+pub mod TaskLemmas
 pub mod ProgramLemmas
+pub mod ConnectionLemmas

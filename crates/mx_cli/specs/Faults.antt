@@ -1,18 +1,49 @@
--- The words of the program's faults.
+-- The words of the program's faults, and which faults of the layers below they are.
 use Rattle.std.specs.Prelude.{ℕ, List, codes}
 use Rattle.mx_cli.specs.declared.fault.CliFault.{CliFault}
-use Rattle.mx_cli.specs.declared.fault.CliFault.TheVariants.{Read, Write, Turns, Memory}
+use Rattle.mx_cli.specs.declared.fault.CliFault.TheVariants.{Read, Write, Turns, Memory, Store, NotThisSchema, FileExists, File, Net, NoSuchPurse, Roll, RollTooLarge}
+use Rattle.mx_book.specs.declared.contract.StoreFault.{StoreFault}
+use Rattle.mx_book.specs.declared.contract.StoreFault.TheVariants as store
 use Rattle.mx_desk.specs.declared.fault.DeskFault.{DeskFault}
 use Rattle.mx_desk.specs.declared.fault.DeskFault.TheVariants as desk
+use Rattle.mx_report.specs.declared.rolls.RollFaultKind.{RollFaultKind}
+use Rattle.mx_report.specs.declared.rolls.RollFaultKind.TheVariants as roll
+use Rattle.mx_tables.specs.declared.opening.OpenFault.{OpenFault}
+use Rattle.mx_tables.specs.declared.opening.OpenFault.TheVariants as open_fault
 
 abbrev pub fault_text : CliFault → List ℕ
 fault_text Read = codes "read"
 fault_text Write = codes "write"
 fault_text Turns = codes "turns"
 fault_text Memory = codes "memory"
+fault_text Store = codes "store"
+fault_text NotThisSchema = codes "not this schema"
+fault_text FileExists = codes "file exists"
+fault_text File = codes "file"
+fault_text Net = codes "net"
+fault_text NoSuchPurse = codes "no such purse"
+fault_text Roll = codes "roll"
+fault_text RollTooLarge = codes "roll too large"
 
 -- a fault of the desk as the program's
 abbrev pub fault_of : DeskFault → CliFault
 fault_of desk.Read = Read
 fault_of desk.Write = Write
 fault_of desk.Turns = Turns
+
+-- a fault of a book
+abbrev pub store_fault_of : StoreFault → CliFault
+store_fault_of store.Memory = Memory
+store_fault_of store.Store = Store
+
+-- a fault of tables that are made or opened
+abbrev pub open_fault_of : OpenFault → CliFault
+open_fault_of open_fault.Memory = Memory
+open_fault_of open_fault.Store = Store
+open_fault_of open_fault.NotThisSchema = NotThisSchema
+
+-- a fault of a roll that is imported
+abbrev pub roll_fault_of : RollFaultKind → CliFault
+roll_fault_of roll.NotRoll = Roll
+roll_fault_of roll.Memory = Memory
+roll_fault_of roll.Store = Store

@@ -1,21 +1,93 @@
 //! The command line of the program.
-ghost use Rattle.std.specs.Prelude.{◌≡◌, ◌⊎◌, IfOk, OnErr, Ok, Err, map, option_map, codes, false};
+ghost use Rattle.std.specs.Prelude.{◌≡◌, ◌⊎◌, ℕ, List, Option, IfOk, IfSome, IsNone, OnErr, Ok, Err, map, option_map, codes, false};
+ghost use Rattle.std.specs.Option.{option_and_then};
 ghost use Rattle.clap.specs.Words.{app_of, first_of, found_of, kind_of, new_app, rows_of, rule_of};
 ghost use Rattle.clap.specs.declared.Command.TheViews.{out-Command};
-ghost use Rattle.mx_cli.specs.Line.{flag_rule, line_app, option_rule, run_app};
-ghost use Rattle.mx_cli.specs.Named.{IsNamedBy, Names, NamesNone};
+ghost use Rattle.mx_pay.specs.Tokens.{token_of};
+ghost use Rattle.mx_cli.specs.Line.{flag_rule, import_app, init_app, line_app, option_rule, report_app, run_app, serve_app, word_rule};
+ghost use Rattle.mx_cli.specs.Named.{HasPurse, HasValue, IsNamedBy, IsNumber, Names, NamesNone};
 
 use clap::error::ErrorKind;
 use clap::{Arg, ArgAction, ArgMatches, Command};
-use mx_pay::Token;
+use mx_pay::{Name, Token, read_seq};
 use std::alloc::{AllocError, Global};
+use std::marker::Model;
 
-/// What the program is asked to do.
-#[derive(Clone, Copy, Debug)]
-pub enum Task {
+/// The highest port.
+const MOST_PORT: u32 = 65_535;
+
+/// How many connections are served at most.
+const MOST_COUNT: u32 = 1_000_000;
+
+/// A word of the command line that names a file. A contract sees it as its bytes.
+#[derive(Debug, Drop)]
+pub struct Word<'a> {
+    text: &'a str,
+}
+
+impl<'a> Model for Word<'a> {
+    ghost use Rattle.std.specs.Prelude.{List, ℕ};
+
+    ghost Value = { List ℕ };
+
+    ghost view = { λ word. word.text.now };
+}
+
+impl<'a> Word<'a> {
+    /// The word with this text.
+    pub fn new(text: &'a str) -> Word<'a>
+        ensures { result ≡ text.now }
+    {
+        Word { text }
+    }
+
+    /// The text of the word.
+    pub fn as_str(&self) -> &'a str
+        ensures { result.now ≡ self.now }
+    {
+        self.text
+    }
+}
+
+/// What the program is asked to do. It borrows the words of the command line.
+#[derive(Debug, Drop)]
+pub enum Task<'a> {
     /// `run --memory --token HEX`: requests from standard input, responses to standard output, over books
     /// in memory. The token is the operator's.
     RunMemory(Token),
+    /// `run FILE`: the same over the books in a file.
+    RunFile(Word<'a>),
+    /// `init FILE --token HEX`: a file for books, with nothing in them but the operator's token.
+    Init {
+        /// The file.
+        file: Word<'a>,
+        /// The token of the operator.
+        token: Token,
+    },
+    /// `serve FILE --port N --count K`: connections, one after another, over the books in a file.
+    Serve {
+        /// The file.
+        file: Word<'a>,
+        /// The port, from 1 to 65535.
+        port: u16,
+        /// How many connections are served, from 1 to 1,000,000.
+        count: u32,
+    },
+    /// `import FILE ROLL`: the members, holders and purses of a roll, into the books in a file.
+    Import {
+        /// The file of the books.
+        file: Word<'a>,
+        /// The file of the roll.
+        roll: Word<'a>,
+    },
+    /// `report FILE`: the reconciliation of the books in a file. `report FILE --purse P`: the statement of
+    /// one purse.
+    Report {
+        /// The file.
+        file: Word<'a>,
+        /// The purse, where one is named.
+        purse: Option<Name>,
+    },
 }
 
 /// Why a command line gives no task.
@@ -43,6 +115,13 @@ impl From<AllocError> for LineFault {
 #[derive(Clone, Copy)]
 enum Misfit {
     Token,
+    Port,
+    Count,
+    Purse,
+    FileAndMemory,
+    NoBooks,
+    NoToken,
+    TokenForFile,
     Missing,
 }
 
@@ -50,31 +129,49 @@ impl Misfit {
     fn text(self) -> &'static str {
         match self {
             Misfit::Token => "the value of --token has to be 32 hexadecimal digits",
-            Misfit::Missing => "run takes --memory and --token",
+            Misfit::Port => {
+                "the value of --port has to be a number from 1 to 65535, without leading zeros"
+            }
+            Misfit::Count => {
+                "the value of --count has to be a number from 1 to 1000000, without leading zeros"
+            }
+            Misfit::Purse => {
+                "the value of --purse has to be 1 to 24 of a to z, 0 to 9 and -, the first a letter"
+            }
+            Misfit::FileAndMemory => "run takes FILE or --memory, and not both",
+            Misfit::NoBooks => "run takes FILE, or --memory and --token",
+            Misfit::NoToken => "run --memory takes --token",
+            Misfit::TokenForFile => "run FILE takes no --token",
+            Misfit::Missing => "the command is not one of this program, or lacks a word",
         }
     }
 }
 
-// `--name VALUE`, which has to be given.
-fn option<'a>(alloc: Global, name: &'a str, value: &'a str) -> Arg<'a>
-    ensures rule { rule_of result ≡ option_rule name.entry.now }
+// A word that stands by itself.
+fn bare_word(alloc: Global, id: &str, required: bool) -> Arg<'_>
+    ensures rule { rule_of result ≡ word_rule id.entry.now required }
+    ensures local { result.global ≡ false }
+{
+    Arg::new(alloc, id).required(required)
+}
+
+// `--name VALUE`.
+fn option<'a>(alloc: Global, name: &'a str, value: &'a str, required: bool) -> Arg<'a>
+    ensures rule { rule_of result ≡ option_rule name.entry.now required }
     ensures local { result.global ≡ false }
 {
     Arg::new(alloc, name)
         .long(name)
         .value_name(value)
-        .required(true)
+        .required(required)
 }
 
-// `--name`, which has to be given.
+// `--name`, which may be left out.
 fn flag(alloc: Global, name: &str) -> Arg<'_>
     ensures rule { rule_of result ≡ flag_rule name.entry.now }
     ensures local { result.global ≡ false }
 {
-    Arg::new(alloc, name)
-        .long(name)
-        .action(ArgAction::SetTrue)
-        .required(true)
+    Arg::new(alloc, name).long(name).action(ArgAction::SetTrue)
 }
 
 fn run_command<'a>(alloc: Global) -> Result<Command<'a>, AllocError>
@@ -82,8 +179,46 @@ fn run_command<'a>(alloc: Global) -> Result<Command<'a>, AllocError>
     ensures local { IfOk result (λ c. (out-Command c).has_globals ≡ false) }
 {
     Command::new(alloc, "run")
+        .arg(bare_word(alloc, "FILE", false))?
         .arg(flag(alloc, "memory"))?
-        .arg(option(alloc, "token", "HEX"))
+        .arg(option(alloc, "token", "HEX", false))
+}
+
+fn init_command<'a>(alloc: Global) -> Result<Command<'a>, AllocError>
+    ensures app { IfOk result (λ c. app_of c ≡ init_app) }
+    ensures local { IfOk result (λ c. (out-Command c).has_globals ≡ false) }
+{
+    Command::new(alloc, "init")
+        .arg(bare_word(alloc, "FILE", true))?
+        .arg(option(alloc, "token", "HEX", true))
+}
+
+fn serve_command<'a>(alloc: Global) -> Result<Command<'a>, AllocError>
+    ensures app { IfOk result (λ c. app_of c ≡ serve_app) }
+    ensures local { IfOk result (λ c. (out-Command c).has_globals ≡ false) }
+{
+    Command::new(alloc, "serve")
+        .arg(bare_word(alloc, "FILE", true))?
+        .arg(option(alloc, "port", "N", true))?
+        .arg(option(alloc, "count", "K", true))
+}
+
+fn import_command<'a>(alloc: Global) -> Result<Command<'a>, AllocError>
+    ensures app { IfOk result (λ c. app_of c ≡ import_app) }
+    ensures local { IfOk result (λ c. (out-Command c).has_globals ≡ false) }
+{
+    Command::new(alloc, "import")
+        .arg(bare_word(alloc, "FILE", true))?
+        .arg(bare_word(alloc, "ROLL", true))
+}
+
+fn report_command<'a>(alloc: Global) -> Result<Command<'a>, AllocError>
+    ensures app { IfOk result (λ c. app_of c ≡ report_app) }
+    ensures local { IfOk result (λ c. (out-Command c).has_globals ≡ false) }
+{
+    Command::new(alloc, "report")
+        .arg(bare_word(alloc, "FILE", true))?
+        .arg(option(alloc, "purse", "P", false))
 }
 
 // The program's name stands before each command in usage texts.
@@ -99,7 +234,11 @@ fn line_command<'a>(alloc: Global) -> Result<Command<'a>, AllocError>
     program_command(alloc)?
         .no_binary_name(true)
         .subcommand_required(true)
-        .subcommand(run_command(alloc)?)
+        .subcommand(run_command(alloc)?)?
+        .subcommand(init_command(alloc)?)?
+        .subcommand(serve_command(alloc)?)?
+        .subcommand(import_command(alloc)?)?
+        .subcommand(report_command(alloc)?)
 }
 
 // The first value of `id`.
@@ -109,25 +248,143 @@ fn text_of<'a>(matches: &ArgMatches<'a>, id: &str) -> Option<&'a str>
     matches.get_str(id)
 }
 
-fn run_task(matches: &ArgMatches<'_>) -> Result<Task, Misfit>
-    ensures named { IfOk result (Names (codes "run") (rows_of (found_of matches.now))) }
-    ensures unnamed { OnErr result (NamesNone (codes "run") (rows_of (found_of matches.now))) }
+// The first value of `id`, as a word that names a file.
+fn word_of<'a>(matches: &ArgMatches<'a>, id: &str) -> Option<Word<'a>>
+    ensures { result ≡ first_of id.now (rows_of (found_of matches.now)) }
 {
-    match (text_of(matches, "memory"), text_of(matches, "token")) {
-        (Some("true"), Some(digits)) => match Token::read(digits) {
-            Some(token) => Ok(Task::RunMemory(token)),
-            None => Err(Misfit::Token),
-        },
-        _ => Err(Misfit::Missing),
+    let text = text_of(matches, id)?;
+    Some(Word::new(text))
+}
+
+// The token that the value of `--token` spells.
+fn token_of(matches: &ArgMatches<'_>) -> Option<Token>
+    ensures { result ≡ option_and_then token_of (first_of (codes "token") (rows_of (found_of matches.now))) }
+{
+    Token::read(text_of(matches, "token")?)
+}
+
+// The number from 1 to `most` that is the value of `id`.
+fn number_of(matches: &ArgMatches<'_>, id: &str, most: u32) -> Option<u32>
+    ensures some { IfSome result (λ n. HasValue (rows_of (found_of matches.now)) id.now (IsNumber most n)) }
+    ensures none { IsNone result → (n : ℕ) → ¬ HasValue (rows_of (found_of matches.now)) id.now (IsNumber most n) }
+{
+    let number = read_seq(text_of(matches, id)?)?.get();
+    if 1 <= number && number <= u64::from(most) {
+        Some(number as u32)
+    } else {
+        None
     }
 }
 
-fn task_of(name: &str, matches: &ArgMatches<'_>) -> Result<Task, Misfit>
+// The purse that the value of `--purse` names, if there is one.
+fn purse_of(matches: &ArgMatches<'_>) -> Result<Option<Name>, Misfit>
+    ensures named { IfOk result (HasPurse (rows_of (found_of matches.now))) }
+    ensures unnamed { OnErr result ((purse : Option (List ℕ)) → ¬ HasPurse (rows_of (found_of matches.now)) purse) }
+{
+    let Some(text) = text_of(matches, "purse") else {
+        return Ok(None);
+    };
+    match Name::read(text) {
+        Some(name) => Ok(Some(name)),
+        None => Err(Misfit::Purse),
+    }
+}
+
+// Why a `run` names no task whose token, if it has one, can be read.
+fn run_misfit(matches: &ArgMatches<'_>) -> Misfit {
+    match (text_of(matches, "memory"), text_of(matches, "FILE")) {
+        (Some("true"), Some(_)) => Misfit::FileAndMemory,
+        (Some("true"), None) => Misfit::NoToken,
+        (_, Some(_)) => Misfit::TokenForFile,
+        (_, None) => Misfit::NoBooks,
+    }
+}
+
+fn run_task<'a>(matches: &ArgMatches<'a>) -> Result<Task<'a>, Misfit>
+    ensures named { IfOk result (Names (codes "run") (rows_of (found_of matches.now))) }
+    ensures unnamed { OnErr result (NamesNone (codes "run") (rows_of (found_of matches.now))) }
+{
+    match (
+        text_of(matches, "memory"),
+        word_of(matches, "FILE"),
+        text_of(matches, "token"),
+    ) {
+        (Some("true"), None, Some(digits)) => match Token::read(digits) {
+            Some(token) => Ok(Task::RunMemory(token)),
+            None => Err(Misfit::Token),
+        },
+        (Some("false"), Some(file), None) => Ok(Task::RunFile(file)),
+        _ => Err(run_misfit(matches)),
+    }
+}
+
+fn init_task<'a>(matches: &ArgMatches<'a>) -> Result<Task<'a>, Misfit>
+    ensures named { IfOk result (Names (codes "init") (rows_of (found_of matches.now))) }
+    ensures unnamed { OnErr result (NamesNone (codes "init") (rows_of (found_of matches.now))) }
+{
+    let Some(file) = word_of(matches, "FILE") else {
+        return Err(Misfit::Missing);
+    };
+    let Some(token) = token_of(matches) else {
+        return Err(Misfit::Token);
+    };
+    Ok(Task::Init { file, token })
+}
+
+fn serve_task<'a>(matches: &ArgMatches<'a>) -> Result<Task<'a>, Misfit>
+    ensures named { IfOk result (Names (codes "serve") (rows_of (found_of matches.now))) }
+    ensures unnamed { OnErr result (NamesNone (codes "serve") (rows_of (found_of matches.now))) }
+{
+    let Some(file) = word_of(matches, "FILE") else {
+        return Err(Misfit::Missing);
+    };
+    let Some(port) = number_of(matches, "port", MOST_PORT) else {
+        return Err(Misfit::Port);
+    };
+    let Some(count) = number_of(matches, "count", MOST_COUNT) else {
+        return Err(Misfit::Count);
+    };
+    Ok(Task::Serve {
+        file,
+        port: port as u16,
+        count,
+    })
+}
+
+fn import_task<'a>(matches: &ArgMatches<'a>) -> Result<Task<'a>, Misfit>
+    ensures named { IfOk result (Names (codes "import") (rows_of (found_of matches.now))) }
+    ensures unnamed { OnErr result (NamesNone (codes "import") (rows_of (found_of matches.now))) }
+{
+    let Some(file) = word_of(matches, "FILE") else {
+        return Err(Misfit::Missing);
+    };
+    let Some(roll) = word_of(matches, "ROLL") else {
+        return Err(Misfit::Missing);
+    };
+    Ok(Task::Import { file, roll })
+}
+
+fn report_task<'a>(matches: &ArgMatches<'a>) -> Result<Task<'a>, Misfit>
+    ensures named { IfOk result (Names (codes "report") (rows_of (found_of matches.now))) }
+    ensures unnamed { OnErr result (NamesNone (codes "report") (rows_of (found_of matches.now))) }
+{
+    let Some(file) = word_of(matches, "FILE") else {
+        return Err(Misfit::Missing);
+    };
+    let purse = purse_of(matches)?;
+    Ok(Task::Report { file, purse })
+}
+
+fn task_of<'a>(name: &str, matches: &ArgMatches<'a>) -> Result<Task<'a>, Misfit>
     ensures named { IfOk result (Names name.now (rows_of (found_of matches.now))) }
     ensures unnamed { OnErr result (NamesNone name.now (rows_of (found_of matches.now))) }
 {
     match name {
         "run" => run_task(matches),
+        "init" => init_task(matches),
+        "serve" => serve_task(matches),
+        "import" => import_task(matches),
+        "report" => report_task(matches),
         _ => Err(Misfit::Missing),
     }
 }
@@ -150,7 +407,7 @@ fn line_fault(alloc: Global, error: clap::Error) -> LineFault
 /// # Errors
 ///
 /// `Bad` where they name none, as where they ask for help. `Memory` where memory ran out.
-pub fn read_line<'a>(alloc: Global, words: &'a [&'a str]) -> Result<Task, LineFault>
+pub fn read_line<'a>(alloc: Global, words: &'a [&'a str]) -> Result<Task<'a>, LineFault>
     ensures named { IfOk result (IsNamedBy (map (λ w. w.now) words.entry.now)) }
 
     // A line that names a task is answered with it, or with want of memory.

@@ -1,32 +1,76 @@
 //! The scheme office of an electronic purse, as a program: `purse-office run --memory --token HEX` reads
-//! requests from standard input and writes their responses to standard output.
+//! requests from standard input and writes their responses to standard output. The other commands keep the books in a
+//! file: `init` makes it, `run` and `serve` answer requests over it, `import` adds what a roll lists, and `report` tells what
+//! the books come to.
 #![tactic(auto)]
 
+pub mod connections;
 pub mod fault;
+pub mod files;
 pub mod line;
+pub mod perform;
 pub mod program;
+pub mod texts;
 
+use connections::serve_connections;
 use fault::CliFault;
+use files::{Store, closed, open_office};
 use line::{LineFault, Task, read_line};
 use mx_desk::Counted;
-use program::run_memory;
+use mx_office::Office;
+use mx_tables::Tables;
+use mx_wire::Routes;
+use perform::perform;
 use std::alloc::{AllocError, Global};
 use std::io;
 use std::io::BufWriter;
+use std::net::TcpListener;
 use std::process::ExitCode;
 
-/// Does a task over standard input and output. Each read is one call, unbuffered, since the desk has an array of its own;
-/// what is written stands in a buffer until the desk passes it on.
-fn perform(rt: &HostRuntime, task: Task) -> Result<(), CliFault> {
+/// Listens on a port of 127.0.0.1, says so, and serves so many connections. The answer is how many were served.
+fn serve_office(
+    rt: &HostRuntime,
+    port: u16,
+    count: u32,
+    office: &mut Office<Tables<Store>>,
+) -> Result<u64, CliFault> {
+    let Ok(listener) = TcpListener::bind(rt, ("127.0.0.1", port)) else {
+        return Err(CliFault::Net);
+    };
+    let routes = Routes::new(rt.alloc())?;
+    if println!(rt; "listening on 127.0.0.1:{port}").is_err() {
+        return Err(CliFault::Write);
+    }
+    match serve_connections(rt.alloc(), &listener, u64::from(count), &routes, office) {
+        Ok(served) => Ok(served),
+        Err(_) => Err(CliFault::Net),
+    }
+}
+
+/// Serves connections over the books in a file. What is printed is flushed as it is printed.
+fn serve(rt: &HostRuntime, file: &str, port: u16, count: u32) -> Result<(), CliFault> {
+    let mut office = open_office(rt, file)?;
+    let answer = serve_office(rt, port, count, &mut office);
+    let served = closed(answer, office)?;
+    match println!(rt; "served {served}") {
+        Ok(()) => Ok(()),
+        Err(_) => Err(CliFault::Write),
+    }
+}
+
+/// Does a task over standard input and output. Each read is one call, unbuffered, since the desk has an array of its own.
+/// What is written stands in a buffer until it is passed on; but over a file each response is written at once, so that
+/// whoever reads them knows of each change but one, should the program be killed.
+fn do_task(rt: &HostRuntime, task: &Task<'_>) -> Result<(), CliFault> {
+    let mut reader = Counted::new(rt.stdin());
     match task {
-        Task::RunMemory(operator) => {
-            let mut reader = Counted::new(rt.stdin());
+        Task::Serve { file, port, count } => serve(rt, file.as_str(), *port, *count),
+        Task::RunFile(_) => perform(rt, task, &mut reader, &mut Counted::new(io::writer(rt))),
+        _ => {
             let Ok(buffer) = BufWriter::new(rt.alloc(), io::writer(rt)) else {
                 return Err(CliFault::Memory);
             };
-            let mut writer = Counted::new(buffer);
-            run_memory(rt.alloc(), operator, &mut reader, &mut writer)?;
-            Ok(())
+            perform(rt, task, &mut reader, &mut Counted::new(buffer))
         }
     }
 }
@@ -54,7 +98,7 @@ fn run_line(rt: &HostRuntime, args: &[String]) -> ExitCode {
         return fail(rt, CliFault::Memory);
     };
     match read_line(rt.alloc(), words.as_slice()) {
-        Ok(task) => match perform(rt, task) {
+        Ok(task) => match do_task(rt, &task) {
             Ok(()) => ExitCode::SUCCESS,
             Err(fault) => fail(rt, fault),
         },

@@ -1,4 +1,4 @@
-//! What the program does for a task.
+//! What the program does for a run: requests from a reader, responses to a writer.
 ghost use Rattle.std.specs.Prelude.{◌≡◌, ◌≤◌, ◌+◌, ◌⊎◌, ℕ, List, [], Err, IfOk, IfErr, IfSome};
 ghost use Rattle.std.specs.Io.KnownBytes.{Appends};
 ghost use Rattle.mx_book.specs.World.{World, opening};
@@ -7,28 +7,57 @@ ghost use Rattle.mx_desk.specs.Conservation.{LeavesReachable};
 ghost use Rattle.mx_desk.specs.Devices.{capped};
 ghost use Rattle.mx_desk.specs.Isolation.{IsLeft};
 ghost use Rattle.mx_desk.specs.Serve.{ServedAll};
-ghost use Rattle.mx_desk.specs.Steps.{state, Faults};
+ghost use Rattle.mx_desk.specs.Steps.{state, Faults, Leads};
 ghost use Rattle.mx_desk.specs.declared.fault.DeskFault.{DeskFault as Fault};
+ghost use Rattle.mx_office.specs.Reachable.{IsReachable};
 
 use crate::fault::CliFault;
 use mx_book::{Book, PlainBook};
+use mx_desk::Counted;
 use mx_desk::desk::run;
-use mx_desk::{Counted, DeskFault};
 use mx_office::Office;
 use mx_pay::Token;
+use mx_tables::Tables;
 use mx_wire::Routes;
+use sqlite::{Connection, MemStore};
 use std::alloc::Global;
 use std::io::{Read, Write};
 
-/// A fault of the desk as the program's.
-fn fault_of(fault: DeskFault) -> CliFault
-    ensures { result ≡ fault_of fault }
+/// Answers the requests of the input over any office, and says how many responses were written. A fault is `Memory` where
+/// there is none for the routes, and then nothing was read, written or changed; or that of the desk: `Read` where a read
+/// failed, `Turns` where 1,000,000,000 reads didn't reach the end of the input, `Write` where a response couldn't be
+/// written or flushed.
+///
+/// What is said of the bytes holds where the office's rows spell a World, and its book has no doubt in the end. Then,
+/// however it ends, it keeps holders apart (`apart`); and from a World that commands lead to it ends in such a World
+/// (`reachable`), and no command that a request asks is refused because a purse or a float is full.
+pub fn run_office<R: Read, W: Write, B: Book>(
+    alloc: Global,
+    office: &mut Office<B>,
+    reader: &mut Counted<R>,
+    writer: &mut Counted<W>,
+) -> Result<u64, CliFault>
+    ensures later { B.doubt office.old.book ≤ B.doubt office.new.book }
+    ensures ok { (w : World) → B.doubt office.new.book ≡ 0 → B.spells (B.rows office.old.book) w
+        → IfOk result (λ n. IfSome (R.remaining reader.old.device) (λ b. Leads (B.spells (B.rows office.new.book)) (λ now.
+        (out : List ℕ) × Appends (W.contents writer.old.device) (W.contents writer.new.device) out × ServedAll B.fails w b out now n))) }
+    ensures fault { IfErr result (λ e. ((e ≡ CliFault.Memory) × (office.new ≡ office.old) × (reader.new ≡ reader.old) × (writer.new ≡ writer.old))
+        ⊎ ((d : Fault) × (e ≡ fault_of d) × ((w : World) → B.doubt office.new.book ≡ 0 → B.spells (B.rows office.old.book) w
+        → Leads (B.spells (B.rows office.new.book)) (λ now. Faults B.fails
+        (state [] (R.remaining reader.old.device) (W.contents writer.old.device) w) d
+        (state [] (R.remaining reader.new.device) (W.contents writer.new.device) now))))) }
+    ensures apart { (w : World) → B.doubt office.new.book ≡ 0 → B.spells (B.rows office.old.book) w
+        → Leads (B.spells (B.rows office.new.book)) (λ now. IsLeft B.fails
+        (state [] (R.remaining reader.old.device) (W.contents writer.old.device) w)
+        (state [] (R.remaining reader.new.device) (W.contents writer.new.device) now)) }
+    ensures reachable { (w : World) → B.doubt office.new.book ≡ 0 → B.spells (B.rows office.old.book) w → IsReachable w
+        → Leads (B.spells (B.rows office.new.book)) (λ now. LeavesReachable
+        (state [] (R.remaining reader.old.device) (W.contents writer.old.device) w)
+        (state [] (R.remaining reader.new.device) (W.contents writer.new.device) now)) }
 {
-    match fault {
-        DeskFault::Read => CliFault::Read,
-        DeskFault::Write => CliFault::Write,
-        DeskFault::Turns => CliFault::Turns,
-    }
+    let routes = Routes::new(alloc)?;
+    let count = run(alloc, reader, writer, &routes, office)?;
+    Ok(count)
 }
 
 /// Answers the requests of the input over books in memory that are given up at the end, for the operator with that token,
@@ -63,12 +92,42 @@ pub fn run_memory<R: Read, W: Write>(
 {
     // The reader says that the token has its bytes.
     let _bytes = operator.as_bytes();
-    let Ok(routes) = Routes::new(alloc) else {
-        return Err(CliFault::Memory);
-    };
     let mut office = Office::new(PlainBook::new(alloc, operator));
-    match run(alloc, reader, writer, &routes, &mut office) {
-        Ok(count) => Ok(count),
-        Err(fault) => Err(fault_of(fault)),
-    }
+    run_office(alloc, &mut office, reader, writer)
+}
+
+/// The same over tables in memory that are given up at the end. A request may be given up, answered 503 and changing
+/// nothing, wherever a statement is refused. A fault is `Memory` or `Store` where the tables can't be made, or `Memory`
+/// where there is none for the routes, and then nothing was read or written; or that of the desk.
+///
+/// A store in memory returns what was written to it, so nothing is said under a doubt.
+pub fn run_memory_tables<R: Read, W: Write>(
+    alloc: Global,
+    operator: Token,
+    reader: &mut Counted<R>,
+    writer: &mut Counted<W>,
+) -> Result<u64, CliFault>
+    ensures ok { IfOk result (λ n. IfSome (R.remaining reader.old.device) (λ b. (now : World)
+        × ((out : List ℕ) × Appends (W.contents writer.old.device) (W.contents writer.new.device) out
+        × ServedAll ⟦<Tables<MemStore> as Book>⟧.fails (opening operator) b out now n))) }
+    ensures fault { IfErr result (λ e. (((e ≡ CliFault.Memory) ⊎ (e ≡ CliFault.Store)) × (reader.new ≡ reader.old) × (writer.new ≡ writer.old))
+        ⊎ ((d : Fault) × (e ≡ fault_of d) × ((now : World) × Faults ⟦<Tables<MemStore> as Book>⟧.fails
+        (state [] (R.remaining reader.old.device) (W.contents writer.old.device) (opening operator)) d
+        (state [] (R.remaining reader.new.device) (W.contents writer.new.device) now)))) }
+    ensures apart { (now : World) × IsLeft ⟦<Tables<MemStore> as Book>⟧.fails
+        (state [] (R.remaining reader.old.device) (W.contents writer.old.device) (opening operator))
+        (state [] (R.remaining reader.new.device) (W.contents writer.new.device) now) }
+    ensures reachable { (now : World) × LeavesReachable
+        (state [] (R.remaining reader.old.device) (W.contents writer.old.device) (opening operator))
+        (state [] (R.remaining reader.new.device) (W.contents writer.new.device) now) }
+{
+    // The reader says that the token has its bytes.
+    let _bytes = operator.as_bytes();
+    let store = Connection::open_in_memory(alloc)?;
+    let book = match Tables::create(alloc, store, operator) {
+        Ok(book) => book,
+        Err(refused) => return Err(CliFault::from(refused.fault)),
+    };
+    let mut kept = Office::new(book);
+    run_office(alloc, &mut kept, reader, writer)
 }

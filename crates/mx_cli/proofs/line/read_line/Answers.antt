@@ -1,7 +1,8 @@
 -- clap's matches of the words are those that the command's function gives.
-use Rattle.std.proofs.Common.{◌≡◌, ◌∙◌, ap, sym, map, List, true, inr, Err}
+use Rattle.std.proofs.Common.{◌≡◌, ◌∙◌, ap, sym, map, List, true, inl, inr, Ok, Err}
 use Rattle.clap.specs.Words.{App, Text, app_of, fault_of, found_of, is_simple, is_simple_and_free, rows_of, subcommand_of}
 use Rattle.mx_cli.proofs.CommandLemmas.{found_named, line_is_free, line_is_simple, only_memory}
+use Rattle.mx_cli.proofs.TaskLemmas.{line_once}
 use Rattle.mx_cli.proofs.line.read_line.Goals as goal
 
 pub returns-in-Ok-task_of-clause-named : goal.returns-in-Ok-task_of-clause-named
@@ -15,6 +16,10 @@ returns-in-Ok-task_of-clause-named c =
     let found = found_named c.in-Ok.matches c.in-Some.name.now (rows_of (found_of c.in-Some.found.now))
     c.in-Some.ensures.name c.in-Some.ensures.rows in
     (faultless, (c.in-Some.name.now, rows_of (found_of c.in-Some.found.now), sym sub ∙ found, c.in-Ok-task_of.ensures.named))
+
+pub returns-in-Ok-task_of-clause-answered : goal.returns-in-Ok-task_of-clause-answered
+returns-in-Ok-task_of-clause-answered c = λ task named.
+    inl (ap Ok (line_once (map (λ w. w.now) c.args.words.now) c.in-Ok-task_of.task task (returns-in-Ok-task_of-clause-named c) named))
 
 pub returns-in-Err-clause-answered : goal.returns-in-Err-clause-answered
 returns-in-Err-clause-answered c = λ task named.

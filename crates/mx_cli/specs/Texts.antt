@@ -1,0 +1,38 @@
+-- What the program prints of an import, and of the books.
+use Rattle.std.specs.Prelude.{ℕ, List, ◌++◌, Option, Some, None, codes, flat_map, length, option_map}
+use Rattle.std.specs.Fmt.{decimal}
+use Rattle.mx_book.specs.Totals.{totals_of}
+use Rattle.mx_book.specs.World.{World, Name}
+use Rattle.mx_office.specs.Texts.{refusal_text}
+use Rattle.mx_report.specs.Reconciliation.{members_sums, reconciliation_text}
+use Rattle.mx_report.specs.Statement.{statement_of, statement_text}
+use Rattle.mx_report.specs.declared.rolls.RefusedRow.{RefusedRow}
+use Rattle.mx_report.specs.declared.rolls.RollReason.{RollReason}
+use Rattle.mx_report.specs.declared.rolls.RollReason.TheVariants.{BadRow, Refused}
+use Rattle.mx_report.specs.declared.rolls.RollReport.{RollReport}
+
+-- why a row is refused
+abbrev pub reason_text : RollReason → List ℕ
+reason_text BadRow = codes "bad row"
+reason_text (Refused refusal) = refusal_text refusal
+
+-- the line of a row that was refused
+abbrev pub numbered_line : ℕ → List ℕ → List ℕ
+numbered_line number reason = codes "row " ++ decimal number ++ codes ": " ++ reason ++ codes "\n"
+
+abbrev pub row_line : RefusedRow → List ℕ
+row_line row = numbered_line row.number (reason_text row.reason)
+
+-- how many rows were added, stood already, and were refused
+abbrev pub counts_text : ℕ → ℕ → ℕ → List ℕ
+counts_text added same refused =
+    codes "added " ++ decimal added ++ codes "\nsame " ++ decimal same ++ codes "\nrefused " ++ decimal refused ++ codes "\n"
+
+-- the lines that tell of an import: the counts, and a line for each row that was refused
+abbrev pub import_text : RollReport → List ℕ
+import_text r = counts_text r.added r.same (length r.refused.items) ++ flat_map row_line r.refused.items
+
+-- the text of the reconciliation; or that of a purse's statement, where there is such a purse
+abbrev pub report_of : World → Option Name → Option (List ℕ)
+report_of w None = Some (reconciliation_text (members_sums w) (totals_of w))
+report_of w (Some purse) = option_map statement_text (statement_of w purse)

@@ -1,0 +1,102 @@
+//! What the program prints of an import, and of the books.
+ghost use Rattle.std.specs.Prelude.{◌≡◌, ◌≢◌, ◌++◌, IfOk, Some, None, Err, length, string_bytes};
+ghost use Rattle.mx_book.specs.Keeps.{Keeps};
+ghost use Rattle.mx_book.specs.World.{World};
+ghost use Rattle.mx_cli.specs.Texts.{counts_text, import_text, numbered_line, reason_text, report_of, row_line};
+
+use crate::fault::CliFault;
+use mx_book::Book;
+use mx_pay::Name;
+use mx_report::{
+    RefusedRow, RollReason, RollReport, reconcile, reconcile_text, statement, statement_text,
+};
+use std::alloc::{AllocError, Global};
+
+/// Why a row is refused.
+fn reason_text(reason: &RollReason) -> &'static str
+    ensures { result.now ≡ reason_text reason.now }
+{
+    match reason {
+        RollReason::BadRow => "bad row",
+        RollReason::Refused(refusal) => refusal.text(),
+    }
+}
+
+/// The line of a row of that number, which was refused for that reason.
+fn numbered_line(alloc: Global, number: u64, reason: &str) -> Result<String, AllocError>
+    ensures { IfOk result (λ line. string_bytes line ≡ numbered_line number reason.now) }
+{
+    format!(in alloc; "row {number}: {reason}\n")
+}
+
+/// The line of a row that was refused.
+fn row_line(alloc: Global, row: &RefusedRow) -> Result<String, AllocError>
+    ensures { IfOk result (λ line. string_bytes line ≡ row_line row.now) }
+{
+    numbered_line(alloc, row.number, reason_text(&row.reason))
+}
+
+/// How many rows were added, stood already, and were refused.
+fn counts_text(alloc: Global, added: u64, same: u64, refused: usize) -> Result<String, AllocError>
+    ensures { IfOk result (λ text. string_bytes text ≡ counts_text added same refused) }
+{
+    format!(in alloc; "added {added}\nsame {same}\nrefused {refused}\n")
+}
+
+/// The lines that tell of an import: how many rows were added, stood already and were refused, and a line for each that
+/// was refused, with its number and why. An error is lack of memory.
+pub fn import_text(alloc: Global, report: &RollReport) -> Result<String, AllocError>
+    ensures { IfOk result (λ text. string_bytes text ≡ import_text report.now) }
+{
+    let rows = report.refused.as_slice();
+    let mut text = counts_text(alloc, report.added, report.same, rows.len())?;
+    for row in rows {
+        let line = row_line(alloc, row)?;
+        text.push_str(line.as_str())?;
+    }
+    Ok(text)
+}
+
+/// The text of the reconciliation.
+fn reconciliation<B: Book>(alloc: Global, book: &mut B) -> Result<Vec<u8>, CliFault>
+    ensures keeps { Keeps B.doubt B.rows book.old book.new }
+    ensures value { (w : World) → B.doubt book.new ≡ 0 → B.spells (B.rows book.old) w → IfOk result (λ text. report_of w None ≡ Some text.items) }
+    ensures fault { result ≢ Err CliFault.NoSuchPurse }
+{
+    let report = reconcile(alloc, book)?;
+    let text = reconcile_text(alloc, &report)?;
+    Ok(text)
+}
+
+/// The text of a purse's statement.
+fn purse_statement<B: Book>(alloc: Global, book: &mut B, purse: Name) -> Result<Vec<u8>, CliFault>
+    ensures keeps { Keeps B.doubt B.rows book.old book.new }
+    ensures value { (w : World) → B.doubt book.new ≡ 0 → B.spells (B.rows book.old) w → IfOk result (λ text. report_of w (Some purse) ≡ Some text.items) }
+    ensures none { (w : World) → B.doubt book.new ≡ 0 → B.spells (B.rows book.old) w → result ≡ Err CliFault.NoSuchPurse → report_of w (Some purse) ≡ None }
+{
+    let Some(lines) = statement(alloc, book, purse)? else {
+        return Err(CliFault::NoSuchPurse);
+    };
+    let text = statement_text(alloc, lines.as_slice())?;
+    Ok(text)
+}
+
+/// The text of the reconciliation, or that of the statement of one purse.
+///
+/// # Errors
+///
+/// `NoSuchPurse` where there is no such purse; a fault of the book's reads; `Memory`.
+pub fn report_text<B: Book>(
+    alloc: Global,
+    book: &mut B,
+    purse: Option<Name>,
+) -> Result<Vec<u8>, CliFault>
+    ensures keeps { Keeps B.doubt B.rows book.old book.new }
+    ensures value { (w : World) → B.doubt book.new ≡ 0 → B.spells (B.rows book.old) w → IfOk result (λ text. report_of w purse ≡ Some text.items) }
+    ensures none { (w : World) → B.doubt book.new ≡ 0 → B.spells (B.rows book.old) w → result ≡ Err CliFault.NoSuchPurse → report_of w purse ≡ None }
+{
+    match purse {
+        Some(name) => purse_statement(alloc, book, name),
+        None => reconciliation(alloc, book),
+    }
+}
