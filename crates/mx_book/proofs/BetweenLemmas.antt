@@ -1,8 +1,8 @@
 -- Value between purses: the sums over all details that occur are sums over the purses and what is archived for them.
-use Rattle.std.proofs.Common.{◌≡◌, ℕ, ◌+◌, Bool, true, false, cond, ◌&&◌, ◌||◌, List, [], ◌∷◌, ◌++◌, map, refl, sym, ◌∙◌, ap, subst, Option, Some, None, T, arith}
-use Rattle.std.specs.Prelude.{is_some, option_map, flat_map, sum_by}
+use Rattle.std.proofs.Common.{◌≡◌, ℕ, ◌+◌, Bool, true, false, cond, ◌&&◌, ◌||◌, List, [], ◌∷◌, ◌++◌, map, refl, sym, ◌∙◌, ap, subst, Option, Some, None, arith}
+use Rattle.std.specs.Prelude.{is_some, option_map, flat_map}
 use Rattle.std.specs.List.{list_any}
-use Rattle.std.proofs.lemmas.Bool.{or_cases, or_left, or_right}
+use Rattle.std.proofs.lemmas.Bool.{or_left, or_right}
 use Rattle.std.proofs.lemmas.List.Folds.{list_any-append}
 use Rattle.std.specs.declared.cmp.Ordering.{Ordering}
 use Rattle.std.specs.declared.cmp.Ordering.TheVariants.{Less, Equal, Greater}
@@ -11,17 +11,17 @@ use Rattle.std.specs.FinMap as fmap
 use Rattle.std.specs.FinMap.Entries.{find}
 use Rattle.mx_pay.specs.Names.{name_cmp, is_name}
 use Rattle.mx_pay.specs.Details.{Details, details_cmp, is_details}
-use Rattle.mx_pay.specs.Log.{Entries, logged, has_logged, marks, with_entry}
+use Rattle.mx_pay.specs.Log.{Entries, logged, has_logged, marks}
 use Rattle.mx_pay.specs.Orders.{details_exact}
 use Rattle.mx_pay.proofs.LogLemmas.{details_total}
 use Rattle.mx_pay.proofs.SameLemmas.{same_details, details_itself, has-with_entry, has-none_logged}
 use Rattle.mx_purse.specs.Operations.{aborted, pending, with_pending, expects_val, expects_ack}
-use Rattle.mx_purse.specs.State.{State, IsPurse, IsInStatus}
+use Rattle.mx_purse.specs.State.{IsInStatus}
 use Rattle.mx_purse.specs.declared.status.Status.{Status}
 use Rattle.mx_purse.specs.declared.status.Status.TheVariants.{EaFrom, EaTo, Epr, Epv, Epa}
 use Rattle.mx_book.specs.declared.values.PurseRow.{PurseRow}
 use Rattle.mx_book.specs.Under.{remade}
-use Rattle.mx_book.specs.World.{World, Row, Name, result_cmp}
+use Rattle.mx_book.specs.World.{Row, Name, result_cmp}
 use Rattle.mx_book.specs.Conditions.{IsWorld}
 use Rattle.mx_book.specs.Sums.{sum_values, sum_entries}
 use Rattle.mx_book.specs.Reads.{from_row}

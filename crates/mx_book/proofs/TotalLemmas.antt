@@ -1,5 +1,5 @@
 -- What the books come to: rows and World give the same.
-use Rattle.std.proofs.Common.{◌≡◌, ap}
+use Rattle.std.proofs.Common.{◌≡◌}
 use Rattle.std.specs.Prelude.{option_map}
 use Rattle.std.specs.FinMap as fmap
 use Rattle.mx_book.specs.declared.totals.Scope.TheVariants.{Scheme, Member}

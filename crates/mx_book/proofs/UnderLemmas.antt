@@ -19,7 +19,7 @@ pub pair_exact : {A K : Type 0} {P : A → A → Ordering} {R : K → K → Orde
 pair_exact {P = P} {R = R} e f = exact_pairs P R e f
 
 module _ {A K V : Type 0} (P : A → A → Ordering) (R : K → K → Ordering) (o : IsTotalOrder P) where
-  find-those : (p : A) (k : K) (es : List ((A × K) × V)) → find R k (those P p es) ≡ find (pair_cmp P R) (p, k) es
+  pub find-those : (p : A) (k : K) (es : List ((A × K) × V)) → find R k (those P p es) ≡ find (pair_cmp P R) (p, k) es
   find-those p k [] = refl
   find-those p k (e ∷ es) = grind (arith, find-those p k es)
 
@@ -27,7 +27,7 @@ module _ {A K V : Type 0} (P : A → A → Ordering) (R : K → K → Ordering) 
   below-those p k [] at h = tt
   below-those p k (e ∷ es) at h = grind (arith, below-those p k es, o.congr p k.0 e.0.0)
 
-  sorted-those : (p : A) (es : List ((A × K) × V)) → T (is_sorted (pair_cmp P R) es) → T (is_sorted R (those P p es))
+  pub sorted-those : (p : A) (es : List ((A × K) × V)) → T (is_sorted (pair_cmp P R) es) → T (is_sorted R (those P p es))
   sorted-those p [] h = tt
   sorted-those p (e ∷ es) h = grind (arith, below-those p e.0 es, sorted-those p es)
 

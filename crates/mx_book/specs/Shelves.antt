@@ -7,7 +7,7 @@ use Rattle.mx_book.specs.Under.{pair_cmp}
 use Rattle.mx_book.specs.World.{result_cmp}
 use Rattle.mx_book.specs.Rows.{Rows}
 use Rattle.mx_book.specs.Slots.{map_of}
-use Rattle.mx_book.specs.declared.shelves.Shelves.{Shelves}
+use Rattle.mx_book.specs.declared.shelves.tables.Shelves.{Shelves}
 
 -- the map of each table
 abbrev pub rows_of : Shelves → Rows
@@ -37,6 +37,7 @@ pub record HasRoom (n m : ℕ) (s : Shelves) : Type 0 where
   pub archive : m ≤ s.archive.room
   pub loads : n ≤ s.loads.room
   pub redemptions : n ≤ s.redemptions.room
+  pub due : n ≤ s.due.room
 
 -- each of these tables has lost room for one row at most, and the archive for m
 pub record SpendsOne (m : ℕ) (old new : Shelves) : Type 0 where
@@ -50,3 +51,4 @@ pub record SpendsOne (m : ℕ) (old new : Shelves) : Type 0 where
   pub archive : old.archive.room ≤ new.archive.room + m
   pub loads : old.loads.room ≤ new.loads.room + 1
   pub redemptions : old.redemptions.room ≤ new.redemptions.room + 1
+  pub due : old.due.room ≤ new.due.room + 1

@@ -1,5 +1,5 @@
 -- What the books of a World come to.
-use Rattle.std.specs.Prelude.{ℕ, ◌&&◌, ◌||◌, Bool, if◌then◌else◌, List, ◌++◌, flat_map, map, sum_by, Option, option_map}
+use Rattle.std.specs.Prelude.{ℕ, ◌&&◌, ◌||◌, Bool, if◌then◌else◌, ◌++◌, flat_map, map, sum_by, Option, option_map}
 use Rattle.std.specs.FinMap as fmap
 use Rattle.mx_pay.specs.Details.{Details}
 use Rattle.mx_pay.specs.Log.{Entries, has_logged, logged, marks}

@@ -57,7 +57,7 @@ impl Book for PlainBook {
     }
 
     fn purse(&mut self, _alloc: Global, name: Name) -> Result<Option<Account>, StoreFault> {
-        Ok(self.shelves.account(name))
+        self.shelves.account(name)
     }
 
     fn purses_of(&mut self, alloc: Global, holder: Name) -> Result<Vec<Name>, StoreFault> {
@@ -80,7 +80,10 @@ impl Book for PlainBook {
         purse: Name,
         number: u64,
     ) -> Result<Option<Message>, StoreFault> {
-        Ok(self.shelves.inbox.get((purse, number)).copied())
+        match self.shelves.inbox.get((purse, number)) {
+            Some(message) => Ok(Some(*message)),
+            None => Ok(None),
+        }
     }
 
     fn lines(

@@ -1,62 +1,37 @@
-//! The tables of a book in memory, with no conditions on what they hold.
-ghost use Rattle.std.specs.Prelude.{◌≡◌, ◌+◌, ◌≤◌, ◌<◌, IsTrue, ℕ, List, length, OnOk, IfOk, map, filter, take, nat_lt, count_by, ◌∷◌, []};
+//! The tables of a book in memory. Of what they hold they ask no more than their indexes need.
+ghost use Rattle.std.specs.Prelude.{◌≡◌, ◌+◌, ◌≤◌, ◌<◌, IsTrue, ℕ, List, length, Ok, OnOk, IfOk, map, filter, take, nat_lt, count_by, ◌∷◌, []};
 ghost use Rattle.std.specs.FinMap.{get};
-ghost use Rattle.mx_pay.specs.Names.{is_name};
 ghost use Rattle.mx_purse.specs.declared.message.Message.{Message as Kept};
 ghost use Rattle.mx_book.specs.declared.totals.Scope.TheVariants.{Member};
 ghost use Rattle.mx_book.specs.declared.values.LineRow.{LineRow as KeptLine};
 ghost use Rattle.mx_book.specs.declared.values.MemberRow.{MemberRow as KeptMember};
-ghost use Rattle.mx_book.specs.declared.values.PurseRow.{PurseRow as KeptPurse};
 ghost use Rattle.mx_book.specs.RowEdits.{rewritten, all_rewritten, able, all_able, archive_rows, is_archiving, row_laid_of};
 ghost use Rattle.mx_book.specs.RowReads.{row_who_of, row_holder_of, row_purses_of, row_account_of, row_inbox_of, row_lines_of, row_members_of, row_load_of, row_redemption_of, row_is_archived, row_uncollected_of, line_of_row};
 ghost use Rattle.mx_book.specs.Blocks.{first_of};
 ghost use Rattle.mx_book.specs.Left.{rows_left};
+ghost use Rattle.mx_book.specs.Due.{is_fit, all_fit};
 ghost use Rattle.mx_book.specs.Shelves.{rows_of, HasRoom, SpendsOne};
 ghost use Rattle.mx_book.specs.Spells.{opening_rows};
 
 mod sums;
+mod tables;
 mod writes;
 
+use crate::contract::StoreFault;
 use crate::edits::Edit;
+use crate::purses::Purses;
+use crate::redemptions::due_in;
 use crate::results::laid;
 use crate::rows::Rows;
 use crate::table::Table;
-use crate::totals::{Scope, uncollected_in};
-use crate::values::{Account, Caller, HolderRow, Line, LineRow, MemberRow, PurseRow, Redemption};
+use crate::values::{Account, Caller, HolderRow, Line, LineRow, MemberRow, Redemption};
 use mx_pay::names::same_name;
 use mx_pay::token::same_token;
 use mx_pay::{Amount, Log, MOST_ENTRIES, Name, PayDetails, Token};
 use mx_purse::message::Message;
 use mx_purse::purse::Purse;
 use std::alloc::{AllocError, Global};
-
-/// The operator's token and one table for each kind of row. A row of a purse has the purse's name as the first
-/// part of its key.
-#[derive(Drop)]
-pub struct Shelves {
-    /// The operator's token.
-    pub operator: Token,
-    /// The tokens of the clerks and the holders.
-    pub tokens: Table<Token, Caller>,
-    /// The members.
-    pub members: Table<Name, MemberRow>,
-    /// Each holder's member.
-    pub holders: Table<Name, Name>,
-    /// The purses.
-    pub purses: Table<Name, PurseRow>,
-    /// Messages by purse and number.
-    pub inbox: Table<(Name, u64), Message>,
-    /// Lines by purse and number.
-    pub lines: Table<(Name, u64), LineRow>,
-    /// The results of read log that were sent and aren't archived.
-    pub tray: Table<(Name, PayDetails), ()>,
-    /// Those that are archived.
-    pub archive: Table<(Name, PayDetails), ()>,
-    /// The amounts of loads by purse and reference.
-    pub loads: Table<(Name, Name), Amount>,
-    /// Redemptions by purse and reference.
-    pub redemptions: Table<(Name, Name), Redemption>,
-}
+pub use tables::Shelves;
 
 impl Shelves {
     /// Empty tables, and the operator's token.
@@ -68,19 +43,21 @@ impl Shelves {
             tokens: Table::new(alloc),
             members: Table::new(alloc),
             holders: Table::new(alloc),
-            purses: Table::new(alloc),
+            purses: Purses::new(alloc),
             inbox: Table::new(alloc),
             lines: Table::new(alloc),
             tray: Table::new(alloc),
             archive: Table::new(alloc),
             loads: Table::new(alloc),
             redemptions: Table::new(alloc),
+            due: Table::new(alloc),
         }
     }
 
     /// Makes one edit, for which there is room.
     pub fn edit(&mut self, edit: &Edit)
         requires able { IsTrue (able (rows_of self.old) edit.now) }
+        requires fit { IsTrue (is_fit (rows_of self.old) edit.now) }
         requires room { HasRoom 1 (archive_rows (edit.now ∷ [])) self.old }
         ensures edited { rows_of self.new ≡ rewritten (rows_of self.old) edit.now }
         ensures room { SpendsOne (archive_rows (edit.now ∷ [])) self.old self.new }
@@ -120,16 +97,14 @@ impl Shelves {
             } => self.add_redemption(*purse, *reference, *amount),
             Edit::AddTray { purse, details } => self.tray.put((*purse, *details), ()),
             Edit::ArchiveTray { purse } => self.archive_tray(*purse),
-            Edit::Collect { member } => {
-                self.redemptions
-                    .collect(&self.purses, &self.holders, *member);
-            }
+            Edit::Collect { member } => self.collect(*member),
         }
     }
 
     /// Makes edits in order, for which there is room.
     pub fn edit_all(&mut self, edits: &[Edit])
         requires able { IsTrue (all_able (rows_of self.old) edits.now) }
+        requires fit { IsTrue (all_fit (rows_of self.old) edits.now) }
         requires room { HasRoom (length edits.now) (archive_rows edits.now) self.old }
         ensures { rows_of self.new ≡ all_rewritten (rows_of self.old) edits.now }
     {
@@ -157,6 +132,7 @@ impl Shelves {
         self.archive.reserve(archived)?;
         self.loads.reserve(more)?;
         self.redemptions.reserve(more)?;
+        self.due.reserve(more)?;
         Ok(())
     }
 
@@ -176,30 +152,36 @@ impl Shelves {
         ensures { result ≡ row_holder_of (rows_of self.now) name }
     {
         let member = *self.holders.get(name)?;
-        let purses = count_purses(self.purses.rows(), name);
+        let purses = self.purses.count_of(name);
         Some(HolderRow { member, purses })
     }
 
-    /// What a book gives of a purse, or None where there is no such purse.
-    pub fn account(&self, name: Name) -> Option<Account>
-        ensures { result ≡ row_account_of (rows_of self.now) name }
+    /// What a book gives of a purse, or None where there is no such purse. It is given as a book's call gives it, which
+    /// spares a copy of the purse; there is no fault.
+    pub fn account(&self, name: Name) -> Result<Option<Account>, StoreFault>
+        ensures { result ≡ Ok (row_account_of (rows_of self.now) name) }
     {
-        let row = self.purses.get(name)?;
-        let member = *self.holders.get(row.holder)?;
-        Some(Account {
+        let Some(row) = self.purses.get(name) else {
+            return Ok(None);
+        };
+        let Some(member) = self.holders.get(row.holder) else {
+            return Ok(None);
+        };
+        let held = count_messages(self.inbox.rows_from((name, 0)), name);
+        Ok(Some(Account {
             holder: row.holder,
-            member,
+            member: *member,
             purse: row.purse,
-            held: count_messages(self.inbox.rows_from((name, 0)), name),
+            held,
             next_message: row.next_message,
-        })
+        }))
     }
 
     /// The names of a holder's purses, in order.
     pub fn purses_of(&self, alloc: Global, holder: Name) -> Result<Vec<Name>, AllocError>
         ensures { IfOk result (λ r. r.items ≡ row_purses_of (rows_of self.now) holder) }
     {
-        purse_names(alloc, self.purses.rows(), holder)
+        self.purses.names_of(alloc, holder)
     }
 
     /// The messages in the inbox of a purse with their numbers, by number.
@@ -271,11 +253,10 @@ impl Shelves {
     pub fn uncollected_of(&self, member: Name) -> u128
         ensures { result ≡ row_uncollected_of (rows_of self.now) (Member member) }
     {
-        uncollected_in(
-            self.redemptions.rows(),
-            &self.purses,
-            &self.holders,
-            &Scope::Member(member),
+        due_in(
+            self.due.rows_from((member, None)),
+            &self.redemptions,
+            member,
         )
     }
 }
@@ -292,26 +273,6 @@ fn archives(edit: &Edit) -> bool
     ensures { result ≡ is_archiving edit.now }
 {
     matches!(edit, Edit::ArchiveTray { .. })
-}
-
-/// How many of these purses the holder has.
-fn count_purses(rows: Rows<'_, Name, PurseRow>, holder: Name) -> usize
-    ensures { result ≡ length (filter (λ (e : List ℕ × KeptPurse). is_name holder e.1.holder) (rows_left rows.entry)) }
-{
-    rows.filter(|row| same_name(&holder, &row.1.holder)).count()
-}
-
-/// The names of these purses that the holder has, in order.
-fn purse_names(
-    alloc: Global,
-    rows: Rows<'_, Name, PurseRow>,
-    holder: Name,
-) -> Result<Vec<Name>, AllocError>
-    ensures { IfOk result (λ r. r.items ≡ map (λ (e : List ℕ × KeptPurse). e.0) (filter (λ (e : List ℕ × KeptPurse). is_name holder e.1.holder) (rows_left rows.entry))) }
-{
-    rows.filter(|row| same_name(&holder, &row.1.holder))
-        .map(|row| row.0)
-        .collect(alloc)
 }
 
 /// The names of these members, in order.

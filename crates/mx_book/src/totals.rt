@@ -16,6 +16,7 @@ ghost use Rattle.mx_purse.specs.Operations.{expects_ack};
 ghost use Rattle.mx_book.specs.RowTotals.{counted_balance, has_sent, has_left, awaited, lost_by, lost_in_log, lost_in_archive};
 ghost use Rattle.mx_book.specs.World.{Name as NameOf, result_cmp};
 
+use crate::purses::Purses;
 use crate::redemptions::is_of;
 use crate::rows::Rows;
 use crate::table::Table;
@@ -56,12 +57,7 @@ pub(crate) fn float_in(rows: Rows<'_, Name, MemberRow>) -> u128
 }
 
 /// Whether a purse counts.
-fn is_counted(
-    purses: &Table<Name, PurseRow>,
-    holders: &Table<Name, Name>,
-    scope: &Scope,
-    purse: Name,
-) -> bool
+fn is_counted(purses: &Purses, holders: &Table<Name, Name>, scope: &Scope, purse: Name) -> bool
     ensures { result ≡ is_counted (map_of name_cmp holders.now) scope.now (get (map_of name_cmp purses.now) purse) }
 {
     match scope {
@@ -73,7 +69,7 @@ fn is_counted(
 /// What these loads come to, of the purses that count.
 pub(crate) fn issued_in(
     rows: Rows<'_, (Name, Name), Amount>,
-    purses: &Table<Name, PurseRow>,
+    purses: &Purses,
     holders: &Table<Name, Name>,
     scope: &Scope,
 ) -> u128
@@ -91,7 +87,7 @@ pub(crate) fn issued_in(
 /// What these redemptions come to, of the purses that count.
 pub(crate) fn redeemed_in(
     rows: Rows<'_, (Name, Name), Redemption>,
-    purses: &Table<Name, PurseRow>,
+    purses: &Purses,
     holders: &Table<Name, Name>,
     scope: &Scope,
 ) -> u128
@@ -109,7 +105,7 @@ pub(crate) fn redeemed_in(
 /// What those of these redemptions come to that aren't collected, of the purses that count.
 pub(crate) fn uncollected_in(
     rows: Rows<'_, (Name, Name), Redemption>,
-    purses: &Table<Name, PurseRow>,
+    purses: &Purses,
     holders: &Table<Name, Name>,
     scope: &Scope,
 ) -> u128
@@ -156,11 +152,7 @@ pub(crate) fn balances_in(
 
 /// Whether the value of details has left the purse that pays: it waits for their acknowledgement, has them in its
 /// log, or they are archived for it.
-fn has_left(
-    purses: &Table<Name, PurseRow>,
-    archive: &Table<(Name, PayDetails), ()>,
-    details: &PayDetails,
-) -> bool
+fn has_left(purses: &Purses, archive: &Table<(Name, PayDetails), ()>, details: &PayDetails) -> bool
     ensures { result ≡ has_left (map_of name_cmp purses.now) (map_of result_cmp archive.now) details.now }
 {
     let payer = details.from();
@@ -168,7 +160,7 @@ fn has_left(
 }
 
 /// Whether a purse waits for the acknowledgement of details, or has them in its log.
-fn has_sent(purses: &Table<Name, PurseRow>, purse: Name, details: &PayDetails) -> bool
+fn has_sent(purses: &Purses, purse: Name, details: &PayDetails) -> bool
     ensures { result ≡ has_sent (get (map_of name_cmp purses.now) purse) details.now }
 {
     match purses.get(purse) {
@@ -196,11 +188,7 @@ fn waits(status: Status, details: &PayDetails) -> bool
 }
 
 /// The value that a purse of this status waits for, where it has left the other purse.
-fn awaited(
-    status: Status,
-    purses: &Table<Name, PurseRow>,
-    archive: &Table<(Name, PayDetails), ()>,
-) -> u64
+fn awaited(status: Status, purses: &Purses, archive: &Table<(Name, PayDetails), ()>) -> u64
     ensures value { result ≡ awaited (map_of name_cmp purses.now) (map_of result_cmp archive.now) status }
     ensures limit { result ≤ most_amount }
 {
@@ -219,7 +207,7 @@ fn awaited(
 /// What these purses wait for that has left the other purse.
 pub(crate) fn transit_in(
     rows: Rows<'_, Name, PurseRow>,
-    purses: &Table<Name, PurseRow>,
+    purses: &Purses,
     archive: &Table<(Name, PayDetails), ()>,
 ) -> u128
     ensures { result ≡ sum_by (λ (e : List ℕ × KeptPurse). awaited (map_of name_cmp purses.now) (map_of result_cmp archive.now) e.1.purse.status) (rows_left rows.entry) }
@@ -233,7 +221,7 @@ pub(crate) fn transit_in(
 
 /// The value of details that are logged for a purse, where they are to it and it has left the other purse.
 fn lost_by(
-    purses: &Table<Name, PurseRow>,
+    purses: &Purses,
     archive: &Table<(Name, PayDetails), ()>,
     purse: Name,
     details: &PayDetails,
@@ -250,7 +238,7 @@ fn lost_by(
 
 /// What is lost by the log of a purse.
 fn lost_in_log(
-    purses: &Table<Name, PurseRow>,
+    purses: &Purses,
     archive: &Table<(Name, PayDetails), ()>,
     purse: Name,
     log: &Log,
@@ -270,7 +258,7 @@ fn lost_in_log(
 /// What is lost by the logs of these purses.
 pub(crate) fn lost_in_logs(
     rows: Rows<'_, Name, PurseRow>,
-    purses: &Table<Name, PurseRow>,
+    purses: &Purses,
     archive: &Table<(Name, PayDetails), ()>,
 ) -> u128
     ensures value { result ≡ sum_by (λ (e : List ℕ × KeptPurse). lost_in_log (map_of name_cmp purses.now) (map_of result_cmp archive.now) e.0 e.1.purse.log) (rows_left rows.entry) }
@@ -285,7 +273,7 @@ pub(crate) fn lost_in_logs(
 
 /// What is lost by details that are archived for a purse, where its log hasn't them still.
 fn lost_in_archive(
-    purses: &Table<Name, PurseRow>,
+    purses: &Purses,
     archive: &Table<(Name, PayDetails), ()>,
     purse: Name,
     details: &PayDetails,
@@ -301,7 +289,7 @@ fn lost_in_archive(
 }
 
 /// Whether details are in the log of a purse.
-fn is_logged(purses: &Table<Name, PurseRow>, purse: Name, details: &PayDetails) -> bool
+fn is_logged(purses: &Purses, purse: Name, details: &PayDetails) -> bool
     ensures { result ≡ has_logged (log_at (get (map_of name_cmp purses.now) purse)) details.now }
 {
     match purses.get(purse) {
@@ -313,7 +301,7 @@ fn is_logged(purses: &Table<Name, PurseRow>, purse: Name, details: &PayDetails) 
 /// What is lost by these archived details, where the logs haven't them still.
 pub(crate) fn lost_in_results(
     rows: Rows<'_, (Name, PayDetails), ()>,
-    purses: &Table<Name, PurseRow>,
+    purses: &Purses,
     archive: &Table<(Name, PayDetails), ()>,
 ) -> u128
     ensures value { result ≡ sum_by (λ (e : (NameOf × Details) × Unit {0}). lost_in_archive (map_of name_cmp purses.now) (map_of result_cmp archive.now) e.0) (rows_left rows.entry) }

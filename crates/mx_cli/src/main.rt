@@ -10,6 +10,7 @@ pub mod files;
 pub mod line;
 pub mod perform;
 pub mod program;
+pub mod teller;
 pub mod texts;
 
 use connections::serve_connections;

@@ -6,11 +6,12 @@ use crate::fault::CliFault;
 use crate::files::{Store, closed, make_office, open_office, read_roll};
 use crate::line::Task;
 use crate::program::{run_memory, run_office};
+use crate::teller::Teller;
 use crate::texts::{import_text, report_text};
 use mx_desk::Counted;
 use mx_office::Office;
 use mx_pay::{Name, Token};
-use mx_report::import_roll;
+use mx_report::import_roll_telling;
 use mx_tables::Tables;
 use std::io::{Read, Write};
 
@@ -33,14 +34,17 @@ fn init_file(rt: &HostRuntime, file: &str, operator: Token) -> Result<(), CliFau
     closed(Ok(()), office)
 }
 
-/// Imports the roll in a file, and gives the lines that tell of it.
+/// Imports the roll in a file, and gives the lines that tell of it. While it is under way, a terminal is told how far it is.
 fn import_into(
     rt: &HostRuntime,
     roll: &str,
     office: &mut Office<Tables<Store>>,
 ) -> Result<String, CliFault> {
     let bytes = read_roll(rt, roll)?;
-    let report = import_roll(rt.alloc(), office, bytes.as_slice())?;
+    let mut teller = Teller::new(rt);
+    let answer = import_roll_telling(rt.alloc(), office, bytes.as_slice(), &mut teller);
+    teller.end();
+    let report = answer?;
     let lines = import_text(rt.alloc(), &report)?;
     Ok(lines)
 }

@@ -12,9 +12,9 @@ use crate::workspace::Workspace;
 use mx_book::Book;
 use mx_book::contract::StoreFault;
 use mx_book::values::Caller;
-use mx_office::{Command, Office, Refusal};
+use mx_office::{Office, Refusal};
 use mx_pay::Token;
-use mx_wire::bodies::read_body;
+use mx_wire::bodies::read_body_into;
 use mx_wire::{Class, Fixed, Response, Route, Routes, WireFault, render};
 use std::alloc::Global;
 
@@ -47,20 +47,19 @@ fn caller_of<B: Book>(
     office.book.who(alloc, &token)
 }
 
-/// Decides a command, makes the response, and only then changes the books.
+/// Decides the command in the workspace, makes the response, and only then changes the books.
 fn answer_command<B: Book>(
     alloc: Global,
     workspace: &mut Workspace,
     office: &mut Office<B>,
     caller: Caller,
-    command: &Command,
 ) -> Result<Response, StoreFault>
     ensures later { B.doubt office.old.book ≤ B.doubt office.new.book }
-    ensures answers { (w : World) → B.doubt office.new.book ≡ 0 → B.spells (B.rows office.old.book) w → IsAnswer (B.spells (B.rows office.new.book)) w (after_body w caller (Some command.now)) (Unit {0}) result }
+    ensures answers { (w : World) → B.doubt office.new.book ≡ 0 → B.spells (B.rows office.old.book) w → IsAnswer (B.spells (B.rows office.new.book)) w (after_body w caller (Some workspace.old.command)) (Unit {0}) result }
     ensures err { B.doubt office.new.book ≡ 0 → OnErr result (B.rows office.new.book ≡ B.rows office.old.book) }
 {
     let decided = &mut workspace.decided;
-    office.decide_into(alloc, caller, command, decided)?;
+    office.decide_into(alloc, caller, &workspace.command, decided)?;
     let Ok(response) = render(alloc, &decided.reply) else {
         return Err(StoreFault::Memory);
     };
@@ -89,8 +88,13 @@ fn answer_routed<B: Book>(
     if !is_of_class(&caller, route.class()) {
         return Ok(Response::Always(Fixed::Refused(Refusal::NotForCaller)));
     }
-    match read_body(alloc, route, request.body, &mut workspace.scratch) {
-        Ok(command) => answer_command(alloc, workspace, office, caller, &command),
+    let Workspace {
+        scratch,
+        command,
+        ..
+    } = workspace;
+    match read_body_into(alloc, route, request.body, scratch, command) {
+        Ok(()) => answer_command(alloc, workspace, office, caller),
         Err(WireFault::Memory) => Err(StoreFault::Memory),
         Err(WireFault::BadBody) => Ok(Response::Always(Fixed::BadBody)),
         Err(WireFault::NoRoute) => unreachable!(),

@@ -1,6 +1,7 @@
 //! What requests are worked out in.
 ghost use Rattle.std.specs.Prelude.{◌≡◌, []};
 
+use mx_office::Command;
 use mx_office::values::Decided;
 use mx_wire::Scratch;
 use std::alloc::Global;
@@ -10,6 +11,8 @@ use std::alloc::Global;
 pub struct Workspace {
     /// What bodies are read in.
     pub scratch: Scratch,
+    /// The last command.
+    pub command: Command,
     /// The last decision.
     pub decided: Decided,
 }
@@ -21,6 +24,7 @@ impl Workspace {
     {
         Workspace {
             scratch: Scratch::new(alloc),
+            command: Command::Collect,
             decided: Decided::new(),
         }
     }

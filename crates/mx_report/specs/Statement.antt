@@ -5,12 +5,17 @@ use Rattle.std.specs.Fmt.{decimal}
 use Rattle.std.specs.FinMap as fmap
 use Rattle.csv.specs.Writing.{default_writer, row_text}
 use Rattle.mx_book.specs.declared.values.Line.{Line}
+use Rattle.mx_book.specs.Reads.{of_purse}
 use Rattle.mx_book.specs.Words.{kind_text, note_text}
 use Rattle.mx_book.specs.World.{World, Row, Name}
 
 -- the lines of a purse, where there is such a purse
 abbrev pub statement_of : World → Name → Option (List Line)
 statement_of w p = option_map (λ (r : Row). r.holding.lines) (fmap.get w.rows p)
+
+-- the lines of a purse, and none where there is no such purse
+abbrev pub own_lines : World → Name → List Line
+own_lines = of_purse [] (λ r. r.holding.lines)
 
 -- the text of a record
 abbrev pub record_text : List (List ℕ) → List ℕ

@@ -2,6 +2,7 @@
 //! import of rolls.
 #![tactic(auto)]
 
+pub mod progress;
 pub mod reconciliation;
 mod roll_rows;
 pub mod rolls;
@@ -9,7 +10,10 @@ pub mod rows;
 pub mod statements;
 mod texts;
 
+pub use progress::{Nobody, Progress};
 pub use reconciliation::{Report, reconcile, reconcile_text};
-pub use rolls::{RefusedRow, RollFault, RollFaultKind, RollReason, RollReport, import_roll};
+pub use rolls::{
+    RefusedRow, RollFault, RollFaultKind, RollReason, RollReport, import_roll, import_roll_telling,
+};
 pub use rows::rows_stay;
 pub use statements::{statement, statement_text};

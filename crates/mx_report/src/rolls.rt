@@ -12,6 +12,7 @@ ghost use Rattle.mx_report.specs.Roll.{Fields, asker, is_clerk, is_holder, is_ho
 ghost use Rattle.mx_report.specs.Import.{IsRowImported, IsRecordImported, IsBroken, IsImported, HasNoHeader, IsNoRoll, IsRoll, outcome_of, no_rows, rows_counted, tallied, tally_of};
 ghost use Rattle.mx_report.specs.Reading.{HasGiven, book_fault, record_fault};
 
+use crate::progress::{Nobody, Progress};
 use crate::roll_rows::{RollRow, is_roll_header, row_of};
 use csv::{ByteRecord, ByteRecordsIntoIter, Error, ErrorKind, ReaderBuilder};
 use mx_book::values::{Account, Caller, HolderRow};
@@ -321,6 +322,24 @@ pub fn import_roll<B: Book>(
     ensures store { IfErr result (λ f. f.kind ≡ Store → B.fails fault.Store) }
     ensures reachable { (w : World) → B.doubt office.new.book ≡ 0 → B.spells (B.rows office.old.book) w → IsReachable w → StandsBalanced (B.spells (B.rows office.new.book)) }
 {
+    import_roll_telling(alloc, office, bytes, &mut Nobody)
+}
+
+/// The same, where somebody is told after each row how many are done.
+pub fn import_roll_telling<B: Book, P: Progress>(
+    alloc: Global,
+    office: &mut Office<B>,
+    bytes: &[u8],
+    progress: &mut P,
+) -> Result<RollReport, RollFault>
+    ensures later { B.doubt office.old.book ≤ B.doubt office.new.book }
+    ensures done { (w : World) → B.doubt office.new.book ≡ 0 → B.spells (B.rows office.old.book) w → IfOk result (λ report. IsImported (B.spells (B.rows office.new.book)) w bytes.now (tally_of report)) }
+    ensures broken { (w : World) → B.doubt office.new.book ≡ 0 → B.spells (B.rows office.old.book) w → IfErr result (λ f. IsBroken (B.spells (B.rows office.new.book)) w bytes.now f.done) }
+    ensures roll { IfOk result (λ _. (records : List Fields) × IsRoll bytes.now records) }
+    ensures not_roll { IfErr result (λ f. f.kind ≡ NotRoll → IsNoRoll bytes.now f.done) }
+    ensures store { IfErr result (λ f. f.kind ≡ Store → B.fails fault.Store) }
+    ensures reachable { (w : World) → B.doubt office.new.book ≡ 0 → B.spells (B.rows office.old.book) w → IsReachable w → StandsBalanced (B.spells (B.rows office.new.book)) }
+{
     let reader = ReaderBuilder::new()
         .has_headers(false)
         .from_reader(alloc, bytes);
@@ -345,6 +364,7 @@ pub fn import_roll<B: Book>(
                 done: report.rows(),
             });
         }
+        progress.done(report.rows());
     }
     Ok(report)
 }

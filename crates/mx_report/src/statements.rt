@@ -3,16 +3,37 @@ ghost use Rattle.std.specs.Prelude.{◌≡◌, ◌⊎◌, ◌++◌, IfOk, IfErr,
 ghost use Rattle.mx_book.specs.declared.contract.StoreFault.TheVariants.{Memory};
 ghost use Rattle.mx_book.specs.Keeps.{Keeps};
 ghost use Rattle.mx_book.specs.World.{World};
-ghost use Rattle.mx_report.specs.Statement.{record_text, line_fields, statement_of, statement_text};
+ghost use Rattle.mx_report.specs.Statement.{record_text, line_fields, own_lines, statement_of, statement_text};
 
 use crate::texts::Text;
-use mx_book::values::Line;
+use mx_book::values::{Line, MOST_LINES};
 use mx_book::words::{kind_text, push_note};
 use mx_book::{Book, StoreFault};
 use mx_pay::Name;
 use std::alloc::{AllocError, Global};
 
-/// The lines of a purse, by number; None where there is no such purse. A fault is one of the book's reads, or `Memory`.
+/// The lines of a purse, by number, read page by page.
+fn read_lines<B: Book>(alloc: Global, book: &mut B, purse: Name) -> Result<Vec<Line>, StoreFault>
+    ensures keeps { Keeps B.doubt B.rows book.old book.new }
+    ensures value { (w : World) → B.doubt book.new ≡ 0 → B.spells (B.rows book.old) w → IfOk result (λ lines. lines.items ≡ own_lines w purse) }
+    ensures fault { IfErr result (λ e. (e ≡ Memory) ⊎ B.fails e) }
+{
+    let mut lines = Vec::new(alloc);
+    'pages: for _ in 0..u64::MAX {
+        let page = book.lines(alloc, purse, lines.len() as u64, MOST_LINES)?;
+        if lines.extend_from_slice(page.as_slice()).is_err() {
+            return Err(StoreFault::Memory);
+        }
+        if (page.len() as u64) < MOST_LINES {
+            return Ok(lines);
+        }
+    }
+    // No memory holds so many pages.
+    Err(StoreFault::Memory)
+}
+
+/// The lines of a purse, by number; None where there is no such purse. They are read by pages of 50, until a page has
+/// fewer. A fault is one of the book's reads, or `Memory`.
 pub fn statement<B: Book>(
     alloc: Global,
     book: &mut B,
@@ -25,7 +46,7 @@ pub fn statement<B: Book>(
     if book.purse(alloc, purse)?.is_none() {
         return Ok(None);
     }
-    let lines = book.lines(alloc, purse, 0, u64::MAX)?;
+    let lines = read_lines(alloc, book, purse)?;
     Ok(Some(lines))
 }
 

@@ -1,14 +1,16 @@
 -- What is read of the lines of a purse.
-use Rattle.std.proofs.Common.{◌≡◌, inl, inr, ℕ, zero, suc, pos, ◌+◌, ◌≤◌, Bool, true, false, ◌&&◌, List, [], ◌∷◌, map, filter, take, length, codes, refl, sym, ap, ap₂, ◌∙◌, arith, Some, None, Option}
-use Rattle.std.specs.Prelude.{nat_lt, ◌==◌, if◌then◌else◌}
+use Rattle.std.proofs.Common.{◌≡◌, inl, inr, ℕ, zero, suc, pos, ◌+◌, ◌≤◌, Bool, true, false, ◌&&◌, List, [], ◌∷◌, ◌++◌, map, filter, take, length, codes, refl, sym, ap, ap₂, ◌∙◌, arith, Some, None, Option}
+use Rattle.std.specs.Prelude.{nat_lt, ◌==◌, if◌then◌else◌, option_map}
 use Rattle.std.specs.List.{AllByRecursion, take-map}
 use Rattle.std.specs.FinMap as fmap
 use Rattle.std.specs.Ordering.{nat_cmp, is_gt}
 use Rattle.std.proofs.lemmas.Bool.{cases_Bool}
 use Rattle.std.proofs.lemmas.Bool.Decides.{nat_tests}
+use Rattle.std.proofs.lemmas.List.{take_at, take_all, length-map, map-append}
 use Rattle.sqlite_value.specs.declared.value.Value.{Value}
 use Rattle.sqlite_value.specs.declared.value.Value.TheVariants.{Int, Text}
 use Rattle.sqlite_value.specs.declared.keys.Collation.TheVariants.{Binary}
+use Rattle.sqlite_value.specs.declared.keys.Key.{Key}
 use Rattle.sqlite_value.specs.Keys.{ascending}
 use Rattle.sqlite_value.specs.Order.{Row}
 use Rattle.sqlite_value.proofs.OrderLemmas.{value_cmp-Int, then-Equal}
@@ -17,8 +19,14 @@ use Rattle.sqlite_sql.specs.declared.ops.BinaryOp.TheVariants.{Compare}
 use Rattle.sqlite_sql.specs.declared.ops.CompareOp.TheVariants.{Gt}
 use Rattle.sqlite_sql.specs.Ops.{binary, is_true}
 use Rattle.sqlite_sql.specs.Term.{Term, col, op2}
+use Rattle.sqlite_schema.specs.declared.command.Command.TheVariants.{Select}
+use Rattle.sqlite_trees.specs.declared.store.Store as store
+use Rattle.sqlite.specs.Effect.{Database, Reads}
+use Rattle.sqlite.specs.Given.{HasGiven, Advances}
+use Rattle.sqlite.specs.Held.{Held, state}
 use Rattle.sqlite.specs.State.{State, Shown}
 use Rattle.sqlite.specs.Listing.{understood}
+use Rattle.sqlite.proofs.Callers.{reads_as, begins_as, given_begin}
 use Rattle.sqlite_tied.specs.Compute.{everything}
 use Rattle.mx_pay.specs.Names.{is_name, is_name_text}
 use Rattle.mx_pay.specs.Reading.{entry_of}
@@ -39,11 +47,12 @@ use Rattle.mx_book.specs.declared.values.Note.TheVariants.{Reference, Details}
 use Rattle.mx_book.proofs.MapLemmas.{AllEntries, all_entries}
 use Rattle.mx_tables.specs.Cells.{number}
 use Rattle.mx_tables.specs.Holds.{Holds}
-use Rattle.mx_tables.specs.Pages.{line_shown, first_five, lines_above, AreLines}
-use Rattle.mx_tables.proofs.Queries.{is_given}
+use Rattle.mx_tables.specs.Pages.{line_shown, first_five, lines_above, GivesLine, AreLines}
+use Rattle.mx_tables.specs.Schema.{office_schema}
+use Rattle.mx_tables.proofs.Queries.{scan, alone, is_given}
 use Rattle.mx_tables.proofs.Texts.{IsSelect}
 use Rattle.mx_tables.proofs.StoredLemmas.{and_true, same_text, if_truth, numbers_cmp}
-use Rattle.mx_tables.proofs.ReadLemmas.{turned, answers_in_order}
+use Rattle.mx_tables.proofs.ReadLemmas.{turned, reads_in_order}
 use Rattle.mx_tables.proofs.MessageLemmas.{same_entry}
 use Rattle.mx_tables.proofs.InboxLemmas.{second_less, same_first}
 use Rattle.mx_tables.proofs.KeptLemmas as kept
@@ -54,10 +63,6 @@ select_lines = codes "SELECT number, kind, amount, balance, note FROM line WHERE
 -- the number of the row is above the parameter
 abbrev is_above : Term
 is_above = op2 (Compare Gt Binary) (col 1 2) (col 0 1)
-
-pub select_lines_is : IsSelect select_lines 12 (is_given 1 0 ∷ is_above ∷ []) (col 1 2 ∷ col 1 3 ∷ col 1 4 ∷ col 1 5 ∷ col 1 6 ∷ []) ((col 1 2, ascending Binary) ∷ []) (codes "number" ∷ codes "kind" ∷ codes "amount" ∷ codes "balance" ∷ codes "note" ∷ [])
-unfolding understood everything
-select_lines_is = record { is = refl; plain = (refl, refl); unlisted = refl }
 
 greater : (m n : ℕ) → is_gt (nat_cmp m n) ≡ nat_lt n m
 greater m n = grind (arith, nat_tests)
@@ -70,14 +75,68 @@ of_both : (a b : Bool) → (a && b) ≡ true → a ≡ true
 of_both true b h = refl
 of_both false b h = h
 
-pub finds_lines : (p : Name) (after : ℕ) (old new : State) (rows : List Row) → Shown select_lines (Text p ∷ number after ∷ []) old new rows → (r : Rows) → Holds old.now r
-    → rows ≡ map (λ e. line_shown (line_of_row e)) (lines_above p after r)
-finds_lines p after old new rows shown r h =
-    answers_in_order kept.lines (is_given 1 0 ∷ is_above ∷ []) (col 1 2 ∷ col 1 3 ∷ col 1 4 ∷ col 1 5 ∷ col 1 6 ∷ []) ((col 1 2, ascending Binary) ∷ []) (Text p ∷ number after ∷ [])
-    (λ (e : (Name × ℕ) × LineRow). is_name p e.0.0 && nat_lt after e.0.1) (λ (e : (Name × ℕ) × LineRow). (number e.0.1 ∷ [], line_shown (line_of_row e)))
-    (λ id e. ap₂ (λ a b. a && b) (same_text e.0.0 p ∙ turned e.0.0 p) (and_true _ ∙ above_is e.0.1 after)) (λ id e. refl)
-    (λ a b s t low. then-Equal _ ∙ value_cmp-Int (pos a.0.1) (pos b.0.1) ∙ numbers_cmp a.0.1 b.0.1 ∙ second_less _ _ (same_first p a.0.0 b.0.0 (of_both (is_name p a.0.0) (nat_lt after a.0.1) s) (of_both (is_name p b.0.0) (nat_lt after b.0.1) t)) low)
-    select_lines _ select_lines_is old new rows shown r h
+abbrev terms : List Term
+terms = is_given 1 0 ∷ is_above ∷ []
+
+abbrev project : List Term
+project = col 1 2 ∷ col 1 3 ∷ col 1 4 ∷ col 1 5 ∷ col 1 6 ∷ []
+
+abbrev order : List (Term × Key)
+order = (col 1 2, ascending Binary) ∷ []
+
+abbrev names : List (List ℕ)
+names = codes "number" ∷ codes "kind" ∷ codes "amount" ∷ codes "balance" ∷ codes "note" ∷ []
+
+pub select_lines_is : IsSelect select_lines 12 terms project order names
+unfolding understood everything
+select_lines_is = record { is = refl; plain = (refl, refl); unlisted = refl }
+
+module _ (p : Name) (after : ℕ) where
+  abbrev pub given : Row
+  given = Text p ∷ number after ∷ []
+
+  abbrev pub all_shown : Rows → List Row
+  all_shown r = map (λ e. line_shown (line_of_row e)) (lines_above p after r)
+
+  reads_lines : (db : Database) (rows : List Row) → Reads (Select (alone (scan 12 terms project order)) names) db given rows → (r : Rows) → Holds db r → rows ≡ all_shown r
+  reads_lines =
+      reads_in_order kept.lines terms project order given
+      (λ (e : (Name × ℕ) × LineRow). is_name p e.0.0 && nat_lt after e.0.1) (λ (e : (Name × ℕ) × LineRow). (number e.0.1 ∷ [], line_shown (line_of_row e)))
+      (λ id e. ap₂ (λ a b. a && b) (same_text e.0.0 p ∙ turned e.0.0 p) (and_true _ ∙ above_is e.0.1 after)) (λ id e. refl)
+      (λ a b s t low. then-Equal _ ∙ value_cmp-Int (pos a.0.1) (pos b.0.1) ∙ numbers_cmp a.0.1 b.0.1 ∙ second_less _ _ (same_first p a.0.0 b.0.0 (of_both (is_name p a.0.0) (nat_lt after a.0.1) s) (of_both (is_name p b.0.0) (nat_lt after b.0.1) t)) low)
+      names
+
+  -- the query ended: its rows are those of all lines
+  pub ended : (old new : State) (rows : List Row) → Shown select_lines given old new rows → (r : Rows) → Holds old.now r → rows ≡ all_shown r
+  ended old new rows shown r h =
+      reads_lines old.now rows (reads_as select_lines given old new office_schema h.has.schema _ select_lines_is.is select_lines_is.plain select_lines_is.unlisted rows shown) r h
+
+  -- it has given some rows: those of all lines begin with them
+  pub begins : {S : Type 0} (g : store.Ghosts S) (h : Held S) (rows : List Row) → HasGiven g select_lines given h rows → (r : Rows) → Holds (state g h).now r → (tail : List Row) × (rows ++ tail ≡ all_shown r)
+  begins g h rows has r holds =
+      let s = state g h in
+      let first = begins_as select_lines given s s office_schema holds.has.schema _ select_lines_is.is select_lines_is.plain select_lines_is.unlisted rows (given_begin g select_lines given h rows has) in
+      (first.1.0, reads_lines s.now (rows ++ first.1.0) (record { typed = first.0; answer = first.1.1 }) r holds)
+
+-- ---- one line more
+
+module _ {S : Type 0} (g : store.Ghosts S) (sql : List ℕ) (params : Row) (old new : Held S) (rows : List Row) (has : HasGiven g sql params old rows) where
+  more : (ls : List Line) → map first_five rows ≡ map line_shown ls → (l : Line) (got : Option Row) → Advances g old new got → option_map first_five got ≡ Some (line_shown l)
+      → (all : List Row) × HasGiven g sql params new all × (map first_five all ≡ map line_shown (ls ++ l ∷ []))
+  more ls read l None gives is = absurd (cc)
+  more ls read l (Some row) gives is =
+      let here : first_five row ≡ line_shown l = cc in
+      (rows ++ row ∷ [], gives sql params rows has, map-append first_five rows (row ∷ []) ∙ ap₂ (λ a b. a ++ b ∷ []) read here ∙ sym (map-append line_shown ls (l ∷ [])))
+
+  pub one_more : (ls : List Line) → map first_five rows ≡ map line_shown ls → (l : Line) → GivesLine g old new (Some l) → (all : List Row) × HasGiven g sql params new all × (map first_five all ≡ map line_shown (ls ++ l ∷ []))
+  one_more ls read l h = more ls read l h.0 h.1 h.2
+
+  none : (got : Option Row) → Advances g old new got → ◌≡◌ {A = Option Row} (option_map first_five got) None → Shown sql params (state g old) (state g new) rows
+  none None gives is = gives sql params rows has
+  none (Some row) gives is = absurd (cc)
+
+  pub no_more : GivesLine g old new None → Shown sql params (state g old) (state g new) rows
+  no_more h = none h.0 h.1 h.2
 
 -- ---- lines that show the same rows are the same
 
@@ -112,8 +171,12 @@ same_note (Reference m) (Details e) one two h = absurd (apart m e one two h)
 same_note (Details d) (Reference n) one two h = absurd (apart n d two one (sym h))
 same_note (Details d) (Details e) one two h = ap Details (same_entry d e one two h)
 
-abbrev Noted : Line → Type 0
+abbrev pub Noted : Line → Type 0
 Noted l = IsNote l.note
+
+pub noted_more : (ls : List Line) (l : Line) → AllByRecursion Noted ls → Noted l → AllByRecursion Noted (ls ++ l ∷ [])
+noted_more [] l h n = (n, tt)
+noted_more (m ∷ ls) l h n = (h.0, noted_more ls l h.1 n)
 
 same_line : (a b : Line) → Noted a → Noted b → line_shown a ≡ line_shown b → a ≡ b
 same_line a b one two h =
@@ -153,14 +216,26 @@ noted q (suc n) (e ∷ es) h = elim (cases_Bool (q e)) [
   | inr f ↦ rw f (noted q (suc n) es h.1)
 ]
 
-pub page_read : (p : Name) (after most : ℕ) (r : Rows) → AreLines r → (rows : List Row) (ls : List Line) → map first_five (take most rows) ≡ map line_shown ls → AllByRecursion (λ l. IsNote l.note) ls
-    → rows ≡ map (λ e. line_shown (line_of_row e)) (lines_above p after r) → ls ≡ row_lines_of r p after most
-page_read p after most r valid rows ls read mine is =
-    let found = take most (lines_above p after r) in
-    let page : map first_five (take most rows) ≡ map line_shown (map line_of_row found) =
-    ap (λ rs. map first_five (take most rs)) is ∙ ap (map first_five) (take-map (λ e. line_shown (line_of_row e)) most (lines_above p after r))
-    ∙ map-map first_five (λ e. line_shown (line_of_row e)) found ∙ sym (map-map line_shown line_of_row found) in
-    same_lines ls (map line_of_row found) mine (noted _ most (fmap.entries r.lines) (all_entries kept.pairs_total Kept r.lines valid)) (sym read ∙ page)
+module _ (p : Name) (after most : ℕ) (r : Rows) (valid : AreLines r) where
+  page_read : (rows : List Row) (ls : List Line) → map first_five (take most rows) ≡ map line_shown ls → AllByRecursion (λ l. IsNote l.note) ls → rows ≡ all_shown p after r → ls ≡ row_lines_of r p after most
+  page_read rows ls read mine is =
+      let found = take most (lines_above p after r) in
+      let page : map first_five (take most rows) ≡ map line_shown (map line_of_row found) =
+      ap (λ rs. map first_five (take most rs)) is ∙ ap (map first_five) (take-map (λ e. line_shown (line_of_row e)) most (lines_above p after r))
+      ∙ map-map first_five (λ e. line_shown (line_of_row e)) found ∙ sym (map-map line_shown line_of_row found) in
+      same_lines ls (map line_of_row found) mine (noted _ most (fmap.entries r.lines) (all_entries kept.pairs_total Kept r.lines valid)) (sym read ∙ page)
+
+  -- as many rows were taken as the page has at most
+  pub full_page : (rows tail : List Row) (ls : List Line) → map first_five rows ≡ map line_shown ls → AllByRecursion (λ l. IsNote l.note) ls → length ls ≡ most → rows ++ tail ≡ all_shown p after r → ls ≡ row_lines_of r p after most
+  full_page rows tail ls read mine many is =
+      let count : length rows ≡ most = sym (length-map rows first_five) ∙ ap length read ∙ length-map ls line_shown ∙ many in
+      page_read (rows ++ tail) ls (ap (map first_five) (take_at rows tail most count) ∙ read) mine is
+
+  -- the rows ended before
+  pub last_page : (rows : List Row) (ls : List Line) → map first_five rows ≡ map line_shown ls → AllByRecursion (λ l. IsNote l.note) ls → length ls ≤ most → rows ≡ all_shown p after r → ls ≡ row_lines_of r p after most
+  last_page rows ls read mine few is =
+      let count : length rows ≡ length ls = sym (length-map rows first_five) ∙ ap length read ∙ length-map ls line_shown in
+      page_read rows ls (ap (map first_five) (take_all most rows (omega (arith, count, few))) ∙ read) mine is
 
 below : (p : Name) (after : ℕ) → most_number + 2 ≤ after → (es : List ((Name × ℕ) × LineRow)) → AllEntries Kept es → AllByRecursion (λ (e : (Name × ℕ) × LineRow). (is_name p e.0.0 && nat_lt after e.0.1) ≡ false) es
 below p after high [] h = tt

@@ -19,6 +19,8 @@ use Rattle.sqlite_sql.proofs.QueryLemmas.{output_cmp_total}
 use Rattle.sqlite_keyed.proofs.SortLemmas.{sorted_unique}
 use Rattle.sqlite_keyed.proofs.ListLemmas.{IsPermutation-filter, ascending-map}
 use Rattle.sqlite.proofs.Callers.{reads_as}
+use Rattle.sqlite_schema.specs.declared.command.Command.TheVariants.{Select}
+use Rattle.sqlite.specs.Effect.{Database, Reads}
 use Rattle.sqlite.specs.State.{State, Shown}
 use Rattle.mx_pay.specs.Names.{is_name}
 use Rattle.mx_pay.proofs.TestLemmas.{first_true, second_true, is_less}
@@ -29,7 +31,7 @@ use Rattle.mx_tables.specs.Schema.{office_schema}
 use Rattle.mx_tables.specs.Contents.{Contents}
 use Rattle.mx_tables.specs.Holds.{Holds, HaveCells}
 use Rattle.mx_tables.specs.Answers.{at_key}
-use Rattle.mx_tables.proofs.Queries.{scan}
+use Rattle.mx_tables.proofs.Queries.{scan, alone}
 use Rattle.mx_tables.proofs.Texts.{IsSelect}
 use Rattle.mx_tables.proofs.Statements.{selected, picked, shown_rows, env, passes}
 use Rattle.mx_tables.proofs.RowLemmas.{found_none, found_one}
@@ -86,24 +88,28 @@ module _ {K V : Type 0} {R : K → K → Ordering} {cells : K × V → Row} {tre
         ]
 
     -- and in order, where the order of the query is that of the keys
-    pub answers_in_order : (sql : List ℕ) (names : List (List ℕ)) → IsSelect sql tree terms project order names
-        → (old new : State) (rows : List Row) → Shown sql params old new rows → (r : Rows) → Holds old.now r → rows ≡ map (λ e. (out e).1) (filter p (fmap.entries (map_of r)))
-    answers_in_order sql names text old new rows shown r h =
+    pub reads_in_order : (names : List (List ℕ)) (db : Database) (rows : List Row) → Reads (Select (alone (scan tree terms project order)) names) db params rows
+        → (r : Rows) → Holds db r → rows ≡ map (λ e. (out e).1) (filter p (fmap.entries (map_of r)))
+    reads_in_order names db rows read r h =
         let q = scan tree terms project order in
-        let l = listed kept old.now r h in
-        let read = reads_as sql params old new office_schema h.has.schema _ text.is text.plain text.unlisted rows shown in
-        let got = selected tree terms project order names old.now params rows read in
-        let found = filter (passes terms params) (old.now.trees tree) in
+        let l = listed kept db r h in
+        let got = selected tree terms project order names db params rows read in
+        let found = filter (passes terms params) (db.trees tree) in
         let es = filter p (fmap.entries (map_of r)) in
         let typed : map (output q) (map (env params) found) ≡ map out (filter p l.rows) =
         map-map (output q) (env params) found
-        ∙ shown_rows cells (passes terms params) (λ x. output q (env params x)) p out tests outs (old.now.trees tree) l.rows l.have in
+        ∙ shown_rows cells (passes terms params) (λ x. output q (env params x)) p out tests outs (db.trees tree) l.rows l.have in
         let same = IsPermutation-map out _ _ (IsPermutation-filter p _ _ l.same) in
         let other : IsPermutation (map out es) got.0 =
         IsPermutation-trans (map out es) (map out (filter p l.rows)) got.0 (IsPermutation-sym _ _ same) (subst (λ x. IsPermutation x got.0) typed got.1) in
         let up = ascending-map (λ a b. output_cmp q a b ≡ Less) out es (ascends (fmap.entries (map_of r)) (fmap.entries_sorted (map_of r))) in
         let order : got.0 ≡ map out es = sorted_unique (output_cmp q) (output_cmp_total q) (map out es) got.0 up other got.2 in
         got.3 ∙ ap (map (λ (o : Output). o.1)) order ∙ map-map (λ (o : Output). o.1) out es
+
+    pub answers_in_order : (sql : List ℕ) (names : List (List ℕ)) → IsSelect sql tree terms project order names
+        → (old new : State) (rows : List Row) → Shown sql params old new rows → (r : Rows) → Holds old.now r → rows ≡ map (λ e. (out e).1) (filter p (fmap.entries (map_of r)))
+    answers_in_order sql names text old new rows shown r h =
+        reads_in_order names old.now rows (reads_as sql params old new office_schema h.has.schema _ text.is text.plain text.unlisted rows shown) r h
 
 -- ---- what a query at a key answers
 

@@ -3,13 +3,16 @@ use Rattle.std.proofs.Common.{◌≡◌, ◌⊎◌, inl, inr, ℕ, zero, suc, �
 use Rattle.std.specs.Prelude.{if◌then◌else◌}
 use Rattle.sqlite_value.specs.Order.{Row}
 use Rattle.sqlite_trees.specs.View.{doubt}
+use Rattle.sqlite_trees.specs.declared.store.Store.{Ghosts}
 use Rattle.sqlite_schema.specs.declared.command.Returning.{Returning}
 use Rattle.sqlite_resolve.specs.declared.compiled.Compiled.{Compiled}
 use Rattle.sqlite.specs.declared.error.Error.{Error}
 use Rattle.sqlite.specs.Effect.{Database}
-use Rattle.sqlite.specs.Given.{IsPlain}
+use Rattle.sqlite.specs.Given.{IsPlain, HasBegun, IsRefused}
+use Rattle.sqlite.specs.Held.{Held, state}
+use Rattle.sqlite.proofs.Callers.{begun_plain}
 use Rattle.sqlite.specs.Listing.{understood}
-use Rattle.sqlite.specs.State.{State, HasCleanDisk, IsUnchanged, IsRolledBack, FailsToQuery, FailsToShow, IsNotRun, Shown, ShowsRows, KeepsCommit, ExecutesInside, IsTooLate}
+use Rattle.sqlite.specs.State.{State, HasCleanDisk, IsUnchanged, IsRolledBack, Fails, FailsToQuery, FailsToShow, IsNotRun, Shown, ShowsRows, KeepsCommit, ExecutesInside, IsTooLate}
 use Rattle.mx_tables.specs.Holds.{Holds}
 use Rattle.sqlite.specs.Steps.{FailsToCommit}
 use Rattle.mx_tables.specs.Schema.{office_schema}
@@ -108,6 +111,42 @@ stays old new ours mode clean opened quits =
       later = later;
       same = λ h. (both h).0;
     }
+
+pub stays_then : (a b c : State) → Stays a b → Stays b c → Stays a c
+stays_then a b c one two = record {
+  ours = two.ours;
+  later = omega (arith, one.later, two.later);
+  same = λ h. two.same h ∙ one.same (sure_before b c two.later h);
+}
+
+-- ---- rows one at a time
+
+begun_open : {S : Type 0} (g : Ghosts S) (sql : List ℕ) (params : Row) (old new : Held S) → HasBegun g sql params old new → IsTrue (state g old).is_open
+begun_open g sql params old new (inl h) = h.1.0.was_open
+begun_open g sql params old new (inr h) = shown_open sql params (state g old) (state g new) _ h.1
+
+-- a query that begins leaves the rows
+pub begun_stays : {S : Type 0} (g : Ghosts S) (sql : List ℕ) (params : Row) (old new : Held S) → IsText sql → IsOurs (state g old) → (old.in_transaction ≡ false → new.in_transaction ≡ false)
+    → doubt (state g old).is_clean ≤ doubt (state g new).is_clean → (HasCleanDisk (state g new) → HasBegun g sql params old new) → Stays (state g old) (state g new)
+begun_stays g sql params old new text ours mode clean begun =
+    stays (state g old) (state g new) ours mode clean (λ now live. begun_open g sql params old new (begun now))
+    (λ h has. inl (begun_plain g sql params old new (subst (λ s. IsPlain (understood s sql)) (sym has) text) (begun (sure (state g new) h).1)).1)
+
+-- and so does one that doesn't
+pub refused_stays : {S X : Type 0} (g : Ghosts S) (sql : List ℕ) (params : Row) (old new : Held S) (r : Result X Error) (e : Error) → r ≡ Err e → IsOurs (state g old)
+    → OnErr r (IsRefused g sql params old r new) → Stays (state g old) (state g new)
+refused_stays g sql params old new (Ok x) e is ours h = absurd (cc)
+refused_stays g sql params old new (Err f) e is ours h =
+    let left : HasCleanDisk (state g new) → Quits (state g old) (state g new) = λ clean. query_quits sql params (state g old) (state g new) f (h.err clean) in
+    stays (state g old) (state g new) ours h.mode h.survives.clean (λ clean live. quits_open (state g old) (state g new) (left clean) live) (λ h has. left (sure (state g new) h).1)
+
+-- a step to the next row, or one that fails, leaves the rows
+pub step_stays : (old new : State) → IsOurs old → (old.in_transaction ≡ false → new.in_transaction ≡ false) → doubt old.is_clean ≤ doubt new.is_clean → (HasCleanDisk new → Quits old new) → Stays old new
+step_stays old new ours mode clean left = stays old new ours mode clean (λ now live. quits_open old new (left now) live) (λ h has. left (sure new h).1)
+
+pub failed_quits : (old new : State) (e : Error) → Fails old new ⊥ e ⊎ IsUnchanged old new → Quits old new
+failed_quits old new e (inl failed) = inr failed.3
+failed_quits old new e (inr same) = inl same
 
 -- ---- writes in a transaction
 

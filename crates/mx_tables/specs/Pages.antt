@@ -1,8 +1,11 @@
 -- What the statements on lines answer from the typed rows.
-use Rattle.std.specs.Prelude.{◌≡◌, ℕ, ◌≤◌, ◌+◌, ◌&&◌, nat_lt, List, [], ◌∷◌, filter, Some}
+use Rattle.std.specs.Prelude.{◌≡◌, ℕ, ◌≤◌, ◌+◌, ◌&&◌, nat_lt, List, [], ◌∷◌, filter, Option, Some, option_map}
 use Rattle.std.specs.FinMap as fmap
 use Rattle.sqlite_value.specs.Order.{Row, column}
 use Rattle.sqlite_value.specs.declared.value.Value.TheVariants.{Text}
+use Rattle.sqlite_trees.specs.declared.store.Store.{Ghosts}
+use Rattle.sqlite.specs.Held.{Held}
+use Rattle.sqlite.specs.Given.{Advances}
 use Rattle.mx_pay.specs.Limits.{most_number}
 use Rattle.mx_pay.specs.Names.{is_name}
 use Rattle.mx_book.specs.World.{Name}
@@ -19,6 +22,10 @@ line_shown l = number l.number ∷ Text (kind_text l.kind) ∷ number l.amount �
 -- the first five columns of a row
 abbrev pub first_five : Row → Row
 first_five r = column r 0 ∷ column r 1 ∷ column r 2 ∷ column r 3 ∷ column r 4 ∷ []
+
+-- the connection gives one row more of its query, which shows this line, or none where the query ends
+abbrev pub GivesLine : {S : Type 0} → Ghosts S → Held S → Held S → Option Line → Type 0
+GivesLine g old new line = (row : Option Row) × Advances g old new row × (option_map first_five row ≡ option_map line_shown line)
 
 -- the rows of the lines of a purse that are numbered above `after`
 abbrev pub lines_above : Name → ℕ → Rows → List ((Name × ℕ) × LineRow)

@@ -1,6 +1,5 @@
 //! The lines of the statements of purses.
-ghost use Rattle.std.specs.Prelude.{◌≡◌, ◌≤◌, ◌<◌, ◌^◌, map, take, string_bytes, IfOk, OnOk, IsTrue};
-ghost use Rattle.std.specs.List.{AllByRecursion};
+ghost use Rattle.std.specs.Prelude.{◌≡◌, ◌≤◌, ◌<◌, ◌^◌, string_bytes, IfOk, IfSome, OnOk, IsTrue};
 ghost use Rattle.std.specs.FinMap as fmap;
 ghost use Rattle.sqlite_value.specs.Order.{column};
 ghost use Rattle.sqlite_value.specs.declared.value.Value.TheVariants.{Text};
@@ -9,21 +8,21 @@ ghost use Rattle.sqlite.specs.Held.{state};
 ghost use Rattle.sqlite.specs.State.{HasCleanDisk, KeepsCommit};
 ghost use Rattle.mx_book.specs.Conditions.{IsNote};
 ghost use Rattle.mx_book.specs.Rows.{line_row};
-ghost use Rattle.mx_book.specs.RowReads.{row_lines_of, line_of_row};
+ghost use Rattle.mx_book.specs.RowReads.{row_lines_of};
 ghost use Rattle.mx_book.specs.Words as words;
 ghost use Rattle.mx_tables.specs.Schema.{office_schema};
 ghost use Rattle.mx_tables.specs.States.{worry, IsOurs, Stays, Goes};
 ghost use Rattle.mx_tables.specs.Holds.{Holds};
 ghost use Rattle.mx_tables.specs.Cells.{number as cell};
-ghost use Rattle.mx_tables.specs.Pages.{line_shown, first_five, lines_above, AreLines};
+ghost use Rattle.mx_tables.specs.Pages.{line_shown, first_five, GivesLine, AreLines};
 
-use crate::asking::{ask, run};
+use crate::asking::{fault_of, run};
 use crate::cells::{entry_at, number_at, text_at};
 use crate::given::{self, MOST_KEPT};
 use mx_book::words::{kind_text, push_note};
 use mx_book::{Line, LineKind, Note, StoreFault};
 use mx_pay::{Amount, Name};
-use sqlite::{Alter, Connection, Row, Transaction, params};
+use sqlite::{Alter, Connection, Row, Rows, Transaction};
 use std::alloc::Global;
 
 /// The text of what a line refers to.
@@ -66,23 +65,6 @@ pub fn insert_line<S: Alter>(
             given::number(line.balance),
             given::text(&note),
         ],
-    )
-}
-
-/// The lines of a purse that are numbered above a number, by number.
-fn select_lines<S: Alter>(
-    conn: &mut Connection<S>,
-    purse: &Name,
-    after: u64,
-) -> Result<Vec<Row>, StoreFault>
-    requires { after < 2 ^ 63 }
-    ensures stays { IsOurs (state S.Store conn.old) → Stays (state S.Store conn.old) (state S.Store conn.new) }
-    ensures rows { worry (state S.Store conn.new) ≡ 0 → (r : _) → Holds (state S.Store conn.old).now r → IfOk result (λ rows. rows.items ≡ map (λ e. line_shown (line_of_row e)) (lines_above purse.now after r)) }
-{
-    ask(
-        conn,
-        "SELECT number, kind, amount, balance, note FROM line WHERE purse = ?1 AND number > ?2 ORDER BY number",
-        &[given::text(purse.as_str()), given::number(after)],
     )
 }
 
@@ -143,15 +125,50 @@ fn line_in(row: &Row, note: Note) -> Result<Line, StoreFault>
     })
 }
 
-/// The lines that rows show.
-fn lines_in(alloc: Global, rows: &[Row]) -> Result<Vec<Line>, StoreFault>
-    ensures shown { IfOk result (λ lines. map first_five rows.now ≡ map line_shown lines.items) }
-    ensures valid { IfOk result (λ lines. AllByRecursion (λ line. IsNote line.note) lines.items) }
+/// The next line that a query of lines gives, or None at its end.
+fn next_line<S: Alter>(rows: &mut Rows<'_, S>) -> Result<Option<Line>, StoreFault>
+    ensures same_reference { rows.new.conn.ghost_name ≡ rows.old.conn.ghost_name }
+    ensures stays { IsOurs (state S.Store rows.old.conn.now) → Stays (state S.Store rows.old.conn.now) (state S.Store rows.new.conn.now) }
+    ensures shown { worry (state S.Store rows.new.conn.now) ≡ 0 → IfOk result (GivesLine S.Store rows.old.conn.now rows.new.conn.now) }
+    ensures valid { IfOk result (λ line. IfSome line (λ l. IsNote l.note)) }
+{
+    match rows.advance() {
+        Ok(()) => {}
+        Err(error) => return Err(fault_of(error)),
+    }
+    let Some(row) = rows.get() else {
+        return Ok(None);
+    };
+    let note = note_at(row, 4)?;
+    let line = line_in(row, note)?;
+    Ok(Some(line))
+}
+
+/// The first `most` lines of a purse that are numbered above a number, by number. The rows after them are not taken.
+fn select_lines<S: Alter>(
+    alloc: Global,
+    conn: &mut Connection<S>,
+    purse: &Name,
+    after: u64,
+    most: u64,
+) -> Result<Vec<Line>, StoreFault>
+    requires { after < 2 ^ 63 }
+    ensures stays { IsOurs (state S.Store conn.old) → Stays (state S.Store conn.old) (state S.Store conn.new) }
+    ensures value { IsOurs (state S.Store conn.old) → worry (state S.Store conn.new) ≡ 0 → (r : _) → Holds (state S.Store conn.old).now r → AreLines r → IfOk result (λ v. v.items ≡ row_lines_of r purse.now after most) }
 {
     let mut lines = Vec::new(alloc);
-    for row in rows {
-        let note = note_at(row, 4)?;
-        let line = line_in(row, note)?;
+    let found = conn.query(
+        "SELECT number, kind, amount, balance, note FROM line WHERE purse = ?1 AND number > ?2 ORDER BY number",
+        &[given::text(purse.as_str()), given::number(after)],
+    );
+    let mut rows = match found {
+        Ok(rows) => rows,
+        Err(error) => return Err(fault_of(error)),
+    };
+    'rows: for _ in 0..most {
+        let Some(line) = next_line(&mut rows)? else {
+            return Ok(lines);
+        };
         if lines.push(line).is_err() {
             return Err(StoreFault::Memory);
         }
@@ -159,18 +176,7 @@ fn lines_in(alloc: Global, rows: &[Row]) -> Result<Vec<Line>, StoreFault>
     Ok(lines)
 }
 
-/// The first rows, at most so many.
-fn first_rows(rows: &[Row], most: u64) -> &[Row]
-    ensures { result.now ≡ take most rows.now }
-{
-    if most < rows.len() as u64 {
-        &rows[..most as usize]
-    } else {
-        rows
-    }
-}
-
-/// The first `most` lines of a purse that are numbered above `after`, by number.
+/// The first `most` lines of a purse that are numbered above `after`, by number. What lies behind them is not read as lines.
 pub fn list_lines<S: Alter>(
     alloc: Global,
     conn: &mut Connection<S>,
@@ -179,11 +185,10 @@ pub fn list_lines<S: Alter>(
     most: u64,
 ) -> Result<Vec<Line>, StoreFault>
     ensures stays { IsOurs (state S.Store conn.old) → Stays (state S.Store conn.old) (state S.Store conn.new) }
-    ensures value { worry (state S.Store conn.new) ≡ 0 → (r : _) → Holds (state S.Store conn.old).now r → AreLines r → IfOk result (λ v. v.items ≡ row_lines_of r purse.now after most) }
+    ensures value { IsOurs (state S.Store conn.old) → worry (state S.Store conn.new) ≡ 0 → (r : _) → Holds (state S.Store conn.old).now r → AreLines r → IfOk result (λ v. v.items ≡ row_lines_of r purse.now after most) }
 {
     if after > MOST_KEPT {
         return Ok(Vec::new(alloc));
     }
-    let rows = select_lines(conn, purse, after)?;
-    lines_in(alloc, first_rows(rows.as_slice(), most))
+    select_lines(alloc, conn, purse, after, most)
 }

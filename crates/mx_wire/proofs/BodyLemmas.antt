@@ -1,9 +1,8 @@
 -- What a body says, from its JSON value.
 use Rattle.std.proofs.Common.{◌≡◌, ℕ, List, [], ◌∷◌, Bool, true, false, refl, sym, ap}
-use Rattle.std.specs.Prelude.{Option, Some, None, Result, Err, IfSome, IfOk, if◌then◌else◌, option_and_then}
+use Rattle.std.specs.Prelude.{Option, Some, None, Result, Err, IfSome, if◌then◌else◌, is_some, option_and_then, option_map}
 use Rattle.std.specs.Str.{is_utf8, IsUtf8}
 use Rattle.std.proofs.lemmas.Str.{IsUtf8-from_is_utf8, is_utf8-from_IsUtf8}
-use Rattle.std.specs.Option.{ok_or}
 use Rattle.serde_json.specs.Data.{Data}
 use Rattle.serde_json.specs.Read.{read}
 use Rattle.mx_pay.specs.Limits.{most_entries}
@@ -14,7 +13,6 @@ use Rattle.mx_pay.proofs.CodeLemmas.{found_in, valid_in, only_in, none_is}
 use Rattle.mx_pay.proofs.SameLemmas.{none_valid}
 use Rattle.mx_office.specs.declared.values.Command.{Command}
 use Rattle.mx_wire.specs.declared.bodies.WireFault.{WireFault}
-use Rattle.mx_wire.specs.declared.bodies.WireFault.TheVariants.{BadBody}
 use Rattle.mx_wire.specs.declared.routes.Route.{Route}
 use Rattle.mx_wire.specs.Bodies.{log_of_code, value_of, bare, bare_or, said, command_of}
 
@@ -43,21 +41,17 @@ pub says_nothing : (r : Route) (body : List ℕ) → bare r ≡ None → value_o
 unfolding command_of
 says_nothing r body none value = rw (none, value) refl
 
--- ---- what `ok_or` answers
+-- ---- a command that is written over another
 
-pub ok_or_ok : (o p : Option Command) (r : Result Command WireFault) → p ≡ o → r ≡ ok_or o BadBody → IfOk r (λ c. p ≡ Some c)
-ok_or_ok None p r same is = rw is tt
-ok_or_ok (Some c) p r same is = rw is same
+pub written : (o : Option (Unit {0})) (now : Command) (p : Option Command) → option_map (λ _. now) o ≡ p → is_some o ≡ true → p ≡ Some now
+written None now p is some = cc
+written (Some u) now p is some = sym is
 
-pub ok_or_bad : (o p : Option Command) (r : Result Command WireFault) → p ≡ o → r ≡ ok_or o BadBody → r ≡ Err BadBody → p ≡ None
-ok_or_bad None p r same is bad = same
-ok_or_bad (Some c) p r same is bad = cc
+pub unwritten : (o : Option (Unit {0})) (now : Command) (p : Option Command) → option_map (λ _. now) o ≡ p → is_some o ≡ false → p ≡ None
+unwritten None now p is none = sym is
+unwritten (Some u) now p is none = cc
 
-pub ok_or_fault : (o : Option Command) (r : Result Command WireFault) (fault : WireFault) → r ≡ ok_or o BadBody → r ≡ Err fault → fault ≡ BadBody
-ok_or_fault None r fault is bad = cc
-ok_or_fault (Some c) r fault is bad = cc
-
-pub same_fault : (r : Result Command WireFault) (a b : WireFault) → r ≡ Err a → r ≡ Err b → a ≡ b
+pub same_fault : {X : Type 0} (r : Result X WireFault) (a b : WireFault) → r ≡ Err a → r ≡ Err b → a ≡ b
 same_fault r a b e f = cc
 
 -- ---- the log of a code text

@@ -1,5 +1,5 @@
 //! The bodies of requests: JSON in, commands out.
-ghost use Rattle.std.specs.Prelude.{◌≡◌, ◌≢◌, ◌↔◌, true, Some, None, Err, IsTrue, IfSome, IfOk, option_map};
+ghost use Rattle.std.specs.Prelude.{◌≡◌, ◌≢◌, ◌↔◌, true, Some, None, Err, IsTrue, IfSome, IfOk, OnOk, option_map};
 ghost use Rattle.mx_pay.specs.Codes.{code};
 ghost use Rattle.mx_pay.specs.Log.{Entries, IsLogValue};
 ghost use Rattle.mx_wire.specs.Routes.{route_of};
@@ -109,90 +109,141 @@ fn log_at(value: &Value<'_>, key: &str) -> Option<Log>
     log_of_code(text)
 }
 
-/// The command of a route that needs no body.
-fn bare(route: &Route) -> Option<Command>
-    ensures { result ≡ bare route.now }
+/// The command of a route that needs no body, written over another; None where the route needs one.
+fn bare(route: &Route, command: &mut Command) -> Option<()>
+    ensures { option_map (λ _. command.new) result ≡ bare route.now }
 {
     match *route {
-        Route::Collect => Some(Command::Collect),
-        Route::Archive(purse) => Some(Command::Archive { purse }),
-        Route::Purses => Some(Command::Purses),
-        Route::Show(purse) => Some(Command::Show { purse }),
-        Route::Abort(purse) => Some(Command::Abort { purse }),
-        Route::Inbox(purse) => Some(Command::Inbox { purse }),
-        Route::Statement(purse, after) => Some(Command::Statement { purse, after }),
-        Route::Reconcile => Some(Command::Reconcile),
-        _ => None,
+        Route::Collect => *command = Command::Collect,
+        Route::Archive(purse) => *command = Command::Archive { purse },
+        Route::Purses => *command = Command::Purses,
+        Route::Show(purse) => *command = Command::Show { purse },
+        Route::Abort(purse) => *command = Command::Abort { purse },
+        Route::Inbox(purse) => *command = Command::Inbox { purse },
+        Route::Statement(purse, after) => *command = Command::Statement { purse, after },
+        Route::Reconcile => *command = Command::Reconcile,
+        _ => return None,
     }
+    Some(())
 }
 
-/// The command that a route and a JSON value say. None also where the route needs no body.
-fn said(route: &Route, value: &Value<'_>) -> Option<Command>
+/// The command that a route and a JSON value say, written over another; None where they say none, and where the route
+/// needs no body.
+fn said(route: &Route, value: &Value<'_>, command: &mut Command) -> Option<()>
     requires { IsData value.now }
-    ensures { result ≡ said route.now (data_of value.now) }
+    ensures { option_map (λ _. command.new) result ≡ said route.now (data_of value.now) }
 {
     match *route {
-        Route::NewMember => Some(Command::NewMember {
-            member: name_at(value, "member")?,
-            token: token_at(value, "token")?,
-        }),
-        Route::Grant(member) => Some(Command::Grant {
-            member,
-            amount: amount_at(value, "amount")?,
-        }),
-        Route::Clear(purse) => Some(Command::Clear {
-            purse,
-            details: log_at(value, "details")?,
-        }),
-        Route::NewHolder => Some(Command::NewHolder {
-            holder: name_at(value, "holder")?,
-            token: token_at(value, "token")?,
-        }),
-        Route::NewPurse => Some(Command::NewPurse {
-            purse: name_at(value, "purse")?,
-            holder: name_at(value, "holder")?,
-        }),
-        Route::Load(purse) => Some(Command::Load {
-            purse,
-            amount: amount_at(value, "amount")?,
-            reference: name_at(value, "ref")?,
-        }),
-        Route::StartFrom(purse) => Some(Command::StartFrom {
-            purse,
-            peer: name_at(value, "peer")?,
-            value: amount_at(value, "value")?,
-            seq: seq_at(value, "seq")?,
-        }),
-        Route::StartTo(purse) => Some(Command::StartTo {
-            purse,
-            peer: name_at(value, "peer")?,
-            value: amount_at(value, "value")?,
-            seq: seq_at(value, "seq")?,
-        }),
-        Route::Handle(purse) => Some(Command::Handle {
-            purse,
-            number: seq_at(value, "number")?,
-        }),
-        Route::Discard(purse) => Some(Command::Discard {
-            purse,
-            number: seq_at(value, "number")?,
-        }),
-        Route::ReadLog(purse) => Some(Command::ReadLog {
-            purse,
-            place: number_at(value, "place")?,
-        }),
-        Route::Redeem(purse) => Some(Command::Redeem {
-            purse,
-            amount: amount_at(value, "amount")?,
-            reference: name_at(value, "ref")?,
-        }),
-        _ => None,
+        Route::NewMember => {
+            *command = Command::NewMember {
+                member: name_at(value, "member")?,
+                token: token_at(value, "token")?,
+            }
+        }
+        Route::Grant(member) => {
+            *command = Command::Grant {
+                member,
+                amount: amount_at(value, "amount")?,
+            }
+        }
+        Route::Clear(purse) => {
+            *command = Command::Clear {
+                purse,
+                details: log_at(value, "details")?,
+            }
+        }
+        Route::NewHolder => {
+            *command = Command::NewHolder {
+                holder: name_at(value, "holder")?,
+                token: token_at(value, "token")?,
+            }
+        }
+        Route::NewPurse => {
+            *command = Command::NewPurse {
+                purse: name_at(value, "purse")?,
+                holder: name_at(value, "holder")?,
+            }
+        }
+        Route::Load(purse) => {
+            *command = Command::Load {
+                purse,
+                amount: amount_at(value, "amount")?,
+                reference: name_at(value, "ref")?,
+            }
+        }
+        Route::StartFrom(purse) => {
+            *command = Command::StartFrom {
+                purse,
+                peer: name_at(value, "peer")?,
+                value: amount_at(value, "value")?,
+                seq: seq_at(value, "seq")?,
+            }
+        }
+        Route::StartTo(purse) => {
+            *command = Command::StartTo {
+                purse,
+                peer: name_at(value, "peer")?,
+                value: amount_at(value, "value")?,
+                seq: seq_at(value, "seq")?,
+            }
+        }
+        Route::Handle(purse) => {
+            *command = Command::Handle {
+                purse,
+                number: seq_at(value, "number")?,
+            }
+        }
+        Route::Discard(purse) => {
+            *command = Command::Discard {
+                purse,
+                number: seq_at(value, "number")?,
+            }
+        }
+        Route::ReadLog(purse) => {
+            *command = Command::ReadLog {
+                purse,
+                place: number_at(value, "place")?,
+            }
+        }
+        Route::Redeem(purse) => {
+            *command = Command::Redeem {
+                purse,
+                amount: amount_at(value, "amount")?,
+                reference: name_at(value, "ref")?,
+            }
+        }
+        _ => return None,
+    }
+    Some(())
+}
+
+/// The command of a route and a body, written over another one, which spares a copy of it. BadBody exactly where the body
+/// says none; Memory, which tells nothing of the body, only where the route needs a body; never NoRoute. A body that isn't
+/// needed isn't looked at. The scratch is only worked in, and may be kept from body to body. After a fault the command is
+/// of no use.
+pub fn read_body_into(
+    alloc: Global,
+    route: &Route,
+    body: &[u8],
+    scratch: &mut Scratch,
+    command: &mut Command,
+) -> Result<(), WireFault>
+    ensures ok { OnOk result (command_of route.now body.now ≡ Some command.new) }
+    ensures bad { result ≡ Err WireFault.BadBody → command_of route.now body.now ≡ None }
+    ensures routed { result ≢ Err WireFault.NoRoute }
+    ensures memory { result ≡ Err WireFault.Memory → IsTrue (has_body route.now) }
+{
+    if bare(route, command).is_some() {
+        return Ok(());
+    }
+    let value = value_of(alloc, body, scratch)?;
+    match said(route, &value, command) {
+        Some(()) => Ok(()),
+        None => Err(WireFault::BadBody),
     }
 }
 
-/// The command of a route and a body. BadBody exactly where the body says none; Memory, which tells nothing of
-/// the body, only where the route needs a body; never NoRoute. A body that isn't needed isn't looked at.
-/// The scratch is only worked in, and may be kept from body to body.
+/// The command of a route and a body, as `read_body_into` says it.
 pub fn read_body(
     alloc: Global,
     route: &Route,
@@ -204,11 +255,11 @@ pub fn read_body(
     ensures routed { result ≢ Err WireFault.NoRoute }
     ensures memory { result ≡ Err WireFault.Memory → IsTrue (has_body route.now) }
 {
-    if let Some(command) = bare(route) {
-        return Ok(command);
+    let mut command = Command::Collect;
+    match read_body_into(alloc, route, body, scratch, &mut command) {
+        Ok(()) => Ok(command),
+        Err(fault) => Err(fault),
     }
-    let value = value_of(alloc, body, scratch)?;
-    said(route, &value).ok_or(WireFault::BadBody)
 }
 
 impl Routes {

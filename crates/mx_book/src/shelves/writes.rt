@@ -2,9 +2,11 @@
 ghost use Rattle.std.specs.Prelude.{◌≡◌, IsTrue};
 ghost use Rattle.mx_pay.specs.Limits.{most_entries};
 ghost use Rattle.mx_book.specs.RowEdits.{rewritten, able};
+ghost use Rattle.mx_book.specs.Due.{is_fit};
 ghost use Rattle.mx_book.specs.Shelves.{rows_of, HasRoom, SpendsOne};
 
 use crate::edits::Edit;
+use crate::redemptions::{collect, member_of, owe};
 use crate::results::archive;
 use crate::shelves::Shelves;
 use crate::values::{Caller, Line, LineRow, MemberRow, PurseRow, Redemption};
@@ -29,7 +31,8 @@ impl Shelves {
 
     /// Adds a holder of a member, and the holder's token.
     pub(super) fn add_holder(&mut self, holder: Name, member: Name, token: Token)
-        requires { HasRoom 1 0 self.old }
+        requires fit { IsTrue (is_fit (rows_of self.old) (Edit.NewHolder holder member token)) }
+        requires room { HasRoom 1 0 self.old }
         ensures edited { rows_of self.new ≡ rewritten (rows_of self.old) (Edit.NewHolder holder member token) }
         ensures room { SpendsOne 0 self.old self.new }
     {
@@ -39,7 +42,8 @@ impl Shelves {
 
     /// Adds a purse of a holder.
     pub(super) fn add_purse(&mut self, purse: Name, holder: Name)
-        requires { HasRoom 1 0 self.old }
+        requires fit { IsTrue (is_fit (rows_of self.old) (Edit.NewPurse purse holder)) }
+        requires room { HasRoom 1 0 self.old }
         ensures edited { rows_of self.new ≡ rewritten (rows_of self.old) (Edit.NewPurse purse holder) }
         ensures room { SpendsOne 0 self.old self.new }
     {
@@ -63,7 +67,7 @@ impl Shelves {
                 purse: *purse,
                 ..*row
             };
-            self.purses.put(name, row);
+            self.purses.set(name, row);
         }
     }
 
@@ -80,7 +84,7 @@ impl Shelves {
                 next_message: number + 1,
                 ..*row
             };
-            self.purses.put(purse, row);
+            self.purses.set(purse, row);
             self.inbox.put((purse, number), message);
         }
     }
@@ -102,7 +106,8 @@ impl Shelves {
 
     /// Adds a redemption of a purse, which isn't collected.
     pub(super) fn add_redemption(&mut self, purse: Name, reference: Name, amount: Amount)
-        requires { HasRoom 1 0 self.old }
+        requires fit { IsTrue (is_fit (rows_of self.old) (Edit.AddRedemption purse reference amount)) }
+        requires room { HasRoom 1 0 self.old }
         ensures edited { rows_of self.new ≡ rewritten (rows_of self.old) (Edit.AddRedemption purse reference amount) }
         ensures room { SpendsOne 0 self.old self.new }
     {
@@ -110,7 +115,18 @@ impl Shelves {
             amount,
             collected: false,
         };
+        let member = member_of(&self.purses, &self.holders, purse);
+        owe(&mut self.due, member, (purse, reference));
         self.redemptions.put((purse, reference), row);
+    }
+
+    /// Collects the redemptions of the member's purses.
+    pub(super) fn collect(&mut self, member: Name)
+        requires { HasRoom 1 0 self.old }
+        ensures edited { rows_of self.new ≡ rewritten (rows_of self.old) (Edit.Collect member) }
+        ensures room { SpendsOne 0 self.old self.new }
+    {
+        collect(&mut self.due, &mut self.redemptions, member);
     }
 
     /// Archives what lies in the tray of a purse, which are entries of its log.

@@ -1,4 +1,4 @@
-use Rattle.std.proofs.Common.{◌≡◌, ◌+◌, ◌-◌, ◌≤◌, ◌*◌, ◌^◌, ◌++◌, ℕ, List, length}
+use Rattle.std.proofs.Common.{◌≡◌, ◌+◌, ◌≤◌, ◌*◌, ◌^◌, ◌++◌, ℕ, List, length}
 use Rattle.std.specs.Prelude.{sum_by}
 use Rattle.mx_pay.specs.Names.{name_cmp}
 use Rattle.mx_book.specs.declared.values.PurseRow.{PurseRow as Kept}

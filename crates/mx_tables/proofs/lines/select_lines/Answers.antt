@@ -1,11 +1,104 @@
-use Rattle.std.proofs.lemmas.Result.{IfOk-weaker}
+use Rattle.std.specs.List.{AllByRecursion}
+use Rattle.std.proofs.Common.{◌≡◌, ◌≤◌, [], ◌∷◌, ◌++◌, length, ap, sym, subst, refl, rules, arith, ◌∙◌}
+use Rattle.sqlite.specs.Effect.{Database}
+use Rattle.sqlite.specs.Given.{IsPlain}
 use Rattle.sqlite.specs.Held.{state}
-use Rattle.mx_tables.proofs.PageLemmas.{finds_lines, select_lines_is}
+use Rattle.sqlite.specs.Listing.{understood}
+use Rattle.sqlite.proofs.Callers.{begun_plain}
+use Rattle.mx_tables.specs.Holds.{Holds}
+use Rattle.mx_tables.specs.States.{worry, Stays}
+use Rattle.mx_tables.proofs.StateLemmas.{sure, sure_before, stays_then, begun_stays, refused_stays}
+use Rattle.mx_tables.proofs.PageLemmas.{select_lines, select_lines_is, Noted, noted_more, one_more, no_more, begins, ended, full_page, last_page}
 use Rattle.mx_tables.proofs.lines.select_lines.Goals as goal
 
-pub returns-clause-stays : goal.returns-clause-stays
-returns-clause-stays g c = c.ask.ensures.stays select_lines_is.plain
+pub returns-in-Err-clause-stays : goal.returns-in-Err-clause-stays
+returns-in-Err-clause-stays g c ours =
+    refused_stays g.S.Store _ _ c.args.conn.now c.query-found.follows.lender-at-none c.query-found.result _ c.in-Err.is ours c.query-found.follows.holds-at-none
 
-pub returns-clause-rows : goal.returns-clause-rows
-returns-clause-rows g c sure kept holds =
-    IfOk-weaker c.ask.result _ _ (λ rows shown. finds_lines c.args.purse.now c.args.after (state g.S.Store c.args.conn.now) (state g.S.Store c.ask.new.conn) rows.items (rw (c.text.ensures, c.as_str.ensures.text, c.number.ensures) at shown) kept holds) (c.ask.ensures.shown sure)
+pub rows-init : goal.rows-init
+rows-init g c =
+    let made = c.in-Ok.ensures in
+    let old = state g.S.Store c.args.conn.now in
+    let new = state g.S.Store c.in-Ok.rows.conn.now in (
+      refl,
+      ap length c.new-lines.ensures.items,
+      rw c.new-lines.ensures.items tt,
+      λ ours. begun_stays g.S.Store select_lines _ c.args.conn.now c.in-Ok.rows.conn.now select_lines_is.plain ours made.mode made.survives.clean made.begun,
+      λ ours sound.
+          let began = begun_stays g.S.Store select_lines _ c.args.conn.now c.in-Ok.rows.conn.now select_lines_is.plain ours made.mode made.survives.clean made.begun in
+          let has = ours.schema (sure_before old new began.later sound) in
+          let plain = subst (λ s. IsPlain (understood s select_lines)) (sym has) select_lines_is.plain in
+          ([], rw (c.text.ensures, c.as_str.ensures.text, c.number.ensures) at (begun_plain g.S.Store select_lines _ c.args.conn.now c.in-Ok.rows.conn.now plain (made.begun (sure new sound).1)).0, rw c.new-lines.ensures.items refl),
+    )
+
+pub rows-preserved : goal.rows-preserved
+rows-preserved g c =
+    let before = c.rows.invariant in
+    let made = c.in_ok-line.ensures in
+    let mid = state g.S.Store c.rows.rows.conn.now in
+    let new = state g.S.Store c.next_line.new.rows.conn.now in
+    let pushed : c.push.new.self.items ≡ c.rows.lines.items ++ c.in-Some.line ∷ [] = search rules in (
+      made.same_reference ∙ before.0,
+      search rules,
+      rw pushed (noted_more c.rows.lines.items c.in-Some.line before.2 (rw c.in-Some.is at made.valid)),
+      λ ours. let was = before.3 ours in stays_then (state g.S.Store c.args.conn.now) mid new was (made.stays was.ours),
+      λ ours sound.
+          let step = made.stays (before.3 ours).ours in
+          let was = before.4 ours (sure_before mid new step.later sound) in
+          rw pushed (one_more g.S.Store select_lines _ c.rows.rows.conn.now c.next_line.new.rows.conn.now was.0 was.1 c.rows.lines.items was.2 c.in-Some.line (rw c.in-Some.is at made.shown sound)),
+    )
+
+pub returns-in_err-line-clause-stays : goal.returns-in_err-line-clause-stays
+returns-in_err-line-clause-stays g c ours =
+    let was = c.rows.invariant.3 ours in
+    let same : c.next_line.new.rows.conn.now ≡ c.conn-in_err-line-1.given.0 = search rules in
+    subst (λ h. Stays (state g.S.Store c.args.conn.now) (state g.S.Store h)) same
+    (stays_then (state g.S.Store c.args.conn.now) (state g.S.Store c.rows.rows.conn.now) (state g.S.Store c.next_line.new.rows.conn.now) was (c.next_line.ensures.stays was.ours))
+
+pub returns-in_default-clause-stays : goal.returns-in_default-clause-stays
+returns-in_default-clause-stays g c ours =
+    let was = c.rows.invariant.3 ours in
+    let same : c.next_line.new.rows.conn.now ≡ c.conn-in_default-1.given.0 = search rules in
+    subst (λ h. Stays (state g.S.Store c.args.conn.now) (state g.S.Store h)) same
+    (stays_then (state g.S.Store c.args.conn.now) (state g.S.Store c.rows.rows.conn.now) (state g.S.Store c.next_line.new.rows.conn.now) was (c.next_line.ensures.stays was.ours))
+
+pub returns-then-is_err-clause-stays : goal.returns-then-is_err-clause-stays
+returns-then-is_err-clause-stays g c ours =
+    let was = c.rows.invariant.3 ours in
+    let same : c.next_line.new.rows.conn.now ≡ c.conn-then-is_err-1.given.0 = search rules in
+    subst (λ h. Stays (state g.S.Store c.args.conn.now) (state g.S.Store h)) same
+    (stays_then (state g.S.Store c.args.conn.now) (state g.S.Store c.rows.rows.conn.now) (state g.S.Store c.next_line.new.rows.conn.now) was (c.next_line.ensures.stays was.ours))
+
+pub returns-clause-stays : goal.returns-clause-stays
+returns-clause-stays g c ours =
+    let same : c.rows.rows.conn.now ≡ c.conn-2-1.given.0 = search rules in
+    subst (λ h. Stays (state g.S.Store c.args.conn.now) (state g.S.Store h)) same (c.rows.invariant.3 ours)
+
+pub returns-in_default-clause-value : goal.returns-in_default-clause-value
+returns-in_default-clause-value g c ours sound kept holds valid =
+    let old = state g.S.Store c.args.conn.now in
+    let mid = state g.S.Store c.rows.rows.conn.now in
+    let new = state g.S.Store c.next_line.new.rows.conn.now in
+    let before = c.rows.invariant in
+    let made = c.in_ok-line.ensures in
+    let first = before.3 ours in
+    let same : c.next_line.new.rows.conn.now ≡ c.conn-in_default-1.given.0 = search rules in
+    let last : worry new ≡ 0 = subst (λ h. worry (state g.S.Store h) ≡ 0) (sym same) sound in
+    let early = sure_before mid new (made.stays first.ours).later last in
+    let was = before.4 ours early in
+    let there : Holds mid.now kept = subst (λ (d : Database). Holds d kept) (sym (first.same early)) holds in
+    let shown = no_more g.S.Store select_lines _ c.rows.rows.conn.now c.next_line.new.rows.conn.now was.0 was.1 (rw c.in_default.is at made.shown last) in
+    let few : length c.rows.lines.items ≤ c.args.most = omega (arith, before.1, c.rows-test.true) in
+    last_page c.args.purse.now c.args.after c.args.most kept valid was.0 c.rows.lines.items was.2 before.2 few (ended c.args.purse.now c.args.after mid new was.0 shown kept there)
+
+pub returns-clause-value : goal.returns-clause-value
+returns-clause-value g c ours sound kept holds valid =
+    let mid = state g.S.Store c.rows.rows.conn.now in
+    let before = c.rows.invariant in
+    let same : c.rows.rows.conn.now ≡ c.conn-2-1.given.0 = search rules in
+    let last : worry mid ≡ 0 = subst (λ h. worry (state g.S.Store h) ≡ 0) (sym same) sound in
+    let was = before.4 ours last in
+    let there : Holds mid.now kept = subst (λ (d : Database). Holds d kept) (sym ((before.3 ours).same last)) holds in
+    let all = begins c.args.purse.now c.args.after g.S.Store c.rows.rows.conn.now was.0 was.1 kept there in
+    let many : length c.rows.lines.items ≡ c.args.most = before.1 ∙ (search rules) in
+    full_page c.args.purse.now c.args.after c.args.most kept valid was.0 all.0 c.rows.lines.items was.2 before.2 many all.1

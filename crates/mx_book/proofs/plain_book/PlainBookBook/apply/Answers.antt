@@ -1,11 +1,14 @@
 use Rattle.std.proofs.Common.{◌∙◌, ap, refl}
 use Rattle.mx_book.specs.RowEdits.{all_rewritten}
 use Rattle.mx_book.specs.Shelves.{rows_of}
-use Rattle.mx_book.proofs.SpellLemmas.{able_always, applied_always, applied}
+use Rattle.mx_book.proofs.SpellLemmas.{able_always, fit_always, applied_always, applied}
 use Rattle.mx_book.proofs.plain_book.PlainBookBook.apply.Goals as goal
 
 pub edit_all-requires-clause-able : goal.edit_all-requires-clause-able
 edit_all-requires-clause-able c = able_always (rows_of c.args.self.now.shelves) (rows_of c.reserve.new.self) c.args.edits.now c.args.self.now.spelled c.reserve.ensures.same c.requires
+
+pub edit_all-requires-clause-fit : goal.edit_all-requires-clause-fit
+edit_all-requires-clause-fit c = fit_always (rows_of c.args.self.now.shelves) (rows_of c.reserve.new.self) c.args.edits.now c.args.self.now.spelled c.reserve.ensures.same c.requires
 
 pub invariant_of-self-2 : goal.invariant_of-self-2
 invariant_of-self-2 c = record { spelled = applied_always (rows_of c.args.self.now.shelves) (rows_of c.edit_all.new.self) c.args.edits.now c.args.self.now.spelled c.requires (c.edit_all.ensures ∙ ap (λ r. all_rewritten r c.args.edits.now) c.reserve.ensures.same) }

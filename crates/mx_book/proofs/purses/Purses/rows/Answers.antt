@@ -1,0 +1,4 @@
+use Rattle.mx_book.proofs.purses.Purses.rows.Goals as goal
+
+pub returns : goal.returns
+returns c = rw (← c.self.view_is) c.rows.ensures

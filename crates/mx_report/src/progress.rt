@@ -1,0 +1,15 @@
+//! Who is told how far an import is.
+
+/// Who is told how far an import is. The import goes on in the same way whatever is done with it.
+pub trait Progress {
+    /// So many rows of the roll are done: added, found the same or refused.
+    fn done(&mut self, rows: u64);
+}
+
+/// Nobody.
+#[derive(Clone, Copy, Debug)]
+pub struct Nobody;
+
+impl Progress for Nobody {
+    fn done(&mut self, _rows: u64) {}
+}

@@ -1,0 +1,38 @@
+use Rattle.std.proofs.Common.{◌≡◌, inl, None, Some, refl, ap, sym, subst, ◌∙◌}
+use Rattle.sqlite.specs.Held.{state}
+use Rattle.sqlite.specs.Given.{Advances, row_if}
+use Rattle.mx_tables.proofs.StateLemmas.{sure, step_stays, failed_quits}
+use Rattle.mx_tables.proofs.lines.next_line.Goals as goal
+
+pub returns-in-Err-clause-stays : goal.returns-in-Err-clause-stays
+returns-in-Err-clause-stays g c ours =
+    step_stays (state g.S.Store c.args.rows.now.conn.now) (state g.S.Store c.advance.new.self.conn.now) ours c.in-Err.ensures.mode c.in-Err.ensures.survives.clean
+    (λ clean. failed_quits _ _ _ (c.in-Err.ensures.kept clean))
+
+pub returns-in_default-clause-stays : goal.returns-in_default-clause-stays
+returns-in_default-clause-stays g c ours =
+    step_stays (state g.S.Store c.args.rows.now.conn.now) (state g.S.Store c.advance.new.self.conn.now) ours c.in-Ok.ensures.mode c.in-Ok.ensures.survives.clean (λ clean. inl (c.in-Ok.ensures.same clean))
+
+pub returns-in_err-note-clause-stays : goal.returns-in_err-note-clause-stays
+returns-in_err-note-clause-stays g c ours =
+    step_stays (state g.S.Store c.args.rows.now.conn.now) (state g.S.Store c.advance.new.self.conn.now) ours c.in-Ok.ensures.mode c.in-Ok.ensures.survives.clean (λ clean. inl (c.in-Ok.ensures.same clean))
+
+pub returns-in_err-line-clause-stays : goal.returns-in_err-line-clause-stays
+returns-in_err-line-clause-stays g c ours =
+    step_stays (state g.S.Store c.args.rows.now.conn.now) (state g.S.Store c.advance.new.self.conn.now) ours c.in-Ok.ensures.mode c.in-Ok.ensures.survives.clean (λ clean. inl (c.in-Ok.ensures.same clean))
+
+pub returns-clause-stays : goal.returns-clause-stays
+returns-clause-stays g c ours =
+    step_stays (state g.S.Store c.args.rows.now.conn.now) (state g.S.Store c.advance.new.self.conn.now) ours c.in-Ok.ensures.mode c.in-Ok.ensures.survives.clean (λ clean. inl (c.in-Ok.ensures.same clean))
+
+pub returns-in_default-clause-shown : goal.returns-in_default-clause-shown
+returns-in_default-clause-shown g c sound =
+    let made = c.in-Ok.ensures.ok (sure (state g.S.Store c.advance.new.self.conn.now) sound).1 in
+    let end : None ≡ row_if c.advance.new.self.has_row c.advance.new.self.conn.now = rw c.in_default.is at c.get.ensures in
+    (None, rw (sym end) at made, refl)
+
+pub returns-clause-shown : goal.returns-clause-shown
+returns-clause-shown g c sound =
+    let made = c.in-Ok.ensures.ok (sure (state g.S.Store c.advance.new.self.conn.now) sound).1 in
+    let row : Some c.in-Some.row.now ≡ row_if c.advance.new.self.has_row c.advance.new.self.conn.now = rw c.in-Some.is at c.get.ensures in
+    (Some c.in-Some.row.now, rw (sym row) at made, ap Some c.in_ok-line.ensures.shown)
