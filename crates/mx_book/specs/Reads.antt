@@ -14,7 +14,8 @@ use Rattle.mx_book.specs.declared.values.Line.{Line}
 use Rattle.mx_book.specs.declared.values.Account as given
 use Rattle.mx_book.specs.Sums.{sum_values, sum_entries}
 use Rattle.mx_book.specs.Under.{under}
-use Rattle.mx_book.specs.World.{World, Row, Name, Token, is_of_member}
+use Rattle.mx_purse.specs.State.{State}
+use Rattle.mx_book.specs.World.{World, Row, Name, Token, is_of_member, has_room}
 
 -- whose token it is
 abbrev pub who_of : World → Token → Option Caller
@@ -48,6 +49,14 @@ from_row x f (Some r) = f r
 -- what f says of a purse that is there, or x where it isn't
 abbrev pub of_purse : {X : Type 0} → X → (Row → X) → World → Name → X
 of_purse x f w p = from_row x f (fmap.get w.rows p)
+
+-- the purse of that name, where it is the holder's
+abbrev pub own_purse : World → Name → Name → Option State
+own_purse w h p = of_purse None (λ r. if is_name h r.holder then Some r.holding.purse else None) w p
+
+-- whether a message to that purse finds a place
+abbrev pub finds_place : World → Name → Bool
+finds_place w p = of_purse Bool.false (λ r. has_room r.holding) w p
 
 -- the messages of a purse, by number
 abbrev pub inbox_of : World → Name → List (ℕ × Message)

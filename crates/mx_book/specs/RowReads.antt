@@ -1,10 +1,14 @@
 -- What the reads of a book give, from its rows.
-use Rattle.std.specs.Prelude.{ℕ, Bool, ◌&&◌, List, map, filter, take, length, Option, Some, option_map, option_and_then, nat_lt, if◌then◌else◌}
+use Rattle.std.specs.Prelude.{ℕ, Bool, ◌&&◌, List, map, filter, take, length, Option, Some, None, option_map, option_and_then, nat_lt, if◌then◌else◌}
+use Rattle.std.specs.Option.{option_map_or}
 use Rattle.std.specs.FinMap as fmap
 use Rattle.mx_pay.specs.Names.{name_cmp, is_name}
 use Rattle.mx_pay.specs.Details.{Details}
 use Rattle.mx_pay.specs.Tokens.{is_token}
+use Rattle.mx_pay.specs.Limits.{most_number}
+use Rattle.mx_purse.specs.State.{State}
 use Rattle.mx_purse.specs.declared.message.Message.{Message}
+use Rattle.mx_book.specs.Limits.{most_messages}
 use Rattle.mx_book.specs.declared.totals.Scope.{Scope}
 use Rattle.mx_book.specs.declared.totals.Scope.TheVariants.{Scheme, Member}
 use Rattle.mx_book.specs.declared.values.Caller.{Caller}
@@ -47,6 +51,14 @@ row_account_with r p x m = record { holder = x.holder; member = m; purse = x.pur
 -- the holder of a purse, the holder's member, the purse, how many messages it holds, and its next number for one
 abbrev pub row_account_of : Rows → Name → Option given.Account
 row_account_of r p = option_and_then (λ (x : PurseRow). option_map (row_account_with r p x) (fmap.get r.holders x.holder)) (fmap.get r.purses p)
+
+-- the purse of that name, where it is the holder's
+abbrev pub row_own_purse : Rows → Name → Name → Option State
+row_own_purse r h p = option_and_then (λ (x : PurseRow). if is_name h x.holder then Some x.purse else None) (fmap.get r.purses p)
+
+-- whether a message to that purse finds a place
+abbrev pub row_finds_place : Rows → Name → Bool
+row_finds_place r p = option_map_or (λ (x : PurseRow). nat_lt (length (of_name p (fmap.entries r.inbox))) most_messages && nat_lt x.next_message most_number) (fmap.get r.purses p) Bool.false
 
 -- the messages of a purse, by number
 abbrev pub row_inbox_of : Rows → Name → List (ℕ × Message)

@@ -2,7 +2,7 @@
 ghost use Rattle.std.specs.Prelude.{◌≡◌, ℕ, ◌≤◌, IfOk, IfErr, OnOk, OnErr, ◌⊎◌};
 ghost use Rattle.mx_book.specs.World.{World};
 ghost use Rattle.mx_book.specs.Conditions.{IsWorld};
-ghost use Rattle.mx_book.specs.Reads.{who_of, member_of, holder_of, account_of, purses_of, inbox_of, message_of, lines_of, members_of, load_of, redemption_of, is_archived, tray_of, uncollected_of};
+ghost use Rattle.mx_book.specs.Reads.{who_of, member_of, holder_of, account_of, own_purse, finds_place, purses_of, inbox_of, message_of, lines_of, members_of, load_of, redemption_of, is_archived, tray_of, uncollected_of};
 ghost use Rattle.mx_book.specs.Totals.{totals_of, member_totals_of};
 ghost use Rattle.mx_book.specs.Edits.{Fits, all_edited};
 ghost use Rattle.mx_book.specs.Keeps.{Keeps};
@@ -13,6 +13,7 @@ use crate::edits::Edit;
 use crate::values::{Account, Caller, HolderRow, Line, MemberRow, MemberTotals, Totals};
 use mx_pay::{Amount, Log, Name, PayDetails, Token};
 use mx_purse::message::Message;
+use mx_purse::purse::Purse;
 use std::alloc::Global;
 
 /// Why a call of a book failed.
@@ -67,6 +68,24 @@ pub trait Book {
     fn purse(&mut self, alloc: Global, name: Name) -> Result<Option<Account>, StoreFault>
         ensures keeps { Keeps doubt rows self.old self.new }
         ensures value { (w : World) → doubt self.new ≡ 0 → spells (rows self.old) w → IfOk result (λ r. r ≡ account_of w name) }
+        ensures fault { IfErr result fails };
+
+    /// The purse of that name where it is this holder's, or None where it is another's or there is none.
+    fn own_purse(
+        &mut self,
+        alloc: Global,
+        holder: Name,
+        purse: Name,
+    ) -> Result<Option<Purse>, StoreFault>
+        ensures keeps { Keeps doubt rows self.old self.new }
+        ensures value { (w : World) → doubt self.new ≡ 0 → spells (rows self.old) w → IfOk result (λ r. r ≡ own_purse w holder purse) }
+        ensures fault { IfErr result fails };
+
+    /// Whether a message to a purse finds a place: the purse is there, its inbox has fewer than 32, and the number of
+    /// its next message is below 10^15.
+    fn finds_place(&mut self, alloc: Global, purse: Name) -> Result<bool, StoreFault>
+        ensures keeps { Keeps doubt rows self.old self.new }
+        ensures value { (w : World) → doubt self.new ≡ 0 → spells (rows self.old) w → IfOk result (λ b. b ≡ finds_place w purse) }
         ensures fault { IfErr result fails };
 
     /// The names of a holder's purses, in order; none where there is no such holder.

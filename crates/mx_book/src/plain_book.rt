@@ -10,6 +10,7 @@ use crate::shelves::Shelves;
 use crate::values::{Account, Caller, HolderRow, Line, MemberRow, MemberTotals, Totals};
 use mx_pay::{Amount, Log, Name, PayDetails, Token};
 use mx_purse::message::Message;
+use mx_purse::purse::Purse;
 use std::alloc::Global;
 
 /// A book that keeps its rows in vectors. It always spells a World, and it never answers Store: a read that
@@ -58,6 +59,19 @@ impl Book for PlainBook {
 
     fn purse(&mut self, _alloc: Global, name: Name) -> Result<Option<Account>, StoreFault> {
         self.shelves.account(name)
+    }
+
+    fn own_purse(
+        &mut self,
+        _alloc: Global,
+        holder: Name,
+        purse: Name,
+    ) -> Result<Option<Purse>, StoreFault> {
+        self.shelves.own_purse(holder, purse)
+    }
+
+    fn finds_place(&mut self, _alloc: Global, purse: Name) -> Result<bool, StoreFault> {
+        Ok(self.shelves.finds_place(purse))
     }
 
     fn purses_of(&mut self, alloc: Global, holder: Name) -> Result<Vec<Name>, StoreFault> {

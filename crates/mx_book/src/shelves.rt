@@ -1,12 +1,13 @@
 //! The tables of a book in memory. Of what they hold they ask no more than their indexes need.
 ghost use Rattle.std.specs.Prelude.{◌≡◌, ◌+◌, ◌≤◌, ◌<◌, IsTrue, ℕ, List, length, Ok, OnOk, IfOk, map, filter, take, nat_lt, count_by, ◌∷◌, []};
 ghost use Rattle.std.specs.FinMap.{get};
+ghost use Rattle.std.specs.FinMap as fmap;
 ghost use Rattle.mx_purse.specs.declared.message.Message.{Message as Kept};
 ghost use Rattle.mx_book.specs.declared.totals.Scope.TheVariants.{Member};
 ghost use Rattle.mx_book.specs.declared.values.LineRow.{LineRow as KeptLine};
 ghost use Rattle.mx_book.specs.declared.values.MemberRow.{MemberRow as KeptMember};
 ghost use Rattle.mx_book.specs.RowEdits.{rewritten, all_rewritten, able, all_able, archive_rows, is_archiving, row_laid_of};
-ghost use Rattle.mx_book.specs.RowReads.{row_who_of, row_holder_of, row_purses_of, row_account_of, row_inbox_of, row_lines_of, row_members_of, row_load_of, row_redemption_of, row_is_archived, row_uncollected_of, line_of_row};
+ghost use Rattle.mx_book.specs.RowReads.{row_who_of, row_holder_of, row_purses_of, row_account_of, row_own_purse, row_finds_place, row_inbox_of, row_lines_of, row_members_of, row_load_of, row_redemption_of, row_is_archived, row_uncollected_of, line_of_row, of_name};
 ghost use Rattle.mx_book.specs.Blocks.{first_of};
 ghost use Rattle.mx_book.specs.Left.{rows_left};
 ghost use Rattle.mx_book.specs.Due.{is_fit, all_fit};
@@ -24,8 +25,11 @@ use crate::redemptions::due_in;
 use crate::results::laid;
 use crate::rows::Rows;
 use crate::table::Table;
-use crate::values::{Account, Caller, HolderRow, Line, LineRow, MemberRow, Redemption};
+use crate::values::{
+    Account, Caller, HolderRow, Line, LineRow, MOST_MESSAGES, MemberRow, Redemption,
+};
 use mx_pay::names::same_name;
+use mx_pay::numbers::MOST_NUMBER;
 use mx_pay::token::same_token;
 use mx_pay::{Amount, Log, MOST_ENTRIES, Name, PayDetails, Token};
 use mx_purse::message::Message;
@@ -156,6 +160,13 @@ impl Shelves {
         Some(HolderRow { member, purses })
     }
 
+    /// How many messages lie in the inbox of a purse.
+    fn held(&self, purse: Name) -> usize
+        ensures { result ≡ length (of_name purse (fmap.entries (rows_of self.now).inbox)) }
+    {
+        count_messages(self.inbox.rows_from((purse, 0)), purse)
+    }
+
     /// What a book gives of a purse, or None where there is no such purse. It is given as a book's call gives it, which
     /// spares a copy of the purse; there is no fault.
     pub fn account(&self, name: Name) -> Result<Option<Account>, StoreFault>
@@ -167,14 +178,34 @@ impl Shelves {
         let Some(member) = self.holders.get(row.holder) else {
             return Ok(None);
         };
-        let held = count_messages(self.inbox.rows_from((name, 0)), name);
         Ok(Some(Account {
             holder: row.holder,
             member: *member,
             purse: row.purse,
-            held,
+            held: self.held(name),
             next_message: row.next_message,
         }))
+    }
+
+    /// The purse of that name where it is the holder's, or None where it is another's or there is none. It is given as a
+    /// book's call gives it, like an account.
+    pub fn own_purse(&self, holder: Name, purse: Name) -> Result<Option<Purse>, StoreFault>
+        ensures { result ≡ Ok (row_own_purse (rows_of self.now) holder purse) }
+    {
+        match self.purses.get(purse) {
+            Some(row) if same_name(&holder, &row.holder) => Ok(Some(row.purse)),
+            _ => Ok(None),
+        }
+    }
+
+    /// Whether a message to a purse finds a place.
+    pub fn finds_place(&self, purse: Name) -> bool
+        ensures { result ≡ row_finds_place (rows_of self.now) purse }
+    {
+        match self.purses.get(purse) {
+            None => false,
+            Some(row) => self.held(purse) < MOST_MESSAGES && row.next_message < MOST_NUMBER,
+        }
     }
 
     /// The names of a holder's purses, in order.

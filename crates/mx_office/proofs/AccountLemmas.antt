@@ -14,7 +14,7 @@ use Rattle.mx_book.specs.World.{World, Row, Holding, Name, has_room, set_row, ch
 use Rattle.std.specs.List.{AllByRecursion}
 use Rattle.mx_purse.specs.Messages.{IsMessage}
 use Rattle.mx_book.specs.Conditions.{IsWorld, AreNumbered, IsLine, MayLie}
-use Rattle.mx_book.specs.Reads.{from_row}
+use Rattle.mx_book.specs.Reads.{from_row, own_purse, finds_place}
 use Rattle.mx_book.specs.Edits.{AllSuit, all_edited}
 use Rattle.mx_book.proofs.NameLemmas.{names_total, same_name}
 use Rattle.mx_book.proofs.PurseLemmas.{with_lines, line_edits, change_there, set_same, edits_append, suits_append, purse_leads, purse_suits, purse_stays, put_leads, put_suits, put_stays, put_vanishes, put_nowhere}
@@ -22,7 +22,7 @@ use Rattle.mx_office.specs.declared.values.Decided.{Decided}
 use Rattle.mx_office.specs.declared.values.Reply.{Reply}
 use Rattle.mx_office.specs.declared.values.Refusal.TheVariants.{NoSuchPurse}
 use Rattle.mx_office.specs.Step.{Deed, tell, on_own, on_found, in_place, put_sent, listed, with_purse}
-use Rattle.mx_office.specs.Decides.{Decides, own_purse, finds_place, placed, purse_and_lines, put_edits, purse_edits}
+use Rattle.mx_office.specs.Decides.{Decides, placed, purse_and_lines, put_edits, purse_edits}
 use Rattle.mx_office.proofs.DecideLemmas.{edits_decide, told_decides}
 use Rattle.mx_office.proofs.OwnLemmas.{own_at}
 

@@ -20,7 +20,7 @@ use Rattle.mx_book.specs.declared.edits.Edit.TheVariants.{SetPurse, AddTray, Arc
 use Rattle.mx_book.specs.declared.values.Line.{Line}
 use Rattle.mx_book.specs.World.{World, Name, set_row, with_archived}
 use Rattle.mx_book.specs.Conditions.{IsWorld, IsEntry, MayClear}
-use Rattle.mx_book.specs.Reads.{account_of, is_archived, tray_of}
+use Rattle.mx_book.specs.Reads.{account_of, own_purse, is_archived, tray_of}
 use Rattle.mx_book.specs.Edits.{AllSuit, Suits, edited, all_edited}
 use Rattle.mx_book.proofs.NameLemmas.{get-inserted}
 use Rattle.mx_book.proofs.PurseLemmas.{with_lines, line_edits, edits_append, suits_append, purse_leads, purse_suits, purse_stays, put_stays}
@@ -29,7 +29,7 @@ use Rattle.mx_office.specs.declared.values.Decided.{Decided}
 use Rattle.mx_office.specs.declared.values.Refusal.TheVariants.{NoSuchPurse, NotArchived}
 use Rattle.mx_office.specs.declared.values.Reply.TheVariants as reply
 use Rattle.mx_office.specs.Step.{Deed, tell, unless, in_place, on_own, abort_line, listed, with_aborted, read_log, archive, archive_refusal, may_clear, clear, clear_refusal, is_kept}
-use Rattle.mx_office.specs.Decides.{Decides, own_purse, placed, put_edits, not_kept, read_edits}
+use Rattle.mx_office.specs.Decides.{Decides, placed, put_edits, not_kept, read_edits}
 use Rattle.mx_office.proofs.DecideLemmas.{edits_decide, told_decides, edit_decides, refused_decides, purse_given}
 use Rattle.mx_office.proofs.AccountLemmas.{IsOwn, IsNext, Follows, in_tray, is_own, own_there, is_next, puts}
 use Rattle.mx_office.proofs.CommandLemmas.{abort_follows, whole}

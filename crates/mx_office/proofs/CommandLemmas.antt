@@ -31,7 +31,7 @@ use Rattle.mx_purse.specs.Messages.{IsMessage}
 use Rattle.mx_purse.proofs.OperationLemmas.{pending_valid}
 use Rattle.mx_book.specs.Conditions.{IsWorld, AreNumbered, IsLine, MayLie}
 use Rattle.mx_book.specs.Limits.{most_lines}
-use Rattle.mx_book.specs.Reads.{from_row, inbox_of, page, lines_of, message_of, redemption_of}
+use Rattle.mx_book.specs.Reads.{from_row, own_purse, inbox_of, page, lines_of, message_of, redemption_of}
 use Rattle.mx_book.proofs.PartLemmas.{all_append}
 use Rattle.mx_book.proofs.MoneyLemmas.{with_redemption, redemptions_stay, redemption_leads, redemption_suits}
 use Rattle.mx_book.proofs.PurseLemmas.{with_lines, line_edits, discard_leads, discard_suits, discard_stays}
@@ -40,7 +40,7 @@ use Rattle.mx_office.specs.declared.values.Reply.{Reply}
 use Rattle.mx_office.specs.declared.values.Reply.TheVariants as reply
 use Rattle.mx_office.specs.declared.values.Refusal.TheVariants.{NoSuchMessage, RefReused}
 use Rattle.mx_office.specs.Step.{Deed, tell, unless, on_found, in_place, refusal_of_start, refusal_of_redeem, abort_line, payment_line, message_line, money_line, listed, with_aborted, inbox, statement, discard, abort, handle, handle_message, redeem, on_own}
-use Rattle.mx_office.specs.Decides.{Decides, own_purse, placed, purse_edits, redeem_edits}
+use Rattle.mx_office.specs.Decides.{Decides, placed, purse_edits, redeem_edits}
 use Rattle.mx_office.proofs.DecideLemmas.{edits_decide, edit_decides}
 use Rattle.mx_office.proofs.AccountLemmas.{IsOwn, IsSent, Follows, in_tray, is_own, own_there, own_told, numbered_after, is_next, changed_decides}
 use Rattle.mx_office.proofs.OwnLemmas.{gone, present}

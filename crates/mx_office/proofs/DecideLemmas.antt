@@ -24,7 +24,7 @@ use Rattle.mx_office.specs.declared.values.Reply.{Reply}
 use Rattle.mx_office.specs.declared.values.Reply.TheVariants.{Added, Refused}
 use Rattle.mx_office.specs.Step.{Deed, tell, world_after, unless, new_member, new_holder, new_purse}
 use Rattle.mx_office.proofs.OwnLemmas.{absent, present, of_there, next, none_left}
-use Rattle.mx_office.specs.Decides.{Decides, finds_place, purse_count}
+use Rattle.mx_office.specs.Decides.{Decides, purse_count}
 
 -- ---- decisions
 
@@ -102,26 +102,6 @@ account_case w p (Some r) at h = holder_there r (fmap.get w.holders r.holder) (h
 
 pub purse_given : (w : World) (p : Name) (b : Bool) → IsWorld w → is_some (account_of w p) ≡ b → is_some (fmap.get w.rows p) ≡ b
 purse_given w p b h is = sym (account_case w p (fmap.get w.rows p) refl h) ∙ is
-
--- the test of two conditions, by the first of them
-pub few_held : (n : ℕ) (b c : Bool) → n < most_messages → nat_lt n most_messages && b ≡ c → b ≡ c
-few_held n b c lt is = let few : nat_lt n most_messages ≡ true = grind (arith, nat_tests, lt) in rw few at is
-
-pub many_messages : (n : ℕ) (b c : Bool) → most_messages ≤ n → nat_lt n most_messages && b ≡ c → nat_lt n most_messages ≡ c
-many_messages n b c le is = let many : nat_lt n most_messages ≡ false = grind (arith, nat_tests, le) in many ∙ rw many at is
-
--- what a book gives of a purse tells of its row
-pub given_room : (w : World) (p : Name) (a : given.Account) → account_of w p ≡ Some a → nat_lt a.held most_messages && nat_lt a.next_message most_number ≡ finds_place w p
-unfolding has_room
-given_room w p a is = given_case (fmap.get w.rows p) is
-  where
-    member_case : (r : Row) (o : Option Name) → option_map (account_with r) o ≡ Some a → nat_lt a.held most_messages && nat_lt a.next_message most_number ≡ nat_lt (fmap.len r.holding.inbox) 32 && nat_lt r.holding.next_message most_number
-    member_case r None e = absurd (cc)
-    member_case r (Some m) e = ap (λ x. nat_lt x.held most_messages && nat_lt x.next_message most_number) (sym (inside (account_with r m) a e))
-
-    given_case : (o : Option Row) → option_and_then (λ (r : Row). option_map (account_with r) (fmap.get w.holders r.holder)) o ≡ Some a → nat_lt a.held most_messages && nat_lt a.next_message most_number ≡ from_row false (λ r. has_room r.holding) o
-    given_case None e = absurd (cc)
-    given_case (Some r) e = member_case r (fmap.get w.holders r.holder) e
 
 pub new_purse_decides : (w : World) (m p h : Name) (d : Decided) → IsWorld w → IsTrue (is_name_text p) → not (is_of m (fmap.get w.holders h)) ≡ false → is_some (fmap.get w.rows p) ≡ false → nat_le most_purses (length (purses_of w h)) ≡ false → d.reply ≡ Added → d.edits ≡ NewPurse p h ∷ [] → Decides w (new_purse w m p h) d
 new_purse_decides w m p h d is text holder no_purse few reply edits =

@@ -25,7 +25,7 @@ use Rattle.mx_book.specs.declared.values.Caller.TheVariants.{Operator, Clerk, Ho
 use Rattle.mx_book.specs.World.{World, Row, Holding, Name, Token, is_of_member, change_holding, opening}
 use Rattle.mx_book.specs.Conditions.{IsWorld, all_granted}
 use Rattle.mx_book.specs.Limits.{most_lines}
-use Rattle.mx_book.specs.Reads.{from_row, uncollected_of, inbox_of, lines_of, message_of, redemption_of}
+use Rattle.mx_book.specs.Reads.{from_row, own_purse, uncollected_of, inbox_of, lines_of, message_of, redemption_of}
 use Rattle.mx_book.proofs.Opening.{opening_is}
 use Rattle.mx_book.proofs.KeepLemmas.{member_stays, holder_stays, new_purse_stays}
 use Rattle.mx_book.proofs.PurseLemmas.{put_stays}
@@ -38,7 +38,7 @@ use Rattle.mx_office.specs.declared.values.Refusal.TheVariants.{NoSuchPurse, NoS
 use Rattle.mx_office.specs.declared.values.Reply.{Reply}
 use Rattle.mx_office.specs.declared.values.Reply.TheVariants as reply
 use Rattle.mx_office.specs.Commands.{IsNamed, IsCommand, IsAsked}
-use Rattle.mx_office.specs.Decides.{Decides, own_purse, placed, purse_edits, not_kept, read_edits, load_edits, redeem_edits}
+use Rattle.mx_office.specs.Decides.{Decides, placed, purse_edits, not_kept, read_edits, load_edits, redeem_edits}
 use Rattle.mx_office.specs.Reachable.{IsReachable}
 use Rattle.mx_office.specs.Step.{Deed, Asked, tell, unless, unless_told, on_found, in_place, refusal_of_start, refusal_of_redeem, abort_line, message_line, with_aborted, show, start_from, start_to, handle, discard, abort, read_log, redeem, inbox, statement, asks, own_holding, on_own, on_world, new_member, new_member_refusal, new_holder, new_holder_refusal, new_purse, new_purse_refusal, grant, grant_refusal, idle_load, load_purse, collect, collect_refusal, archive, archive_refusal, clear, clear_refusal, base, world_after, step, steps}
 use Rattle.mx_office.proofs.OwnLemmas.{absent, present, of_there, none_refused, is_owned}

@@ -1,7 +1,6 @@
 -- What a decision is for a World, and the edits of a decision on a purse.
-use Rattle.std.specs.Prelude.{◌≡◌, ℕ, ◌-◌, Bool, if◌then◌else◌, List, [], ◌∷◌, ◌++◌, length, Option, Some, None, map, option_map, unwrap_or}
+use Rattle.std.specs.Prelude.{◌≡◌, ℕ, ◌-◌, if◌then◌else◌, List, [], ◌∷◌, ◌++◌, length, Option, Some, None, map, option_map, unwrap_or}
 use Rattle.std.specs.FinMap as fmap
-use Rattle.mx_pay.specs.Names.{is_name}
 use Rattle.mx_pay.specs.Details.{Details}
 use Rattle.mx_purse.specs.State.{State}
 use Rattle.mx_purse.specs.declared.message.Message.{Message}
@@ -10,8 +9,8 @@ use Rattle.mx_book.specs.declared.edits.Edit.TheVariants.{SetMember, SetPurse, A
 use Rattle.mx_book.specs.declared.values.Line.{Line}
 use Rattle.mx_book.specs.declared.values.LineKind.TheVariants as kind
 use Rattle.mx_book.specs.declared.values.MemberRow.{MemberRow}
-use Rattle.mx_book.specs.World.{World, Name, is_of, is_of_member, has_room}
-use Rattle.mx_book.specs.Reads.{of_purse, purses_of}
+use Rattle.mx_book.specs.World.{World, Name, is_of, is_of_member}
+use Rattle.mx_book.specs.Reads.{of_purse, finds_place, purses_of}
 use Rattle.mx_book.specs.Edits.{Fits, all_edited}
 use Rattle.mx_office.specs.declared.values.Decided.{Decided}
 use Rattle.mx_office.specs.Step.{Deed, world_after, is_kept, listed, money_line}
@@ -25,14 +24,6 @@ pub record Decides (w : World) (to : Deed World) (d : Decided) : Type 0 where
 -- how many purses a holder of a member has, and nothing where the member has no such holder
 abbrev pub purse_count : World → Name → Name → Option ℕ
 purse_count w m h = if is_of m (fmap.get w.holders h) then Some (length (purses_of w h)) else None
-
--- the purse of that name, where it is the holder's
-abbrev pub own_purse : World → Name → Name → Option State
-own_purse w h p = of_purse None (λ r. if is_name h r.holder then Some r.holding.purse else None) w p
-
--- whether a message to that purse finds a place
-abbrev pub finds_place : World → Name → Bool
-finds_place w p = of_purse Bool.false (λ r. has_room r.holding) w p
 
 -- a message that was sent, where it finds a place
 abbrev pub placed : World → Option (Name × Message) → Option (Name × Message)

@@ -5,7 +5,7 @@ ghost use Rattle.mx_book.specs.Keeps.{Keeps};
 ghost use Rattle.mx_book.specs.World.{World};
 ghost use Rattle.mx_book.specs.Reads.{purses_of};
 ghost use Rattle.mx_office.specs.Commands.{IsCommand};
-ghost use Rattle.mx_office.specs.Decides.{Decides, finds_place, not_kept, own_purse, placed};
+ghost use Rattle.mx_office.specs.Decides.{Decides, not_kept, placed};
 ghost use Rattle.mx_office.specs.Step.{abort, discard, handle, inbox, on_own, read_log, redeem, show, start_from, start_to, statement, tell};
 ghost use Rattle.mx_office.specs.declared.values.Command.{Command};
 
@@ -16,41 +16,10 @@ use crate::decisions::{
 use crate::values::{Decided, Lines, Messages, Names, Refusal, Reply};
 use mx_book::contract::{Book, StoreFault};
 use mx_book::edits::Edit;
-use mx_book::values::{MOST_LINES, MOST_MESSAGES};
-use mx_pay::names::same_name;
-use mx_pay::numbers::MOST_NUMBER;
+use mx_book::values::MOST_LINES;
 use mx_pay::{Amount, Name, PayDetails, Seq};
-use mx_purse::{Message, Purse};
+use mx_purse::Message;
 use std::alloc::Global;
-
-/// The purse of that name, where it is the holder's.
-fn own_purse<B: Book>(
-    book: &mut B,
-    alloc: Global,
-    holder: Name,
-    purse: Name,
-) -> Result<Option<Purse>, StoreFault>
-    ensures keeps { Keeps B.doubt B.rows book.old book.new }
-    ensures value { (w : World) → B.doubt book.new ≡ 0 → B.spells (B.rows book.old) w → IfOk result (λ o. o ≡ own_purse w holder purse) }
-    ensures fault { IfErr result B.fails }
-{
-    match book.purse(alloc, purse)? {
-        Some(account) if same_name(&holder, &account.holder) => Ok(Some(account.purse)),
-        _ => Ok(None),
-    }
-}
-
-/// Whether a message to that purse finds a place.
-fn finds_place<B: Book>(book: &mut B, alloc: Global, purse: Name) -> Result<bool, StoreFault>
-    ensures keeps { Keeps B.doubt B.rows book.old book.new }
-    ensures value { (w : World) → B.doubt book.new ≡ 0 → B.spells (B.rows book.old) w → IfOk result (λ b. b ≡ finds_place w purse) }
-    ensures fault { IfErr result B.fails }
-{
-    match book.purse(alloc, purse)? {
-        Some(account) => Ok(account.held < MOST_MESSAGES && account.next_message < MOST_NUMBER),
-        None => Ok(false),
-    }
-}
 
 /// A message that was sent, where it finds a place. Elsewhere it vanishes.
 pub(crate) fn placed<B: Book>(
@@ -65,7 +34,7 @@ pub(crate) fn placed<B: Book>(
     let Some((peer, message)) = sent else {
         return Ok(None);
     };
-    if finds_place(book, alloc, peer)? {
+    if book.finds_place(alloc, peer)? {
         Ok(Some((peer, message)))
     } else {
         Ok(None)
@@ -102,7 +71,7 @@ pub(crate) fn show<B: Book>(
     ensures edits { OnOk result (decided.new.edits ≡ []) }
     ensures fault { IfErr result B.fails }
 {
-    match own_purse(book, alloc, holder, purse)? {
+    match book.own_purse(alloc, holder, purse)? {
         Some(purse) => {
             tell(decided, Reply::Shown(purse));
             Ok(())
@@ -127,7 +96,7 @@ pub(crate) fn inbox<B: Book>(
     ensures edits { OnOk result (decided.new.edits ≡ []) }
     ensures fault { IfErr result (λ e. (e ≡ Memory) ⊎ B.fails e) }
 {
-    if own_purse(book, alloc, holder, purse)?.is_none() {
+    if book.own_purse(alloc, holder, purse)?.is_none() {
         refuse(decided, Refusal::NoSuchPurse);
         return Ok(());
     }
@@ -150,7 +119,7 @@ pub(crate) fn statement<B: Book>(
     ensures edits { OnOk result (decided.new.edits ≡ []) }
     ensures fault { IfErr result (λ e. (e ≡ Memory) ⊎ B.fails e) }
 {
-    if own_purse(book, alloc, holder, purse)?.is_none() {
+    if book.own_purse(alloc, holder, purse)?.is_none() {
         refuse(decided, Refusal::NoSuchPurse);
         return Ok(());
     }
@@ -174,7 +143,7 @@ pub(crate) fn start_from<B: Book>(
     ensures decides { (w : World) → B.doubt book.new ≡ 0 → B.spells (B.rows book.old) w → OnOk result (Decides w (on_own w holder purse (start_from peer value seq)) decided.new) }
     ensures fault { IfErr result B.fails }
 {
-    let Some(mut after) = own_purse(book, alloc, holder, purse)? else {
+    let Some(mut after) = book.own_purse(alloc, holder, purse)? else {
         refuse(decided, Refusal::NoSuchPurse);
         return Ok(());
     };
@@ -207,7 +176,7 @@ pub(crate) fn start_to<B: Book>(
     ensures decides { (w : World) → B.doubt book.new ≡ 0 → B.spells (B.rows book.old) w → OnOk result (Decides w (on_own w holder purse (start_to peer value seq)) decided.new) }
     ensures fault { IfErr result B.fails }
 {
-    let Some(mut after) = own_purse(book, alloc, holder, purse)? else {
+    let Some(mut after) = book.own_purse(alloc, holder, purse)? else {
         refuse(decided, Refusal::NoSuchPurse);
         return Ok(());
     };
@@ -239,7 +208,7 @@ pub(crate) fn handle<B: Book>(
     ensures decides { (w : World) → B.doubt book.new ≡ 0 → B.spells (B.rows book.old) w → OnOk result (Decides w (on_own w holder purse (handle number)) decided.new) }
     ensures fault { IfErr result B.fails }
 {
-    let Some(mut after) = own_purse(book, alloc, holder, purse)? else {
+    let Some(mut after) = book.own_purse(alloc, holder, purse)? else {
         refuse(decided, Refusal::NoSuchPurse);
         return Ok(());
     };
@@ -268,7 +237,7 @@ pub(crate) fn discard<B: Book>(
     ensures decides { (w : World) → B.doubt book.new ≡ 0 → B.spells (B.rows book.old) w → OnOk result (Decides w (on_own w holder purse (discard number)) decided.new) }
     ensures fault { IfErr result B.fails }
 {
-    if own_purse(book, alloc, holder, purse)?.is_none() {
+    if book.own_purse(alloc, holder, purse)?.is_none() {
         refuse(decided, Refusal::NoSuchPurse);
         return Ok(());
     }
@@ -297,7 +266,7 @@ pub(crate) fn abort<B: Book>(
     ensures decides { (w : World) → B.doubt book.new ≡ 0 → B.spells (B.rows book.old) w → OnOk result (Decides w (on_own w holder purse abort) decided.new) }
     ensures fault { IfErr result B.fails }
 {
-    let Some(mut after) = own_purse(book, alloc, holder, purse)? else {
+    let Some(mut after) = book.own_purse(alloc, holder, purse)? else {
         refuse(decided, Refusal::NoSuchPurse);
         return Ok(());
     };
@@ -347,7 +316,7 @@ pub(crate) fn read_log<B: Book>(
     ensures decides { (w : World) → B.doubt book.new ≡ 0 → B.spells (B.rows book.old) w → OnOk result (Decides w (on_own w holder purse (read_log place)) decided.new) }
     ensures fault { IfErr result B.fails }
 {
-    let Some(mut after) = own_purse(book, alloc, holder, purse)? else {
+    let Some(mut after) = book.own_purse(alloc, holder, purse)? else {
         refuse(decided, Refusal::NoSuchPurse);
         return Ok(());
     };
@@ -373,7 +342,7 @@ pub(crate) fn redeem<B: Book>(
     ensures decides { (w : World) → IsCommand (Command.Redeem purse amount reference) → B.doubt book.new ≡ 0 → B.spells (B.rows book.old) w → OnOk result (Decides w (on_own w holder purse (redeem amount reference)) decided.new) }
     ensures fault { IfErr result B.fails }
 {
-    let Some(mut after) = own_purse(book, alloc, holder, purse)? else {
+    let Some(mut after) = book.own_purse(alloc, holder, purse)? else {
         refuse(decided, Refusal::NoSuchPurse);
         return Ok(());
     };

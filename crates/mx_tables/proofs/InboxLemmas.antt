@@ -38,7 +38,7 @@ use Rattle.mx_tables.specs.Holds.{Holds}
 use Rattle.mx_tables.specs.States.{Goes}
 use Rattle.mx_tables.specs.Answers.{at_key, message_row, message_shown, first_three, AreMessages}
 use Rattle.mx_tables.proofs.Queries.{is_given}
-use Rattle.mx_tables.proofs.Texts.{select_inbox, select_inbox_is, select_message, select_message_is, insert_message, insert_message_is, delete_message, delete_message_is}
+use Rattle.mx_tables.proofs.Texts.{select_inbox, select_inbox_is, select_held_numbers, select_held_numbers_is, select_message, select_message_is, insert_message, insert_message_is, delete_message, delete_message_is}
 use Rattle.mx_tables.proofs.Statements.{passes}
 use Rattle.mx_tables.proofs.StoredLemmas.{and_true, same_text, same_numbers, numbers_cmp, cast_int, cast_null}
 use Rattle.mx_tables.proofs.ReadLemmas.{turned, answers, answers_in_order}
@@ -65,6 +65,16 @@ finds_inbox p old new rows shown r h =
     (λ a b s t low. then-Equal _ ∙ value_cmp-Int (pos a.0.1) (pos b.0.1) ∙ numbers_cmp a.0.1 b.0.1 ∙ second_less _ _ (same_first p a.0.0 b.0.0 s t) low)
     select_inbox (codes "number" ∷ codes "kind" ∷ codes "details" ∷ []) select_inbox_is old new rows shown r h
     ∙ sym (map-map message_row (λ (e : (Name × ℕ) × Message). (e.0.1, e.1)) (of_name p (fmap.entries r.inbox)))
+
+pub finds_numbers : (p : Name) (old new : State) (rows : List Row) → Shown select_held_numbers (Text p ∷ []) old new rows → (r : Rows) → Holds old.now r
+    → rows ≡ map (λ (m : ℕ × Message). number m.0 ∷ []) (row_inbox_of r p)
+finds_numbers p old new rows shown r h =
+    answers_in_order kept.inbox (is_given 1 0 ∷ []) (col 1 2 ∷ []) ((col 1 2, ascending Binary) ∷ []) (Text p ∷ []) (λ (e : (Name × ℕ) × Message). is_name p e.0.0)
+    (λ (e : (Name × ℕ) × Message). (number e.0.1 ∷ [], number e.0.1 ∷ []))
+    (λ id e. rw (same_text e.0.0 p) (and_true _ ∙ turned e.0.0 p)) (λ id e. refl)
+    (λ a b s t low. then-Equal _ ∙ value_cmp-Int (pos a.0.1) (pos b.0.1) ∙ numbers_cmp a.0.1 b.0.1 ∙ second_less _ _ (same_first p a.0.0 b.0.0 s t) low)
+    select_held_numbers (codes "number" ∷ []) select_held_numbers_is old new rows shown r h
+    ∙ sym (map-map (λ (m : ℕ × Message). number m.0 ∷ []) (λ (e : (Name × ℕ) × Message). (e.0.1, e.1)) (of_name p (fmap.entries r.inbox)))
 
 -- the messages of a purse are within their limits
 abbrev AllMessages : List (ℕ × Message) → Type 0

@@ -132,6 +132,13 @@ pub select_inbox_is : IsSelect select_inbox 10 (is_given 1 0 ∷ []) (col 1 2 �
 unfolding understood everything
 select_inbox_is = record { is = refl; plain = (refl, refl); unlisted = refl }
 
+abbrev pub select_held_numbers : List ℕ
+select_held_numbers = codes "SELECT number FROM inbox WHERE purse = ?1 ORDER BY number"
+
+pub select_held_numbers_is : IsSelect select_held_numbers 10 (is_given 1 0 ∷ []) (col 1 2 ∷ []) ((col 1 2, ascending Binary) ∷ []) (codes "number" ∷ [])
+unfolding understood everything
+select_held_numbers_is = record { is = refl; plain = (refl, refl); unlisted = refl }
+
 abbrev pub delete_message : List ℕ
 delete_message = codes "DELETE FROM inbox WHERE purse = ?1 AND number = ?2"
 

@@ -89,12 +89,28 @@ pub fn list_inbox<S: Alter>(
     messages_in(alloc, rows.as_slice())
 }
 
+/// The numbers of the messages in the inbox of a purse, in order.
+fn select_held_numbers<S: Alter>(
+    conn: &mut Connection<S>,
+    purse: &Name,
+) -> Result<Vec<Row>, StoreFault>
+    ensures stays { IsOurs (state S.Store conn.old) → Stays (state S.Store conn.old) (state S.Store conn.new) }
+    ensures rows { worry (state S.Store conn.new) ≡ 0 → (r : _) → Holds (state S.Store conn.old).now r → IfOk result (λ rows. rows.items ≡ map (λ m. cell m.0 ∷ []) (row_inbox_of r purse.now)) }
+{
+    let purse = purse.as_str();
+    ask(
+        conn,
+        "SELECT number FROM inbox WHERE purse = ?1 ORDER BY number",
+        params![purse],
+    )
+}
+
 /// How many messages lie in the inbox of a purse.
 pub fn count_messages<S: Alter>(conn: &mut Connection<S>, purse: &Name) -> Result<usize, StoreFault>
     ensures stays { IsOurs (state S.Store conn.old) → Stays (state S.Store conn.old) (state S.Store conn.new) }
     ensures value { worry (state S.Store conn.new) ≡ 0 → (r : _) → Holds (state S.Store conn.old).now r → IfOk result (λ v. v ≡ length (row_inbox_of r purse.now)) }
 {
-    let rows = select_inbox(conn, purse)?;
+    let rows = select_held_numbers(conn, purse)?;
     Ok(rows.len())
 }
 

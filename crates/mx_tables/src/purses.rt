@@ -12,7 +12,7 @@ ghost use Rattle.mx_pay.specs.Details.{IsDetails};
 ghost use Rattle.mx_purse.specs.State.{IsPurse, details_of};
 ghost use Rattle.mx_book.specs.declared.edits.Edit.TheVariants.{NewPurse, SetPurse};
 ghost use Rattle.mx_book.specs.RowEdits.{rewritten, on_purse};
-ghost use Rattle.mx_book.specs.RowReads.{row_purses_of, row_account_of};
+ghost use Rattle.mx_book.specs.RowReads.{row_purses_of, row_account_of, row_own_purse, row_finds_place};
 ghost use Rattle.mx_tables.specs.Schema.{office_schema};
 ghost use Rattle.mx_tables.specs.States.{worry, IsOurs, Stays, Goes};
 ghost use Rattle.mx_tables.specs.Holds.{Holds};
@@ -25,8 +25,9 @@ use crate::codes::{log_code, status_code, status_word};
 use crate::holders::find_holder;
 use crate::inbox::count_messages;
 use crate::members::names_in;
-use mx_book::{Account, PurseRow, StoreFault};
-use mx_pay::{Name, Seq};
+use mx_book::{Account, MOST_MESSAGES, PurseRow, StoreFault};
+use mx_pay::names::same_name;
+use mx_pay::{MOST_NUMBER, Name, Seq};
 use mx_purse::{Purse, Status};
 use sqlite::{Alter, Connection, Row, Transaction, params};
 use std::alloc::Global;
@@ -190,6 +191,33 @@ pub fn read_account<S: Alter>(
         held,
         next_message: row.next_message,
     }))
+}
+
+/// The purse of that name where it is the holder's, or None where it is another's or there is none.
+pub fn find_own<S: Alter>(
+    conn: &mut Connection<S>,
+    holder: &Name,
+    name: &Name,
+) -> Result<Option<Purse>, StoreFault>
+    ensures stays { IsOurs (state S.Store conn.old) → Stays (state S.Store conn.old) (state S.Store conn.new) }
+    ensures value { worry (state S.Store conn.new) ≡ 0 → (r : _) → Holds (state S.Store conn.old).now r → ArePurses r → IfOk result (λ v. v ≡ row_own_purse r holder.now name.now) }
+{
+    match find_purse(conn, name)? {
+        Some(row) if same_name(holder, &row.holder) => Ok(Some(row.purse)),
+        _ => Ok(None),
+    }
+}
+
+/// Whether a message to a purse finds a place.
+pub fn find_place<S: Alter>(conn: &mut Connection<S>, name: &Name) -> Result<bool, StoreFault>
+    ensures stays { IsOurs (state S.Store conn.old) → Stays (state S.Store conn.old) (state S.Store conn.new) }
+    ensures value { IsOurs (state S.Store conn.old) → worry (state S.Store conn.new) ≡ 0 → (r : _) → Holds (state S.Store conn.old).now r → ArePurses r → IfOk result (λ v. v ≡ row_finds_place r name.now) }
+{
+    let Some(row) = find_purse(conn, name)? else {
+        return Ok(false);
+    };
+    let held = count_messages(conn, name)?;
+    Ok(held < MOST_MESSAGES && row.next_message < MOST_NUMBER)
 }
 
 /// Runs the UPDATE of one purse.

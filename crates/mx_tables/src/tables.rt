@@ -17,7 +17,7 @@ use crate::lines::list_lines;
 use crate::loads::find_load;
 use crate::members::{find_member, list_members};
 use crate::opening::{OpenFault, OpenRefused, check_office, make_office};
-use crate::purses::{list_held, read_account};
+use crate::purses::{find_own, find_place, list_held, read_account};
 use crate::redemptions::find_redemption;
 use crate::results::{find_archived, list_tray};
 use crate::sums::{sum_member, sum_scheme, sum_uncollected};
@@ -27,7 +27,7 @@ use mx_book::{
     Totals,
 };
 use mx_pay::{Amount, Log, Name, PayDetails, Token};
-use mx_purse::Message;
+use mx_purse::{Message, Purse};
 use sqlite::{Alter, Connection};
 use std::alloc::Global;
 use std::marker::Model;
@@ -145,6 +145,19 @@ impl<S: Alter> Book for Tables<S> {
 
     fn purse(&mut self, _alloc: Global, name: Name) -> Result<Option<Account>, StoreFault> {
         read_account(&mut self.conn, &name)
+    }
+
+    fn own_purse(
+        &mut self,
+        _alloc: Global,
+        holder: Name,
+        purse: Name,
+    ) -> Result<Option<Purse>, StoreFault> {
+        find_own(&mut self.conn, &holder, &purse)
+    }
+
+    fn finds_place(&mut self, _alloc: Global, purse: Name) -> Result<bool, StoreFault> {
+        find_place(&mut self.conn, &purse)
     }
 
     fn purses_of(&mut self, alloc: Global, holder: Name) -> Result<Vec<Name>, StoreFault> {

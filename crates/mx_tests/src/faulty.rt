@@ -5,7 +5,7 @@ use mx_book::{
     Account, Book, Caller, Edit, HolderRow, Line, MemberRow, MemberTotals, StoreFault, Totals,
 };
 use mx_pay::{Amount, Log, Name, PayDetails, Token};
-use mx_purse::Message;
+use mx_purse::{Message, Purse};
 use std::alloc::Global;
 
 /// Passes calls on to a book, but for one, which it answers as a fault of the store.
@@ -73,6 +73,25 @@ impl<B: Book> Book for Faulty<B> {
             return Err(StoreFault::Store);
         }
         self.book.purse(alloc, name)
+    }
+
+    fn own_purse(
+        &mut self,
+        alloc: Global,
+        holder: Name,
+        purse: Name,
+    ) -> Result<Option<Purse>, StoreFault> {
+        if self.is_left_out() {
+            return Err(StoreFault::Store);
+        }
+        self.book.own_purse(alloc, holder, purse)
+    }
+
+    fn finds_place(&mut self, alloc: Global, purse: Name) -> Result<bool, StoreFault> {
+        if self.is_left_out() {
+            return Err(StoreFault::Store);
+        }
+        self.book.finds_place(alloc, purse)
     }
 
     fn purses_of(&mut self, alloc: Global, holder: Name) -> Result<Vec<Name>, StoreFault> {
