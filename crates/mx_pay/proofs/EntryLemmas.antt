@@ -182,6 +182,14 @@ number_lacks c low n small = number_lacks_at c (λ r. outside c low r) n small
     outside : (c : ℕ) → c < 48 → IsInRange 48 57 c → ⊥
     outside c low r = let k : 48 ≤ c = r.0 in omega arith
 
+pub entry_found : (t : List ℕ) (o : Option Details) → o ≡ entry_of t → IfSome o (λ d. t ≡ entry_text d)
+entry_found t None h = tt
+entry_found t (Some d) h = (entry_takes t d (sym h)).1
+
+pub entry_valid : (t : List ℕ) (o : Option Details) → o ≡ entry_of t → IfSome o IsDetails
+entry_valid t None h = tt
+entry_valid t (Some d) h = (entry_takes t d (sym h)).0
+
 pub entry_again : (x : Details) → IsDetails x → entry_of (entry_text x) ≡ Some x
 unfolding entry_of
 entry_again x h =

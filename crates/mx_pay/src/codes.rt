@@ -3,6 +3,7 @@ ghost use Rattle.std.specs.Prelude.{◌≡◌, ◌^◌, ◌++◌, ◌∷◌, [],
 ghost use Rattle.mx_pay.specs.Limits.{most_amount, most_number, most_entries};
 ghost use Rattle.mx_pay.specs.Codes.{code, entry_text};
 ghost use Rattle.mx_pay.specs.Reading.{cut, number_of, limited, apart, made_of, entry_of, put_last, with_text, entries_of, lead};
+ghost use Rattle.mx_pay.specs.Details.{Details, IsDetails};
 ghost use Rattle.mx_pay.specs.Log.{IsLogValue, Entries, none_logged};
 
 use crate::details::PayDetails;
@@ -73,6 +74,15 @@ pub fn read_code(text: &str) -> Option<Log>
         return Some(Log::new());
     }
     read_entries(text)
+}
+
+/// The details whose entry in a code text is `text`. None exactly where it is the entry of no details.
+pub fn read_details(text: &str) -> Option<PayDetails>
+    ensures found { IfSome result (λ d. text.now ≡ entry_text d) }
+    ensures valid { IfSome result IsDetails }
+    ensures only { (d : Details) → IsDetails d → text.now ≡ entry_text d → result ≡ Some d }
+{
+    read_entry(text)
 }
 
 fn read_entries(text: &str) -> Option<Log>

@@ -12,7 +12,7 @@ pub mod names;
 pub mod numbers;
 pub mod token;
 
-pub use codes::{code_text, push_entry, read_code, read_seq};
+pub use codes::{code_text, push_entry, read_code, read_details, read_seq};
 pub use details::PayDetails;
 pub use log::{Log, MOST_ENTRIES};
 pub use names::{MOST_NAME_BYTES, Name};

@@ -32,25 +32,6 @@ same_code a b one two h = by_text (code a) refl
         let second = only_in (code a) (entries_of most_entries (code a) none_logged) refl (λ n. omega (arith, ap length (sym e ∙ n))) b two h in
         let it : ◌≡◌ {A = Option Entries} (Some a) (Some b) = sym first ∙ second in cc
 
--- a log of one entry
-alone : (ds : List Details) (d : Details) → length ds ≡ 1 → slice_get ds 0 ≡ Some d → ds ≡ d ∷ []
-alone [] d one at = absurd (omega (arith, one))
-alone (x ∷ []) d one at = ap (λ y. y ∷ []) (let it : ◌≡◌ {A = Option Details} (Some x) (Some d) = at in cc)
-alone (x ∷ y ∷ ds) d one at = absurd (omega (arith, one))
-
-pub one_entry : (log : Entries) (d : Details) → IsLogValue log → log_len log ≡ 1 → entry_at log 0 ≡ Some d → (code log ≡ entry_text d) × IsDetails d
-one_entry log d valid one at =
-    let is = alone (logged log) d (sym (len_logged log) ∙ one) at in
-    (ap entry_texts is, (subst (AllByRecursion IsDetails) is (logged_each log valid.entries)).0)
-
-pub only_shown : (log : Entries) (o : Option Details) → IsLogValue log → log_len log ≡ 1 → o ≡ entry_at log 0 → IfSome o (λ d. code log ≡ entry_text d)
-only_shown log None valid one at = tt
-only_shown log (Some d) valid one at = (one_entry log d valid one (sym at)).0
-
-pub only_valid : (log : Entries) (o : Option Details) → IsLogValue log → log_len log ≡ 1 → o ≡ entry_at log 0 → IfSome o IsDetails
-only_valid log None valid one at = tt
-only_valid log (Some d) valid one at = (one_entry log d valid one (sym at)).1
-
 pub same_number : (m n : ℕ) → number m ≡ number n → m ≡ n
 same_number m n e = cc
 

@@ -7,7 +7,7 @@ ghost use Rattle.mx_pay.specs.Details.{IsDetails};
 ghost use Rattle.mx_pay.specs.Log.{IsLogValue};
 
 use mx_book::StoreFault;
-use mx_pay::{Amount, Log, Name, PayDetails, read_code};
+use mx_pay::{Amount, Log, Name, PayDetails, read_code, read_details};
 use sqlite::Row;
 use sqlite_value::value::ValueRef;
 
@@ -74,24 +74,15 @@ pub fn log_at(row: &Row, at: usize) -> Result<Log, StoreFault>
     }
 }
 
-/// The details of a log of one entry.
-fn only_entry(log: &Log) -> Option<PayDetails>
-    ensures shown { IfSome result (λ d. code log.now ≡ entry_text d) }
-    ensures valid { IfSome result IsDetails }
-{
-    if log.len() != 1 {
-        return None;
-    }
-    log.at(0)
-}
-
 /// The details in a column, as one entry. Store where another value is there.
 pub fn entry_at(row: &Row, at: usize) -> Result<PayDetails, StoreFault>
     ensures shown { IfOk result (λ d. column row.now at ≡ Text (entry_text d)) }
     ensures valid { IfOk result IsDetails }
 {
-    let log = log_at(row, at)?;
-    match only_entry(&log) {
+    let Some(text) = text_at(row, at) else {
+        return Err(StoreFault::Store);
+    };
+    match read_details(text) {
         Some(details) => Ok(details),
         None => Err(StoreFault::Store),
     }

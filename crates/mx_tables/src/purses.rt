@@ -208,16 +208,42 @@ pub fn find_own<S: Alter>(
     }
 }
 
+/// The number of a purse's next message, in the rows of that name.
+fn select_place<S: Alter>(conn: &mut Connection<S>, name: &Name) -> Result<Vec<Row>, StoreFault>
+    ensures stays { IsOurs (state S.Store conn.old) → Stays (state S.Store conn.old) (state S.Store conn.new) }
+    ensures rows { worry (state S.Store conn.new) ≡ 0 → (r : _) → Holds (state S.Store conn.old).now r → IfOk result (λ rows. IsPermutation (map (λ e. next_shown e.1) (at_key name_cmp name.now (fmap.entries r.purses))) rows.items) }
+{
+    let name = name.as_str();
+    ask(
+        conn,
+        "SELECT next_message FROM purse WHERE name = ?1",
+        params![name],
+    )
+}
+
+/// The number of a purse's next message, or None where there is no such purse.
+fn find_next<S: Alter>(conn: &mut Connection<S>, name: &Name) -> Result<Option<u64>, StoreFault>
+    ensures stays { IsOurs (state S.Store conn.old) → Stays (state S.Store conn.old) (state S.Store conn.new) }
+    ensures value { worry (state S.Store conn.new) ≡ 0 → (r : _) → Holds (state S.Store conn.old).now r → IfOk result (λ n. n ≡ option_map (λ x. x.next_message) (fmap.get r.purses name.now)) }
+{
+    let rows = select_place(conn, name)?;
+    match rows.as_slice() {
+        [] => Ok(None),
+        [row] => Ok(Some(number_at(row, 0)?)),
+        _ => Err(StoreFault::Store),
+    }
+}
+
 /// Whether a message to a purse finds a place.
 pub fn find_place<S: Alter>(conn: &mut Connection<S>, name: &Name) -> Result<bool, StoreFault>
     ensures stays { IsOurs (state S.Store conn.old) → Stays (state S.Store conn.old) (state S.Store conn.new) }
-    ensures value { IsOurs (state S.Store conn.old) → worry (state S.Store conn.new) ≡ 0 → (r : _) → Holds (state S.Store conn.old).now r → ArePurses r → IfOk result (λ v. v ≡ row_finds_place r name.now) }
+    ensures value { IsOurs (state S.Store conn.old) → worry (state S.Store conn.new) ≡ 0 → (r : _) → Holds (state S.Store conn.old).now r → IfOk result (λ v. v ≡ row_finds_place r name.now) }
 {
-    let Some(row) = find_purse(conn, name)? else {
+    let Some(next_message) = find_next(conn, name)? else {
         return Ok(false);
     };
     let held = count_messages(conn, name)?;
-    Ok(held < MOST_MESSAGES && row.next_message < MOST_NUMBER)
+    Ok(held < MOST_MESSAGES && next_message < MOST_NUMBER)
 }
 
 /// Runs the UPDATE of one purse.

@@ -1,4 +1,4 @@
-//! The desk over a book in memory: requests with the bytes of the responses to them, worked out by hand.
+//! The desk over a book in memory and over tables: requests with the bytes of the responses to them, worked out by hand.
 mod apart;
 mod devices;
 mod faults;
@@ -12,13 +12,14 @@ mod rounds;
 mod scripts;
 mod sums;
 
-use self::devices::Pieces;
-use self::scripts::{Exchange, token};
-use mx_book::{Book, PlainBook};
+use self::scripts::{Exchange, RUN_END};
+use crate::empty::{over_book, over_tables};
+use mx_book::Book;
 use mx_desk::Counted;
 use mx_desk::desk::run;
 use mx_office::Office;
 use mx_wire::Routes;
+use std::alloc::Global;
 use std::io::Read;
 use std::process::Abort;
 use std::test::Fail;
@@ -38,59 +39,87 @@ operator POST /members/m/grant {"amount":1000} -> 200 {"done":"granted"}
 clerk POST /purses/p1/load {"amount":100,"ref":"a1"} -> 200 {"done":"loaded"}
 "#;
 
-/// An office in which nothing is, for the operator of the scripts.
-fn empty_office(rt: &impl AllocGlobal) -> Result<Office<PlainBook>, Fail> {
-    Ok(Office::new(PlainBook::new(rt.alloc(), token("1")?)))
+/// What is written in one or more runs, and how many responses that are.
+#[derive(Drop)]
+struct Told {
+    bytes: Vec<u8>,
+    count: u64,
 }
 
-/// Serves scripts in an office in which nothing is, each in a run of its own.
-fn played(rt: &(impl Abort + AllocGlobal), scripts: &[&str]) -> Result<(), Fail> {
-    let mut office = empty_office(rt)?;
-    for script in scripts {
-        tell(rt, &mut office, script)?;
+/// Serves what a reader gives in one run, and gives what the run adds to a writer.
+fn serve_from(
+    alloc: Global,
+    office: &mut Office<impl Book>,
+    reader: impl Read + Drop,
+) -> Result<Told, Fail> {
+    let routes = Routes::new(alloc)?;
+    let mut reader = Counted::new(reader);
+    let mut writer = Counted::new(Vec::new(alloc));
+    let count = run(alloc, &mut reader, &mut writer, &routes, office)?;
+    Ok(Told {
+        bytes: writer.into_inner(),
+        count,
+    })
+}
+
+/// Serves the requests of an exchange, each run of it by a call of its own.
+fn serve(alloc: Global, office: &mut Office<impl Book>, exchange: &Exchange) -> Result<Told, Fail> {
+    let mut all = Told {
+        bytes: Vec::new(alloc),
+        count: 0,
+    };
+    for input in exchange.input().split(RUN_END) {
+        let told = serve_from(alloc, office, input.as_bytes())?;
+        all.bytes.extend_from_slice(told.bytes.as_slice())?;
+        all.count = all.count.saturating_add(told.count);
+    }
+    Ok(all)
+}
+
+/// Asserts that the responses of an exchange were written, and nothing else.
+fn assert_told(rt: &impl Abort, told: &Told, exchange: &Exchange) -> Result<(), Fail> {
+    let text = std::str::from_utf8(told.bytes.as_slice())?;
+    assert_eq!(rt; text, exchange.output());
+    assert_eq!(rt; told.count, exchange.count());
+    Ok(())
+}
+
+/// What is told of an exchange in an office over a book in memory in which nothing is.
+fn told_by_book(alloc: Global, exchange: &Exchange) -> Result<Told, Fail> {
+    serve(alloc, &mut over_book(alloc)?, exchange)
+}
+
+/// The same over tables.
+fn told_by_tables(alloc: Global, exchange: &Exchange) -> Result<Told, Fail> {
+    serve(alloc, &mut over_tables(alloc)?, exchange)
+}
+
+/// Serves an exchange in two offices in which nothing is, over a book in memory and over tables, and asserts that both
+/// write its responses.
+fn served(rt: &(impl Abort + AllocGlobal), exchange: &Exchange) -> Result<(), Fail> {
+    assert_told(rt, &told_by_book(rt.alloc(), exchange)?, exchange)?;
+    assert_told(rt, &told_by_tables(rt.alloc(), exchange)?, exchange)
+}
+
+/// Serves the scenarios of a text, each in two such offices behind these scripts. A scenario begins with a line
+/// `@ WHAT IT SHOWS`.
+fn played(rt: &(impl Abort + AllocGlobal), before: &[&str], scenarios: &str) -> Result<(), Fail> {
+    for scenario in scenarios.split('@') {
+        let mut exchange = Exchange::of_runs(rt.alloc(), before)?;
+        exchange.add_script(scenario)?;
+        served(rt, &exchange)?;
     }
     Ok(())
 }
 
-/// The office after `STANDING`.
-fn standing(rt: &(impl Abort + AllocGlobal)) -> Result<Office<PlainBook>, Fail> {
-    let mut office = empty_office(rt)?;
-    tell(rt, &mut office, STANDING)?;
-    Ok(office)
-}
-
-/// The office after `STANDING` and `FUNDED`.
-fn funded(rt: &(impl Abort + AllocGlobal)) -> Result<Office<PlainBook>, Fail> {
-    let mut office = standing(rt)?;
-    tell(rt, &mut office, FUNDED)?;
-    Ok(office)
-}
-
-/// Serves what a reader gives in one run, and asserts that the responses of the exchange are written, and nothing else.
-fn serve_from(
-    rt: &(impl Abort + AllocGlobal),
-    office: &mut Office<impl Book>,
-    reader: impl Read + Drop,
-    exchange: &Exchange,
-) -> Result<(), Fail> {
-    let routes = Routes::new(rt.alloc())?;
-    let mut reader = Counted::new(reader);
-    let mut writer = Counted::new(Vec::new(rt.alloc()));
-    let count = run(rt.alloc(), &mut reader, &mut writer, &routes, office)?;
-    let written = writer.into_inner();
-    let text = std::str::from_utf8(written.as_slice())?;
-    assert_eq!(rt; text, exchange.output());
-    assert_eq!(rt; count, exchange.count());
-    Ok(())
-}
-
-/// Serves the requests of an exchange in one run, and asserts that its responses are written.
-fn serve(
+/// Serves an exchange in an office, and asserts that its responses are written.
+fn assert_served(
     rt: &(impl Abort + AllocGlobal),
     office: &mut Office<impl Book>,
     exchange: &Exchange,
 ) -> Result<(), Fail> {
-    serve_from(rt, office, exchange.input().as_bytes(), exchange)
+    let told = serve(rt.alloc(), office, exchange)?;
+    assert_told(rt, &told, exchange)
 }
 
 /// Serves the requests of a script in one run, and asserts that each gets its response.
@@ -100,17 +129,5 @@ fn tell(
     script: &str,
 ) -> Result<(), Fail> {
     let exchange = Exchange::of(rt.alloc(), script)?;
-    serve(rt, office, &exchange)
-}
-
-/// The same over a reader that gives so many bytes at a time.
-fn tell_in_pieces(
-    rt: &(impl Abort + AllocGlobal),
-    office: &mut Office<impl Book>,
-    size: usize,
-    script: &str,
-) -> Result<(), Fail> {
-    let exchange = Exchange::of(rt.alloc(), script)?;
-    let reader = Pieces::new(exchange.input().as_bytes(), size);
-    serve_from(rt, office, reader, &exchange)
+    assert_served(rt, office, &exchange)
 }

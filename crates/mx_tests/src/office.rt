@@ -6,10 +6,11 @@ mod scripts;
 mod words;
 mod worn;
 
-use self::scripts::{read_command, read_script, token};
+use self::scripts::{read_command, read_replies, read_script, token};
 use self::words::outcome_words;
 use mx_book::{Book, PlainBook};
-use mx_office::{Office, Refusal};
+use mx_office::{Office, Outcome, Refusal};
+use std::alloc::{AllocError, Global};
 use std::process::Abort;
 use std::test::Fail;
 
@@ -47,23 +48,33 @@ fn funded(rt: &(impl Abort + AllocGlobal)) -> Result<Office<PlainBook>, Fail> {
     Ok(office)
 }
 
+/// The words of outcomes, a line each.
+fn words_of_all(alloc: Global, outcomes: &[Outcome]) -> Result<String, AllocError> {
+    let mut lines = String::new(alloc);
+    for outcome in outcomes {
+        let words = outcome_words(alloc, outcome)?;
+        lines.push_str(words.as_str())?;
+        lines.push('\n')?;
+    }
+    Ok(lines)
+}
+
+/// Runs the commands of a script, and gives the words of their replies, a line each.
+fn told(alloc: Global, office: &mut Office<impl Book>, script: &str) -> Result<String, Fail> {
+    let commands = read_script(alloc, script)?;
+    let outcomes = office.run(alloc, commands.as_slice())?;
+    Ok(words_of_all(alloc, outcomes.as_slice())?)
+}
+
 /// Runs the commands of a script, and asserts that each gets its reply.
 fn tell(
     rt: &(impl Abort + AllocGlobal),
     office: &mut Office<impl Book>,
     script: &str,
 ) -> Result<(), Fail> {
-    let commands = read_script(rt.alloc(), script)?;
-    let outcomes = office.run(rt.alloc(), commands.as_slice())?;
-    assert_eq!(rt; outcomes.len(), commands.len());
-    let mut outcomes = outcomes.iter();
-    for line in script.lines() {
-        if let Some((command, reply)) = line.split_once(" -> ") {
-            let outcome = outcomes.next().ok_or("no outcome")?;
-            let words = outcome_words(rt.alloc(), outcome)?;
-            assert_eq!(rt; words.as_str(), reply, "{command}");
-        }
-    }
+    let told = told(rt.alloc(), office, script)?;
+    let replies = read_replies(rt.alloc(), script)?;
+    assert_eq!(rt; told.as_str(), replies.as_str());
     Ok(())
 }
 
@@ -81,31 +92,44 @@ fn repeat(
     Ok(())
 }
 
-/// The books after `FUNDED` and a payment of 60 from p1 to q1.
-pub(super) fn funded_and_paid(rt: &(impl Abort + AllocGlobal)) -> Result<PlainBook, Fail> {
-    let mut office = funded(rt)?;
-    tell(
-        rt,
-        &mut office,
-        "
+const PAYMENT: &str = "
 ann start-from p1 q1 60 0 -> started p1,q1,60,0,0
 bob start-to q1 p1 60 0 -> started p1,q1,60,0,0
 ann handle p1 0 -> value-sent
 bob handle q1 0 -> received
 ann handle p1 1 -> finished
-",
-    )?;
-    Ok(office.into_book())
+";
+
+/// Makes `STANDING`, `FUNDED` and a payment of 60 from p1 to q1 in an office in which nothing is.
+pub(super) fn fund_and_pay(
+    rt: &(impl Abort + AllocGlobal),
+    office: &mut Office<impl Book>,
+) -> Result<(), Fail> {
+    tell(rt, office, STANDING)?;
+    tell(rt, office, FUNDED)?;
+    tell(rt, office, PAYMENT)
 }
 
-/// The books after `FUNDED` and sixty loads of 1 to p1.
-pub(super) fn funded_and_loaded(rt: &(impl Abort + AllocGlobal)) -> Result<PlainBook, Fail> {
-    let mut office = funded(rt)?;
-    for n in 1..=60_u64 {
-        let load = format!(in rt.alloc(); "clerk load p1 1 b{n}")?;
-        repeat(rt, &mut office, 1, load.as_str())?;
+/// The script of so many loads of 1 to p1.
+fn loads(alloc: Global, count: u64) -> Result<String, AllocError> {
+    let mut script = String::new(alloc);
+    for n in 1..=count {
+        let load = format!(in alloc; "clerk load p1 1 b{n} -> loaded\n")?;
+        script.push_str(load.as_str())?;
     }
-    Ok(office.into_book())
+    Ok(script)
+}
+
+/// Makes `STANDING`, `FUNDED` and so many loads of 1 to p1 in an office in which nothing is.
+pub(super) fn fund_and_load(
+    rt: &(impl Abort + AllocGlobal),
+    office: &mut Office<impl Book>,
+    count: u64,
+) -> Result<(), Fail> {
+    tell(rt, office, STANDING)?;
+    tell(rt, office, FUNDED)?;
+    let loads = loads(rt.alloc(), count)?;
+    tell(rt, office, loads.as_str())
 }
 
 /// An empty list of commands has an empty list of replies.
@@ -127,29 +151,52 @@ ann purses -> purses p1
     )
 }
 
+/// Refusals, and the words of each in a line.
+const REFUSALS: [Refusal; 18] = [
+    Refusal::NotForCaller,
+    Refusal::NoSuchPurse,
+    Refusal::NoSuchHolder,
+    Refusal::NoSuchMember,
+    Refusal::NoSuchMessage,
+    Refusal::NameTaken,
+    Refusal::TokenTaken,
+    Refusal::TooManyPurses,
+    Refusal::SamePurse,
+    Refusal::NotEnough,
+    Refusal::LogFull,
+    Refusal::Worn,
+    Refusal::RefReused,
+    Refusal::FloatTooSmall,
+    Refusal::FloatFull,
+    Refusal::GrantTooLarge,
+    Refusal::OverCap,
+    Refusal::NotArchived,
+];
+
+const REFUSAL_WORDS: &str = "not for this caller
+no such purse
+no such holder
+no such member
+no such message
+name taken
+token taken
+too many purses
+same purse
+not enough
+log full
+purse worn
+reference reused
+float too small
+float full
+grant too large
+over cap
+not archived";
+
 /// Each refusal has its words.
 #[test]
 fn refusals_in_words(rt: HostRuntime) {
-    for (refusal, words) in [
-        (Refusal::NotForCaller, "not for this caller"),
-        (Refusal::NoSuchPurse, "no such purse"),
-        (Refusal::NoSuchHolder, "no such holder"),
-        (Refusal::NoSuchMember, "no such member"),
-        (Refusal::NoSuchMessage, "no such message"),
-        (Refusal::NameTaken, "name taken"),
-        (Refusal::TokenTaken, "token taken"),
-        (Refusal::TooManyPurses, "too many purses"),
-        (Refusal::SamePurse, "same purse"),
-        (Refusal::NotEnough, "not enough"),
-        (Refusal::LogFull, "log full"),
-        (Refusal::Worn, "purse worn"),
-        (Refusal::RefReused, "reference reused"),
-        (Refusal::FloatTooSmall, "float too small"),
-        (Refusal::FloatFull, "float full"),
-        (Refusal::GrantTooLarge, "grant too large"),
-        (Refusal::OverCap, "over cap"),
-        (Refusal::NotArchived, "not archived"),
-    ] {
+    assert_eq!(rt; REFUSAL_WORDS.lines().count(), REFUSALS.len());
+    for (refusal, words) in REFUSALS.iter().zip(REFUSAL_WORDS.lines()) {
         assert_eq!(rt; refusal.text(), words);
     }
 }

@@ -1,7 +1,7 @@
-//! The import of rolls into books in memory: rolls with what is told of them, worked out by hand.
+//! The import of rolls into books in memory and into tables: rolls with what is told of them, worked out by hand.
+use crate::empty::{over_book, over_tables};
 use mx_book::{Book, PlainBook};
 use mx_office::Office;
-use mx_pay::Token;
 use mx_report::{RollFault, RollFaultKind, RollReason, RollReport, import_roll};
 use std::alloc::{AllocError, Global};
 use std::process::Abort;
@@ -15,60 +15,43 @@ const STANDING: &str =
 const SECOND: &str =
     "kind,name,of,token\nmember,m2,,0000000000000000000000000000002c\nholder,cy,m2,0000000000000000000000000000002d\npurse,p1,cy,\npurse,c1,cy,\n";
 
-/// Rolls that come one after another into the books after `STANDING`, each with what is told of it.
-const ROLLS: &[(&str, &str)] = &[
-    (SECOND, "added 3\nsame 0\nrefused 1\nrow 3: name taken\n"),
-    (SECOND, "added 0\nsame 3\nrefused 1\nrow 3: name taken\n"),
-    (
-        "\u{feff}kind,name,of,token\npurse,c1,cy,\n",
-        "added 0\nsame 1\nrefused 0\n",
-    ),
-    // A record of three fields ends an import behind the rows before it, which stand.
-    (
-        "kind,name,of,token\nmember,m3,,00000000000000000000000000000033\npurse,p3,ann\npurse,p4,ann,\n",
-        "not a roll, done 1\n",
-    ),
-    (
-        "kind,name,of,token\nmember,m3,,00000000000000000000000000000033\npurse,p4,bob,\n",
-        "added 1\nsame 1\nrefused 0\n",
-    ),
-    // Another header, and none.
-    (
-        "kind,name,token,of\npurse,p5,ann,\n",
-        "not a roll, done 0\n",
-    ),
-    ("kind,name,of\npurse,p5,ann\n", "not a roll, done 0\n"),
-    ("", "not a roll, done 0\n"),
-    ("kind,name,of,token\n", "added 0\nsame 0\nrefused 0\n"),
-    // Lines that end in CR LF, a last one that doesn't end, and a quoted field with a line end.
-    (
-        "kind,name,of,token\r\npurse,p5,ann,\r\npurse,p5,ann,",
-        "added 1\nsame 1\nrefused 0\n",
-    ),
-    (
-        "kind,name,of,token\npurse,\"p\n6\",ann,\n\"purse\",\"p6\",\"ann\",\"\"\n",
-        "added 1\nsame 0\nrefused 1\nrow 1: bad row\n",
-    ),
-    // Rows of no form: the kind, a name, a token, and fields that have to be empty.
-    (
-        "kind,name,of,token\nclerk,x,,00000000000000000000000000000044\nmember,X,,00000000000000000000000000000044\nmember,x,,0000000000000000000000000000044\nmember,x,m,00000000000000000000000000000044\nholder,x,,00000000000000000000000000000044\nholder,x,m,\npurse,x,ann,00000000000000000000000000000044\npurse,,ann,\n",
-        "added 0\nsame 0\nrefused 8\nrow 1: bad row\nrow 2: bad row\nrow 3: bad row\nrow 4: bad row\nrow 5: bad row\nrow 6: bad row\nrow 7: bad row\nrow 8: bad row\n",
-    ),
-    // Rows that the office refuses: tokens and names of others, and those that aren't there.
-    (
-        "kind,name,of,token\nmember,m4,,0000000000000000000000000000000a\nmember,m,,00000000000000000000000000000044\nholder,dan,m,0000000000000000000000000000000b\nholder,ann,m2,0000000000000000000000000000000a\nholder,dan,m9,00000000000000000000000000000044\npurse,p1,bob,\npurse,p9,dan,\n",
-        "added 0\nsame 0\nrefused 7\nrow 1: token taken\nrow 2: name taken\nrow 3: token taken\nrow 4: name taken\nrow 5: no such member\nrow 6: name taken\nrow 7: no such holder\n",
-    ),
-    // A purse that stands before its holder is refused, and added when the roll comes again.
-    (
-        "kind,name,of,token\npurse,d1,dan,\nholder,dan,m,0000000000000000000000000000000D\n",
-        "added 1\nsame 0\nrefused 1\nrow 1: no such holder\n",
-    ),
-    (
-        "kind,name,of,token\npurse,d1,dan,\nholder,dan,m,0000000000000000000000000000000d\n",
-        "added 1\nsame 1\nrefused 0\n",
-    ),
-];
+/// Rolls that come one after another into books in which nothing is, a line each, `ROLL -> WHAT IS TOLD`, in which `|`
+/// stands for the end of a line. Any other line says nothing.
+const ROLLS: &str = "
+kind,name,of,token|member,m,,00000000000000000000000000000002|holder,ann,m,0000000000000000000000000000000a|holder,bob,m,0000000000000000000000000000000b|purse,p1,ann,|purse,q1,bob,| -> added 5|same 0|refused 0|
+kind,name,of,token|member,m2,,0000000000000000000000000000002c|holder,cy,m2,0000000000000000000000000000002d|purse,p1,cy,|purse,c1,cy,| -> added 3|same 0|refused 1|row 3: name taken|
+kind,name,of,token|member,m2,,0000000000000000000000000000002c|holder,cy,m2,0000000000000000000000000000002d|purse,p1,cy,|purse,c1,cy,| -> added 0|same 3|refused 1|row 3: name taken|
+\u{feff}kind,name,of,token|purse,c1,cy,| -> added 0|same 1|refused 0|
+# A record of three fields ends an import behind the rows before it, which stand.
+kind,name,of,token|member,m3,,00000000000000000000000000000033|purse,p3,ann|purse,p4,ann,| -> not a roll, done 1|
+kind,name,of,token|member,m3,,00000000000000000000000000000033|purse,p4,bob,| -> added 1|same 1|refused 0|
+# Another header, and none.
+kind,name,token,of|purse,p5,ann,| -> not a roll, done 0|
+kind,name,of|purse,p5,ann| -> not a roll, done 0|
+ -> not a roll, done 0|
+kind,name,of,token| -> added 0|same 0|refused 0|
+# Lines that end in CR LF, a last one that doesn't end, and a quoted field with a line end.
+kind,name,of,token\r|purse,p5,ann,\r|purse,p5,ann, -> added 1|same 1|refused 0|
+kind,name,of,token|purse,\"p|6\",ann,|\"purse\",\"p6\",\"ann\",\"\"| -> added 1|same 0|refused 1|row 1: bad row|
+# Rows of no form: the kind, a name, a token, and fields that have to be empty.
+kind,name,of,token|clerk,x,,00000000000000000000000000000044|member,X,,00000000000000000000000000000044|member,x,,0000000000000000000000000000044|member,x,m,00000000000000000000000000000044| -> added 0|same 0|refused 4|row 1: bad row|row 2: bad row|row 3: bad row|row 4: bad row|
+kind,name,of,token|holder,x,,00000000000000000000000000000044|holder,x,m,|purse,x,ann,00000000000000000000000000000044|purse,,ann,| -> added 0|same 0|refused 4|row 1: bad row|row 2: bad row|row 3: bad row|row 4: bad row|
+# Rows that the office refuses: tokens and names of others, and those that aren't there.
+kind,name,of,token|member,m4,,0000000000000000000000000000000a|member,m,,00000000000000000000000000000044|holder,dan,m,0000000000000000000000000000000b|holder,ann,m2,0000000000000000000000000000000a| -> added 0|same 0|refused 4|row 1: token taken|row 2: name taken|row 3: token taken|row 4: name taken|
+kind,name,of,token|holder,dan,m9,00000000000000000000000000000044|purse,p1,bob,|purse,p9,dan,| -> added 0|same 0|refused 3|row 1: no such member|row 2: name taken|row 3: no such holder|
+# A purse that stands before its holder is refused, and added when the roll comes again.
+kind,name,of,token|purse,d1,dan,|holder,dan,m,0000000000000000000000000000000D| -> added 1|same 0|refused 1|row 1: no such holder|
+kind,name,of,token|purse,d1,dan,|holder,dan,m,0000000000000000000000000000000d| -> added 1|same 1|refused 0|
+";
+
+/// The text with a line end in place of each `|`.
+fn unfolded(alloc: Global, text: &str) -> Result<String, AllocError> {
+    let mut lines = String::new(alloc);
+    for character in text.chars() {
+        lines.push(if character == '|' { '\n' } else { character })?;
+    }
+    Ok(lines)
+}
 
 /// What is told of an import: its counts, and a line for each row that was refused.
 fn report_lines(alloc: Global, report: &RollReport) -> Result<String, AllocError> {
@@ -111,36 +94,53 @@ fn lines_of(
     }
 }
 
-/// The office after `STANDING`.
-fn standing(rt: &(impl Abort + AllocGlobal)) -> Result<Office<PlainBook>, Fail> {
-    let operator = Token::read("00000000000000000000000000000001").ok_or("no token")?;
-    let mut office = Office::new(PlainBook::new(rt.alloc(), operator));
-    let lines = lines_of(rt.alloc(), &mut office, STANDING.as_bytes())?;
-    assert_eq!(rt; lines.as_str(), "added 5\nsame 0\nrefused 0\n");
-    Ok(office)
+/// Imports a roll, and asserts that this is told of it.
+fn import_one(
+    rt: &(impl Abort + AllocGlobal),
+    office: &mut Office<impl Book>,
+    roll: &str,
+    told: &str,
+) -> Result<(), Fail> {
+    let roll = unfolded(rt.alloc(), roll)?;
+    let lines = lines_of(rt.alloc(), office, roll.as_str().as_bytes())?;
+    let told = unfolded(rt.alloc(), told)?;
+    assert_eq!(rt; lines.as_str(), told.as_str());
+    Ok(())
 }
 
-#[test]
-fn rolls_one_after_another(rt: HostRuntime) -> Result<(), Fail> {
-    let mut office = standing(&rt)?;
-    for (roll, told) in ROLLS {
-        let lines = lines_of(rt.alloc(), &mut office, roll.as_bytes())?;
-        assert_eq!(rt; lines.as_str(), *told, "{roll}");
+/// Imports the rolls, and asserts what is told of each.
+fn import_all(rt: &(impl Abort + AllocGlobal), office: &mut Office<impl Book>) -> Result<(), Fail> {
+    for line in ROLLS.lines() {
+        if let Some((roll, told)) = line.split_once(" -> ") {
+            import_one(rt, office, roll, told)?;
+        }
     }
     Ok(())
 }
 
-/// A field that isn't UTF-8 makes a bad row.
 #[test]
-fn a_field_that_is_no_text(rt: HostRuntime) -> Result<(), Fail> {
-    let mut office = standing(&rt)?;
+fn rolls_one_after_another(rt: HostRuntime) -> Result<(), Fail> {
+    import_all(&rt, &mut over_book(rt.alloc())?)?;
+    import_all(&rt, &mut over_tables(rt.alloc())?)
+}
+
+/// Asserts that a field that isn't UTF-8 makes a bad row.
+fn assert_bad_rows(
+    rt: &(impl Abort + AllocGlobal),
+    office: &mut Office<impl Book>,
+) -> Result<(), Fail> {
     let roll = b"kind,name,of,token\npurse,p\xff,ann,\n\xffurse,p2,ann,\npurse,p2,ann,\xc3\n";
-    let lines = lines_of(rt.alloc(), &mut office, roll)?;
+    let lines = lines_of(rt.alloc(), office, roll)?;
     assert_eq!(rt;
         lines.as_str(),
         "added 0\nsame 0\nrefused 3\nrow 1: bad row\nrow 2: bad row\nrow 3: bad row\n"
     );
     Ok(())
+}
+
+#[test]
+fn a_field_that_is_no_text(rt: HostRuntime) -> Result<(), Fail> {
+    assert_bad_rows(&rt, &mut over_book(rt.alloc())?)
 }
 
 /// The report of a roll that is imported, or imported again where there is no memory at first.
@@ -161,17 +161,33 @@ fn report_again(
     }
 }
 
-/// Rolls into books that begin empty: however far the first import of a roll came, with the second all of its rows stand.
-#[test]
-fn rolls_with_a_growth_refused(rt: HostRuntime) -> Result<(), Fail> {
-    let operator = Token::read("00000000000000000000000000000001").ok_or("no token")?;
-    let mut office = Office::new(PlainBook::new(rt.alloc(), operator));
-    for (roll, rows, refused) in [(STANDING, 5, 0), (SECOND, 3, 1), (SECOND, 3, 1)] {
-        let report = report_again(rt.alloc(), &mut office, roll)?;
-        assert_eq!(rt; report.added.saturating_add(report.same), rows);
-        assert_eq!(rt; report.refused.len(), refused);
-    }
-    let report = report_again(rt.alloc(), &mut office, SECOND)?;
+/// Imports a roll, again where there is no memory at first, and asserts how many of its rows stand and were refused.
+fn import_grown(
+    rt: &(impl Abort + AllocGlobal),
+    office: &mut Office<PlainBook>,
+    roll: &str,
+    rows: (u64, usize),
+) -> Result<(), Fail> {
+    let report = report_again(rt.alloc(), office, roll)?;
+    let stand = report.added.saturating_add(report.same);
+    assert_eq!(rt; (stand, report.refused.len()), rows);
+    Ok(())
+}
+
+/// Asserts that with the second import of a roll all of its rows stand, however far the first one came.
+fn assert_imported_in_the_end(
+    rt: &(impl Abort + AllocGlobal),
+    office: &mut Office<PlainBook>,
+) -> Result<(), Fail> {
+    import_grown(rt, office, STANDING, (5, 0))?;
+    import_grown(rt, office, SECOND, (3, 1))?;
+    import_grown(rt, office, SECOND, (3, 1))?;
+    let report = report_again(rt.alloc(), office, SECOND)?;
     assert_eq!(rt; (report.added, report.same), (0, 3));
     Ok(())
+}
+
+#[test]
+fn rolls_with_a_growth_refused(rt: HostRuntime) -> Result<(), Fail> {
+    assert_imported_in_the_end(&rt, &mut over_book(rt.alloc())?)
 }

@@ -1,8 +1,9 @@
 //! What a holder is told, whatever others do.
-use super::scripts::{Exchange, token};
-use super::{FUNDED, STANDING, funded, serve, tell};
+use super::scripts::Exchange;
+use super::{FUNDED, STANDING, assert_served, served, tell};
+use crate::empty::{over_book, over_faulty};
 use crate::faulty::Faulty;
-use mx_book::PlainBook;
+use mx_book::{Book, PlainBook};
 use mx_desk::Counted;
 use mx_desk::desk::run;
 use mx_office::Office;
@@ -28,42 +29,35 @@ const AFTER: &str = r#"
 ann GET /purses/p1 -> 200 {"balance":100,"next":1,"purse":"p1","status":"epr"}
 "#;
 
-/// An office with the three holders, over a book that leaves out what it is told to.
-fn among(rt: &(impl Abort + AllocGlobal)) -> Result<Office<Faulty<PlainBook>>, Fail> {
-    let mut office = Office::new(Faulty {
-        book: PlainBook::new(rt.alloc(), token("1")?),
-        left: None,
-    });
-    for script in [STANDING, FUNDED, THIRD] {
-        tell(rt, &mut office, script)?;
-    }
-    Ok(office)
+/// Serves the opening scripts of an office.
+fn tell_opening(
+    rt: &(impl Abort + AllocGlobal),
+    office: &mut Office<impl Book>,
+) -> Result<(), Fail> {
+    tell(rt, office, STANDING)?;
+    tell(rt, office, FUNDED)
 }
+
+/// Bob breaks a payment off, and cy handles the first request of one.
+const BROKEN_OFF: &str = r#"
+bob POST /purses/q1/abort -> 200 {"done":"aborted","logged":true}
+cy POST /purses/c1/handle {"number":0} -> 200 {"done":"ignored"}
+"#;
 
 /// Three requests of the others: bob asks c1 for a payment, of which it is the turn of this number, and breaks it off; cy
 /// handles the first such request.
-fn turn_of_others(alloc: Global, number: u64) -> Result<Exchange, AllocError> {
-    let mut exchange = Exchange::new(alloc);
+fn add_turn_of_others(
+    exchange: &mut Exchange,
+    alloc: Global,
+    number: u64,
+) -> Result<(), AllocError> {
+    let request = "bob POST /purses/q1/start-to {\"peer\":\"c1\",\"value\":5,\"seq\":0}";
     let started = format!(in alloc;
         "200 {{\"details\":\"c1,q1,5,0,{number}\",\"done\":\"started\"}}"
     )?;
-    for (request, response) in [
-        (
-            "bob POST /purses/q1/start-to {\"peer\":\"c1\",\"value\":5,\"seq\":0}",
-            started.as_str(),
-        ),
-        (
-            "bob POST /purses/q1/abort",
-            "200 {\"done\":\"aborted\",\"logged\":true}",
-        ),
-        (
-            "cy POST /purses/c1/handle {\"number\":0}",
-            "200 {\"done\":\"ignored\"}",
-        ),
-    ] {
-        exchange.add(request, response)?;
-    }
-    Ok(exchange)
+    exchange.add(request, started.as_str())?;
+    exchange.add_script(BROKEN_OFF)?;
+    exchange.end_run()
 }
 
 /// Bob's look at p1.
@@ -76,37 +70,57 @@ const LEFT_OUT: &str = r#"
 bob GET /purses/p1 -> 503
 "#;
 
-/// Ann's requests, with forty of the others between; a fourth of these is bob's look at p1.
-fn tell_among(
+/// A turn of the others, and bob's look at p1, at which the book fails.
+fn tell_others(
     rt: &(impl Abort + AllocGlobal),
     office: &mut Office<Faulty<PlainBook>>,
-    look: &str,
+    number: u64,
 ) -> Result<(), Fail> {
-    tell(rt, office, BEFORE)?;
+    let mut turn = Exchange::new(rt.alloc());
+    add_turn_of_others(&mut turn, rt.alloc(), number)?;
+    assert_served(rt, office, &turn)?;
+    // The caller is looked for in vain, or the purse.
+    office.book.left = Some(number % 2);
+    tell(rt, office, LEFT_OUT)
+}
+
+/// Ann's requests, with forty of the others between.
+fn among_others(alloc: Global) -> Result<Exchange, AllocError> {
+    let mut exchange = Exchange::of_runs(alloc, &[STANDING, FUNDED, THIRD, BEFORE])?;
     for number in 0..10 {
-        serve(rt, office, &turn_of_others(rt.alloc(), number)?)?;
-        if look == LEFT_OUT {
-            // The caller is looked for in vain, or the purse.
-            office.book().left = Some(number % 2);
-        }
-        tell(rt, office, look)?;
+        add_turn_of_others(&mut exchange, alloc, number)?;
+        exchange.add_script(UNSEEN)?;
+        exchange.end_run()?;
     }
-    tell(rt, office, AFTER)
+    exchange.add_script(AFTER)?;
+    Ok(exchange)
 }
 
 /// A holder is told the same bytes alone and among forty requests of others.
 #[test]
 fn forty_requests_of_others(rt: HostRuntime) -> Result<(), Fail> {
-    let mut alone = among(&rt)?;
-    tell(&rt, &mut alone, BEFORE)?;
-    tell(&rt, &mut alone, AFTER)?;
-    tell_among(&rt, &mut among(&rt)?, UNSEEN)
+    let alone = Exchange::of_runs(rt.alloc(), &[STANDING, FUNDED, THIRD, BEFORE, AFTER])?;
+    served(&rt, &alone)?;
+    served(&rt, &among_others(rt.alloc())?)
 }
 
-/// And so where the book fails at ten of them.
+/// Asserts the same where the book fails at ten of them.
+fn assert_told_in_spite(
+    rt: &(impl Abort + AllocGlobal),
+    office: &mut Office<Faulty<PlainBook>>,
+) -> Result<(), Fail> {
+    tell_opening(rt, office)?;
+    tell(rt, office, THIRD)?;
+    tell(rt, office, BEFORE)?;
+    for number in 0..10 {
+        tell_others(rt, office, number)?;
+    }
+    tell(rt, office, AFTER)
+}
+
 #[test]
 fn forty_requests_of_others_of_which_ten_are_given_up(rt: HostRuntime) -> Result<(), Fail> {
-    tell_among(&rt, &mut among(&rt)?, LEFT_OUT)
+    assert_told_in_spite(&rt, &mut over_faulty(rt.alloc())?)
 }
 
 /// What ann asks.
@@ -143,22 +157,19 @@ bob POST /purses/q1/redeem {"amount":7,"ref":"r1"}
 nobody GET /purses/p1
 bob GET /purses"#;
 
-/// Serves one request, and adds the response to what was told.
-fn serve_alone(
+/// The bytes of the response to one request.
+fn response_to(
     alloc: Global,
     routes: &Routes,
     office: &mut Office<PlainBook>,
     request: &str,
-    told: &mut String,
-) -> Result<(), Fail> {
+) -> Result<Vec<u8>, Fail> {
     let mut exchange = Exchange::new(alloc);
     exchange.add(request, "")?;
     let mut reader = Counted::new(exchange.input().as_bytes());
     let mut writer = Counted::new(Vec::new(alloc));
     run(alloc, &mut reader, &mut writer, routes, office)?;
-    let written = writer.into_inner();
-    told.push_str(std::str::from_utf8(written.as_slice())?)?;
-    Ok(())
+    Ok(writer.into_inner())
 }
 
 /// The number after this one: always the same.
@@ -168,31 +179,74 @@ fn next_number(number: u64) -> u64 {
         .wrapping_add(1_442_695_040_888_963_407)
 }
 
-/// What ann is told where her requests are among those of others. Whose turn it is goes by numbers that begin with the
-/// seed; 100 turns are enough for all of hers.
+/// Ann's requests among those of others, a line each. Whose turn it is goes by numbers that begin with the seed; 100 turns
+/// are enough for all of hers.
+fn interleaved(alloc: Global, others: &str, seed: u64) -> Result<String, AllocError> {
+    let mut requests = String::new(alloc);
+    let (mut own, mut other) = (ANN.lines(), others.lines());
+    let mut number = seed;
+    for _ in 0..100 {
+        number = next_number(number);
+        let next = if number >> 63 == 0 {
+            own.next()
+        } else {
+            other.next()
+        };
+        if let Some(request) = next {
+            requests.push_str(request)?;
+            requests.push('\n')?;
+        }
+    }
+    Ok(requests)
+}
+
+/// What ann is told of requests that are served one by one behind the opening scripts.
+fn heard_by_ann(
+    rt: &(impl Abort + AllocGlobal),
+    routes: &Routes,
+    office: &mut Office<PlainBook>,
+    requests: &str,
+) -> Result<Vec<u8>, Fail> {
+    tell_opening(rt, office)?;
+    let mut heard = Vec::new(rt.alloc());
+    for request in requests.lines() {
+        let response = response_to(rt.alloc(), routes, office, request)?;
+        if request.starts_with("ann ") {
+            heard.extend_from_slice(response.as_slice())?;
+        }
+    }
+    Ok(heard)
+}
+
+/// What ann is told where her requests are among those of others, in the order of a seed.
 fn told_to_ann(
     rt: &(impl Abort + AllocGlobal),
     routes: &Routes,
     others: &str,
     seed: u64,
-) -> Result<String, Fail> {
-    let alloc = rt.alloc();
-    let mut office = funded(rt)?;
-    let (mut told, mut unheard) = (String::new(alloc), String::new(alloc));
-    let (mut own, mut other) = (ANN.lines(), others.lines());
-    let mut number = seed;
-    for _ in 0..100 {
-        number = next_number(number);
-        if number >> 63 == 0 {
-            if let Some(request) = own.next() {
-                serve_alone(alloc, routes, &mut office, request, &mut told)?;
-            }
-        } else if let Some(request) = other.next() {
-            serve_alone(alloc, routes, &mut office, request, &mut unheard)?;
-        }
-    }
-    assert!(rt; own.next().is_none());
-    Ok(told)
+) -> Result<Vec<u8>, Fail> {
+    let requests = interleaved(rt.alloc(), others, seed)?;
+    heard_by_ann(rt, routes, &mut over_book(rt.alloc())?, requests.as_str())
+}
+
+/// Asserts that ann is told these bytes among the requests of others, in the order of a seed.
+fn assert_told_to_ann(
+    rt: &(impl Abort + AllocGlobal),
+    routes: &Routes,
+    seed: u64,
+    alone: &[u8],
+) -> Result<(), Fail> {
+    let among = told_to_ann(rt, routes, OTHERS, seed)?;
+    assert_eq!(rt; among.as_slice(), alone, "{seed}");
+    Ok(())
+}
+
+/// A hundred turns are enough for all of ann's requests.
+#[test]
+fn ann_asks_all_in_a_hundred_turns(rt: HostRuntime) -> Result<(), Fail> {
+    let own = interleaved(rt.alloc(), "", 0)?;
+    assert_eq!(rt; own.lines().count(), ANN.lines().count());
+    Ok(())
 }
 
 /// In whatever order two hundred seeds bring the requests of others between ann's, she is told the same bytes as alone.
@@ -201,8 +255,7 @@ fn two_hundred_interleavings(rt: HostRuntime) -> Result<(), Fail> {
     let routes = Routes::new(rt.alloc())?;
     let alone = told_to_ann(&rt, &routes, "", 0)?;
     for seed in 0..200 {
-        let among = told_to_ann(&rt, &routes, OTHERS, seed)?;
-        assert_eq!(rt; among.as_str(), alone.as_str(), "{seed}");
+        assert_told_to_ann(&rt, &routes, seed, alone.as_slice())?;
     }
     Ok(())
 }

@@ -1,6 +1,8 @@
 //! Readers and writers that fail, first requests alone, and growths that are refused.
 use super::devices::{Page, Pieces};
-use super::empty_office;
+use super::scripts::Exchange;
+use super::served;
+use crate::empty::over_book;
 use mx_book::{Book, PlainBook};
 use mx_desk::desk::{Served, run, serve_one};
 use mx_desk::{Counted, DeskFault};
@@ -20,15 +22,34 @@ const FOUR_REQUESTS: &str =
 const FOUR_RESPONSES: &str =
     "HTTP/1.1 200 OK\r\ncontent-type: application/json\r\ncontent-length: 16\r\nconnection: close\r\n\r\n{\"done\":\"added\"}HTTP/1.1 200 OK\r\ncontent-type: application/json\r\ncontent-length: 16\r\nconnection: close\r\n\r\n{\"done\":\"added\"}HTTP/1.1 200 OK\r\ncontent-type: application/json\r\ncontent-length: 16\r\nconnection: close\r\n\r\n{\"done\":\"added\"}HTTP/1.1 200 OK\r\ncontent-type: application/json\r\ncontent-length: 53\r\nconnection: close\r\n\r\n{\"balance\":0,\"next\":0,\"purse\":\"p1\",\"status\":\"eaFrom\"}";
 
-/// How a run over these devices ends. None where there is no memory for routes.
-fn ended(
+/// How a run ended, what its devices counted, and what was written.
+#[derive(Drop)]
+struct Ended {
+    end: Result<u64, DeskFault>,
+    reads: u64,
+    read_failures: u64,
+    write_failures: u64,
+    page: Page,
+}
+
+/// A run of what a reader gives, onto a page with so much room. None where there is no memory for routes.
+fn run_over(
     alloc: Global,
     office: &mut Office<PlainBook>,
-    reader: &mut Counted<impl Read>,
-    writer: &mut Counted<Page>,
-) -> Option<Result<u64, DeskFault>> {
+    reader: impl Read + Drop,
+    room: usize,
+) -> Option<Ended> {
     let routes = Routes::new(alloc).ok()?;
-    Some(run(alloc, reader, writer, &routes, office))
+    let mut reader = Counted::new(reader);
+    let mut writer = Counted::new(Page::new(room));
+    let end = run(alloc, &mut reader, &mut writer, &routes, office);
+    Some(Ended {
+        end,
+        reads: reader.calls(),
+        read_failures: reader.failures(),
+        write_failures: writer.failures(),
+        page: writer.into_inner(),
+    })
 }
 
 /// Whether a book has the member m and the holder ann. None where it can't be read.
@@ -43,53 +64,73 @@ fn m_and_ann(alloc: Global, office: &mut Office<PlainBook>) -> Option<(bool, boo
 /// Four requests, byte for byte.
 #[test]
 fn four_requests_from_bytes_to_bytes(rt: HostRuntime) -> Result<(), Fail> {
-    let mut office = empty_office(&rt)?;
-    let mut reader = Counted::new(FOUR_REQUESTS.as_bytes());
-    let mut writer = Counted::new(Page::new(4096));
-    let end = ended(rt.alloc(), &mut office, &mut reader, &mut writer);
-    assert_eq!(rt; end, Some(Ok(4)));
-    assert_eq!(rt; writer.into_inner().bytes(), FOUR_RESPONSES.as_bytes());
+    let exchange = Exchange::of_bytes(rt.alloc(), FOUR_REQUESTS, FOUR_RESPONSES, 4)?;
+    served(&rt, &exchange)
+}
+
+/// Asserts that a run ended by a fault, after so many failures of its reader and of its writer, with these bytes written.
+fn assert_ended(
+    rt: &impl Abort,
+    ended: &Ended,
+    fault: DeskFault,
+    failures: (u64, u64),
+    written: &[u8],
+) {
+    assert_eq!(rt; ended.end, Err(fault));
+    assert_eq!(rt; (ended.read_failures, ended.write_failures), failures);
+    assert_eq!(rt; ended.page.bytes(), written);
+}
+
+/// Asserts that a writer that takes 10 bytes and then fails ends the run, and that the first request stands, and no other.
+fn assert_cut_short(
+    rt: &(impl Abort + AllocGlobal),
+    office: &mut Office<PlainBook>,
+) -> Result<(), Fail> {
+    let ended = run_over(rt.alloc(), office, FOUR_REQUESTS.as_bytes(), 10).ok_or("no routes")?;
+    assert_ended(rt, &ended, DeskFault::Write, (0, 1), b"HTTP/1.1 2");
+    assert_eq!(rt; m_and_ann(rt.alloc(), office), Some((true, false)));
     Ok(())
 }
 
-/// A writer that takes 10 bytes and then fails: the first request stands, and no other.
 #[test]
 fn write_that_fails_ends_the_run(rt: HostRuntime) -> Result<(), Fail> {
-    let mut office = empty_office(&rt)?;
-    let mut reader = Counted::new(FOUR_REQUESTS.as_bytes());
-    let mut writer = Counted::new(Page::new(10));
-    let end = ended(rt.alloc(), &mut office, &mut reader, &mut writer);
-    assert_eq!(rt; end, Some(Err(DeskFault::Write)));
-    assert_eq!(rt; writer.failures(), 1);
-    assert_eq!(rt; writer.into_inner().bytes(), b"HTTP/1.1 2".as_slice());
-    assert_eq!(rt; m_and_ann(rt.alloc(), &mut office), Some((true, false)));
-    Ok(())
+    assert_cut_short(&rt, &mut over_book(rt.alloc())?)
 }
 
-/// Serves the first 40 bytes of four requests, so many at a time, and then a failure, and asserts that this takes so
-/// many reads.
-fn read_40_bytes(rt: &(impl Abort + AllocGlobal), size: usize, calls: u64) -> Result<(), Fail> {
-    let mut office = empty_office(rt)?;
-    let bytes = FOUR_REQUESTS.as_bytes().get(..40).unwrap_or(b"");
-    let mut reader = Counted::new(Pieces::cut(bytes, size));
-    let mut writer = Counted::new(Page::new(4096));
-    let end = ended(rt.alloc(), &mut office, &mut reader, &mut writer);
-    assert_eq!(rt; end, Some(Err(DeskFault::Read)));
-    assert_eq!(rt; (reader.calls(), reader.failures()), (calls, 1));
-    assert_eq!(rt; writer.into_inner().bytes().len(), 0);
-    assert_eq!(rt; m_and_ann(rt.alloc(), &mut office), Some((false, false)));
+/// A run of the first 40 bytes of four requests, so many at a time, and then a failure.
+fn cut_at_40(alloc: Global, office: &mut Office<PlainBook>, size: usize) -> Option<Ended> {
+    let bytes = FOUR_REQUESTS.as_bytes().get(..40)?;
+    run_over(alloc, office, Pieces::cut(bytes, size), 4096)
+}
+
+/// Asserts that such a run ends at the failure, after so many reads, and leaves nothing.
+fn assert_cut_at_40(
+    rt: &(impl Abort + AllocGlobal),
+    office: &mut Office<PlainBook>,
+    size: usize,
+    reads: u64,
+) -> Result<(), Fail> {
+    let ended = cut_at_40(rt.alloc(), office, size).ok_or("no run")?;
+    assert_ended(rt, &ended, DeskFault::Read, (1, 0), b"");
+    assert_eq!(rt; ended.reads, reads);
+    assert_eq!(rt; m_and_ann(rt.alloc(), office), Some((false, false)));
     Ok(())
 }
 
 /// A reader that fails inside the first request: nothing is written, and nothing is there.
 #[test]
 fn read_that_fails_ends_the_run(rt: HostRuntime) -> Result<(), Fail> {
-    read_40_bytes(&rt, 1, 41)?;
-    read_40_bytes(&rt, 40, 2)
+    let mut office = over_book(rt.alloc())?;
+    assert_cut_at_40(&rt, &mut office, 1, 41)?;
+    assert_cut_at_40(&rt, &mut office, 40, 2)
 }
 
 /// What `serve_one` makes of some bytes, and what it writes.
-fn served(alloc: Global, office: &mut Office<PlainBook>, bytes: &str) -> Option<(Served, Page)> {
+fn served_once(
+    alloc: Global,
+    office: &mut Office<PlainBook>,
+    bytes: &str,
+) -> Option<(Served, Page)> {
     let routes = Routes::new(alloc).ok()?;
     let mut reader = Counted::new(bytes.as_bytes());
     let mut writer = Counted::new(Page::new(4096));
@@ -105,28 +146,28 @@ fn is_served(
     end: Served,
     output: &str,
 ) -> bool {
-    match served(alloc, office, bytes) {
+    match served_once(alloc, office, bytes) {
         Some((served, page)) => served == end && page.bytes() == output.as_bytes(),
         None => false,
     }
 }
 
-/// `serve_one` answers one request, whatever follows it.
-#[test]
-fn first_request_alone(rt: HostRuntime) -> Result<(), Fail> {
+/// Asserts that `serve_one` answers one request, whatever follows it.
+fn assert_first_alone(rt: &(impl Abort + AllocGlobal), office: &mut Office<PlainBook>) {
     let alloc = rt.alloc();
-    let mut office = empty_office(&rt)?;
     for (bytes, end, output) in [
         ("", Served::Nothing, ""),
         (FOUR_REQUESTS, Served::Answered, ADDED_BYTES),
         ("GET /purses", Served::Stopped, BAD_HEAD_BYTES),
     ] {
-        assert!(rt;
-            is_served(alloc, &mut office, bytes, end, output),
-            "{bytes}"
-        );
+        assert!(rt; is_served(alloc, office, bytes, end, output), "{bytes}");
     }
-    assert_eq!(rt; m_and_ann(alloc, &mut office), Some((true, false)));
+    assert_eq!(rt; m_and_ann(alloc, office), Some((true, false)));
+}
+
+#[test]
+fn first_request_alone(rt: HostRuntime) -> Result<(), Fail> {
+    assert_first_alone(&rt, &mut over_book(rt.alloc())?);
     Ok(())
 }
 

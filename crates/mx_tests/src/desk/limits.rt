@@ -1,16 +1,15 @@
 //! How much an inbox, a log and a holder have room for.
 use super::scripts::{ADDED, Exchange};
-use super::{funded, serve, standing, tell};
-use mx_book::{Book, PlainBook};
-use mx_office::Office;
-use mx_pay::Name;
+use super::{FUNDED, STANDING, served};
 use std::alloc::{AllocError, Global};
-use std::process::Abort;
 use std::test::Fail;
 
 /// Sixteen starts of a purse of bob's towards p1, for a payment of 1 each.
-fn sixteen_starts(alloc: Global, purse: &str) -> Result<Exchange, AllocError> {
-    let mut exchange = Exchange::new(alloc);
+fn add_sixteen_starts(
+    exchange: &mut Exchange,
+    alloc: Global,
+    purse: &str,
+) -> Result<(), AllocError> {
     for number in 0..16 {
         let request = format!(in alloc;
             "bob POST /purses/{purse}/start-to {{\"peer\":\"p1\",\"value\":1,\"seq\":0}}"
@@ -20,7 +19,7 @@ fn sixteen_starts(alloc: Global, purse: &str) -> Result<Exchange, AllocError> {
         )?;
         exchange.add(request.as_str(), response.as_str())?;
     }
-    Ok(exchange)
+    exchange.end_run()
 }
 
 /// The response to an inbox that holds these starts of q1 and then of q2.
@@ -42,30 +41,20 @@ fn inbox_of_32(alloc: Global) -> Result<String, AllocError> {
     Ok(text)
 }
 
-/// Asserts that the next message of p1 has the number 32.
-fn assert_next_is_32(
-    rt: &(impl Abort + AllocGlobal),
-    office: &mut Office<PlainBook>,
-) -> Result<(), Fail> {
-    let p1 = Name::read("p1").ok_or("no name")?;
-    let account = office.book().purse(rt.alloc(), p1)?.ok_or("no purse")?;
-    assert_eq!(rt; account.next_message, 32);
-    Ok(())
-}
-
-/// A 33rd message, and the inbox, from which it isn't.
-fn thirty_third(alloc: Global) -> Result<Exchange, AllocError> {
-    let inbox = inbox_of_32(alloc)?;
-    let mut exchange = Exchange::of(
-        alloc,
-        r#"
+/// A 33rd message.
+const THIRTY_THIRD: &str = r#"
 bob POST /purses/q3/start-to {"peer":"p1","value":1,"seq":0} -> 200 {"details":"p1,q3,1,0,0","done":"started"}
 bob POST /purses/q1/start-to {"peer":"p1","value":1,"seq":0} -> 409 {"error":"log full"}
-"#,
-    )?;
-    exchange.add("ann GET /purses/p1/inbox", inbox.as_str())?;
-    Ok(exchange)
-}
+"#;
+
+/// Once a message goes, the next one has the number 32.
+const NEXT_NUMBER: &str = r#"
+ann POST /purses/p1/handle {"number":32} -> 404 {"error":"no such message"}
+ann POST /purses/p1/discard {"number":0} -> 200 {"done":"discarded"}
+bob POST /purses/q3/start-to {"peer":"p1","value":1,"seq":0} -> 200 {"details":"p1,q3,1,0,1","done":"started"}
+ann POST /purses/p1/handle {"number":33} -> 404 {"error":"no such message"}
+ann POST /purses/p1/handle {"number":32} -> 200 {"done":"ignored"}
+"#;
 
 /// Two purses more for bob.
 const TWO_PURSES: &str = r#"
@@ -73,24 +62,29 @@ clerk POST /purses {"purse":"q2","holder":"bob"} -> 200 {"done":"added"}
 clerk POST /purses {"purse":"q3","holder":"bob"} -> 200 {"done":"added"}
 "#;
 
+/// Thirty-two messages to p1, a 33rd, the inbox, from which that isn't, and the number that comes next.
+fn messages_to_p1(alloc: Global) -> Result<Exchange, AllocError> {
+    let mut exchange = Exchange::of_runs(alloc, &[STANDING, FUNDED, TWO_PURSES])?;
+    add_sixteen_starts(&mut exchange, alloc, "q1")?;
+    add_sixteen_starts(&mut exchange, alloc, "q2")?;
+    exchange.add_script(THIRTY_THIRD)?;
+    let inbox = inbox_of_32(alloc)?;
+    exchange.add("ann GET /purses/p1/inbox", inbox.as_str())?;
+    exchange.add_script(NEXT_NUMBER)?;
+    Ok(exchange)
+}
+
 /// An inbox holds 32 messages. A 33rd vanishes and takes no number; its sender is told as ever. A log has 16 entries
 /// at most, and a purse starts no payment that could need a 17th.
 #[test]
 fn thirty_third_message(rt: HostRuntime) -> Result<(), Fail> {
-    let mut office = funded(&rt)?;
-    tell(&rt, &mut office, TWO_PURSES)?;
-    for purse in ["q1", "q2"] {
-        serve(&rt, &mut office, &sixteen_starts(rt.alloc(), purse)?)?;
-    }
-    serve(&rt, &mut office, &thirty_third(rt.alloc())?)?;
-    assert_next_is_32(&rt, &mut office)
+    served(&rt, &messages_to_p1(rt.alloc())?)
 }
 
 /// Fifteen starts of p1, each of which is aborted.
-fn fifteen_aborts(alloc: Global) -> Result<Exchange, AllocError> {
+fn add_fifteen_aborts(exchange: &mut Exchange, alloc: Global) -> Result<(), AllocError> {
     let start = "ann POST /purses/p1/start-to {\"peer\":\"nobody\",\"value\":5,\"seq\":0}";
     let aborted = "200 {\"done\":\"aborted\",\"logged\":true}";
-    let mut exchange = Exchange::new(alloc);
     for number in 0..15 {
         let started = format!(in alloc;
             "200 {{\"details\":\"nobody,p1,5,0,{number}\",\"done\":\"started\"}}"
@@ -98,15 +92,11 @@ fn fifteen_aborts(alloc: Global) -> Result<Exchange, AllocError> {
         exchange.add(start, started.as_str())?;
         exchange.add("ann POST /purses/p1/abort", aborted)?;
     }
-    Ok(exchange)
+    exchange.end_run()
 }
 
-/// Fifteen starts of p1 that are aborted, then a payment up to the value: a start is refused and aborts nothing.
-#[test]
-fn full_log(rt: HostRuntime) -> Result<(), Fail> {
-    let mut office = funded(&rt)?;
-    serve(&rt, &mut office, &fifteen_aborts(rt.alloc())?)?;
-    let end = r#"
+/// A payment up to the value, after which the log has no room for another.
+const SIXTEENTH: &str = r#"
 ann POST /purses/p1/start-from {"peer":"q1","value":60,"seq":0} -> 200 {"details":"p1,q1,60,15,0","done":"started"}
 bob POST /purses/q1/start-to {"peer":"p1","value":60,"seq":15} -> 200 {"details":"p1,q1,60,15,0","done":"started"}
 ann POST /purses/p1/handle {"number":0} -> 200 {"done":"value-sent"}
@@ -116,12 +106,18 @@ ann POST /purses/p1/abort -> 200 {"done":"aborted","logged":true}
 ann POST /purses/p1/abort -> 200 {"done":"aborted","logged":false}
 ann POST /purses/p1/start-from {"peer":"q1","value":1,"seq":1} -> 409 {"error":"log full"}
 "#;
-    tell(&rt, &mut office, end)
+
+/// Fifteen starts of p1 that are aborted, then a payment up to the value: a start is refused and aborts nothing.
+#[test]
+fn full_log(rt: HostRuntime) -> Result<(), Fail> {
+    let mut exchange = Exchange::of_runs(rt.alloc(), &[STANDING, FUNDED])?;
+    add_fifteen_aborts(&mut exchange, rt.alloc())?;
+    exchange.add_script(SIXTEENTH)?;
+    served(&rt, &exchange)
 }
 
 /// Sixty-four purses more for ann, of which the last is one too many: with p1 the purses a2 to a64 are 64.
-fn many_purses(alloc: Global) -> Result<Exchange, AllocError> {
-    let mut exchange = Exchange::new(alloc);
+fn add_many_purses(exchange: &mut Exchange, alloc: Global) -> Result<(), AllocError> {
     for number in 2..=65 {
         let request = format!(in alloc;
             "clerk POST /purses {{\"purse\":\"a{number}\",\"holder\":\"ann\"}}"
@@ -133,12 +129,13 @@ fn many_purses(alloc: Global) -> Result<Exchange, AllocError> {
         };
         exchange.add(request.as_str(), response)?;
     }
-    Ok(exchange)
+    Ok(())
 }
 
 /// A holder has 64 purses at most.
 #[test]
 fn sixty_fifth_purse(rt: HostRuntime) -> Result<(), Fail> {
-    let exchange = many_purses(rt.alloc())?;
-    serve(&rt, &mut standing(&rt)?, &exchange)
+    let mut exchange = Exchange::of_runs(rt.alloc(), &[STANDING])?;
+    add_many_purses(&mut exchange, rt.alloc())?;
+    served(&rt, &exchange)
 }

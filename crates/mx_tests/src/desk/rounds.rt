@@ -1,6 +1,6 @@
 //! Many payments in one run.
 use super::scripts::Exchange;
-use super::{funded, serve, tell};
+use super::{FUNDED, STANDING, served};
 use std::alloc::{AllocError, Global};
 use std::test::Fail;
 
@@ -53,22 +53,22 @@ fn add_messages(exchange: &mut Exchange, alloc: Global, number: u32) -> Result<(
 }
 
 /// So many such payments, one after another.
-fn payments(alloc: Global, count: u32) -> Result<Exchange, AllocError> {
-    let mut exchange = Exchange::new(alloc);
+fn add_payments(exchange: &mut Exchange, alloc: Global, count: u32) -> Result<(), AllocError> {
     for number in 0..count {
-        add_starts(&mut exchange, alloc, number.into())?;
-        add_messages(&mut exchange, alloc, number)?;
+        add_starts(exchange, alloc, number.into())?;
+        add_messages(exchange, alloc, number)?;
     }
-    Ok(exchange)
+    exchange.end_run()
 }
 
 /// 2,000 requests in one run, none of them given up.
 #[test]
 fn two_hundred_and_fifty_payments(rt: HostRuntime) -> Result<(), Fail> {
-    let mut office = funded(&rt)?;
-    serve(&rt, &mut office, &payments(rt.alloc(), 250)?)?;
+    let mut exchange = Exchange::of_runs(rt.alloc(), &[STANDING, FUNDED])?;
+    add_payments(&mut exchange, rt.alloc(), 250)?;
     let end = r#"
 ann GET /purses/p1 -> 200 {"balance":100,"next":250,"purse":"p1","status":"eaFrom"}
 "#;
-    tell(&rt, &mut office, end)
+    exchange.add_script(end)?;
+    served(&rt, &exchange)
 }

@@ -7,6 +7,9 @@ use std::test::Fail;
 /// The response to a member, a holder or a purse that is added.
 pub(super) const ADDED: &str = "200 {\"done\":\"added\"}";
 
+/// Stands in the input behind the requests of a run. No request has it.
+pub(super) const RUN_END: char = '\u{1e}';
+
 /// The bytes of `503`, the response to a request that is given up.
 const UNAVAILABLE: &str =
     "HTTP/1.1 503 Service Unavailable\r\ncontent-length: 0\r\nconnection: close\r\n\r\n";
@@ -43,7 +46,7 @@ fn reason_of(status: &str) -> &'static str {
     }
 }
 
-/// Requests, and the responses that they are to have.
+/// Requests in one or more runs, and the responses that they are to have.
 #[derive(Drop)]
 pub(super) struct Exchange {
     alloc: Global,
@@ -62,15 +65,51 @@ impl Exchange {
         }
     }
 
-    /// The requests of a script: a line each, `REQUEST -> RESPONSE`. Any other line says nothing.
+    /// The requests of a script.
     pub(super) fn of(alloc: Global, script: &str) -> Result<Exchange, AllocError> {
         let mut exchange = Exchange::new(alloc);
-        for line in script.lines() {
-            if let Some((request, response)) = line.split_once(" -> ") {
-                exchange.add(request, response)?;
-            }
+        exchange.add_script(script)?;
+        Ok(exchange)
+    }
+
+    /// The requests of scripts, each in a run of its own; what is added then is in a further run.
+    pub(super) fn of_runs(alloc: Global, scripts: &[&str]) -> Result<Exchange, AllocError> {
+        let mut exchange = Exchange::new(alloc);
+        for script in scripts {
+            exchange.add_script(script)?;
+            exchange.end_run()?;
         }
         Ok(exchange)
+    }
+
+    /// These requests, in one run, and so many responses.
+    pub(super) fn of_bytes(
+        alloc: Global,
+        input: &str,
+        output: &str,
+        count: u64,
+    ) -> Result<Exchange, AllocError> {
+        Ok(Exchange {
+            alloc,
+            input: String::from_str(alloc, input)?,
+            output: String::from_str(alloc, output)?,
+            count,
+        })
+    }
+
+    /// The requests of a script more: a line each, `REQUEST -> RESPONSE`. Any other line says nothing.
+    pub(super) fn add_script(&mut self, script: &str) -> Result<(), AllocError> {
+        for line in script.lines() {
+            if let Some((request, response)) = line.split_once(" -> ") {
+                self.add(request, response)?;
+            }
+        }
+        Ok(())
+    }
+
+    /// What is added from here on is in a run of its own.
+    pub(super) fn end_run(&mut self) -> Result<(), AllocError> {
+        self.input.push(RUN_END)
     }
 
     /// A request more, `WHO METHOD PATH BODY`, and its response, `STATUS BODY`. A request without a body has no
@@ -132,10 +171,12 @@ impl Exchange {
         Ok(())
     }
 
+    /// The bytes of the requests, with `RUN_END` between runs.
     pub(super) fn input(&self) -> &str {
         self.input.as_str()
     }
 
+    /// The bytes of the responses.
     pub(super) fn output(&self) -> &str {
         self.output.as_str()
     }

@@ -2,6 +2,7 @@
 use super::scripts::{name, read_command};
 use super::words::outcome_words;
 use super::{empty_book, tell};
+use crate::empty::over_faulty;
 use crate::faulty::Faulty;
 use mx_book::{Book, Caller, PlainBook};
 use mx_office::{Command, Office, Outcome};
@@ -106,13 +107,37 @@ fn tell_again(
     Ok(())
 }
 
+/// Asserts the same of a script, and that the book then says this of m and of p1.
+fn assert_left(
+    rt: &(impl Abort + AllocGlobal),
+    office: &mut Office<PlainBook>,
+    held: Held,
+    script: &str,
+) -> Result<(), Fail> {
+    tell_again(rt, office, script)?;
+    assert_eq!(rt; read_held(office, rt.alloc())?, held);
+    Ok(())
+}
+
+/// Asserts it of an office that begins empty.
+fn leaves(rt: &(impl Abort + AllocGlobal), held: Held, script: &str) -> Result<(), Fail> {
+    assert_left(rt, &mut Office::new(empty_book(rt)?), held, script)
+}
+
 /// A payment of 60 out of 100, in an office that begins empty.
 #[test]
 fn payment_with_a_growth_refused(rt: HostRuntime) -> Result<(), Fail> {
-    let mut office = Office::new(empty_book(&rt)?);
-    tell_again(
+    let held = Held {
+        granted: 1000,
+        float: 900,
+        uncollected: 0,
+        balance: 40,
+        lines: 2,
+        next_message: 2,
+    };
+    leaves(
         &rt,
-        &mut office,
+        held,
         "
 operator new-member m 2 -> added
 clerk new-holder ann a -> added
@@ -129,17 +154,7 @@ ann handle p1 1 -> finished
 ann statement p1 0 -> statement 1 loaded 100 100 a1 2 sent 60 40 p1,q1,60,0,0
 operator reconcile -> 1000 900 0 100 0, 100 0 0
 ",
-    )?;
-    let held = Held {
-        granted: 1000,
-        float: 900,
-        uncollected: 0,
-        balance: 40,
-        lines: 2,
-        next_message: 2,
-    };
-    assert_eq!(rt; read_held(&mut office, rt.alloc())?, held);
-    Ok(())
+    )
 }
 
 /// The text of the statement of p1, asked for again where there is no memory.
@@ -168,13 +183,20 @@ fn reconciliation_again(rt: &impl AllocGlobal, book: &mut PlainBook) -> Result<V
     }
 }
 
-/// The reports on a load, in an office that begins empty.
-#[test]
-fn reports_with_a_growth_refused(rt: HostRuntime) -> Result<(), Fail> {
-    let mut office = Office::new(empty_book(&rt)?);
+/// Asserts that bytes are a text.
+fn assert_text(rt: &impl Abort, bytes: &[u8], text: &str) -> Result<(), Fail> {
+    assert_eq!(rt; std::str::from_utf8(bytes)?, text);
+    Ok(())
+}
+
+/// The reports on a load.
+fn assert_reports(
+    rt: &(impl Abort + AllocGlobal),
+    office: &mut Office<PlainBook>,
+) -> Result<(), Fail> {
     tell_again(
-        &rt,
-        &mut office,
+        rt,
+        office,
         "
 operator new-member m 2 -> added
 clerk new-holder ann a -> added
@@ -183,27 +205,40 @@ operator grant m 1000 -> granted
 clerk load p1 100 a1 -> loaded
 ",
     )?;
-    let mut book = office.into_book();
-    let text = statement_again(&rt, &mut book)?;
-    assert_eq!(rt;
-        std::str::from_utf8(text.as_slice())?,
-        "number,kind,amount,balance,note\n1,loaded,100,100,a1\n"
-    );
-    let text = reconciliation_again(&rt, &mut book)?;
-    assert_eq!(rt;
-        std::str::from_utf8(text.as_slice())?,
-        "row,name,granted,float,uncollected,issued,redeemed,balances,transit,lost\nmember,m,1000,900,0,100,0,100,,\nscheme,,1000,900,0,100,0,100,0,0\n"
-    );
-    Ok(())
+    let text = statement_again(rt, office.book())?;
+    assert_text(
+        rt,
+        text.as_slice(),
+        "number,kind,amount,balance,note\n1,loaded,100,100,a1\n",
+    )?;
+    let text = reconciliation_again(rt, office.book())?;
+    assert_text(
+        rt,
+        text.as_slice(),
+        "row,name,granted,float,uncollected,issued,redeemed,balances,transit,lost\nmember,m,1000,900,0,100,0,100,,\nscheme,,1000,900,0,100,0,100,0,0\n",
+    )
+}
+
+/// The same in an office that begins empty.
+#[test]
+fn reports_with_a_growth_refused(rt: HostRuntime) -> Result<(), Fail> {
+    assert_reports(&rt, &mut Office::new(empty_book(&rt)?))
 }
 
 /// A lost payment whose entry is read, archived and cleared, in an office that begins empty.
 #[test]
 fn log_with_a_growth_refused(rt: HostRuntime) -> Result<(), Fail> {
-    let mut office = Office::new(empty_book(&rt)?);
-    tell_again(
+    let held = Held {
+        granted: 1000,
+        float: 900,
+        uncollected: 0,
+        balance: 40,
+        lines: 3,
+        next_message: 2,
+    };
+    leaves(
         &rt,
-        &mut office,
+        held,
         "
 operator new-member m 2 -> added
 clerk new-holder ann a -> added
@@ -226,26 +261,23 @@ operator clear p1 p1,q1,60,0,0 -> sent
 ann handle p1 1 -> cleared
 ann read-log p1 0 -> read nothing
 ",
-    )?;
-    let held = Held {
-        granted: 1000,
-        float: 900,
-        uncollected: 0,
-        balance: 40,
-        lines: 3,
-        next_message: 2,
-    };
-    assert_eq!(rt; read_held(&mut office, rt.alloc())?, held);
-    Ok(())
+    )
 }
 
 /// A float of 100 that is loaded, redeemed, collected and loaded again, in an office that begins empty.
 #[test]
 fn float_with_a_growth_refused(rt: HostRuntime) -> Result<(), Fail> {
-    let mut office = Office::new(empty_book(&rt)?);
-    tell_again(
+    let held = Held {
+        granted: 100,
+        float: 0,
+        uncollected: 0,
+        balance: 100,
+        lines: 3,
+        next_message: 0,
+    };
+    leaves(
         &rt,
-        &mut office,
+        held,
         "
 operator new-member m 2 -> added
 clerk new-holder ann a -> added
@@ -259,33 +291,31 @@ clerk collect -> collected 0
 clerk load p1 100 a2 -> loaded
 clerk load p1 1 a3 -> float too small
 ",
-    )?;
-    let held = Held {
-        granted: 100,
-        float: 0,
-        uncollected: 0,
-        balance: 100,
-        lines: 3,
-        next_message: 0,
-    };
-    assert_eq!(rt; read_held(&mut office, rt.alloc())?, held);
-    Ok(())
+    )
 }
 
 /// Runs commands after those of `opening` over a book that leaves one call out, after so many that it passes on, and
 /// asserts that each gets its reply.
+fn tell_with_left(
+    rt: &(impl Abort + AllocGlobal),
+    office: &mut Office<Faulty<impl Book>>,
+    passed: u64,
+    opening: &str,
+    script: &str,
+) -> Result<(), Fail> {
+    office.book.left = Some(passed);
+    tell(rt, office, opening)?;
+    tell(rt, office, script)
+}
+
+/// The same in an office that begins empty.
 fn tell_with_fault(
     rt: &(impl Abort + AllocGlobal),
     passed: u64,
     opening: &str,
     script: &str,
 ) -> Result<(), Fail> {
-    let mut office = Office::new(Faulty {
-        book: empty_book(rt)?,
-        left: Some(passed),
-    });
-    tell(rt, &mut office, opening)?;
-    tell(rt, &mut office, script)
+    tell_with_left(rt, &mut over_faulty(rt.alloc())?, passed, opening, script)
 }
 
 /// A call of the book that fails leaves its command undone, and no other.

@@ -458,21 +458,34 @@ fn opened(rt: &(impl Abort + AllocGlobal)) -> Result<Trial, Fail> {
     })
 }
 
+/// Five hundred random commands, by acts of one command or more.
+fn act_often(
+    rt: &(impl Abort + AllocGlobal),
+    trial: &mut Trial,
+    dice: &mut Dice,
+) -> Result<(), Fail> {
+    for _ in 0..500 {
+        if trial.asked < 500 {
+            trial.act(rt, dice)?;
+        }
+    }
+    Ok(())
+}
+
+/// Asserts that the books come to what the ledger says after each twentieth of the random commands of a seed.
+fn assert_sums(rt: &(impl Abort + AllocGlobal), trial: &mut Trial, seed: u64) -> Result<(), Fail> {
+    act_often(rt, trial, &mut Dice { number: seed })?;
+    trial.compare(rt)?;
+    assert!(rt; trial.ledger.sent_where(false) > 0, "{seed}");
+    Ok(())
+}
+
 /// Payments that are broken off anywhere, messages handled twice and late, logs read, archived and cleared, loads,
-/// redemptions and collects: after each twentieth of two thousand commands the books come to what the ledger says.
+/// redemptions and collects.
 #[test]
 fn sums_of_two_thousand_random_commands(rt: HostRuntime) -> Result<(), Fail> {
     for seed in 1..=4 {
-        let mut trial = opened(&rt)?;
-        let mut dice = Dice { number: seed };
-        // Each act asks one command or more.
-        for _ in 0..500 {
-            if trial.asked < 500 {
-                trial.act(&rt, &mut dice)?;
-            }
-        }
-        trial.compare(&rt)?;
-        assert!(rt; trial.ledger.sent_where(false) > 0, "{seed}");
+        assert_sums(&rt, &mut opened(&rt)?, seed)?;
     }
     Ok(())
 }

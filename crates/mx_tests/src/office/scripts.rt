@@ -2,7 +2,7 @@
 use mx_book::Caller;
 use mx_office::Command;
 use mx_pay::{Amount, Name, Seq, Token, read_code};
-use std::alloc::Global;
+use std::alloc::{AllocError, Global};
 use std::test::Fail;
 
 /// The words of a command: who asks, what, and what the command names; an empty text for each that isn't there.
@@ -164,4 +164,16 @@ pub(super) fn read_script(alloc: Global, script: &str) -> Result<Vec<(Caller, Co
         }
     }
     Ok(commands)
+}
+
+/// The replies of a script, a line each.
+pub(super) fn read_replies(alloc: Global, script: &str) -> Result<String, AllocError> {
+    let mut replies = String::new(alloc);
+    for line in script.lines() {
+        if let Some((_, reply)) = line.split_once(" -> ") {
+            replies.push_str(reply)?;
+            replies.push('\n')?;
+        }
+    }
+    Ok(replies)
 }

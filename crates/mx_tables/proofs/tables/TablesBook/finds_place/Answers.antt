@@ -3,10 +3,9 @@ use Rattle.std.proofs.lemmas.Result.{IfOk-weaker}
 use Rattle.sqlite.specs.Held.{state}
 use Rattle.mx_book.proofs.SpellLemmas.{place_at}
 use Rattle.mx_tables.specs.Holds.{Holds}
-use Rattle.mx_tables.proofs.SoundLemmas.{purses_valid}
 use Rattle.mx_tables.proofs.tables.TablesBook.finds_place.Goals as goal
 
 pub returns-clause-value : goal.returns-clause-value
 returns-clause-value g c w sure h =
     let holds : Holds (state g.S.Store c.self.inside.conn).now h.spelled.rows = rw c.self.view_is h.spelled.holds in
-    IfOk-weaker c.find_place.result _ _ (λ r is. is ∙ place_at h.spelled.rows w c.args.purse h.spelled.spells) (c.find_place.ensures.value c.self.invariant sure h.spelled.rows holds (purses_valid h.spelled.rows w h.spelled.spells))
+    IfOk-weaker c.find_place.result _ _ (λ r is. is ∙ place_at h.spelled.rows w c.args.purse h.spelled.spells) (c.find_place.ensures.value c.self.invariant sure h.spelled.rows holds)

@@ -1,0 +1,113 @@
+//! Books on tables: how they are made and opened.
+use crate::empty::{empty_store, made};
+use mx_book::{Book, Caller, StoreFault};
+use mx_pay::{Name, Token};
+use mx_tables::{OpenFault, OpenRefused, Tables};
+use sqlite::{Connection, MemStore, params};
+use std::alloc::Global;
+use std::process::Abort;
+use std::test::Fail;
+
+/// The books in a store.
+fn opened(alloc: Global, store: Connection<MemStore>) -> Result<Tables<MemStore>, Fail> {
+    let book = Tables::open(alloc, store);
+    Ok(book.ok().ok_or("not opened")?)
+}
+
+/// The store that `open` refuses, which has no books.
+fn unopened(alloc: Global, store: Connection<MemStore>) -> Result<Connection<MemStore>, Fail> {
+    match Tables::open(alloc, store) {
+        Ok(_) => Err("opened")?,
+        Err(refused) => not_this_schema(refused),
+    }
+}
+
+/// The store that `create` refuses, which has books.
+fn unmade(
+    alloc: Global,
+    store: Connection<MemStore>,
+    operator: Token,
+) -> Result<Connection<MemStore>, Fail> {
+    match Tables::create(alloc, store, operator) {
+        Ok(_) => Err("made twice")?,
+        Err(refused) => not_this_schema(refused),
+    }
+}
+
+/// The store that is refused for its schema.
+fn not_this_schema(refused: OpenRefused<MemStore>) -> Result<Connection<MemStore>, Fail> {
+    match refused.fault {
+        OpenFault::NotThisSchema => Ok(refused.store),
+        _ => Err("refused for another cause")?,
+    }
+}
+
+/// What a book says of the operator's token, and how many members it has.
+fn read_book(
+    alloc: Global,
+    book: &mut impl Book,
+    operator: &Token,
+) -> Result<(Option<Caller>, usize), StoreFault> {
+    let caller = book.who(alloc, operator)?;
+    let members = book.members(alloc)?;
+    Ok((caller, members.len()))
+}
+
+/// Asserts that the operator is known to a book, which has no member m and no other.
+fn assert_opening(
+    rt: &(impl Abort + AllocGlobal),
+    book: &mut impl Book,
+    operator: &Token,
+) -> Result<(), Fail> {
+    let (caller, members) = read_book(rt.alloc(), book, operator)?;
+    assert!(rt; matches!(caller, Some(Caller::Operator)));
+    assert_eq!(rt; members, 0);
+    let name = Name::read("m").ok_or("no name")?;
+    assert!(rt; book.member(rt.alloc(), name)?.is_none());
+    Ok(())
+}
+
+/// An empty store is refused, and stands then for new tables; these are opened again, and not made again.
+#[test]
+fn made_and_opened_again(rt: HostRuntime) -> Result<(), Fail> {
+    let alloc = rt.alloc();
+    let operator = Token::read("00000000000000000000000000000001").ok_or("no token")?;
+    let store = unopened(alloc, empty_store(alloc)?)?;
+    let mut book = made(alloc, store, operator)?;
+    assert_opening(&rt, &mut book, &operator)?;
+    let store = unmade(alloc, book.into_store(), operator)?;
+    let mut again = opened(alloc, store)?;
+    assert_opening(&rt, &mut again, &operator)
+}
+
+/// Adds a line of p1 of that number and kind.
+fn add_line(store: &mut Connection<MemStore>, number: i64, kind: &str) -> Result<(), Fail> {
+    store.execute(
+        "INSERT INTO line (purse, number, kind, amount, balance, note) VALUES ('p1', ?1, ?2, 1, ?1, 'a1')",
+        params![number, kind],
+    )?;
+    Ok(())
+}
+
+/// New tables with fifty lines of p1, and a 51st of a kind that no line has.
+fn with_a_bad_line(alloc: Global, operator: Token) -> Result<Tables<MemStore>, Fail> {
+    let mut store = made(alloc, empty_store(alloc)?, operator)?.into_store();
+    for number in 1..51 {
+        add_line(&mut store, number, "loaded")?;
+    }
+    add_line(&mut store, 51, "found")?;
+    opened(alloc, store)
+}
+
+/// A page of lines is read up to its end and no further: what stands behind it doesn't matter to it.
+#[test]
+fn page_before_a_line_of_no_kind(rt: HostRuntime) -> Result<(), Fail> {
+    let operator = Token::read("00000000000000000000000000000001").ok_or("no token")?;
+    let p1 = Name::read("p1").ok_or("no name")?;
+    let mut book = with_a_bad_line(rt.alloc(), operator)?;
+    let page = book.lines(rt.alloc(), p1, 0, 50)?;
+    assert_eq!(rt; page.len(), 50);
+    let whole = book.lines(rt.alloc(), p1, 0, 51);
+    assert_eq!(rt; whole.err(), Some(StoreFault::Store));
+    Ok(())
+}
