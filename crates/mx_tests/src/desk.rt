@@ -12,7 +12,9 @@ mod rounds;
 mod scripts;
 mod sums;
 
+use self::payments::FIVE_STEPS;
 use self::scripts::{Exchange, RUN_END};
+use self::sums::add_loads;
 use crate::empty::{over_book, over_tables};
 use mx_book::Book;
 use mx_desk::Counted;
@@ -129,5 +131,26 @@ fn tell(
     script: &str,
 ) -> Result<(), Fail> {
     let exchange = Exchange::of(rt.alloc(), script)?;
+    assert_served(rt, office, &exchange)
+}
+
+/// Makes `STANDING`, `FUNDED` and a payment of 60 from p1 to q1 in an office in which nothing is.
+pub(super) fn fund_and_pay(
+    rt: &(impl Abort + AllocGlobal),
+    office: &mut Office<impl Book>,
+) -> Result<(), Fail> {
+    tell(rt, office, STANDING)?;
+    tell(rt, office, FUNDED)?;
+    tell(rt, office, FIVE_STEPS)
+}
+
+/// Makes `STANDING`, `FUNDED` and so many loads of 1 to p1 in an office in which nothing is.
+pub(super) fn fund_and_load(
+    rt: &(impl Abort + AllocGlobal),
+    office: &mut Office<impl Book>,
+    count: u64,
+) -> Result<(), Fail> {
+    let mut exchange = Exchange::of_runs(rt.alloc(), &[STANDING, FUNDED])?;
+    add_loads(&mut exchange, rt.alloc(), count)?;
     assert_served(rt, office, &exchange)
 }

@@ -1,5 +1,4 @@
-//! Tests of the office, the desk, rolls and reports over a book in memory and over SQL tables, by their public calls
-//! alone: what no contract says, worked out by hand. They stand in a crate of their own, so that the crates that they
+//! Tests of the desk, rolls and reports over a book in memory and over SQL tables, by their public calls alone: what no contract says, worked out by hand. They stand in a crate of their own, so that the crates that they
 //! test are proved once, and not again with their tests.
 #![tactic(auto)]
 
@@ -9,8 +8,6 @@ mod desk;
 mod empty;
 #[cfg(test)]
 mod faulty;
-#[cfg(test)]
-mod office;
 #[cfg(test)]
 mod report;
 #[cfg(test)]

@@ -1,5 +1,5 @@
 //! The reports of a scheme, as texts, over a book in memory and over tables.
-use super::office::{fund_and_load, fund_and_pay};
+use crate::desk::{fund_and_load, fund_and_pay};
 use crate::empty::{over_book, over_faulty, over_tables};
 use crate::faulty::Faulty;
 use mx_book::Book;

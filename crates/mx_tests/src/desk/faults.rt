@@ -1,8 +1,9 @@
 //! Readers and writers that fail, first requests alone, and growths that are refused.
 use super::devices::{Page, Pieces};
 use super::scripts::Exchange;
-use super::served;
-use crate::empty::over_book;
+use super::{assert_served, served};
+use crate::empty::{over_book, over_faulty};
+use crate::faulty::Faulty;
 use mx_book::{Book, PlainBook};
 use mx_desk::desk::{Served, run, serve_one};
 use mx_desk::{Counted, DeskFault};
@@ -251,4 +252,114 @@ fn refused_growth_is_unavailable_once(rt: HostRuntime) {
     ] {
         assert!(rt; answered_in_the_end(alloc, request, &routes, &mut office, response));
     }
+}
+
+/// A member and a holder.
+const ADDED: &str = r#"
+operator POST /members {"member":"m","token":"00000000000000000000000000000002"} -> 200 {"done":"added"}
+clerk POST /holders {"holder":"ann","token":"0000000000000000000000000000000a"} -> 200 {"done":"added"}
+"#;
+
+const PURSE: &str = r#"
+clerk POST /purses {"purse":"p1","holder":"ann"} -> 200 {"done":"added"}
+"#;
+
+const GRANT: &str = r#"
+operator POST /members/m/grant {"amount":100} -> 200 {"done":"granted"}
+"#;
+
+const LOAD: &str = r#"
+clerk POST /purses/p1/load {"amount":100,"ref":"a1"} -> 200 {"done":"loaded"}
+"#;
+
+const REDEEM: &str = r#"
+ann POST /purses/p1/redeem {"amount":60,"ref":"r1"} -> 200 {"done":"redeemed"}
+"#;
+
+const RECONCILE: &str = r#"
+operator GET /reconcile -> 200 {"balances":"100","float":"0","granted":"100","issued":"100","lost":"0","redeemed":"0","transit":"0","uncollected":"0"}
+"#;
+
+/// Serves scripts over a book that leaves one call out, after so many that it passes on.
+fn tell_with_left(
+    rt: &(impl Abort + AllocGlobal),
+    office: &mut Office<Faulty<impl Book>>,
+    passed: u64,
+    scripts: &[&str],
+) -> Result<(), Fail> {
+    office.book.left = Some(passed);
+    assert_served(rt, office, &Exchange::of_runs(rt.alloc(), scripts)?)
+}
+
+/// The same in an office in which nothing is.
+fn tell_with_fault(
+    rt: &(impl Abort + AllocGlobal),
+    passed: u64,
+    scripts: &[&str],
+) -> Result<(), Fail> {
+    tell_with_left(rt, &mut over_faulty(rt.alloc())?, passed, scripts)
+}
+
+/// A call of the book that fails leaves its request undone, and no other.
+#[test]
+fn fault_in_one_request(rt: HostRuntime) -> Result<(), Fail> {
+    // Each request takes a call for who asks. A new member takes 3 more, a new holder 4, so the 11th is the first of the
+    // new purse's 3; a show takes 1. Of each request's calls the last is apply.
+    let script = r#"
+clerk POST /purses {"purse":"p1","holder":"ann"} -> 503
+ann GET /purses/p1 -> 404 {"error":"no such purse"}
+"#;
+    tell_with_fault(&rt, 10, &[ADDED, script])?;
+    tell_with_fault(&rt, 12, &[ADDED, script])?;
+    let script = r#"
+ann GET /purses/p1 -> 503
+ann GET /purses/p1 -> 200 {"balance":0,"next":0,"purse":"p1","status":"eaFrom"}
+"#;
+    tell_with_fault(&rt, 14, &[ADDED, PURSE, script])
+}
+
+/// The same of requests that move money.
+#[test]
+fn fault_in_one_request_of_money(rt: HostRuntime) -> Result<(), Fail> {
+    // What is added takes 13 calls of the book, a grant to the only member 5, a load 5, a redemption 4 and a collect 4.
+    // Of each request's calls the last is apply, and it is the one that fails: the 18th, 23rd, 27th and 31st.
+    let script = r#"
+operator POST /members/m/grant {"amount":100} -> 503
+clerk POST /purses/p1/load {"amount":100,"ref":"a1"} -> 409 {"error":"float too small"}
+"#;
+    tell_with_fault(&rt, 17, &[ADDED, PURSE, script])?;
+    let script = r#"
+clerk POST /purses/p1/load {"amount":100,"ref":"a1"} -> 503
+ann POST /purses/p1/redeem {"amount":60,"ref":"r1"} -> 409 {"error":"not enough"}
+"#;
+    tell_with_fault(&rt, 22, &[ADDED, PURSE, GRANT, script])?;
+    let script = r#"
+ann POST /purses/p1/redeem {"amount":60,"ref":"r1"} -> 503
+clerk POST /collect -> 200 {"collected":"0"}
+ann GET /purses/p1 -> 200 {"balance":100,"next":0,"purse":"p1","status":"eaFrom"}
+"#;
+    tell_with_fault(&rt, 26, &[ADDED, PURSE, GRANT, LOAD, script])?;
+    let script = r#"
+clerk POST /collect -> 503
+clerk POST /collect -> 200 {"collected":"60"}
+"#;
+    tell_with_fault(&rt, 30, &[ADDED, PURSE, GRANT, LOAD, REDEEM, script])
+}
+
+/// The same of requests that only tell something.
+#[test]
+fn fault_in_one_request_that_tells(rt: HostRuntime) -> Result<(), Fail> {
+    // What is added, granted and loaded takes 23 calls of the book, a reconciliation 2 and a statement 3. The calls that
+    // fail are the 25th, the 27th and the 28th.
+    let script = r#"
+operator GET /reconcile -> 503
+ann GET /purses/p1/statement/1 -> 200 {"lines":[]}
+"#;
+    tell_with_fault(&rt, 24, &[ADDED, PURSE, GRANT, LOAD, script])?;
+    let script = r#"
+ann GET /purses/p1/statement/1 -> 503
+ann GET /purses/p1/statement/1 -> 200 {"lines":[]}
+"#;
+    tell_with_fault(&rt, 26, &[ADDED, PURSE, GRANT, LOAD, RECONCILE, script])?;
+    tell_with_fault(&rt, 27, &[ADDED, PURSE, GRANT, LOAD, RECONCILE, script])
 }

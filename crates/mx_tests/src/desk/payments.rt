@@ -71,7 +71,7 @@ fn payments(rt: HostRuntime) -> Result<(), Fail> {
 }
 
 /// Each purse starts on its side; then the request, the value and the acknowledgement are handled.
-const FIVE_STEPS: &str = r#"
+pub(super) const FIVE_STEPS: &str = r#"
 ann POST /purses/p1/start-from {"peer":"q1","value":60,"seq":0} -> 200 {"details":"p1,q1,60,0,0","done":"started"}
 bob POST /purses/q1/start-to {"peer":"p1","value":60,"seq":0} -> 200 {"details":"p1,q1,60,0,0","done":"started"}
 ann POST /purses/p1/handle {"number":0} -> 200 {"done":"value-sent"}

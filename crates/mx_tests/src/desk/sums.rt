@@ -83,9 +83,13 @@ fn page(alloc: Global, first: u64, last: u64) -> Result<String, AllocError> {
     Ok(response)
 }
 
-/// Sixty loads of 1.
-fn add_sixty_loads(exchange: &mut Exchange, alloc: Global) -> Result<(), AllocError> {
-    for n in 1..=60 {
+/// So many loads of 1 to p1.
+pub(super) fn add_loads(
+    exchange: &mut Exchange,
+    alloc: Global,
+    count: u64,
+) -> Result<(), AllocError> {
+    for n in 1..=count {
         let load = format!(in alloc;
             "clerk POST /purses/p1/load {{\"amount\":1,\"ref\":\"b{n}\"}}"
         )?;
@@ -103,7 +107,7 @@ operator GET /reconcile -> 200 {"balances":"160","float":"840","granted":"1000",
 /// Sixty loads and the pages of the statement.
 fn loads_and_pages(alloc: Global) -> Result<Exchange, AllocError> {
     let mut exchange = Exchange::of_runs(alloc, &[STANDING, FUNDED])?;
-    add_sixty_loads(&mut exchange, alloc)?;
+    add_loads(&mut exchange, alloc, 60)?;
     let first = page(alloc, 1, 49)?;
     exchange.add("ann GET /purses/p1/statement/0", first.as_str())?;
     let second = page(alloc, 50, 60)?;

@@ -1,6 +1,6 @@
 use Rattle.std.proofs.Common.{refl, ap}
 use Rattle.mx_book.proofs.FirstLemmas.{set_fit_at}
-use Rattle.mx_tests.proofs.office.worn.worn_book.Goals as goal
+use Rattle.mx_part_tests.proofs.office.worn.worn_book.Goals as goal
 
 pub apply-requires : goal.apply-requires
 apply-requires c w sure spelled =

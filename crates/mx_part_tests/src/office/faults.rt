@@ -1,9 +1,7 @@
-//! What stands where a growth is refused, and where the book answers a fault.
+//! What stands where a growth is refused.
+use super::empty_book;
 use super::scripts::{name, read_command};
 use super::words::outcome_words;
-use super::{empty_book, tell};
-use crate::empty::over_faulty;
-use crate::faulty::Faulty;
 use mx_book::{Book, Caller, PlainBook};
 use mx_office::{Command, Office, Outcome};
 use mx_report::{reconcile, reconcile_text, statement, statement_text};
@@ -292,116 +290,4 @@ clerk load p1 100 a2 -> loaded
 clerk load p1 1 a3 -> float too small
 ",
     )
-}
-
-/// Runs commands after those of `opening` over a book that leaves one call out, after so many that it passes on, and
-/// asserts that each gets its reply.
-fn tell_with_left(
-    rt: &(impl Abort + AllocGlobal),
-    office: &mut Office<Faulty<impl Book>>,
-    passed: u64,
-    opening: &str,
-    script: &str,
-) -> Result<(), Fail> {
-    office.book.left = Some(passed);
-    tell(rt, office, opening)?;
-    tell(rt, office, script)
-}
-
-/// The same in an office that begins empty.
-fn tell_with_fault(
-    rt: &(impl Abort + AllocGlobal),
-    passed: u64,
-    opening: &str,
-    script: &str,
-) -> Result<(), Fail> {
-    tell_with_left(rt, &mut over_faulty(rt.alloc())?, passed, opening, script)
-}
-
-/// A call of the book that fails leaves its command undone, and no other.
-#[test]
-fn fault_in_one_command(rt: HostRuntime) -> Result<(), Fail> {
-    // A new member takes 3 calls of the book and a new holder 4, so the 8th is the first of the new purse's 3. The
-    // show takes 2. Of each command's calls the last is apply.
-    let opening = "
-operator new-member m 2 -> added
-clerk new-holder ann a -> added
-";
-    let script = "
-clerk new-purse p1 ann -> unavailable
-ann show p1 -> no such purse
-";
-    tell_with_fault(&rt, 7, opening, script)?;
-    tell_with_fault(&rt, 9, opening, script)?;
-    let script = "
-clerk new-purse p1 ann -> added
-ann show p1 -> unavailable
-ann show p1 -> p1 0 0 eaFrom
-";
-    tell_with_fault(&rt, 10, opening, script)
-}
-
-/// The same of commands that move money.
-#[test]
-fn fault_in_one_command_of_money(rt: HostRuntime) -> Result<(), Fail> {
-    // What is added takes 10 calls of the book, a grant to the only member 4, a load 4, a redemption 3 and a collect
-    // 3. Of each command's calls the last is apply, and it is the one that fails: the 14th, 18th, 21st and 24th.
-    let opening = "
-operator new-member m 2 -> added
-clerk new-holder ann a -> added
-clerk new-purse p1 ann -> added
-";
-    let script = "
-operator grant m 100 -> unavailable
-clerk load p1 100 a1 -> float too small
-";
-    tell_with_fault(&rt, 13, opening, script)?;
-    let script = "
-operator grant m 100 -> granted
-clerk load p1 100 a1 -> unavailable
-ann redeem p1 60 r1 -> not enough
-";
-    tell_with_fault(&rt, 17, opening, script)?;
-    let script = "
-operator grant m 100 -> granted
-clerk load p1 100 a1 -> loaded
-ann redeem p1 60 r1 -> unavailable
-clerk collect -> collected 0
-ann show p1 -> p1 100 0 eaFrom
-";
-    tell_with_fault(&rt, 20, opening, script)?;
-    let script = "
-operator grant m 100 -> granted
-clerk load p1 100 a1 -> loaded
-ann redeem p1 60 r1 -> redeemed
-clerk collect -> unavailable
-clerk collect -> collected 60
-";
-    tell_with_fault(&rt, 23, opening, script)
-}
-
-/// The same of commands that only tell something.
-#[test]
-fn fault_in_one_command_that_tells(rt: HostRuntime) -> Result<(), Fail> {
-    // What is added takes 10 calls of the book, a grant to the only member 4, a load 4, a reconciliation 1 and a
-    // statement 2. The calls that fail are the 19th, the 20th and the 21st.
-    let opening = "
-operator new-member m 2 -> added
-clerk new-holder ann a -> added
-clerk new-purse p1 ann -> added
-operator grant m 100 -> granted
-clerk load p1 40 a1 -> loaded
-";
-    let script = "
-operator reconcile -> unavailable
-ann statement p1 0 -> statement 1 loaded 40 40 a1
-";
-    tell_with_fault(&rt, 18, opening, script)?;
-    let script = "
-operator reconcile -> 100 60 0 40 0, 40 0 0
-ann statement p1 0 -> unavailable
-ann statement p1 0 -> statement 1 loaded 40 40 a1
-";
-    tell_with_fault(&rt, 19, opening, script)?;
-    tell_with_fault(&rt, 20, opening, script)
 }

@@ -92,46 +92,6 @@ fn repeat(
     Ok(())
 }
 
-const PAYMENT: &str = "
-ann start-from p1 q1 60 0 -> started p1,q1,60,0,0
-bob start-to q1 p1 60 0 -> started p1,q1,60,0,0
-ann handle p1 0 -> value-sent
-bob handle q1 0 -> received
-ann handle p1 1 -> finished
-";
-
-/// Makes `STANDING`, `FUNDED` and a payment of 60 from p1 to q1 in an office in which nothing is.
-pub(super) fn fund_and_pay(
-    rt: &(impl Abort + AllocGlobal),
-    office: &mut Office<impl Book>,
-) -> Result<(), Fail> {
-    tell(rt, office, STANDING)?;
-    tell(rt, office, FUNDED)?;
-    tell(rt, office, PAYMENT)
-}
-
-/// The script of so many loads of 1 to p1.
-fn loads(alloc: Global, count: u64) -> Result<String, AllocError> {
-    let mut script = String::new(alloc);
-    for n in 1..=count {
-        let load = format!(in alloc; "clerk load p1 1 b{n} -> loaded\n")?;
-        script.push_str(load.as_str())?;
-    }
-    Ok(script)
-}
-
-/// Makes `STANDING`, `FUNDED` and so many loads of 1 to p1 in an office in which nothing is.
-pub(super) fn fund_and_load(
-    rt: &(impl Abort + AllocGlobal),
-    office: &mut Office<impl Book>,
-    count: u64,
-) -> Result<(), Fail> {
-    tell(rt, office, STANDING)?;
-    tell(rt, office, FUNDED)?;
-    let loads = loads(rt.alloc(), count)?;
-    tell(rt, office, loads.as_str())
-}
-
 /// An empty list of commands has an empty list of replies.
 #[test]
 fn an_empty_list_has_no_replies(rt: HostRuntime) -> Result<(), Fail> {
