@@ -1,5 +1,5 @@
 //! The trait that every book meets.
-ghost use Rattle.std.specs.Prelude.{◌≡◌, ℕ, ◌≤◌, IfOk, IfErr, OnOk, OnErr, ◌⊎◌};
+ghost use Rattle.std.specs.Prelude.{◌≡◌, ℕ, ◌≤◌, is_some, IfOk, IfErr, OnOk, OnErr, ◌⊎◌};
 ghost use Rattle.mx_book.specs.World.{World};
 ghost use Rattle.mx_book.specs.Conditions.{IsWorld};
 ghost use Rattle.mx_book.specs.Reads.{who_of, member_of, holder_of, account_of, own_purse, finds_place, purses_of, inbox_of, message_of, lines_of, members_of, load_of, redemption_of, is_archived, tray_of, uncollected_of};
@@ -81,6 +81,12 @@ pub trait Book {
         ensures value { (w : World) → doubt self.new ≡ 0 → spells (rows self.old) w → IfOk result (λ r. r ≡ own_purse w holder purse) }
         ensures fault { IfErr result fails };
 
+    /// Whether the purse of that name is there and is this holder's.
+    fn is_own(&mut self, alloc: Global, holder: Name, purse: Name) -> Result<bool, StoreFault>
+        ensures keeps { Keeps doubt rows self.old self.new }
+        ensures value { (w : World) → doubt self.new ≡ 0 → spells (rows self.old) w → IfOk result (λ b. b ≡ is_some (own_purse w holder purse)) }
+        ensures fault { IfErr result fails };
+
     /// Whether a message to a purse finds a place: the purse is there, its inbox has fewer than 32, and the number of
     /// its next message is below 10^15.
     fn finds_place(&mut self, alloc: Global, purse: Name) -> Result<bool, StoreFault>
@@ -109,6 +115,12 @@ pub trait Book {
     ) -> Result<Option<Message>, StoreFault>
         ensures keeps { Keeps doubt rows self.old self.new }
         ensures value { (w : World) → doubt self.new ≡ 0 → spells (rows self.old) w → IfOk result (λ r. r ≡ message_of w purse number) }
+        ensures fault { IfErr result fails };
+
+    /// Whether a message of that number lies in the inbox of a purse.
+    fn has_message(&mut self, alloc: Global, purse: Name, number: u64) -> Result<bool, StoreFault>
+        ensures keeps { Keeps doubt rows self.old self.new }
+        ensures value { (w : World) → doubt self.new ≡ 0 → spells (rows self.old) w → IfOk result (λ b. b ≡ is_some (message_of w purse number)) }
         ensures fault { IfErr result fails };
 
     /// The first `most` lines of a purse that are numbered above `after`, by number; all of them where there

@@ -70,6 +70,10 @@ impl Book for PlainBook {
         self.shelves.own_purse(holder, purse)
     }
 
+    fn is_own(&mut self, _alloc: Global, holder: Name, purse: Name) -> Result<bool, StoreFault> {
+        Ok(self.shelves.is_own(holder, purse))
+    }
+
     fn finds_place(&mut self, _alloc: Global, purse: Name) -> Result<bool, StoreFault> {
         Ok(self.shelves.finds_place(purse))
     }
@@ -98,6 +102,15 @@ impl Book for PlainBook {
             Some(message) => Ok(Some(*message)),
             None => Ok(None),
         }
+    }
+
+    fn has_message(
+        &mut self,
+        _alloc: Global,
+        purse: Name,
+        number: u64,
+    ) -> Result<bool, StoreFault> {
+        Ok(self.shelves.inbox.get((purse, number)).is_some())
     }
 
     fn lines(

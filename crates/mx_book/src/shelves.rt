@@ -1,5 +1,5 @@
 //! The tables of a book in memory. Of what they hold they ask no more than their indexes need.
-ghost use Rattle.std.specs.Prelude.{◌≡◌, ◌+◌, ◌≤◌, ◌<◌, IsTrue, ℕ, List, length, Ok, OnOk, IfOk, map, filter, take, nat_lt, count_by, ◌∷◌, []};
+ghost use Rattle.std.specs.Prelude.{◌≡◌, ◌+◌, ◌≤◌, ◌<◌, IsTrue, ℕ, List, length, Ok, OnOk, IfOk, map, filter, take, nat_lt, count_by, is_some, ◌∷◌, []};
 ghost use Rattle.std.specs.FinMap.{get};
 ghost use Rattle.std.specs.FinMap as fmap;
 ghost use Rattle.mx_purse.specs.declared.message.Message.{Message as Kept};
@@ -195,6 +195,16 @@ impl Shelves {
         match self.purses.get(purse) {
             Some(row) if same_name(&holder, &row.holder) => Ok(Some(row.purse)),
             _ => Ok(None),
+        }
+    }
+
+    /// Whether the purse of that name is there and is the holder's.
+    pub fn is_own(&self, holder: Name, purse: Name) -> bool
+        ensures { result ≡ is_some (row_own_purse (rows_of self.now) holder purse) }
+    {
+        match self.purses.get(purse) {
+            None => false,
+            Some(row) => same_name(&holder, &row.holder),
         }
     }
 
