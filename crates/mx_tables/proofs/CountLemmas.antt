@@ -1,31 +1,23 @@
 -- The statements whose rows are summed.
-use Rattle.std.proofs.Common.{◌≡◌, ℕ, Bool, true, false, not, if◌then◌else◌, List, [], ◌∷◌, map, filter, refl, subst, ◌∙◌}
+use Rattle.std.proofs.Common.{◌≡◌, ℕ, Bool, true, false, not, if◌then◌else◌, List, [], map, filter, refl, subst, ◌∙◌}
 use Rattle.std.specs.List.Sorted.{IsPermutation}
 use Rattle.std.specs.FinMap as fmap
 use Rattle.std.specs.Ordering.{nat_cmp, eq_by_cmp}
-use Rattle.sqlite_value.specs.declared.value.Value.TheVariants.{Text}
 use Rattle.sqlite_value.specs.Order.{Row}
 use Rattle.sqlite.specs.State.{State, Shown}
-use Rattle.mx_pay.specs.Names.{name_cmp, is_name}
 use Rattle.mx_book.specs.World.{Name}
 use Rattle.mx_book.specs.Rows.{Rows}
 use Rattle.mx_book.specs.declared.values.MemberRow.{MemberRow}
 use Rattle.mx_book.specs.declared.values.PurseRow.{PurseRow}
 use Rattle.mx_book.specs.declared.values.Redemption.{Redemption}
 use Rattle.mx_tables.specs.Holds.{Holds}
-use Rattle.mx_tables.specs.Answers.{at_key, member_shown, text_shown}
+use Rattle.mx_tables.specs.Answers.{member_shown}
 use Rattle.mx_tables.specs.Counted.{owed_shown, owned_shown}
-use Rattle.mx_tables.proofs.MoneyTexts.{select_uncollected, select_uncollected_is, select_redeemed, select_redeemed_is, select_issued, select_issued_is, select_balances, select_balances_is, select_owner, select_owner_is, select_owned, select_owned_is, select_grants, select_grants_is}
-use Rattle.mx_tables.proofs.StoredLemmas.{and_true, same_text, same_numbers}
+use Rattle.mx_tables.proofs.MoneyTexts.{select_uncollected, select_uncollected_is, select_redeemed, select_redeemed_is, select_issued, select_issued_is, select_balances, select_balances_is, select_owned, select_owned_is, select_grants, select_grants_is}
+use Rattle.mx_tables.proofs.StoredLemmas.{and_true, same_numbers}
 use Rattle.mx_tables.proofs.MemberLemmas.{filter_everything}
-use Rattle.mx_tables.proofs.ReadLemmas.{turned, answers}
+use Rattle.mx_tables.proofs.ReadLemmas.{answers}
 use Rattle.mx_tables.proofs.KeptLemmas as kept
-
-pub finds_owner : (name : Name) (old new : State) (rows : List Row) → Shown select_owner (Text name ∷ []) old new rows → (r : Rows) → Holds old.now r
-    → IsPermutation (map (λ (e : Name × PurseRow). text_shown e.1.holder) (at_key name_cmp name (fmap.entries r.purses))) rows
-finds_owner name =
-    answers kept.purses select_owner _ _ _ select_owner_is (Text name ∷ []) (λ (e : Name × PurseRow). is_name name e.0) (λ (e : Name × PurseRow). text_shown e.1.holder)
-    (λ id e. rw (same_text e.0 name) (and_true _ ∙ turned e.0 name)) (λ id e. refl)
 
 uncollected_flag : (b : Bool) → eq_by_cmp nat_cmp (if b then 1 else 0) 0 ≡ not b
 uncollected_flag true = refl

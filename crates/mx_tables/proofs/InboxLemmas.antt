@@ -20,6 +20,7 @@ use Rattle.sqlite_sql.specs.Term.{col}
 use Rattle.sqlite.specs.Effect.{Database}
 use Rattle.sqlite.specs.State.{State, Shown, Executes}
 use Rattle.mx_pay.specs.Names.{name_cmp, is_name}
+use Rattle.mx_pay.proofs.TestLemmas.{is_equal}
 use Rattle.mx_purse.specs.declared.message.Message.{Message}
 use Rattle.mx_purse.specs.Messages.{IsMessage}
 use Rattle.mx_book.specs.World.{Name}
@@ -38,7 +39,7 @@ use Rattle.mx_tables.specs.Holds.{Holds}
 use Rattle.mx_tables.specs.States.{Goes}
 use Rattle.mx_tables.specs.Answers.{at_key, message_row, message_shown, first_three, AreMessages}
 use Rattle.mx_tables.proofs.Queries.{is_given}
-use Rattle.mx_tables.proofs.Texts.{select_inbox, select_inbox_is, select_held_numbers, select_held_numbers_is, select_message, select_message_is, insert_message, insert_message_is, delete_message, delete_message_is}
+use Rattle.mx_tables.proofs.Texts.{select_inbox, select_inbox_is, select_held_numbers, select_held_numbers_is, select_message, select_message_is, select_number, select_number_is, insert_message, insert_message_is, delete_message, delete_message_is}
 use Rattle.mx_tables.proofs.Statements.{passes}
 use Rattle.mx_tables.proofs.StoredLemmas.{and_true, same_text, same_numbers, numbers_cmp, cast_int, cast_null}
 use Rattle.mx_tables.proofs.ReadLemmas.{turned, answers, answers_in_order}
@@ -111,6 +112,24 @@ pub finds_message : (p : Name) (n : ℕ) (old new : State) (rows : List Row) →
 finds_message p n =
     answers kept.inbox select_message _ _ _ select_message_is (Text p ∷ number n ∷ []) (λ (e : (Name × ℕ) × Message). eq_by_cmp (pair_cmp name_cmp nat_cmp) (p, n) e.0) (λ (e : (Name × ℕ) × Message). message_shown e.1)
     (at_message p n) (λ id e. refl)
+
+-- the rows at a key have its number
+same_numbers_shown : (p : Name) (n : ℕ) (es : List ((Name × ℕ) × Message))
+    → map (λ (e : (Name × ℕ) × Message). number e.0.1 ∷ []) (at_key (pair_cmp name_cmp nat_cmp) (p, n) es) ≡ map (λ (e : (Name × ℕ) × Message). number n ∷ []) (at_key (pair_cmp name_cmp nat_cmp) (p, n) es)
+same_numbers_shown p n [] = refl
+same_numbers_shown p n (e ∷ es) =
+    let more = same_numbers_shown p n es in
+    elim (cases_Bool (eq_by_cmp (pair_cmp name_cmp nat_cmp) (p, n) e.0)) [
+      | inl t ↦ let same : n ≡ e.0.1 = ap (λ (k : Name × ℕ). k.1) (kept.pairs_exact (p, n) e.0 (is_equal _ t)) in rw t (λ i. (number (sym same i) ∷ []) ∷ more i)
+      | inr f ↦ rw f more
+    ]
+
+pub finds_number : (p : Name) (n : ℕ) (old new : State) (rows : List Row) → Shown select_number (Text p ∷ number n ∷ []) old new rows → (r : Rows) → Holds old.now r
+    → IsPermutation (map (λ (e : (Name × ℕ) × Message). number n ∷ []) (at_key (pair_cmp name_cmp nat_cmp) (p, n) (fmap.entries r.inbox))) rows
+finds_number p n old new rows shown r h =
+    subst (λ xs. IsPermutation xs rows) (same_numbers_shown p n (fmap.entries r.inbox))
+    (answers kept.inbox select_number _ _ _ select_number_is (Text p ∷ number n ∷ []) (λ (e : (Name × ℕ) × Message). eq_by_cmp (pair_cmp name_cmp nat_cmp) (p, n) e.0) (λ (e : (Name × ℕ) × Message). number e.0.1 ∷ [])
+    (at_message p n) (λ id e. refl) old new rows shown r h)
 
 pub message_back : (v m : Message) (row : Row) → IsMessage v → IsMessage m → message_shown v ≡ row → column row 0 ≡ Text (message_kind m) → column row 1 ≡ Text (message_details m) → m ≡ v
 message_back v m row one two is a b = sym (same_message v m one two (same_words _ _ (ap (λ r. column r 0) is ∙ a)) (same_words _ _ (ap (λ r. column r 1) is ∙ b)))

@@ -70,13 +70,6 @@ pub select_balances_is : IsSelect select_balances 8 [] (col 1 1 ∷ col 1 3 ∷ 
 unfolding understood everything
 select_balances_is = record { is = refl; plain = (refl, refl); unlisted = refl }
 
-abbrev pub select_owner : List ℕ
-select_owner = codes "SELECT holder FROM purse WHERE name = ?1"
-
-pub select_owner_is : IsSelect select_owner 8 (is_given 1 0 ∷ []) (col 1 2 ∷ []) [] (codes "holder" ∷ [])
-unfolding understood everything
-select_owner_is = record { is = refl; plain = (refl, refl); unlisted = refl }
-
 abbrev pub select_owned : List ℕ
 select_owned = codes "SELECT name, holder FROM purse"
 

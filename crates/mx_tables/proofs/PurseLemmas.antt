@@ -39,7 +39,7 @@ use Rattle.mx_tables.specs.Holds.{Holds}
 use Rattle.mx_tables.specs.States.{Goes}
 use Rattle.mx_tables.specs.Answers.{at_key, text_shown, state_shown, state_columns, purse_shown, purse_columns, next_shown}
 use Rattle.mx_tables.proofs.Queries.{is_given}
-use Rattle.mx_tables.proofs.Texts.{IsUpdate, select_held, select_held_is, insert_purse, insert_purse_is, select_purse, select_purse_is, update_purse, update_purse_is, select_next, select_next_is, update_next, update_next_is}
+use Rattle.mx_tables.proofs.Texts.{IsUpdate, select_held, select_held_is, insert_purse, insert_purse_is, select_purse, select_purse_is, update_purse, update_purse_is, select_next, select_next_is, select_owner, select_owner_is, update_next, update_next_is}
 use Rattle.mx_tables.proofs.Statements.{env}
 use Rattle.mx_tables.proofs.StoredLemmas.{and_true, same_text, cast_int, cast_null}
 use Rattle.mx_tables.proofs.ReadLemmas.{turned, answers, answers_in_order}
@@ -60,6 +60,12 @@ pub finds_purse : (p : Name) (old new : State) (rows : List Row) → Shown selec
     → IsPermutation (map (λ (e : Name × PurseRow). purse_shown e.1) (at_key name_cmp p (fmap.entries r.purses))) rows
 finds_purse p =
     answers purses select_purse _ _ _ select_purse_is (Text p ∷ []) (λ (e : Name × PurseRow). is_name p e.0) (λ (e : Name × PurseRow). purse_shown e.1)
+    (λ id e. rw (same_text e.0 p) (and_true _ ∙ turned e.0 p)) (λ id e. refl)
+
+pub finds_owner : (p : Name) (old new : State) (rows : List Row) → Shown select_owner (Text p ∷ []) old new rows → (r : Rows) → Holds old.now r
+    → IsPermutation (map (λ (e : Name × PurseRow). text_shown e.1.holder) (at_key name_cmp p (fmap.entries r.purses))) rows
+finds_owner p =
+    answers purses select_owner _ _ _ select_owner_is (Text p ∷ []) (λ (e : Name × PurseRow). is_name p e.0) (λ (e : Name × PurseRow). text_shown e.1.holder)
     (λ id e. rw (same_text e.0 p) (and_true _ ∙ turned e.0 p)) (λ id e. refl)
 
 pub finds_next : (p : Name) (old new : State) (rows : List Row) → Shown select_next (Text p ∷ []) old new rows → (r : Rows) → Holds old.now r

@@ -168,6 +168,13 @@ pub select_next_is : IsSelect select_next 8 (is_given 1 0 ∷ []) (col 1 9 ∷ [
 unfolding understood everything
 select_next_is = record { is = refl; plain = (refl, refl); unlisted = refl }
 
+abbrev pub select_owner : List ℕ
+select_owner = codes "SELECT holder FROM purse WHERE name = ?1"
+
+pub select_owner_is : IsSelect select_owner 8 (is_given 1 0 ∷ []) (col 1 2 ∷ []) [] (codes "holder" ∷ [])
+unfolding understood everything
+select_owner_is = record { is = refl; plain = (refl, refl); unlisted = refl }
+
 abbrev pub update_next : List ℕ
 update_next = codes "UPDATE purse SET next_message = ?2 WHERE name = ?1"
 
@@ -181,6 +188,13 @@ select_message = codes "SELECT kind, details FROM inbox WHERE purse = ?1 AND num
 pub select_message_is : IsSelect select_message 10 (is_given 1 0 ∷ is_given 2 1 ∷ []) (col 1 3 ∷ col 1 4 ∷ []) [] (codes "kind" ∷ codes "details" ∷ [])
 unfolding understood everything
 select_message_is = record { is = refl; plain = (refl, refl); unlisted = refl }
+
+abbrev pub select_number : List ℕ
+select_number = codes "SELECT number FROM inbox WHERE purse = ?1 AND number = ?2"
+
+pub select_number_is : IsSelect select_number 10 (is_given 1 0 ∷ is_given 2 1 ∷ []) (col 1 2 ∷ []) [] (codes "number" ∷ [])
+unfolding understood everything
+select_number_is = record { is = refl; plain = (refl, refl); unlisted = refl }
 
 abbrev pub insert_message : List ℕ
 insert_message = codes "INSERT INTO inbox (purse, number, kind, details) VALUES (?1, ?2, ?3, ?4)"

@@ -1,5 +1,5 @@
 //! The messages in the inboxes of purses.
-ghost use Rattle.std.specs.Prelude.{◌≡◌, ◌≤◌, ◌∷◌, [], ◌^◌, codes, Ok, map, length, IfOk, OnOk, IsTrue};
+ghost use Rattle.std.specs.Prelude.{◌≡◌, ◌≤◌, ◌∷◌, [], ◌^◌, codes, Ok, map, length, is_some, IfOk, OnOk, IsTrue};
 ghost use Rattle.std.specs.List.{AllByRecursion};
 ghost use Rattle.std.specs.FinMap as fmap;
 ghost use Rattle.sqlite_value.specs.Order.{column};
@@ -148,6 +148,44 @@ pub fn find_message<S: Alter>(
     match rows.as_slice() {
         [] => Ok(None),
         [row] => Ok(Some(message_at(row, 0, 1)?)),
+        _ => Err(StoreFault::Store),
+    }
+}
+
+/// The number of a message in the inbox of a purse, in the rows of that key.
+fn select_number<S: Alter>(
+    conn: &mut Connection<S>,
+    purse: &str,
+    number: u64,
+) -> Result<Vec<Row>, StoreFault>
+    requires { number ≤ 10 ^ 15 }
+    ensures stays { IsOurs (state S.Store conn.old) → Stays (state S.Store conn.old) (state S.Store conn.new) }
+    ensures shown { worry (state S.Store conn.new) ≡ 0 → IfOk result (λ rows. Shown (codes "SELECT number FROM inbox WHERE purse = ?1 AND number = ?2") (Text purse.now ∷ cell number ∷ []) (state S.Store conn.old) (state S.Store conn.new) rows.items) }
+{
+    let number = number as i64;
+    ask(
+        conn,
+        "SELECT number FROM inbox WHERE purse = ?1 AND number = ?2",
+        params![purse, number],
+    )
+}
+
+/// Whether a message of that number lies in the inbox of a purse.
+pub fn find_has_message<S: Alter>(
+    conn: &mut Connection<S>,
+    purse: &Name,
+    number: u64,
+) -> Result<bool, StoreFault>
+    ensures stays { IsOurs (state S.Store conn.old) → Stays (state S.Store conn.old) (state S.Store conn.new) }
+    ensures value { worry (state S.Store conn.new) ≡ 0 → (r : _) → Holds (state S.Store conn.old).now r → HaveNumbers r → IfOk result (λ b. b ≡ is_some (fmap.get r.inbox (purse.now, number))) }
+{
+    if number > MOST_NUMBER {
+        return Ok(false);
+    }
+    let rows = select_number(conn, purse.as_str(), number)?;
+    match rows.as_slice() {
+        [] => Ok(false),
+        [_] => Ok(true),
         _ => Err(StoreFault::Store),
     }
 }

@@ -1,5 +1,5 @@
 //! Purses.
-ghost use Rattle.std.specs.Prelude.{◌≡◌, ◌≤◌, ◌^◌, ◌∷◌, [], codes, map, length, option_map, Ok, Some, IfOk, IfSome, OnOk, IsTrue};
+ghost use Rattle.std.specs.Prelude.{◌≡◌, ◌≤◌, ◌^◌, ◌∷◌, [], codes, map, length, option_map, is_some, Ok, Some, IfOk, IfSome, OnOk, IsTrue};
 ghost use Rattle.std.specs.List.Sorted.{IsPermutation};
 ghost use Rattle.std.specs.FinMap as fmap;
 ghost use Rattle.sqlite_trees.specs.View.{doubt};
@@ -205,6 +205,50 @@ pub fn find_own<S: Alter>(
     match find_purse(conn, name)? {
         Some(row) if same_name(holder, &row.holder) => Ok(Some(row.purse)),
         _ => Ok(None),
+    }
+}
+
+/// The holder of a purse, in the rows of that name.
+fn select_owner<S: Alter>(conn: &mut Connection<S>, name: &Name) -> Result<Vec<Row>, StoreFault>
+    ensures stays { IsOurs (state S.Store conn.old) → Stays (state S.Store conn.old) (state S.Store conn.new) }
+    ensures rows { worry (state S.Store conn.new) ≡ 0 → (r : _) → Holds (state S.Store conn.old).now r → IfOk result (λ rows. IsPermutation (map (λ e. text_shown e.1.holder) (at_key name_cmp name.now (fmap.entries r.purses))) rows.items) }
+{
+    let name = name.as_str();
+    ask(
+        conn,
+        "SELECT holder FROM purse WHERE name = ?1",
+        params![name],
+    )
+}
+
+/// The holder of a purse, or None where there is no such purse.
+pub fn find_owner<S: Alter>(
+    conn: &mut Connection<S>,
+    name: &Name,
+) -> Result<Option<Name>, StoreFault>
+    ensures stays { IsOurs (state S.Store conn.old) → Stays (state S.Store conn.old) (state S.Store conn.new) }
+    ensures value { worry (state S.Store conn.new) ≡ 0 → (r : _) → Holds (state S.Store conn.old).now r → IfOk result (λ v. v ≡ option_map (λ x. x.holder) (fmap.get r.purses name.now)) }
+{
+    let rows = select_owner(conn, name)?;
+    match rows.as_slice() {
+        [] => Ok(None),
+        [row] => Ok(Some(name_at(row, 0)?)),
+        _ => Err(StoreFault::Store),
+    }
+}
+
+/// Whether the purse of that name is there and is the holder's.
+pub fn find_is_own<S: Alter>(
+    conn: &mut Connection<S>,
+    holder: &Name,
+    name: &Name,
+) -> Result<bool, StoreFault>
+    ensures stays { IsOurs (state S.Store conn.old) → Stays (state S.Store conn.old) (state S.Store conn.new) }
+    ensures value { worry (state S.Store conn.new) ≡ 0 → (r : _) → Holds (state S.Store conn.old).now r → IfOk result (λ b. b ≡ is_some (row_own_purse r holder.now name.now)) }
+{
+    match find_owner(conn, name)? {
+        Some(owner) => Ok(same_name(holder, &owner)),
+        None => Ok(false),
     }
 }
 

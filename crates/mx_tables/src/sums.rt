@@ -1,9 +1,8 @@
 //! What the books come to: sums over rows.
-ghost use Rattle.std.specs.Prelude.{◌≡◌, ◌+◌, not, map, filter, sum_by, option_map, IfOk};
+ghost use Rattle.std.specs.Prelude.{◌≡◌, ◌+◌, not, map, filter, sum_by, IfOk};
 ghost use Rattle.std.specs.List.Sorted.{IsPermutation};
 ghost use Rattle.std.specs.FinMap as fmap;
 ghost use Rattle.sqlite.specs.Held.{state};
-ghost use Rattle.mx_pay.specs.Names.{name_cmp};
 ghost use Rattle.sqlite_value.specs.Order.{column};
 ghost use Rattle.mx_book.specs.Sums.{sum_values};
 ghost use Rattle.mx_book.specs.RowEdits.{member_at};
@@ -11,7 +10,7 @@ ghost use Rattle.mx_book.specs.RowReads.{is_counted};
 ghost use Rattle.mx_book.specs.RowTotals.{row_member_totals_of, row_totals_of};
 ghost use Rattle.mx_tables.specs.States.{worry, IsOurs, Stays};
 ghost use Rattle.mx_tables.specs.Holds.{Holds};
-ghost use Rattle.mx_tables.specs.Answers.{at_key, member_shown, text_shown, ArePurses};
+ghost use Rattle.mx_tables.specs.Answers.{member_shown, ArePurses};
 ghost use Rattle.mx_tables.specs.Results.{AreDetails};
 ghost use Rattle.mx_tables.specs.Counted.{number_of, owed_shown, counted_row, row_sums};
 
@@ -20,6 +19,7 @@ use crate::between::{sum_lost, sum_transit};
 use crate::cells::{name_at, number_at};
 use crate::holders::find_holder;
 use crate::members::find_member;
+use crate::purses::find_owner;
 use mx_book::{MemberTotals, Scope, StoreFault, Totals};
 use mx_pay::Name;
 use mx_pay::names::same_name;
@@ -33,32 +33,6 @@ pub fn plus(sum: u128, more: u128) -> Result<u128, StoreFault>
     match sum.checked_add(more) {
         Some(sum) => Ok(sum),
         None => Err(StoreFault::Store),
-    }
-}
-
-/// The holder of a purse, in the rows of that name.
-fn select_owner<S: Alter>(conn: &mut Connection<S>, purse: &Name) -> Result<Vec<Row>, StoreFault>
-    ensures stays { IsOurs (state S.Store conn.old) → Stays (state S.Store conn.old) (state S.Store conn.new) }
-    ensures rows { worry (state S.Store conn.new) ≡ 0 → (r : _) → Holds (state S.Store conn.old).now r → IfOk result (λ rows. IsPermutation (map (λ e. text_shown e.1.holder) (at_key name_cmp purse.now (fmap.entries r.purses))) rows.items) }
-{
-    let purse = purse.as_str();
-    ask(
-        conn,
-        "SELECT holder FROM purse WHERE name = ?1",
-        params![purse],
-    )
-}
-
-/// The holder of a purse, or None where there is no such purse.
-fn find_owner<S: Alter>(conn: &mut Connection<S>, purse: &Name) -> Result<Option<Name>, StoreFault>
-    ensures stays { IsOurs (state S.Store conn.old) → Stays (state S.Store conn.old) (state S.Store conn.new) }
-    ensures value { worry (state S.Store conn.new) ≡ 0 → (r : _) → Holds (state S.Store conn.old).now r → IfOk result (λ v. v ≡ option_map (λ x. x.holder) (fmap.get r.purses purse.now)) }
-{
-    let rows = select_owner(conn, purse)?;
-    match rows.as_slice() {
-        [] => Ok(None),
-        [row] => Ok(Some(name_at(row, 0)?)),
-        _ => Err(StoreFault::Store),
     }
 }
 

@@ -12,12 +12,12 @@ ghost use Rattle.mx_tables.specs.Holds.{SpellsOne};
 
 use crate::edits::edit_all;
 use crate::holders::read_holder;
-use crate::inbox::{find_message, list_inbox};
+use crate::inbox::{find_has_message, find_message, list_inbox};
 use crate::lines::list_lines;
 use crate::loads::find_load;
 use crate::members::{find_member, list_members};
 use crate::opening::{OpenFault, OpenRefused, check_office, make_office};
-use crate::purses::{find_own, find_place, list_held, read_account};
+use crate::purses::{find_is_own, find_own, find_place, list_held, read_account};
 use crate::redemptions::find_redemption;
 use crate::results::{find_archived, list_tray};
 use crate::sums::{sum_member, sum_scheme, sum_uncollected};
@@ -156,6 +156,10 @@ impl<S: Alter> Book for Tables<S> {
         find_own(&mut self.conn, &holder, &purse)
     }
 
+    fn is_own(&mut self, _alloc: Global, holder: Name, purse: Name) -> Result<bool, StoreFault> {
+        find_is_own(&mut self.conn, &holder, &purse)
+    }
+
     fn finds_place(&mut self, _alloc: Global, purse: Name) -> Result<bool, StoreFault> {
         find_place(&mut self.conn, &purse)
     }
@@ -175,6 +179,15 @@ impl<S: Alter> Book for Tables<S> {
         number: u64,
     ) -> Result<Option<Message>, StoreFault> {
         find_message(&mut self.conn, &purse, number)
+    }
+
+    fn has_message(
+        &mut self,
+        _alloc: Global,
+        purse: Name,
+        number: u64,
+    ) -> Result<bool, StoreFault> {
+        find_has_message(&mut self.conn, &purse, number)
     }
 
     fn lines(

@@ -1,0 +1,12 @@
+use Rattle.std.proofs.Common.{◌∙◌, ap, is_some}
+use Rattle.std.proofs.lemmas.Result.{IfOk-weaker}
+use Rattle.sqlite.specs.Held.{state}
+use Rattle.mx_book.proofs.SpellLemmas.{message_at}
+use Rattle.mx_tables.specs.Holds.{Holds}
+use Rattle.mx_tables.proofs.SoundLemmas.{numbers_valid}
+use Rattle.mx_tables.proofs.tables.TablesBook.has_message.Goals as goal
+
+pub returns-clause-value : goal.returns-clause-value
+returns-clause-value g c w sure h =
+    let holds : Holds (state g.S.Store c.self.inside.conn).now h.spelled.rows = rw c.self.view_is h.spelled.holds in
+    IfOk-weaker c.find_has_message.result _ _ (λ b is. is ∙ ap is_some (message_at h.spelled.rows w c.args.purse c.args.number h.spelled.spells)) (c.find_has_message.ensures.value sure h.spelled.rows holds (numbers_valid h.spelled.rows w h.spelled.spells))
