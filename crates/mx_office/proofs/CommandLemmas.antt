@@ -1,5 +1,5 @@
 -- Each command of a holder on a purse: its decision is the step's.
-use Rattle.std.proofs.Common.{Bool, ◌≡◌, ℕ, ◌+◌, true, false, cond, List, [], ◌∷◌, ◌++◌, Option, Some, None, Ok, Err, refl, sym, ◌∙◌, ap, subst, arith, length, length-append, is_some, is_none, option_map, IsTrue, ◌≤◌}
+use Rattle.std.proofs.Common.{Bool, ◌≡◌, ℕ, ◌+◌, true, false, cond, List, [], ◌∷◌, ◌++◌, Option, Some, None, Ok, Err, refl, sym, ◌∙◌, ap, subst, arith, length, length-append, is_some, option_map, IsTrue, ◌≤◌}
 use Rattle.std.specs.Prelude.{◌==◌}
 use Rattle.std.proofs.lemmas.Bool.{or_right}
 use Rattle.std.specs.FinMap as fmap
@@ -32,6 +32,7 @@ use Rattle.mx_purse.proofs.OperationLemmas.{pending_valid}
 use Rattle.mx_book.specs.Conditions.{IsWorld, AreNumbered, IsLine, MayLie}
 use Rattle.mx_book.specs.Limits.{most_lines}
 use Rattle.mx_book.specs.Reads.{from_row, own_purse, inbox_of, page, lines_of, message_of, redemption_of}
+use Rattle.mx_book.proofs.FoundLemmas.{value_found}
 use Rattle.mx_book.proofs.PartLemmas.{all_append}
 use Rattle.mx_book.proofs.MoneyLemmas.{with_redemption, redemptions_stay, redemption_leads, redemption_suits}
 use Rattle.mx_book.proofs.PurseLemmas.{with_lines, line_edits, discard_leads, discard_suits, discard_stays}
@@ -43,7 +44,7 @@ use Rattle.mx_office.specs.Step.{Deed, tell, unless, on_found, in_place, refusal
 use Rattle.mx_office.specs.Decides.{Decides, placed, purse_edits, redeem_edits}
 use Rattle.mx_office.proofs.DecideLemmas.{edits_decide, edit_decides}
 use Rattle.mx_office.proofs.AccountLemmas.{IsOwn, IsSent, Follows, in_tray, is_own, own_there, own_told, numbered_after, is_next, changed_decides}
-use Rattle.mx_office.proofs.OwnLemmas.{gone, present}
+use Rattle.mx_office.proofs.OwnLemmas.{absent}
 
 -- ---- what is read
 
@@ -51,18 +52,18 @@ use Rattle.mx_office.proofs.OwnLemmas.{gone, present}
 pub purse_told : (w : World) (h p : Name) (q : State) (f : Holding → Deed Holding) (r : Reply) (d : Decided) → IsWorld w → own_purse w h p ≡ Some q → ((a : Holding) → a.purse ≡ q → f a ≡ tell a r) → d.reply ≡ r → d.edits ≡ [] → Decides w (on_own w h p f) d
 purse_told w h p q f r d is e f_is = let own = is_own w h p q e in own_told w h p q own f r d is (f_is own.row.holding own.purse)
 
-pub inbox_decides : (w : World) (h p : Name) (d : Decided) → IsWorld w → is_none (own_purse w h p) ≡ false → d.reply ≡ reply.Inbox (inbox_of w p) → d.edits ≡ [] → Decides w (on_own w h p inbox) d
+pub inbox_decides : (w : World) (h p : Name) (d : Decided) → IsWorld w → is_some (own_purse w h p) ≡ true → d.reply ≡ reply.Inbox (inbox_of w p) → d.edits ≡ [] → Decides w (on_own w h p inbox) d
 unfolding inbox
 inbox_decides w h p d is there reply_is =
-    let found = present (own_purse w h p) there in
+    let found = value_found (own_purse w h p) there in
     let own = is_own w h p found.0 found.1 in
     own_told w h p found.0 own inbox (reply.Inbox (fmap.entries own.row.holding.inbox)) d is refl (reply_is ∙ ap (λ o. reply.Inbox (from_row [] (λ (x : Row). fmap.entries x.holding.inbox) o)) own.at)
 
-pub statement_decides : (w : World) (h p : Name) (after : ℕ) (d : Decided) → IsWorld w → is_none (own_purse w h p) ≡ false → d.reply ≡ reply.Statement (lines_of w p after most_lines) → d.edits ≡ []
+pub statement_decides : (w : World) (h p : Name) (after : ℕ) (d : Decided) → IsWorld w → is_some (own_purse w h p) ≡ true → d.reply ≡ reply.Statement (lines_of w p after most_lines) → d.edits ≡ []
     → Decides w (on_own w h p (statement after)) d
 unfolding statement
 statement_decides w h p after d is there reply_is =
-    let found = present (own_purse w h p) there in
+    let found = value_found (own_purse w h p) there in
     let own = is_own w h p found.0 found.1 in
     own_told w h p found.0 own (statement after) (reply.Statement (page after most_lines own.row.holding.lines)) d is refl (reply_is ∙ ap (λ o. reply.Statement (page after most_lines (from_row [] (λ (x : Row). x.holding.lines) o))) own.at)
 
@@ -79,16 +80,16 @@ no_message w h p n q f d is e none =
     let own = is_own w h p q e in
     own_told w h p q own _ (reply.Refused NoSuchMessage) d is (ap (λ o. on_found own.row.holding NoSuchMessage o (f own.row.holding)) (message_at w p n own.row None own.at none))
 
-pub no_message_decides : (w : World) (h p : Name) (n : ℕ) (d : Decided) → IsWorld w → is_none (own_purse w h p) ≡ false → is_none (message_of w p n) ≡ true → d.reply ≡ reply.Refused NoSuchMessage → d.edits ≡ [] → Decides w (on_own w h p (discard n)) d
+pub no_message_decides : (w : World) (h p : Name) (n : ℕ) (d : Decided) → IsWorld w → is_some (own_purse w h p) ≡ true → is_some (message_of w p n) ≡ false → d.reply ≡ reply.Refused NoSuchMessage → d.edits ≡ [] → Decides w (on_own w h p (discard n)) d
 unfolding discard
-no_message_decides w h p n d is there none = let found = present (own_purse w h p) there in no_message w h p n found.0 _ d is found.1 (gone _ none)
+no_message_decides w h p n d is there none = let found = value_found (own_purse w h p) there in no_message w h p n found.0 _ d is found.1 (absent _ none)
 
-pub discard_decides : (w : World) (h p : Name) (n : ℕ) (d : Decided) → IsWorld w → is_none (own_purse w h p) ≡ false → is_none (message_of w p n) ≡ false → d.reply ≡ reply.Discarded → d.edits ≡ DropMessage p n ∷ [] → Decides w (on_own w h p (discard n)) d
+pub discard_decides : (w : World) (h p : Name) (n : ℕ) (d : Decided) → IsWorld w → is_some (own_purse w h p) ≡ true → is_some (message_of w p n) ≡ true → d.reply ≡ reply.Discarded → d.edits ≡ DropMessage p n ∷ [] → Decides w (on_own w h p (discard n)) d
 unfolding discard
 discard_decides w h p n d is there message =
-    let found = present (own_purse w h p) there in
+    let found = value_found (own_purse w h p) there in
     let own = is_own w h p found.0 found.1 in
-    let m = present _ message in
+    let m = value_found _ message in
     let here : fmap.get own.row.holding.inbox n ≡ Some m.0 = message_at w p n own.row (Some m.0) own.at m.1 in
     edit_decides w (on_own w h p (discard n)) (DropMessage p n) reply.Discarded d
     (own_there w h p found.0 own (discard n)

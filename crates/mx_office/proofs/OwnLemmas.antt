@@ -15,10 +15,6 @@ pub absent : {X : Type 0} (o : Option X) → is_some o ≡ false → o ≡ None
 absent None f = refl
 absent (Some x) f = cc
 
-pub gone : {X : Type 0} (o : Option X) → is_none o ≡ true → o ≡ None
-gone None t = refl
-gone (Some x) t = cc
-
 pub present : {X : Type 0} (o : Option X) → is_none o ≡ false → (x : X) × (o ≡ Some x)
 present None f = absurd (cc)
 present (Some x) f = (x, refl)

@@ -1,5 +1,5 @@
 -- A command that is a value keeps the conditions of a World.
-use Rattle.std.proofs.Common.{◌≡◌, ℕ, ◌+◌, ◌^◌, ◌-◌, ◌≤◌, cond, List, [], ◌∷◌, Option, Some, None, refl, sym, ◌∙◌, ap, subst, arith, is_some, is_none, option_map}
+use Rattle.std.proofs.Common.{◌≡◌, ℕ, ◌+◌, ◌^◌, ◌-◌, ◌≤◌, cond, List, [], ◌∷◌, Option, Some, None, refl, sym, ◌∙◌, ap, subst, arith, is_some, option_map}
 use Rattle.std.specs.Prelude.{◌==◌, min, IfSome}
 use Rattle.std.proofs.lemmas.Bool.Decides.{nat_tests}
 use Rattle.std.specs.FinMap as fmap
@@ -173,8 +173,8 @@ handle_case w h p n q (Some m) at is e =
     decided w (on_own w h p (handle n)) (record { reply = reply.Handled x; edits = purse_edits after (message_line after (pending q.status) x) (placed w (sent_for x)) }) (handle_decides w h p n q after m x _ is e at refl refl refl refl)
 
 discard_case : (w : World) (h p : Name) (n : ℕ) (q : State) (o : Option Message) → message_of w p n ≡ o → IsWorld w → own_purse w h p ≡ Some q → Stays (on_own w h p (discard n))
-discard_case w h p n q None at is e = decided w (on_own w h p (discard n)) (record { reply = reply.Refused NoSuchMessage; edits = [] }) (no_message_decides w h p n _ is (ap is_none e) (ap is_none at) refl refl)
-discard_case w h p n q (Some m) at is e = decided w (on_own w h p (discard n)) (record { reply = reply.Discarded; edits = DropMessage p n ∷ [] }) (discard_decides w h p n _ is (ap is_none e) (ap is_none at) refl refl)
+discard_case w h p n q None at is e = decided w (on_own w h p (discard n)) (record { reply = reply.Refused NoSuchMessage; edits = [] }) (no_message_decides w h p n _ is (ap is_some e) (ap is_some at) refl refl)
+discard_case w h p n q (Some m) at is e = decided w (on_own w h p (discard n)) (record { reply = reply.Discarded; edits = DropMessage p n ∷ [] }) (discard_decides w h p n _ is (ap is_some e) (ap is_some at) refl refl)
 
 redeem_case : (w : World) (h p : Name) (amount : ℕ) (reference : Name) (q : State) (before : Option ℕ) (o : Option RedeemRefusal) → redemption_of w p reference ≡ before → redeem_refusal q amount ≡ o
     → amount ≤ most_amount → IsNamed reference → IsWorld w → own_purse w h p ≡ Some q → Stays (on_own w h p (redeem amount reference))
@@ -206,9 +206,9 @@ asks_stays w h (ReadLog p place) valid is = own_case w h p (read_log place) _ re
     decided w (on_own w h p (read_log place)) (record { reply = reply.Read entry; edits = read_edits now (abort_line now (pending q.status)) (not_kept w p entry) }) (read_decides w h p q place _ is e entry refl refl refl))
 asks_stays w h (Redeem p amount reference) valid is = own_case w h p (redeem amount reference) _ refl is (λ q e. redeem_case w h p amount reference q _ _ refl refl valid.1 valid.2 is e)
 asks_stays w h (Inbox p) valid is = own_case w h p inbox _ refl is (λ q e.
-    decided w (on_own w h p inbox) (record { reply = reply.Inbox (inbox_of w p); edits = [] }) (inbox_decides w h p _ is (ap is_none e) refl refl))
+    decided w (on_own w h p inbox) (record { reply = reply.Inbox (inbox_of w p); edits = [] }) (inbox_decides w h p _ is (ap is_some e) refl refl))
 asks_stays w h (Statement p after) valid is = own_case w h p (statement after) _ refl is (λ q e.
-    decided w (on_own w h p (statement after)) (record { reply = reply.Statement (lines_of w p after most_lines); edits = [] }) (statement_decides w h p after _ is (ap is_none e) refl refl))
+    decided w (on_own w h p (statement after)) (record { reply = reply.Statement (lines_of w p after most_lines); edits = [] }) (statement_decides w h p after _ is (ap is_some e) refl refl))
 asks_stays w h c valid is = is
 
 -- ---- each command, and commands in order

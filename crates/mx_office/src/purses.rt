@@ -96,7 +96,7 @@ pub(crate) fn inbox<B: Book>(
     ensures edits { OnOk result (decided.new.edits ≡ []) }
     ensures fault { IfErr result (λ e. (e ≡ Memory) ⊎ B.fails e) }
 {
-    if book.own_purse(alloc, holder, purse)?.is_none() {
+    if !book.is_own(alloc, holder, purse)? {
         refuse(decided, Refusal::NoSuchPurse);
         return Ok(());
     }
@@ -119,7 +119,7 @@ pub(crate) fn statement<B: Book>(
     ensures edits { OnOk result (decided.new.edits ≡ []) }
     ensures fault { IfErr result (λ e. (e ≡ Memory) ⊎ B.fails e) }
 {
-    if book.own_purse(alloc, holder, purse)?.is_none() {
+    if !book.is_own(alloc, holder, purse)? {
         refuse(decided, Refusal::NoSuchPurse);
         return Ok(());
     }
@@ -237,12 +237,12 @@ pub(crate) fn discard<B: Book>(
     ensures decides { (w : World) → B.doubt book.new ≡ 0 → B.spells (B.rows book.old) w → OnOk result (Decides w (on_own w holder purse (discard number)) decided.new) }
     ensures fault { IfErr result B.fails }
 {
-    if book.own_purse(alloc, holder, purse)?.is_none() {
+    if !book.is_own(alloc, holder, purse)? {
         refuse(decided, Refusal::NoSuchPurse);
         return Ok(());
     }
     let number = number.get();
-    if book.message(alloc, purse, number)?.is_none() {
+    if !book.has_message(alloc, purse, number)? {
         refuse(decided, Refusal::NoSuchMessage);
         return Ok(());
     }
