@@ -87,6 +87,13 @@ impl<B: Book> Book for Faulty<B> {
         self.book.own_purse(alloc, holder, purse)
     }
 
+    fn is_own(&mut self, alloc: Global, holder: Name, purse: Name) -> Result<bool, StoreFault> {
+        if self.is_left_out() {
+            return Err(StoreFault::Store);
+        }
+        self.book.is_own(alloc, holder, purse)
+    }
+
     fn finds_place(&mut self, alloc: Global, purse: Name) -> Result<bool, StoreFault> {
         if self.is_left_out() {
             return Err(StoreFault::Store);
@@ -118,6 +125,13 @@ impl<B: Book> Book for Faulty<B> {
             return Err(StoreFault::Store);
         }
         self.book.message(alloc, purse, number)
+    }
+
+    fn has_message(&mut self, alloc: Global, purse: Name, number: u64) -> Result<bool, StoreFault> {
+        if self.is_left_out() {
+            return Err(StoreFault::Store);
+        }
+        self.book.has_message(alloc, purse, number)
     }
 
     fn lines(
