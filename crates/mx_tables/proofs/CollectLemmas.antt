@@ -57,7 +57,7 @@ pub collects_purse : (p : Name) (old new : State) (count : ℕ) → old.now.sche
     → Goes (λ r. record r { redemptions = remake (collected_where (λ q. is_name q p)) r.redemptions }) old new
 collects_purse p old new count has ran =
     goes_as _ _ old new (λ r h. λ i. record r { redemptions = remake (λ k x. set_or_left (is_name k.0 p) x i) r.redemptions })
-    (alters redemptions place (λ l c. refl) mark_purse _ _ mark_purse_is (Text p ∷ []) (λ k. is_name k.0 p) (λ k x. record x { collected = true }) (λ id e. rw (same_text e.0.0 p) (and_true _)) (λ id e. refl)
+    (alters redemptions place (λ l c. refl) mark_purse _ _ mark_purse_is (Text p ∷ []) (λ e. is_name e.0.0 p) (λ k x. record x { collected = true }) (λ id e. rw (same_text e.0.0 p) (and_true _)) (λ id e. refl)
     (λ id e. rw (cast_int id, cast_int (pos e.1.amount), cast_int (pos 1)) refl) old new count has ran)
 
 -- ---- one after the other

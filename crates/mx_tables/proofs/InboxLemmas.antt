@@ -180,16 +180,19 @@ adds_message p n m =
     adds kept.inbox place (λ l c. refl) insert_message _ _ insert_message_is (Text p ∷ number n ∷ Text (message_kind m) ∷ Text (message_details m) ∷ []) ((p, n), m) (rw (cast_null, cast_int (pos n)) refl)
 
 -- a message under the next number of its purse, which rises
-pub delivers : (p : Name) (m : Message) (n : ℕ) (a b c d : State) → b.now ≡ a.now → ((r : Rows) → Holds a.now r → option_map (λ (x : PurseRow). x.next_message) (fmap.get r.purses p) ≡ Some n)
-    → Goes (λ r. record r { inbox = fmap.insert r.inbox (p, n) m }) b c → Goes (λ r. on_purse (fmap.get r.purses p) r (λ x. record r { purses = fmap.insert r.purses p (record x { next_message = n + 1 }) })) c d
+pub delivers : (p : Name) (m : Message) (n : ℕ) (a b c d : State) → b.now ≡ a.now → ((r : Rows) → Holds b.now r → option_map (λ (x : PurseRow). x.next_message) (fmap.get r.purses p) ≡ Some n)
+    → Goes (λ r. on_purse (fmap.get r.purses p) r (λ x. record r { purses = fmap.insert r.purses p (record x { next_message = n + 1 }) })) b c → Goes (λ r. record r { inbox = fmap.insert r.inbox (p, n) m }) c d
     → Goes (λ r. rewritten r (AddMessage p m)) a d
 delivers p m n a b c d same at one two = record {
   schema = two.schema;
-  rows = λ r holds. subst (Holds d.now) (is r (fmap.get r.purses p) (at r holds)) (two.rows _ (one.rows r (subst (λ (db : Database). Holds db r) (sym same) holds)));
+  rows = λ r holds. let here : Holds b.now r = subst (λ (db : Database). Holds db r) (sym same) holds in subst (Holds d.now) (is r (fmap.get r.purses p) (at r here)) (two.rows _ (one.rows r here));
 }
   where
+    put_in : Rows → Rows
+    put_in r = record r { inbox = fmap.insert r.inbox (p, n) m }
+
     is : (r : Rows) (o : Option PurseRow) → option_map (λ (x : PurseRow). x.next_message) o ≡ Some n
-        → on_purse o (record r { inbox = fmap.insert r.inbox (p, n) m }) (λ x. record r { inbox = fmap.insert r.inbox (p, n) m; purses = fmap.insert r.purses p (record x { next_message = n + 1 }) })
+        → put_in (on_purse o r (λ x. record r { purses = fmap.insert r.purses p (record x { next_message = n + 1 }) }))
         ≡ on_purse o r (λ x. record r { purses = fmap.insert r.purses p (record x { next_message = x.next_message + 1 }); inbox = fmap.insert r.inbox (p, x.next_message) m })
     is r None e = absurd (cc)
     is r (Some x) e = let number : x.next_message ≡ n = cc in rw number refl

@@ -94,8 +94,8 @@ module _ (m : Name) (row : MemberRow) (old new : State) (has : old.now.schema �
   resets =
       goes_as _ _ old new
       (λ r h.
-      let there = one_passes name_cmp names_total m r.members (counts members place (λ l c. refl) update_member _ _ update_member_is params (λ k. is_name k m) (λ _ _. row) (λ id e. rw (same_text e.0 m) (and_true _)) (λ id e. refl)
+      let there = one_passes name_cmp names_total m r.members (counts members place (λ l c. refl) update_member _ _ update_member_is params (λ e. is_name e.0 m) (λ _ _. row) (λ id e. rw (same_text e.0 m) (and_true _)) (λ id e. refl)
       (λ id e. rw (cast_int id, cast_int (pos row.granted), cast_int (pos row.float)) refl) old new 1 has ran r h) in
       ap (λ t. record r { members = t }) (remake_some names_total names_exact r.members m (λ _. row) there.0 there.1))
-      (alters members place (λ l c. refl) update_member _ _ update_member_is params (λ k. is_name k m) (λ _ _. row) (λ id e. rw (same_text e.0 m) (and_true _)) (λ id e. refl)
+      (alters members place (λ l c. refl) update_member _ _ update_member_is params (λ e. is_name e.0 m) (λ _ _. row) (λ id e. rw (same_text e.0 m) (and_true _)) (λ id e. refl)
       (λ id e. rw (cast_int id, cast_int (pos row.granted), cast_int (pos row.float)) refl) old new 1 has ran)

@@ -1,6 +1,8 @@
 -- The statements on purses, and what they show.
-use Rattle.std.proofs.Common.{◌≡◌, inl, inr, ℕ, ℤ, pos, List, [], ◌∷◌, map, drop, codes, Ok, Option, Some, None, IfSome, refl, sym, ap, ap₂, ◌∙◌, arith, if◌then◌else◌}
-use Rattle.std.specs.Prelude.{◌==◌}
+use Rattle.std.proofs.Common.{◌≡◌, inl, inr, ℕ, ◌+◌, ℤ, pos, Bool, true, List, [], ◌∷◌, map, drop, codes, Ok, Option, Some, None, IfSome, refl, sym, ap, ap₂, ◌∙◌, arith, if◌then◌else◌}
+use Rattle.std.specs.Prelude.{◌==◌, ◌&&◌, option_map}
+use Rattle.std.specs.Ordering.{eq_by_cmp, nat_cmp}
+use Rattle.std.specs.FinMap.{nat_cmp-IsAntisymmetric}
 use Rattle.std.specs.List.Sorted.{IsPermutation}
 use Rattle.std.specs.FinMap as fmap
 use Rattle.sqlite_value.specs.declared.value.Value.TheVariants.{Null, Int, Text}
@@ -39,11 +41,12 @@ use Rattle.mx_tables.specs.Holds.{Holds}
 use Rattle.mx_tables.specs.States.{Goes}
 use Rattle.mx_tables.specs.Answers.{at_key, text_shown, state_shown, state_columns, purse_shown, purse_columns, next_shown}
 use Rattle.mx_tables.proofs.Queries.{is_given}
-use Rattle.mx_tables.proofs.Texts.{IsUpdate, select_held, select_held_is, insert_purse, insert_purse_is, select_purse, select_purse_is, update_purse, update_purse_is, select_next, select_next_is, select_owner, select_owner_is, update_next, update_next_is}
-use Rattle.mx_tables.proofs.Statements.{env}
-use Rattle.mx_tables.proofs.StoredLemmas.{and_true, same_text, cast_int, cast_null}
+use Rattle.mx_tables.proofs.Texts.{IsUpdate, select_held, select_held_is, insert_purse, insert_purse_is, select_purse, select_purse_is, update_purse, update_purse_is, select_next, select_next_is, select_owner, select_owner_is, raise_next, raise_next_is}
+use Rattle.mx_pay.proofs.TestLemmas.{is_equal}
+use Rattle.mx_tables.proofs.Statements.{env, passes}
+use Rattle.mx_tables.proofs.StoredLemmas.{and_true, same_text, same_numbers, cast_int, cast_null}
 use Rattle.mx_tables.proofs.ReadLemmas.{turned, answers, answers_in_order}
-use Rattle.mx_tables.proofs.WriteLemmas.{Place, adds, alters, counts, goes_as, remake_some, one_passes}
+use Rattle.mx_tables.proofs.WriteLemmas.{Place, adds, alters, counts, counts_in, goes_as, remake_some, one_passes, one_at, at_key_where, remake_where}
 use Rattle.mx_tables.proofs.MessageLemmas.{same_code, same_number}
 use Rattle.mx_tables.proofs.ValueLemmas.{same_text as same_words}
 use Rattle.mx_tables.proofs.KeptLemmas.{purses}
@@ -119,9 +122,9 @@ module _ (sql : List ℕ) (project : List Term) (text : IsUpdate sql 4 8 (is_giv
   one_purse =
       goes_as _ _ old new
       (λ r h.
-      let there = one_passes name_cmp names_total p r.purses (counts purses place (λ l c. refl) sql _ _ text (Text p ∷ more) (λ k. is_name k p) (λ _ x. g x) (λ id e. rw (same_text e.0 p) (and_true _)) first forms old new 1 has ran r h) in
+      let there = one_passes name_cmp names_total p r.purses (counts purses place (λ l c. refl) sql _ _ text (Text p ∷ more) (λ e. is_name e.0 p) (λ _ x. g x) (λ id e. rw (same_text e.0 p) (and_true _)) first forms old new 1 has ran r h) in
       ap (λ t. record r { purses = t }) (remake_some names_total names_exact r.purses p g there.0 there.1) ∙ ap (λ o. on_purse o r (λ x. change x r)) (sym there.1))
-      (alters purses place (λ l c. refl) sql _ _ text (Text p ∷ more) (λ k. is_name k p) (λ _ x. g x) (λ id e. rw (same_text e.0 p) (and_true _)) first forms old new 1 has ran)
+      (alters purses place (λ l c. refl) sql _ _ text (Text p ∷ more) (λ e. is_name e.0 p) (λ _ x. g x) (λ id e. rw (same_text e.0 p) (and_true _)) first forms old new 1 has ran)
 
 abbrev purse_params : Purse → Row
 purse_params q = number q.balance ∷ number q.next ∷ Text (status_text q.status) ∷ Text (details_text q.status) ∷ Text (code q.log) ∷ number q.lines ∷ []
@@ -130,10 +133,40 @@ pub sets_purse : (q : Purse) (old new : State) → old.now.schema ≡ office_sch
 sets_purse q = one_purse update_purse _ update_purse_is q.name (purse_params q) (λ x. record x { purse = q }) (λ id e. refl)
     (λ id e. rw (cast_int id, cast_int (pos q.balance), cast_int (pos q.next), cast_int (pos q.lines), cast_int (pos e.1.next_message)) refl)
 
-pub sets_next : (p : Name) (n : ℕ) (old new : State) → old.now.schema ≡ office_schema → Executes update_next (Text p ∷ number n ∷ []) old new (Ok 1)
-    → Goes (λ r. on_purse (fmap.get r.purses p) r (λ x. record r { purses = fmap.insert r.purses p (record x { next_message = n }) })) old new
-sets_next p n = one_purse update_next _ update_next_is p (number n ∷ []) (λ x. record x { next_message = n }) (λ id e. refl)
-    (λ id e. rw (cast_int id, cast_int (pos e.1.purse.balance), cast_int (pos e.1.purse.next), cast_int (pos e.1.purse.lines), cast_int (pos n)) refl)
+-- an UPDATE of the number of one purse's next message, where it is n
+module _ (p : Name) (n : ℕ) (old new : State) (has : old.now.schema ≡ office_schema) (ran : Executes raise_next (Text p ∷ number (n + 1) ∷ number n ∷ []) old new (Ok 1)) where
+  abbrev raised : PurseRow → PurseRow
+  raised x = record x { next_message = n + 1 }
+
+  abbrev is_next : PurseRow → Bool
+  is_next x = eq_by_cmp nat_cmp x.next_message n
+
+  tests : (id : ℤ) (e : Name × PurseRow) → passes (is_given 1 0 ∷ is_given 9 2 ∷ []) (Text p ∷ number (n + 1) ∷ number n ∷ []) (Int id ∷ purse_cells e) ≡ at_key_where name_cmp names_total names_exact p is_next e
+  tests id e = ap₂ (λ x y. x && y) (same_text e.0 p) (and_true _ ∙ same_numbers e.1.next_message n)
+
+  forms : (id : ℤ) (e : Name × PurseRow) → cast_row purse_table (drop 1 (eval_all (col 1 0 ∷ col 1 0 ∷ col 1 1 ∷ col 1 2 ∷ col 1 3 ∷ col 1 4 ∷ col 1 5 ∷ col 1 6 ∷ col 1 7 ∷ col 1 8 ∷ col 0 1 ∷ []) (env (Text p ∷ number (n + 1) ∷ number n ∷ []) (Int id ∷ purse_cells e)))) ≡ Int id ∷ purse_cells (e.0, raised e.1)
+  forms id e = rw (cast_int id, cast_int (pos e.1.purse.balance), cast_int (pos e.1.purse.next), cast_int (pos e.1.purse.lines), cast_int (pos (n + 1))) refl
+
+  -- it was n
+  raised_from : (r : Rows) → Holds old.now r → (x : PurseRow) × (fmap.get r.purses p ≡ Some x) × (is_next x ≡ true)
+  raised_from r h =
+      let c = h.contents in
+      let one = counts_in purses place (λ l c. refl) raise_next _ _ raise_next_is _ (at_key_where name_cmp names_total names_exact p is_next) (λ _ x. raised x) tests (λ id e. refl) forms old new 1 has ran c h.has in
+      let it = one_at name_cmp names_total names_exact p is_next c.purses (purses.distinct old.now c h.has) one in
+      (it.0, ap (λ (s : Rows). fmap.get s.purses p) (sym h.rows) ∙ fmap.get-from_entries names_total c.purses p ∙ it.1, it.2)
+
+  pub was_next : (r : Rows) → Holds old.now r → option_map (λ (x : PurseRow). x.next_message) (fmap.get r.purses p) ≡ Some n
+  was_next r h =
+      let it = raised_from r h in
+      ap (option_map (λ (x : PurseRow). x.next_message)) it.1 ∙ ap Some (nat_cmp-IsAntisymmetric it.0.next_message n (is_equal _ it.2))
+
+  pub raises_next : Goes (λ r. on_purse (fmap.get r.purses p) r (λ x. record r { purses = fmap.insert r.purses p (raised x) })) old new
+  raises_next =
+      goes_as _ _ old new
+      (λ r h.
+      let it = raised_from r h in
+      ap (λ t. record r { purses = t }) (remake_where name_cmp names_total names_exact p is_next r.purses raised it.0 it.1 it.2) ∙ ap (λ o. on_purse o r (λ x. record r { purses = fmap.insert r.purses p (raised x) })) (sym it.1))
+      (alters purses place (λ l c. refl) raise_next _ _ raise_next_is _ (at_key_where name_cmp names_total names_exact p is_next) (λ _ x. raised x) tests (λ id e. refl) forms old new 1 has ran)
 
 -- ---- a purse that was read
 

@@ -175,12 +175,12 @@ pub select_owner_is : IsSelect select_owner 8 (is_given 1 0 ∷ []) (col 1 2 ∷
 unfolding understood everything
 select_owner_is = record { is = refl; plain = (refl, refl); unlisted = refl }
 
-abbrev pub update_next : List ℕ
-update_next = codes "UPDATE purse SET next_message = ?2 WHERE name = ?1"
+abbrev pub raise_next : List ℕ
+raise_next = codes "UPDATE purse SET next_message = ?2 WHERE name = ?1 AND next_message = ?3"
 
-pub update_next_is : IsUpdate update_next 4 8 (is_given 1 0 ∷ []) (col 1 0 ∷ col 1 0 ∷ col 1 1 ∷ col 1 2 ∷ col 1 3 ∷ col 1 4 ∷ col 1 5 ∷ col 1 6 ∷ col 1 7 ∷ col 1 8 ∷ col 0 1 ∷ [])
+pub raise_next_is : IsUpdate raise_next 4 8 (is_given 1 0 ∷ is_given 9 2 ∷ []) (col 1 0 ∷ col 1 0 ∷ col 1 1 ∷ col 1 2 ∷ col 1 3 ∷ col 1 4 ∷ col 1 5 ∷ col 1 6 ∷ col 1 7 ∷ col 1 8 ∷ col 0 1 ∷ [])
 unfolding understood everything
-update_next_is = record { is = refl; plain = (refl, refl) }
+raise_next_is = record { is = refl; plain = (refl, refl) }
 
 abbrev pub select_message : List ℕ
 select_message = codes "SELECT kind, details FROM inbox WHERE purse = ?1 AND number = ?2"

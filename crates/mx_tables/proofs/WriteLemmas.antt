@@ -1,6 +1,6 @@
 -- What the changes of one table do to the rows of a book.
 use Rattle.std.proofs.Common.{◌≡◌, ◌≢◌, ◌⊎◌, inl, inr, ℕ, ℤ, suc, ap₂, ◌/◌, Bool, true, false, not, cond, if◌then◌else◌, List, [], ◌∷◌, ◌++◌, map, filter, drop, length, slice_get, Some, None, Option, Ok, Err, Result, OnOk, refl, sym, ap, subst, ◌∙◌, arith}
-use Rattle.std.specs.Prelude.{◌==◌, option_map}
+use Rattle.std.specs.Prelude.{◌==◌, ◌&&◌, option_map}
 use Rattle.std.specs.List.{AllByRecursion}
 use Rattle.std.specs.Ordering.{eq_by_cmp}
 use Rattle.std.specs.declared.cmp.Ordering.{Ordering}
@@ -110,17 +110,17 @@ module _ {K V : Type 0} {R : K → K → Ordering} {cells : K × V → Row} {at 
       let distinct = subst (AreDistinct R) (listed_is l c) (kept.distinct new.now d after) in
       (d, after, place.spelled l c ∙ ap (λ m. with_map m (rows_of c)) (map_push R kept.total kept.exact (list c) e.0 e.1 distinct ∙ ap (λ m. fmap.insert m e.0 e.1) (sym (kept.is c)))))
 
-  -- an UPDATE of the rows whose keys pass
-  module _ (sql : List ℕ) (terms project : List Term) (text : IsUpdate sql at table.tree terms project) (params : Row) (p : K → Bool) (g : K → V → V)
-      (tests : (id : ℤ) (e : K × V) → passes terms params (Int id ∷ cells e) ≡ p e.0)
+  -- an UPDATE of the rows that pass
+  module _ (sql : List ℕ) (terms project : List Term) (text : IsUpdate sql at table.tree terms project) (params : Row) (p : K × V → Bool) (g : K → V → V)
+      (tests : (id : ℤ) (e : K × V) → passes terms params (Int id ∷ cells e) ≡ p e)
       (first : (id : ℤ) (e : K × V) → rowid (eval_all project (env params (Int id ∷ cells e))) ≡ Int id)
       (forms : (id : ℤ) (e : K × V) → cast_row table (drop 1 (eval_all project (env params (Int id ∷ cells e)))) ≡ Int id ∷ cells (e.0, g e.0 e.1))
       (old new : State) (count : ℕ) (has : old.now.schema ≡ office_schema) (ran : Executes sql params old new (Ok count)) where
     abbrev pub altered : K → V → V
-    altered k v = cond (p k) (g k v) v
+    altered k v = cond (p (k, v)) (g k v) v
 
     abbrev alter : K × V → K × V
-    alter e = if p e.0 then (e.0, g e.0 e.1) else e
+    alter e = if p e then (e.0, g e.0 e.1) else e
 
     pub alters : Goes (λ r. with_map (remake altered (map_of r)) r) old new
     alters =
@@ -129,23 +129,21 @@ module _ {K V : Type 0} {R : K → K → Ordering} {cells : K × V → Row} {at 
         goes (λ r. with_map (remake altered (map_of r)) r) old new it.2.schema_is (λ c holds.
         let l = map alter (list c) in
         let d = with_list l c in
-        let stores = stores_changed cells (old.now.trees table.tree) (list c) (kept.stored old.now c holds) (passes terms params) (λ e. p e.0) tests (λ r. eval_all project (env params r)) first it.0 got
+        let stores = stores_changed cells (old.now.trees table.tree) (list c) (kept.stored old.now c holds) (passes terms params) p tests (λ r. eval_all project (env params r)) first it.0 got
         (λ s. cast_row table (drop 1 s)) (λ e. (e.0, g e.0 e.1)) forms it.4 in
         let after = has_then table old new _ c d it.2 holds place.not_meta (place.others l c) (subst (Stores _) (sym (place.placed l c)) stores) (place.tokens l c holds.tokens) in
-        let same : l ≡ map (anew kept.total kept.exact altered) (list c) = same_rows alter (anew kept.total kept.exact altered) (λ e. same_row (p e.0) e (g e.0 e.1)) (list c) in
+        let same : l ≡ map (anew kept.total kept.exact altered) (list c) = same_rows alter (anew kept.total kept.exact altered) (λ e. same_row (p e) e (g e.0 e.1)) (list c) in
         (d, after, place.spelled l c ∙ ap (λ m. with_map m (rows_of c)) (ap (λ es. fmap.from_entries {R = R} es) same ∙ map_anew kept.total kept.exact altered (list c) ∙ ap (remake altered) (sym (kept.is c)))))
 
     -- as many pass as it says
-    pub counts : (r : Rows) → Holds old.now r → length (filter (λ (e : K × V). p e.0) (fmap.entries (map_of r))) ≡ count
-    counts r h =
+    passing_rows : (l : List (K × V)) → HaveCells (old.now.trees table.tree) (map cells l) → length (filter p l) ≡ count
+    passing_rows l have =
         let it = updated office_schema at table place.found (no_actions table) sql params old new has text.plain count ran _ text.is in
         let got = picked table.tree terms project [] [] (record old.now { schema = office_schema }) params it.0 it.1 in
-        let l = listed kept old.now r h in
         let size = length_permutation _ _ got in
         let one = length-map (filter (passes terms params) (old.now.trees table.tree)) (λ x. eval_all project (env params x)) in
-        let two = passing cells (passes terms params) (λ e. p e.0) tests (old.now.trees table.tree) l.rows l.have in
-        let three = length_permutation _ _ (IsPermutation-filter (λ (e : K × V). p e.0) _ _ l.same) in
-        omega (arith, size, one, two, three, it.3)
+        let two = passing cells (passes terms params) p tests (old.now.trees table.tree) l have in
+        omega (arith, size, one, two, it.3)
       where
         passing : {X : Type 0} (cells : X → Row) (test : Row → Bool) (q : X → Bool) → ((id : ℤ) (x : X) → test (Int id ∷ cells x) ≡ q x)
             → (tree : List Row) (xs : List X) → HaveCells tree (map cells xs) → length (filter test tree) ≡ length (filter q xs)
@@ -159,6 +157,15 @@ module _ {K V : Type 0} {R : K → K → Ordering} {cells : K × V → Row} {at 
               | inl t ↦ rw (same, t) (ap (λ n. suc n) more)
               | inr e ↦ rw (same, e) more
             ]
+
+    pub counts_in : (c : Contents) → HasContents old.now c → length (filter p (list c)) ≡ count
+    counts_in c holds = passing_rows (list c) (kept.stored old.now c holds).have
+
+    pub counts : (r : Rows) → Holds old.now r → length (filter p (fmap.entries (map_of r))) ≡ count
+    counts r h =
+        let l = listed kept old.now r h in
+        let three = length_permutation _ _ (IsPermutation-filter p _ _ l.same) in
+        omega (arith, three, passing_rows l.rows l.have)
 
   -- a DELETE of the rows whose keys pass
   pub drops : (sql : List ℕ) (terms project : List Term) → IsDelete sql at table.tree terms project → (params : Row) (p : K → Bool)
@@ -216,3 +223,40 @@ module _ {K V : Type 0} (R : K → K → Ordering) (o : IsTotalOrder R) (k : K) 
 
   pub one_passes : (m : fmap.FinMap R V) → length (filter (λ (e : K × V). eq_by_cmp R e.0 k) (fmap.entries m)) ≡ 1 → (v : V) × (fmap.get m k ≡ Some v)
   one_passes m one = let it = among (fmap.entries m) one in (it.0, fmap.get-entries m k ∙ it.1)
+
+-- where one entry passes a test on its key and one on its value, the key is there and its value passes
+module _ {K V : Type 0} (R : K → K → Ordering) (o : IsTotalOrder R) (exact : fmap.IsAntisymmetric R) (k : K) (q : V → Bool) where
+  abbrev pub at_key_where : K × V → Bool
+  at_key_where e = eq_by_cmp R e.0 k && q e.1
+
+  pub one_at : (es : List (K × V)) → AreDistinct R es → length (filter at_key_where es) ≡ 1 → (v : V) × (fmap.find R k es ≡ Some v) × (q v ≡ true)
+  one_at [] d h = absurd (omega (arith, h))
+  one_at (e ∷ es) d h = elim (cases_Bool (eq_by_cmp R k e.0)) [
+    | inl t ↦ elim (cases_Bool (q e.1)) [
+      | inl passes ↦ (e.1, rw t refl, passes)
+      | inr fails ↦
+          let it = one_at es d.1 (rw ((eq_by_cmp_equiv o).symm e.0 k ∙ t, fails) at h) in
+          let same : k ≡ e.0 = exact k e.0 (is_equal _ t) in
+          let none : fmap.find R k es ≡ None = ap (λ x. fmap.find R x es) same ∙ d.0 in
+          absurd (let e : ◌≡◌ {A = Option V} None (Some it.0) = sym none ∙ it.1 in cc)
+    ]
+    | inr f ↦ let it = one_at es d.1 (rw ((eq_by_cmp_equiv o).symm e.0 k ∙ f) at h) in (it.0, rw f it.1, it.2)
+  ]
+
+  -- that value alone changes
+  module _ (m : fmap.FinMap R V) (g : V → V) where
+    abbrev where_at : K → V → V
+    where_at j v = cond (at_key_where (j, v)) (g v) v
+
+    pub remake_where : (v : V) → fmap.get m k ≡ Some v → q v ≡ true → remake where_at m ≡ fmap.insert m k (g v)
+    remake_where v at passes = fmap.same_map o exact _ _ (λ j. get-remake R where_at exact m j ∙ here j (cases_Bool (eq_by_cmp R j k)) ∙ sym (fmap.get-insert o m k (g v) j))
+      where
+        here : (j : K) → (eq_by_cmp R j k ≡ true) ⊎ (eq_by_cmp R j k ≡ false) → option_map (where_at j) (fmap.get m j) ≡ cond (eq_by_cmp R j k) (Some (g v)) (fmap.get m j)
+        here j (inl t) =
+            let same : j ≡ k = exact j k (is_equal _ t) in
+            rw (t, ap (fmap.get m) same ∙ at) (rw (t, passes) refl)
+        here j (inr f) = kept_as (eq_by_cmp R j k) f (fmap.get m j) ∙ rw f refl
+          where
+            kept_as : (b : Bool) → b ≡ false → (x : Option V) → option_map (λ v. cond (b && q v) (g v) v) x ≡ x
+            kept_as b f None = refl
+            kept_as b f (Some v) = rw f refl

@@ -18,11 +18,16 @@ pub fn log_code(alloc: Global, log: &Log) -> Result<String, StoreFault>
     }
 }
 
+/// How many bytes the text of details has at most: two names, an amount and two numbers, with commas between them.
+pub const MOST_ENTRY_BYTES: usize = 97;
+
 /// The text of details.
 pub fn entry_code(alloc: Global, details: &PayDetails) -> Result<String, StoreFault>
     ensures { IfOk result (λ text. string_bytes text ≡ entry_text details.now) }
 {
-    let mut text = String::new(alloc);
+    let Ok(mut text) = String::with_capacity(alloc, MOST_ENTRY_BYTES) else {
+        return Err(StoreFault::Memory);
+    };
     match push_entry(&mut text, details) {
         Ok(()) => Ok(text),
         Err(_) => Err(StoreFault::Memory),

@@ -18,6 +18,7 @@ ghost use Rattle.mx_tables.specs.Pages.{line_shown, first_five, GivesLine, AreLi
 
 use crate::asking::{fault_of, run};
 use crate::cells::{entry_at, number_at, text_at};
+use crate::codes::MOST_ENTRY_BYTES;
 use crate::given::{self, MOST_KEPT};
 use mx_book::words::{kind_text, push_note};
 use mx_book::{Line, LineKind, Note, StoreFault};
@@ -29,7 +30,9 @@ use std::alloc::Global;
 fn text_of(alloc: Global, note: &Note) -> Result<String, StoreFault>
     ensures { IfOk result (λ text. string_bytes text ≡ words.note_text note.now) }
 {
-    let mut text = String::new(alloc);
+    let Ok(mut text) = String::with_capacity(alloc, MOST_ENTRY_BYTES) else {
+        return Err(StoreFault::Memory);
+    };
     match push_note(&mut text, note) {
         Ok(()) => Ok(text),
         Err(_) => Err(StoreFault::Memory),

@@ -1,5 +1,9 @@
 //! Purses.
+<<<<<<< HEAD
 ghost use Rattle.std.specs.Prelude.{◌≡◌, ◌≤◌, ◌^◌, ◌∷◌, [], codes, map, length, option_map, is_some, Ok, Some, IfOk, IfSome, OnOk, IsTrue};
+=======
+ghost use Rattle.std.specs.Prelude.{◌≡◌, ◌≤◌, ◌<◌, ◌+◌, ◌^◌, ◌∷◌, [], codes, map, length, option_map, is_some, Ok, Some, IfOk, IfSome, OnOk, IsTrue};
+>>>>>>> 89c963e (Tables expect the number that a message was found to get, and look at it in the UPDATE that raises it; edits are lent)
 ghost use Rattle.std.specs.List.Sorted.{IsPermutation};
 ghost use Rattle.std.specs.FinMap as fmap;
 ghost use Rattle.sqlite_trees.specs.View.{doubt};
@@ -278,16 +282,23 @@ fn find_next<S: Alter>(conn: &mut Connection<S>, name: &Name) -> Result<Option<u
     }
 }
 
-/// Whether a message to a purse finds a place.
-pub fn find_place<S: Alter>(conn: &mut Connection<S>, name: &Name) -> Result<bool, StoreFault>
+/// The number that a message to a purse gets, or None where it finds no place.
+pub fn find_place<S: Alter>(
+    conn: &mut Connection<S>,
+    name: &Name,
+) -> Result<Option<u64>, StoreFault>
     ensures stays { IsOurs (state S.Store conn.old) → Stays (state S.Store conn.old) (state S.Store conn.new) }
-    ensures value { IsOurs (state S.Store conn.old) → worry (state S.Store conn.new) ≡ 0 → (r : _) → Holds (state S.Store conn.old).now r → IfOk result (λ v. v ≡ row_finds_place r name.now) }
+    ensures value { IsOurs (state S.Store conn.old) → worry (state S.Store conn.new) ≡ 0 → (r : _) → Holds (state S.Store conn.old).now r → IfOk result (λ v. is_some v ≡ row_finds_place r name.now) }
 {
     let Some(next_message) = find_next(conn, name)? else {
-        return Ok(false);
+        return Ok(None);
     };
     let held = count_messages(conn, name)?;
-    Ok(held < MOST_MESSAGES && next_message < MOST_NUMBER)
+    if held < MOST_MESSAGES && next_message < MOST_NUMBER {
+        Ok(Some(next_message))
+    } else {
+        Ok(None)
+    }
 }
 
 /// Runs the UPDATE of one purse.
@@ -369,36 +380,40 @@ pub fn next_number<S: Alter>(tx: &mut Transaction<'_, S>, name: &Name) -> Result
     }
 }
 
-/// Runs the UPDATE of the number of one purse's next message.
+/// Runs the UPDATE of the number of one purse's next message, where it is this one.
 fn change_next<S: Alter>(
     tx: &mut Transaction<'_, S>,
     name: &str,
     next: u64,
 ) -> Result<(), StoreFault>
-    requires { next ≤ 10 ^ 15 }
+    requires { next < 10 ^ 15 }
     ensures same_reference { tx.new.conn.ghost_name ≡ tx.old.conn.ghost_name }
-    ensures ran { HasCleanDisk (state S.Store tx.new.conn.now) → IsTrue tx.old.conn.now.in_transaction → OnOk result (Executes (codes "UPDATE purse SET next_message = ?2 WHERE name = ?1") (Text name.now ∷ number next ∷ []) (state S.Store tx.old.conn.now) (state S.Store tx.new.conn.now) (Ok 1)) }
+    ensures ran { HasCleanDisk (state S.Store tx.new.conn.now) → IsTrue tx.old.conn.now.in_transaction → OnOk result (Executes (codes "UPDATE purse SET next_message = ?2 WHERE name = ?1 AND next_message = ?3") (Text name.now ∷ number (next + 1) ∷ number next ∷ []) (state S.Store tx.old.conn.now) (state S.Store tx.new.conn.now) (Ok 1)) }
     ensures inside { HasCleanDisk (state S.Store tx.new.conn.now) → IsTrue tx.old.conn.now.in_transaction → OnOk result (IsTrue tx.new.conn.now.in_transaction) }
     ensures kept { HasCleanDisk (state S.Store tx.new.conn.now) → KeepsCommit (state S.Store tx.old.conn.now) (state S.Store tx.new.conn.now) }
     ensures clean { doubt (state S.Store tx.old.conn.now).is_clean ≤ doubt (state S.Store tx.new.conn.now).is_clean }
 {
+    let more = next + 1;
     run_one(
         tx,
-        "UPDATE purse SET next_message = ?2 WHERE name = ?1",
-        params![name, next as i64],
+        "UPDATE purse SET next_message = ?2 WHERE name = ?1 AND next_message = ?3",
+        params![name, more as i64, next as i64],
     )
 }
 
-/// Sets the number of the next message of a purse that is there.
-pub fn set_next<S: Alter>(
+/// Raises the number of a purse's next message, which is this one, by one. Store where there is no such purse, or it has
+/// another number.
+pub fn raise_next<S: Alter>(
     tx: &mut Transaction<'_, S>,
     name: &Name,
     next: u64,
 ) -> Result<(), StoreFault>
-    requires { next ≤ 10 ^ 15 }
+    requires { next < 10 ^ 15 }
     ensures same_reference { tx.new.conn.ghost_name ≡ tx.old.conn.ghost_name }
     ensures ok { HasCleanDisk (state S.Store tx.new.conn.now) → IsTrue tx.old.conn.now.in_transaction → (state S.Store tx.old.conn.now).now.schema ≡ office_schema
-        → OnOk result (Goes (λ r. on_purse (fmap.get r.purses name.now) r (λ x. record r { purses = fmap.insert r.purses name.now (record x { next_message = next }) })) (state S.Store tx.old.conn.now) (state S.Store tx.new.conn.now)) }
+        → OnOk result (Goes (λ r. on_purse (fmap.get r.purses name.now) r (λ x. record r { purses = fmap.insert r.purses name.now (record x { next_message = next + 1 }) })) (state S.Store tx.old.conn.now) (state S.Store tx.new.conn.now)) }
+    ensures value { HasCleanDisk (state S.Store tx.new.conn.now) → IsTrue tx.old.conn.now.in_transaction → (state S.Store tx.old.conn.now).now.schema ≡ office_schema
+        → OnOk result ((r : _) → Holds (state S.Store tx.old.conn.now).now r → option_map (λ x. x.next_message) (fmap.get r.purses name.now) ≡ Some next) }
     ensures inside { HasCleanDisk (state S.Store tx.new.conn.now) → IsTrue tx.old.conn.now.in_transaction → OnOk result (IsTrue tx.new.conn.now.in_transaction) }
     ensures kept { HasCleanDisk (state S.Store tx.new.conn.now) → KeepsCommit (state S.Store tx.old.conn.now) (state S.Store tx.new.conn.now) }
     ensures clean { doubt (state S.Store tx.old.conn.now).is_clean ≤ doubt (state S.Store tx.new.conn.now).is_clean }

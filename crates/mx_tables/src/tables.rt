@@ -37,6 +37,8 @@ use std::marker::Model;
 pub struct Tables<S: Alter> {
     alloc: Global,
     conn: Connection<S>,
+    // A purse to which a message was found to find a place since the last change, and the number that it gets.
+    expected: Option<(Name, u64)>,
 }
 
 impl<S: Alter> Model for Tables<S> {
@@ -74,7 +76,11 @@ impl<S: Alter> Tables<S> {
             });
         }
         match make_office(&mut store, &operator) {
-            Ok(()) => Ok(Tables { alloc, conn: store }),
+            Ok(()) => Ok(Tables {
+                alloc,
+                conn: store,
+                expected: None,
+            }),
             Err(fault) => Err(OpenRefused { fault, store }),
         }
     }
@@ -97,7 +103,11 @@ impl<S: Alter> Tables<S> {
             });
         }
         match check_office(alloc, &mut store) {
-            Ok(()) => Ok(Tables { alloc, conn: store }),
+            Ok(()) => Ok(Tables {
+                alloc,
+                conn: store,
+                expected: None,
+            }),
             Err(fault) => Err(OpenRefused { fault, store }),
         }
     }
@@ -132,7 +142,8 @@ impl<S: Alter> Book for Tables<S> {
     }
 
     fn apply(&mut self, edits: &[Edit]) -> Result<(), StoreFault> {
-        edit_all(self.alloc, &mut self.conn, edits)
+        let expected = self.expected.take();
+        edit_all(self.alloc, &mut self.conn, expected, edits)
     }
 
     fn holder(&mut self, _alloc: Global, name: Name) -> Result<Option<HolderRow>, StoreFault> {
@@ -161,7 +172,13 @@ impl<S: Alter> Book for Tables<S> {
     }
 
     fn finds_place(&mut self, _alloc: Global, purse: Name) -> Result<bool, StoreFault> {
-        find_place(&mut self.conn, &purse)
+        match find_place(&mut self.conn, &purse)? {
+            Some(number) => {
+                self.expected = Some((purse, number));
+                Ok(true)
+            }
+            None => Ok(false),
+        }
     }
 
     fn purses_of(&mut self, alloc: Global, holder: Name) -> Result<Vec<Name>, StoreFault> {

@@ -1,9 +1,0 @@
-use Rattle.sqlite.specs.Held.{state}
-use Rattle.mx_tables.proofs.WriteLemmas.{OnOk_then}
-use Rattle.mx_tables.proofs.PurseLemmas.{sets_next}
-use Rattle.mx_tables.proofs.purses.set_next.Goals as goal
-
-pub returns-clause-ok : goal.returns-clause-ok
-returns-clause-ok g c clean inside has =
-    OnOk_then c.change_next.result (λ ran. sets_next c.args.name.now c.args.next (state g.S.Store c.args.tx.now.conn.now) (state g.S.Store c.change_next.new.tx.conn.now) has
-    (rw c.as_str.ensures.text at ran)) (c.change_next.ensures.ran clean inside)
