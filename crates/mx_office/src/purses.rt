@@ -42,6 +42,7 @@ pub(crate) fn placed<B: Book>(
 }
 
 /// The names of the holder's purses.
+#[inline(never)]
 pub(crate) fn purses<B: Book>(
     book: &mut B,
     alloc: Global,
@@ -59,6 +60,7 @@ pub(crate) fn purses<B: Book>(
 }
 
 /// The purse.
+#[inline(never)]
 pub(crate) fn show<B: Book>(
     book: &mut B,
     alloc: Global,
@@ -84,6 +86,7 @@ pub(crate) fn show<B: Book>(
 }
 
 /// The messages in the inbox of the purse.
+#[inline(never)]
 pub(crate) fn inbox<B: Book>(
     book: &mut B,
     alloc: Global,
@@ -106,6 +109,7 @@ pub(crate) fn inbox<B: Book>(
 }
 
 /// The first 50 lines of the purse that are numbered above `after`.
+#[inline(never)]
 pub(crate) fn statement<B: Book>(
     book: &mut B,
     alloc: Global,
@@ -129,6 +133,7 @@ pub(crate) fn statement<B: Book>(
 }
 
 /// A payment from the purse to a peer.
+#[inline(never)]
 pub(crate) fn start_from<B: Book>(
     book: &mut B,
     alloc: Global,
@@ -162,6 +167,7 @@ pub(crate) fn start_from<B: Book>(
 }
 
 /// A payment to the purse from a peer, which is sent a request for it.
+#[inline(never)]
 pub(crate) fn start_to<B: Book>(
     book: &mut B,
     alloc: Global,
@@ -196,6 +202,7 @@ pub(crate) fn start_to<B: Book>(
 }
 
 /// A message in the inbox of the purse is handled, and stays there. What the purse sends for it is put.
+#[inline(never)]
 pub(crate) fn handle<B: Book>(
     book: &mut B,
     alloc: Global,
@@ -225,6 +232,7 @@ pub(crate) fn handle<B: Book>(
 }
 
 /// A message in the inbox of the purse is thrown away.
+#[inline(never)]
 pub(crate) fn discard<B: Book>(
     book: &mut B,
     alloc: Global,
@@ -255,6 +263,7 @@ pub(crate) fn discard<B: Book>(
 }
 
 /// The payment of the purse is aborted.
+#[inline(never)]
 pub(crate) fn abort<B: Book>(
     book: &mut B,
     alloc: Global,
@@ -304,6 +313,7 @@ fn not_kept<B: Book>(
 }
 
 /// The entry at a place of the log of the purse, which is at rest then. What is read is sent to the archive.
+#[inline(never)]
 pub(crate) fn read_log<B: Book>(
     book: &mut B,
     alloc: Global,
@@ -329,6 +339,7 @@ pub(crate) fn read_log<B: Book>(
 }
 
 /// An amount of the purse is redeemed.
+#[inline(never)]
 pub(crate) fn redeem<B: Book>(
     book: &mut B,
     alloc: Global,

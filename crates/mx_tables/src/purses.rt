@@ -1,9 +1,5 @@
 //! Purses.
-<<<<<<< HEAD
-ghost use Rattle.std.specs.Prelude.{◌≡◌, ◌≤◌, ◌^◌, ◌∷◌, [], codes, map, length, option_map, is_some, Ok, Some, IfOk, IfSome, OnOk, IsTrue};
-=======
 ghost use Rattle.std.specs.Prelude.{◌≡◌, ◌≤◌, ◌<◌, ◌+◌, ◌^◌, ◌∷◌, [], codes, map, length, option_map, is_some, Ok, Some, IfOk, IfSome, OnOk, IsTrue};
->>>>>>> 89c963e (Tables expect the number that a message was found to get, and look at it in the UPDATE that raises it; edits are lent)
 ghost use Rattle.std.specs.List.Sorted.{IsPermutation};
 ghost use Rattle.std.specs.FinMap as fmap;
 ghost use Rattle.sqlite_trees.specs.View.{doubt};

@@ -1,6 +1,6 @@
 -- What a body says, from its JSON value.
 use Rattle.std.proofs.Common.{◌≡◌, ℕ, List, [], ◌∷◌, Bool, true, false, refl, sym, ap}
-use Rattle.std.specs.Prelude.{Option, Some, None, Result, Err, IfSome, if◌then◌else◌, is_some, option_and_then, option_map}
+use Rattle.std.specs.Prelude.{Option, Some, None, Result, Err, IfSome, if◌then◌else◌, is_none, option_and_then}
 use Rattle.std.specs.Str.{is_utf8, IsUtf8}
 use Rattle.std.proofs.lemmas.Str.{IsUtf8-from_is_utf8, is_utf8-from_IsUtf8}
 use Rattle.serde_json.specs.Data.{Data}
@@ -14,7 +14,7 @@ use Rattle.mx_pay.proofs.SameLemmas.{none_valid}
 use Rattle.mx_office.specs.declared.values.Command.{Command}
 use Rattle.mx_wire.specs.declared.bodies.WireFault.{WireFault}
 use Rattle.mx_wire.specs.declared.routes.Route.{Route}
-use Rattle.mx_wire.specs.Bodies.{log_of_code, value_of, bare, bare_or, said, command_of}
+use Rattle.mx_wire.specs.Bodies.{log_of_code, value_of, bare, bare_or, has_body, said, command_of}
 
 pub value_of_text : (body : List ℕ) (d : Data) → IsUtf8 body → read body ≡ Some d → value_of body ≡ Some d
 value_of_text body d text reads =
@@ -41,15 +41,13 @@ pub says_nothing : (r : Route) (body : List ℕ) → bare r ≡ None → value_o
 unfolding command_of
 says_nothing r body none value = rw (none, value) refl
 
--- ---- a command that is written over another
-
-pub written : (o : Option (Unit {0})) (now : Command) (p : Option Command) → option_map (λ _. now) o ≡ p → is_some o ≡ true → p ≡ Some now
-written None now p is some = cc
-written (Some u) now p is some = sym is
-
-pub unwritten : (o : Option (Unit {0})) (now : Command) (p : Option Command) → option_map (λ _. now) o ≡ p → is_some o ≡ false → p ≡ None
-unwritten None now p is none = sym is
-unwritten (Some u) now p is none = cc
+-- a route whose command is said by a body has none without it
+pub bodiless : (r : Route) → true ≡ has_body r → bare r ≡ None
+bodiless r is = nothing (bare r) (sym is)
+  where
+    nothing : (o : Option Command) → is_none o ≡ true → o ≡ None
+    nothing None h = refl
+    nothing (Some c) h = absurd (cc)
 
 pub same_fault : {X : Type 0} (r : Result X WireFault) (a b : WireFault) → r ≡ Err a → r ≡ Err b → a ≡ b
 same_fault r a b e f = cc

@@ -109,7 +109,25 @@ fn log_at(value: &Value<'_>, key: &str) -> Option<Log>
     log_of_code(text)
 }
 
+/// Whether the command of a route is said by a body.
+fn has_body(route: &Route) -> bool
+    ensures { result ≡ has_body route.now }
+{
+    !matches!(
+        *route,
+        Route::Collect
+            | Route::Archive(_)
+            | Route::Purses
+            | Route::Show(_)
+            | Route::Abort(_)
+            | Route::Inbox(_)
+            | Route::Statement(..)
+            | Route::Reconcile
+    )
+}
+
 /// The command of a route that needs no body, written over another; None where the route needs one.
+#[inline(never)]
 fn bare(route: &Route, command: &mut Command) -> Option<()>
     ensures { option_map (λ _. command.new) result ≡ bare route.now }
 {
@@ -233,8 +251,11 @@ pub fn read_body_into(
     ensures routed { result ≢ Err WireFault.NoRoute }
     ensures memory { result ≡ Err WireFault.Memory → IsTrue (has_body route.now) }
 {
-    if bare(route, command).is_some() {
-        return Ok(());
+    if !has_body(route) {
+        return match bare(route, command) {
+            Some(()) => Ok(()),
+            None => Err(WireFault::BadBody),
+        };
     }
     let value = value_of(alloc, body, scratch)?;
     match said(route, &value, command) {
