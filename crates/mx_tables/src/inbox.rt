@@ -43,10 +43,22 @@ fn message_at(row: &Row, kind: usize, details: usize) -> Result<Message, StoreFa
     ensures valid { IfOk result IsMessage }
 {
     match text_at(row, kind) {
-        Some("req") => Ok(Message::Req(entry_at(row, details)?)),
-        Some("val") => Ok(Message::Val(entry_at(row, details)?)),
-        Some("ack") => Ok(Message::Ack(entry_at(row, details)?)),
-        Some("clear") => Ok(Message::Clear(log_at(row, details)?)),
+        Some("req") => {
+            let entry = entry_at(row, details)?;
+            Ok(Message::Req(entry))
+        }
+        Some("val") => {
+            let entry = entry_at(row, details)?;
+            Ok(Message::Val(entry))
+        }
+        Some("ack") => {
+            let entry = entry_at(row, details)?;
+            Ok(Message::Ack(entry))
+        }
+        Some("clear") => {
+            let log = log_at(row, details)?;
+            Ok(Message::Clear(log))
+        }
         _ => Err(StoreFault::Store),
     }
 }
@@ -147,7 +159,10 @@ pub fn find_message<S: Alter>(
     let rows = select_message(conn, purse.as_str(), number)?;
     match rows.as_slice() {
         [] => Ok(None),
-        [row] => Ok(Some(message_at(row, 0, 1)?)),
+        [row] => {
+            let message = message_at(row, 0, 1)?;
+            Ok(Some(message))
+        }
         _ => Err(StoreFault::Store),
     }
 }

@@ -163,7 +163,10 @@ pub fn find_purse<S: Alter>(
     let rows = select_purse(conn, name)?;
     match rows.as_slice() {
         [] => Ok(None),
-        [row] => Ok(Some(purse_in(name, row)?)),
+        [row] => {
+            let found = purse_in(name, row)?;
+            Ok(Some(found))
+        }
         _ => Err(StoreFault::Store),
     }
 }

@@ -153,81 +153,78 @@ fn said(route: &Route, value: &Value<'_>, command: &mut Command) -> Option<()>
 {
     match *route {
         Route::NewMember => {
-            *command = Command::NewMember {
-                member: name_at(value, "member")?,
-                token: token_at(value, "token")?,
-            }
+            let member = name_at(value, "member")?;
+            let token = token_at(value, "token")?;
+            *command = Command::NewMember { member, token }
         }
         Route::Grant(member) => {
-            *command = Command::Grant {
-                member,
-                amount: amount_at(value, "amount")?,
-            }
+            let amount = amount_at(value, "amount")?;
+            *command = Command::Grant { member, amount }
         }
         Route::Clear(purse) => {
-            *command = Command::Clear {
-                purse,
-                details: log_at(value, "details")?,
-            }
+            let details = log_at(value, "details")?;
+            *command = Command::Clear { purse, details }
         }
         Route::NewHolder => {
-            *command = Command::NewHolder {
-                holder: name_at(value, "holder")?,
-                token: token_at(value, "token")?,
-            }
+            let holder = name_at(value, "holder")?;
+            let token = token_at(value, "token")?;
+            *command = Command::NewHolder { holder, token }
         }
         Route::NewPurse => {
-            *command = Command::NewPurse {
-                purse: name_at(value, "purse")?,
-                holder: name_at(value, "holder")?,
-            }
+            let purse = name_at(value, "purse")?;
+            let holder = name_at(value, "holder")?;
+            *command = Command::NewPurse { purse, holder }
         }
         Route::Load(purse) => {
+            let amount = amount_at(value, "amount")?;
+            let reference = name_at(value, "ref")?;
             *command = Command::Load {
                 purse,
-                amount: amount_at(value, "amount")?,
-                reference: name_at(value, "ref")?,
+                amount,
+                reference,
             }
         }
         Route::StartFrom(purse) => {
+            let peer = name_at(value, "peer")?;
+            let amount = amount_at(value, "value")?;
+            let seq = seq_at(value, "seq")?;
             *command = Command::StartFrom {
                 purse,
-                peer: name_at(value, "peer")?,
-                value: amount_at(value, "value")?,
-                seq: seq_at(value, "seq")?,
+                peer,
+                value: amount,
+                seq,
             }
         }
         Route::StartTo(purse) => {
+            let peer = name_at(value, "peer")?;
+            let amount = amount_at(value, "value")?;
+            let seq = seq_at(value, "seq")?;
             *command = Command::StartTo {
                 purse,
-                peer: name_at(value, "peer")?,
-                value: amount_at(value, "value")?,
-                seq: seq_at(value, "seq")?,
+                peer,
+                value: amount,
+                seq,
             }
         }
         Route::Handle(purse) => {
-            *command = Command::Handle {
-                purse,
-                number: seq_at(value, "number")?,
-            }
+            let number = seq_at(value, "number")?;
+            *command = Command::Handle { purse, number }
         }
         Route::Discard(purse) => {
-            *command = Command::Discard {
-                purse,
-                number: seq_at(value, "number")?,
-            }
+            let number = seq_at(value, "number")?;
+            *command = Command::Discard { purse, number }
         }
         Route::ReadLog(purse) => {
-            *command = Command::ReadLog {
-                purse,
-                place: number_at(value, "place")?,
-            }
+            let place = number_at(value, "place")?;
+            *command = Command::ReadLog { purse, place }
         }
         Route::Redeem(purse) => {
+            let amount = amount_at(value, "amount")?;
+            let reference = name_at(value, "ref")?;
             *command = Command::Redeem {
                 purse,
-                amount: amount_at(value, "amount")?,
-                reference: name_at(value, "ref")?,
+                amount,
+                reference,
             }
         }
         _ => return None,
