@@ -17,5 +17,5 @@ pub returns-in-len1-clause-value : goal.returns-in-len1-clause-value
 returns-in-len1-clause-value g c sure kept holds valid low =
     let found = finds_message c.args.purse.now c.args.number (state g.S.Store c.args.conn.now) (state g.S.Store c.select_message.new.conn) c.in_ok-rows.rows.items (rw c.as_str.ensures.text at (c.in_ok-rows.ensures.shown sure)) kept holds in
     let one = got_one (pair_cmp name_cmp nat_cmp) message_shown (c.args.purse.now, c.args.number) kept.inbox c.as_slice.result.now c.in_ok-rows.rows.items c.row-item.result found c.as_slice.ensures.value c.in-len1.len_at_least c.in-len1.len_below c.row-item.is in
-    let read = c.in_ok-message_at-in-len1.ensures in
-    ap Some (message_back one.0 c.in_ok-message_at-in-len1.field-0 c.row-item.result (valid (c.args.purse.now, c.args.number) one.0 one.1) read.valid one.2 read.shown.0 read.shown.1) ∙ sym one.1
+    let read = c.in_ok-message-in-len1.ensures in
+    ap Some (message_back one.0 c.in_ok-message-in-len1.message c.row-item.result (valid (c.args.purse.now, c.args.number) one.0 one.1) read.valid one.2 read.shown.0 read.shown.1) ∙ sym one.1
