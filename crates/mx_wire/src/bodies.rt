@@ -1,5 +1,6 @@
 //! The bodies of requests: JSON in, commands out.
-ghost use Rattle.std.specs.Prelude.{◌≡◌, ◌≢◌, ◌↔◌, true, Some, None, Err, IsTrue, IfSome, IfOk, OnOk, option_map};
+ghost use Rattle.std.specs.Prelude.{◌≡◌, ◌≢◌, ◌↔◌, true, Some, None, Err, IsTrue, IfSome, IfOk, OnOk, codes, option_map};
+ghost use Rattle.mx_office.specs.declared.values.Command.TheVariants.{Clear};
 ghost use Rattle.mx_pay.specs.Codes.{code};
 ghost use Rattle.mx_pay.specs.Log.{Entries, IsLogValue};
 ghost use Rattle.mx_wire.specs.Routes.{route_of};
@@ -145,6 +146,18 @@ fn bare(route: &Route, command: &mut Command) -> Option<()>
     Some(())
 }
 
+/// The command that clears the log of a purse of the details that a JSON value has, written over another; None where it has
+/// none. A log is large, so it stands in a function of its own for LLVM.
+#[inline(never)]
+fn clear(purse: Name, value: &Value<'_>, command: &mut Command) -> Option<()>
+    requires { IsData value.now }
+    ensures { option_map (λ _. command.new) result ≡ option_map (Clear purse) (log_at (codes "details") (data_of value.now)) }
+{
+    let details = log_at(value, "details")?;
+    *command = Command::Clear { purse, details };
+    Some(())
+}
+
 /// The command that a route and a JSON value say, written over another; None where they say none, and where the route
 /// needs no body.
 fn said(route: &Route, value: &Value<'_>, command: &mut Command) -> Option<()>
@@ -161,10 +174,7 @@ fn said(route: &Route, value: &Value<'_>, command: &mut Command) -> Option<()>
             let amount = amount_at(value, "amount")?;
             *command = Command::Grant { member, amount }
         }
-        Route::Clear(purse) => {
-            let details = log_at(value, "details")?;
-            *command = Command::Clear { purse, details }
-        }
+        Route::Clear(purse) => clear(purse, value, command)?,
         Route::NewHolder => {
             let holder = name_at(value, "holder")?;
             let token = token_at(value, "token")?;
