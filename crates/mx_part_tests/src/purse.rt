@@ -1,7 +1,7 @@
-//! A new purse and a purse of given parts, read part by part, each condition of a purse broken once, and a payment from
-//! purse to purse.
-use mx_pay::{Log, Name, PayDetails, Seq, read_code};
-use mx_purse::{Handled, Message, Purse, Status};
+//! A new purse and a purse of given parts, read part by part, each condition of a purse broken once, a payment from
+//! purse to purse, and a purse that is worn.
+use mx_pay::{Amount, Log, Name, PayDetails, Seq, read_code};
+use mx_purse::{Handled, Message, Purse, StartRefusal, Status};
 use std::test::Fail;
 
 /// The log whose code text is `text`, which has to be one.
@@ -52,13 +52,9 @@ const MOST: u64 = 1_000_000_000_000_000;
 fn a_new_purse_is_empty_and_at_rest(rt: HostRuntime) -> Result<(), Fail> {
     let name = Name::read("p1").ok_or("no name")?;
     let purse = Purse::new(name);
-    assert_eq!(rt; purse.name().as_str(), "p1");
-    assert_eq!(rt; purse.balance(), 0);
-    assert_eq!(rt; purse.next().get(), 0);
-    assert!(rt; matches!(purse.status(), Status::EaFrom));
-    assert_eq!(rt; purse.lines(), 0);
-    let shown = format!(in rt.alloc(); "{:?}", purse.log())?;
-    assert!(rt; !shown.as_str().contains("Some"));
+    assert_eq!(rt; purse.name(), name);
+    assert_eq!(rt; figures(&purse), (0, 0, 0, 0));
+    assert_eq!(rt; standing(&purse), ("eaFrom", None));
     Ok(())
 }
 
@@ -73,12 +69,9 @@ fn a_purse_of_given_parts_has_them(rt: HostRuntime) -> Result<(), Fail> {
         3,
     )?;
     let purse = purse.ok_or("no purse")?;
-    assert_eq!(rt; purse.name().as_str(), "p1");
-    assert_eq!(rt; purse.balance(), 60);
-    assert_eq!(rt; purse.next().get(), 2);
-    assert!(rt; matches!(purse.status(), Status::Epr(_)));
-    assert_eq!(rt; purse.log().len(), 2);
-    assert_eq!(rt; purse.lines(), 3);
+    assert_eq!(rt; purse.name(), held.from());
+    assert_eq!(rt; figures(&purse), (60, 2, 2, 3));
+    assert_eq!(rt; standing(&purse), ("epr", Some(held)));
     Ok(())
 }
 
@@ -194,5 +187,19 @@ fn payment_in_five_steps(rt: HostRuntime) -> Result<(), Fail> {
     assert_eq!(rt; standing(&p1), ("eaFrom", None));
     assert_eq!(rt; figures(&q1), (60, 1, 0, 1));
     assert_eq!(rt; standing(&q1), ("eaTo", None));
+    Ok(())
+}
+
+/// A purse whose next number is 10^15 starts no payment. It pays what was started before, and logs it when it aborts.
+#[test]
+fn worn_purse(rt: HostRuntime) -> Result<(), Fail> {
+    let paid = details("p1,q1,60,0,0")?;
+    let mut p1 = made(100, MOST, Status::Epr(paid), Log::new(), 1)?.ok_or("no purse")?;
+    let nothing = Amount::new(0).ok_or("no amount")?;
+    let begun = p1.start_from(paid.to(), nothing, Seq::zero());
+    assert_eq!(rt; begun, Err(StartRefusal::Worn));
+    assert_eq!(rt; taken(&mut p1, Message::Req(paid)), ("req", Some(paid)));
+    assert_eq!(rt; p1.abort(), Some(paid));
+    assert_eq!(rt; figures(&p1), (40, MOST, 1, 3));
     Ok(())
 }

@@ -1,9 +1,7 @@
 //! Random commands, and what the books come to by a ledger of the test's own.
-use super::scripts::name;
-use super::{empty_book, tell};
 use mx_book::{Caller, PlainBook, Totals};
 use mx_office::{Command, Office, Reply};
-use mx_pay::{Amount, Log, Name, PayDetails, Seq};
+use mx_pay::{Amount, Log, Name, PayDetails, Seq, Token};
 use mx_purse::Handled;
 use std::alloc::Global;
 use std::process::Abort;
@@ -230,6 +228,14 @@ fn figures(sums: &Totals) -> [u128; 8] {
     ]
 }
 
+/// The sums that an office tells.
+fn sums_of(alloc: Global, office: &mut Office<PlainBook>) -> Result<[u128; 8], Fail> {
+    match office.answer(alloc, Caller::Operator, &Command::Reconcile) {
+        Ok(Reply::Reconciled(sums)) => Ok(figures(&sums)),
+        _ => Err("no sums")?,
+    }
+}
+
 /// Numbers that are always the same.
 #[derive(Drop)]
 struct Dice {
@@ -249,11 +255,22 @@ impl Dice {
 
 /// An office, and the ledger beside it.
 #[derive(Drop)]
-struct Trial {
-    office: Office<PlainBook>,
-    ledger: Ledger,
+struct Trial<'a> {
+    office: &'a mut Office<PlainBook>,
+    ledger: &'a mut Ledger,
     /// How many commands were asked.
     asked: u64,
+}
+
+fn name(word: &str) -> Result<Name, Fail> {
+    Ok(Name::read(word).ok_or("no name")?)
+}
+
+/// The token whose 32 digits are zeros but for the last.
+fn token(last: u8) -> Result<Token, Fail> {
+    let mut digits = [b'0'; 32];
+    digits[31] = last;
+    Ok(Token::read_bytes(&digits).ok_or("no token")?)
 }
 
 fn amount(number: u64) -> Result<Amount, Fail> {
@@ -282,34 +299,58 @@ fn purse_at(place: u64) -> Result<Own, Fail> {
     })
 }
 
-impl Trial {
-    /// Asks a command on a purse, notes the reply, and after each twentieth compares the sums.
+/// The entry that a reply tells of.
+fn entry_of(reply: &Reply) -> Option<PayDetails> {
+    match reply {
+        Reply::Read(entry) => *entry,
+        _ => None,
+    }
+}
+
+/// A name that no other number has.
+fn numbered(alloc: Global, number: u64) -> Result<Name, Fail> {
+    let text = format!(in alloc; "r{number}")?;
+    name(text.as_str())
+}
+
+impl Trial<'_> {
+    /// Asks a command on a purse, and notes the reply. The answer is the entry that was read.
+    fn answered(
+        &mut self,
+        alloc: Global,
+        caller: Caller,
+        place: usize,
+        command: &Command,
+    ) -> Result<Option<PayDetails>, Fail> {
+        match self.office.answer(alloc, caller, command) {
+            Ok(reply) => {
+                self.ledger.note(place, command, &reply)?;
+                Ok(entry_of(&reply))
+            }
+            Err(_) => Err("no answer")?,
+        }
+    }
+
+    /// Asks a command on a purse, and after each twentieth compares the sums. The answer is the entry that was read.
     fn ask(
         &mut self,
         rt: &(impl Abort + AllocGlobal),
         caller: Caller,
         place: usize,
         command: Command,
-    ) -> Result<Reply, Fail> {
-        let answer = self.office.answer(rt.alloc(), caller, &command);
-        let reply = answer.ok().ok_or("no answer")?;
-        self.ledger.note(place, &command, &reply)?;
+    ) -> Result<Option<PayDetails>, Fail> {
+        let entry = self.answered(rt.alloc(), caller, place, &command)?;
         self.asked = self.asked.wrapping_add(1);
         if self.asked % 20 == 0 {
             self.compare(rt)?;
         }
-        Ok(reply)
+        Ok(entry)
     }
 
     /// Asserts that the books come to what the ledger says.
     fn compare(&mut self, rt: &(impl Abort + AllocGlobal)) -> Result<(), Fail> {
-        let answer = self
-            .office
-            .answer(rt.alloc(), Caller::Operator, &Command::Reconcile);
-        let Ok(Reply::Reconciled(sums)) = answer else {
-            return Err(Fail::from("no sums"));
-        };
-        assert_eq!(rt; figures(&sums), self.ledger.figures(), "{}", self.asked);
+        let sums = sums_of(rt.alloc(), self.office)?;
+        assert_eq!(rt; sums, self.ledger.figures(), "{}", self.asked);
         Ok(())
     }
 
@@ -367,7 +408,7 @@ impl Trial {
         let purse = own.purse;
         let read = Command::ReadLog { purse, place: 0 };
         let mut details = Log::new();
-        if let Reply::Read(Some(entry)) = self.ask(rt, own.holder, own.place, read)? {
+        if let Some(entry) = self.ask(rt, own.holder, own.place, read)? {
             details.add(entry);
         }
         self.ask(rt, Caller::Operator, own.place, Command::Archive { purse })?;
@@ -384,8 +425,7 @@ impl Trial {
     fn move_money(&mut self, rt: &(impl Abort + AllocGlobal), dice: &mut Dice) -> Result<(), Fail> {
         let own = purse_at(dice.below(5))?;
         let amount = amount(dice.below(90))?;
-        let text = format!(in rt.alloc(); "r{}", self.asked)?;
-        let (purse, reference) = (own.purse, name(text.as_str())?);
+        let (purse, reference) = (own.purse, numbered(rt.alloc(), self.asked)?);
         if dice.below(2) == 0 {
             let clerk = Caller::Clerk(name(member_of(own.place))?);
             let load = Command::Load {
@@ -430,38 +470,61 @@ impl Trial {
     }
 }
 
-/// Two members with what they are granted, and the purses of their holders.
-const OPENING: &str = "
-operator new-member m 2 -> added
-operator new-member k 3 -> added
-clerk new-holder ann a -> added
-clerk new-holder bob b -> added
-clerk-of-k new-holder cy c -> added
-clerk-of-k new-holder dan d -> added
-clerk new-purse p0 ann -> added
-clerk new-purse p1 ann -> added
-clerk new-purse p2 bob -> added
-clerk-of-k new-purse q0 cy -> added
-clerk-of-k new-purse q1 dan -> added
-operator grant m 100000 -> granted
-operator grant k 100000 -> granted
-";
+/// The members, and the holders with their members; each with the last digit of the token.
+const MEMBERS: [(&str, u8); 2] = [("m", b'2'), ("k", b'3')];
 
-/// An office with these purses, and its ledger.
-fn opened(rt: &(impl Abort + AllocGlobal)) -> Result<Trial, Fail> {
-    let mut office = Office::new(empty_book(rt)?);
-    tell(rt, &mut office, OPENING)?;
-    Ok(Trial {
-        office,
-        ledger: Ledger::new(rt.alloc()),
-        asked: 0,
-    })
+const HOLDERS: [(&str, &str, u8); 4] = [
+    ("ann", "m", b'a'),
+    ("bob", "m", b'b'),
+    ("cy", "k", b'c'),
+    ("dan", "k", b'd'),
+];
+
+/// The members are added, each with what it is granted.
+fn add_members(commands: &mut Vec<(Caller, Command)>) -> Result<(), Fail> {
+    for (member, digit) in MEMBERS {
+        let (member, token) = (name(member)?, token(digit)?);
+        commands.push((Caller::Operator, Command::NewMember { member, token }))?;
+        let amount = amount(GRANT)?;
+        commands.push((Caller::Operator, Command::Grant { member, amount }))?;
+    }
+    Ok(())
+}
+
+/// The holders are added by the clerks of their members.
+fn add_holders(commands: &mut Vec<(Caller, Command)>) -> Result<(), Fail> {
+    for (holder, member, digit) in HOLDERS {
+        let clerk = Caller::Clerk(name(member)?);
+        let (holder, token) = (name(holder)?, token(digit)?);
+        commands.push((clerk, Command::NewHolder { holder, token }))?;
+    }
+    Ok(())
+}
+
+/// The purses are added by the clerks of their holders' members.
+fn add_purses(commands: &mut Vec<(Caller, Command)>) -> Result<(), Fail> {
+    for (place, (purse, holder)) in PURSES.into_iter().enumerate() {
+        let clerk = Caller::Clerk(name(member_of(place))?);
+        let (purse, holder) = (name(purse)?, name(holder)?);
+        commands.push((clerk, Command::NewPurse { purse, holder }))?;
+    }
+    Ok(())
+}
+
+/// Opens an office with these purses.
+fn open(alloc: Global, office: &mut Office<PlainBook>) -> Result<(), Fail> {
+    let mut commands = Vec::new(alloc);
+    add_members(&mut commands)?;
+    add_holders(&mut commands)?;
+    add_purses(&mut commands)?;
+    office.run(alloc, commands.as_slice())?;
+    Ok(())
 }
 
 /// Five hundred random commands, by acts of one command or more.
 fn act_often(
     rt: &(impl Abort + AllocGlobal),
-    trial: &mut Trial,
+    trial: &mut Trial<'_>,
     dice: &mut Dice,
 ) -> Result<(), Fail> {
     for _ in 0..500 {
@@ -472,20 +535,40 @@ fn act_often(
     Ok(())
 }
 
-/// Asserts that the books come to what the ledger says after each twentieth of the random commands of a seed.
-fn assert_sums(rt: &(impl Abort + AllocGlobal), trial: &mut Trial, seed: u64) -> Result<(), Fail> {
-    act_often(rt, trial, &mut Dice { number: seed })?;
+/// Asserts that the books come to what the ledger says after each twentieth of the random commands of a seed, in an office
+/// in which nothing is.
+fn assert_sums(
+    rt: &(impl Abort + AllocGlobal),
+    office: &mut Office<PlainBook>,
+    ledger: &mut Ledger,
+    seed: u64,
+) -> Result<(), Fail> {
+    open(rt.alloc(), office)?;
+    let mut trial = Trial {
+        office,
+        ledger,
+        asked: 0,
+    };
+    act_often(rt, &mut trial, &mut Dice { number: seed })?;
     trial.compare(rt)?;
     assert!(rt; trial.ledger.sent_where(false) > 0, "{seed}");
     Ok(())
+}
+
+/// The same in a new office.
+fn assert_seed(rt: &(impl Abort + AllocGlobal), operator: Token, seed: u64) -> Result<(), Fail> {
+    let mut office = Office::new(PlainBook::new(rt.alloc(), operator));
+    let mut ledger = Ledger::new(rt.alloc());
+    assert_sums(rt, &mut office, &mut ledger, seed)
 }
 
 /// Payments that are broken off anywhere, messages handled twice and late, logs read, archived and cleared, loads,
 /// redemptions and collects.
 #[test]
 fn sums_of_two_thousand_random_commands(rt: HostRuntime) -> Result<(), Fail> {
+    let operator = token(b'1')?;
     for seed in 1..=4 {
-        assert_sums(&rt, &mut opened(&rt)?, seed)?;
+        assert_seed(&rt, operator, seed)?;
     }
     Ok(())
 }

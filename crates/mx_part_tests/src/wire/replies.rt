@@ -53,40 +53,43 @@ fn payment() -> Result<PayDetails, Fail> {
     Ok(PayDetails::new(name("p1")?, name("q1")?, value, from, to).ok_or("no details")?)
 }
 
+/// The body of each of the replies below.
+const BODIES: [&str; 13] = [
+    "{\"done\":\"added\"}",
+    "{\"done\":\"granted\"}",
+    "{\"done\":\"loaded\"}",
+    "{\"done\":\"sent\"}",
+    "{\"done\":\"value-sent\"}",
+    "{\"done\":\"received\"}",
+    "{\"done\":\"finished\"}",
+    "{\"done\":\"cleared\"}",
+    "{\"done\":\"ignored\"}",
+    "{\"done\":\"discarded\"}",
+    "{\"done\":\"aborted\",\"logged\":true}",
+    "{\"done\":\"aborted\",\"logged\":false}",
+    "{\"done\":\"redeemed\"}",
+];
+
 #[test]
 fn fixed_replies(rt: HostRuntime) -> Result<(), Fail> {
     let payment = payment()?;
-    for (reply, body) in [
-        (Reply::Added, "{\"done\":\"added\"}"),
-        (Reply::Granted, "{\"done\":\"granted\"}"),
-        (Reply::Loaded, "{\"done\":\"loaded\"}"),
-        (Reply::Sent, "{\"done\":\"sent\"}"),
-        (
-            Reply::Handled(Handled::Req(payment)),
-            "{\"done\":\"value-sent\"}",
-        ),
-        (
-            Reply::Handled(Handled::Val(payment)),
-            "{\"done\":\"received\"}",
-        ),
-        (
-            Reply::Handled(Handled::Ack(payment)),
-            "{\"done\":\"finished\"}",
-        ),
-        (Reply::Handled(Handled::Cleared), "{\"done\":\"cleared\"}"),
-        (Reply::Handled(Handled::Ignored), "{\"done\":\"ignored\"}"),
-        (Reply::Discarded, "{\"done\":\"discarded\"}"),
-        (
-            Reply::Aborted { logged: true },
-            "{\"done\":\"aborted\",\"logged\":true}",
-        ),
-        (
-            Reply::Aborted { logged: false },
-            "{\"done\":\"aborted\",\"logged\":false}",
-        ),
-        (Reply::Redeemed, "{\"done\":\"redeemed\"}"),
-    ] {
-        assert_reply(&rt, &reply, "200 OK", body)?;
+    let replies: [Reply; 13] = [
+        Reply::Added,
+        Reply::Granted,
+        Reply::Loaded,
+        Reply::Sent,
+        Reply::Handled(Handled::Req(payment)),
+        Reply::Handled(Handled::Val(payment)),
+        Reply::Handled(Handled::Ack(payment)),
+        Reply::Handled(Handled::Cleared),
+        Reply::Handled(Handled::Ignored),
+        Reply::Discarded,
+        Reply::Aborted { logged: true },
+        Reply::Aborted { logged: false },
+        Reply::Redeemed,
+    ];
+    for (reply, body) in replies.iter().zip(BODIES) {
+        assert_reply(&rt, reply, "200 OK", body)?;
     }
     Ok(())
 }

@@ -1,6 +1,6 @@
 use Rattle.mx_book.specs.Shelves.{rows_of}
 use Rattle.mx_book.proofs.FirstLemmas.{both_fit_at}
-use Rattle.mx_part_tests.proofs.book.grown.Goals as goal
+use Rattle.mx_part_tests.proofs.book.grow_and_look.Goals as goal
 
 pub apply-added-requires : goal.apply-added-requires
 apply-added-requires c w sure spelled =
