@@ -61,6 +61,14 @@ STATEMENTS = (
 )
 
 
+FLOAT = (
+    [done("added"), done("granted"), done("added"), done("added"), done("loaded"), done("redeemed"), done("redeemed")]
+    + [response('{"collected":"100"}'), response('{"collected":"0"}'), done("loaded")]
+    + [response('{"error":"float too small"}', "409 Conflict")]
+    + [sums(float=0, granted=100, issued=200, redeemed=100)]
+)
+
+
 def requests(name):
     """The requests of a sample: each begins with its method at the start of a line or behind a body."""
     with open(os.path.join(TOP, "examples", name), "rb") as file:
