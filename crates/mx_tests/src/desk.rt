@@ -15,7 +15,7 @@ mod sums;
 use self::payments::FIVE_STEPS;
 use self::scripts::{Exchange, RUN_END};
 use self::sums::add_loads;
-use crate::empty::{over_book, over_tables};
+use crate::empty::{with_book, with_tables};
 use mx_book::Book;
 use mx_desk::Counted;
 use mx_desk::desk::run;
@@ -86,21 +86,11 @@ fn assert_told(rt: &impl Abort, told: &Told, exchange: &Exchange) -> Result<(), 
     Ok(())
 }
 
-/// What is told of an exchange in an office over a book in memory in which nothing is.
-fn told_by_book(alloc: Global, exchange: &Exchange) -> Result<Told, Fail> {
-    serve(alloc, &mut over_book(alloc)?, exchange)
-}
-
-/// The same over tables.
-fn told_by_tables(alloc: Global, exchange: &Exchange) -> Result<Told, Fail> {
-    serve(alloc, &mut over_tables(alloc)?, exchange)
-}
-
 /// Serves an exchange in two offices in which nothing is, over a book in memory and over tables, and asserts that both
 /// write its responses.
 fn served(rt: &(impl Abort + AllocGlobal), exchange: &Exchange) -> Result<(), Fail> {
-    assert_told(rt, &told_by_book(rt.alloc(), exchange)?, exchange)?;
-    assert_told(rt, &told_by_tables(rt.alloc(), exchange)?, exchange)
+    with_book(rt, |rt, office| assert_served(rt, office, exchange))?;
+    with_tables(rt, |rt, office| assert_served(rt, office, exchange))
 }
 
 /// Serves the scenarios of a text, each in two such offices behind these scripts. A scenario begins with a line

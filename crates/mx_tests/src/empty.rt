@@ -13,22 +13,43 @@ fn operator() -> Result<Token, Fail> {
     Ok(Token::read("00000000000000000000000000000001").ok_or("no token")?)
 }
 
-/// An office over a book in memory.
-pub(super) fn over_book(alloc: Global) -> Result<Office<PlainBook>, Fail> {
-    Ok(Office::new(PlainBook::new(alloc, operator()?)))
+/// What comes of an office over a book in memory. A test that made the office itself would be proved slowly, since it
+/// would drop it at each of its ends; so does each of these for all.
+pub(super) fn with_book<H, T, F>(rt: &H, ask: F) -> Result<T, Fail>
+where
+    H: AllocGlobal,
+    T: Drop,
+    F: FnOnce(&H, &mut Office<PlainBook>) -> Result<T, Fail>,
+    requires { F.IsAlwaysCallable ask }
+{
+    let mut office = Office::new(PlainBook::new(rt.alloc(), operator()?));
+    ask(rt, &mut office)
 }
 
-/// An office over a book in memory that leaves out what it is told to, and nothing at first.
-pub(super) fn over_faulty(alloc: Global) -> Result<Office<Faulty<PlainBook>>, Fail> {
-    Ok(Office::new(Faulty {
-        book: PlainBook::new(alloc, operator()?),
+/// The same of a book in memory that leaves out what it is told to, and nothing at first.
+pub(super) fn with_faulty<H, F>(rt: &H, ask: F) -> Result<(), Fail>
+where
+    H: AllocGlobal,
+    F: FnOnce(&H, &mut Office<Faulty<PlainBook>>) -> Result<(), Fail>,
+    requires { F.IsAlwaysCallable ask }
+{
+    let mut office = Office::new(Faulty {
+        book: PlainBook::new(rt.alloc(), operator()?),
         left: None,
-    }))
+    });
+    ask(rt, &mut office)
 }
 
-/// An office over tables in memory.
-pub(super) fn over_tables(alloc: Global) -> Result<Office<Tables<MemStore>>, Fail> {
-    Ok(Office::new(made(alloc, empty_store(alloc)?, operator()?)?))
+/// The same of tables in memory.
+pub(super) fn with_tables<H, F>(rt: &H, ask: F) -> Result<(), Fail>
+where
+    H: AllocGlobal,
+    F: FnOnce(&H, &mut Office<Tables<MemStore>>) -> Result<(), Fail>,
+    requires { F.IsAlwaysCallable ask }
+{
+    let book = made(rt.alloc(), empty_store(rt.alloc())?, operator()?)?;
+    let mut office = Office::new(book);
+    ask(rt, &mut office)
 }
 
 /// A store in memory in which nothing is.

@@ -1,6 +1,6 @@
 //! The reports of a scheme, as texts, over a book in memory and over tables.
 use crate::desk::{fund_and_load, fund_and_pay};
-use crate::empty::{over_book, over_faulty, over_tables};
+use crate::empty::{with_book, with_faulty, with_tables};
 use crate::faulty::Faulty;
 use mx_book::Book;
 use mx_office::Office;
@@ -62,8 +62,8 @@ fn assert_reports(
 
 #[test]
 fn reports_after_a_payment(rt: HostRuntime) -> Result<(), Fail> {
-    assert_reports(&rt, &mut over_book(rt.alloc())?)?;
-    assert_reports(&rt, &mut over_tables(rt.alloc())?)
+    with_book(&rt, |rt, office| assert_reports(rt, office))?;
+    with_tables(&rt, |rt, office| assert_reports(rt, office))
 }
 
 /// Asserts the reconciliation after a payment.
@@ -100,8 +100,8 @@ fn assert_long_statement(
 #[test]
 fn statements_of_many_lines(rt: HostRuntime) -> Result<(), Fail> {
     for loads in [60, 98, 99, 100] {
-        assert_long_statement(&rt, &mut over_book(rt.alloc())?, loads)?;
-        assert_long_statement(&rt, &mut over_tables(rt.alloc())?, loads)?;
+        with_book(&rt, |rt, office| assert_long_statement(rt, office, loads))?;
+        with_tables(&rt, |rt, office| assert_long_statement(rt, office, loads))?;
     }
     Ok(())
 }
@@ -123,5 +123,5 @@ fn assert_three_pages(
 
 #[test]
 fn pages_of_a_long_statement(rt: HostRuntime) -> Result<(), Fail> {
-    assert_three_pages(&rt, &mut over_faulty(rt.alloc())?)
+    with_faulty(&rt, |rt, office| assert_three_pages(rt, office))
 }

@@ -1,5 +1,5 @@
 //! The import of rolls into books in memory and into tables: rolls with what is told of them, worked out by hand.
-use crate::empty::{over_book, over_tables};
+use crate::empty::{with_book, with_tables};
 use mx_book::{Book, PlainBook};
 use mx_office::Office;
 use mx_report::{RollFault, RollFaultKind, RollReason, RollReport, import_roll};
@@ -120,8 +120,8 @@ fn import_all(rt: &(impl Abort + AllocGlobal), office: &mut Office<impl Book>) -
 
 #[test]
 fn rolls_one_after_another(rt: HostRuntime) -> Result<(), Fail> {
-    import_all(&rt, &mut over_book(rt.alloc())?)?;
-    import_all(&rt, &mut over_tables(rt.alloc())?)
+    with_book(&rt, |rt, office| import_all(rt, office))?;
+    with_tables(&rt, |rt, office| import_all(rt, office))
 }
 
 /// Asserts that a field that isn't UTF-8 makes a bad row.
@@ -140,7 +140,7 @@ fn assert_bad_rows(
 
 #[test]
 fn a_field_that_is_no_text(rt: HostRuntime) -> Result<(), Fail> {
-    assert_bad_rows(&rt, &mut over_book(rt.alloc())?)
+    with_book(&rt, |rt, office| assert_bad_rows(rt, office))
 }
 
 /// The report of a roll that is imported, or imported again where there is no memory at first.
@@ -189,5 +189,5 @@ fn assert_imported_in_the_end(
 
 #[test]
 fn rolls_with_a_growth_refused(rt: HostRuntime) -> Result<(), Fail> {
-    assert_imported_in_the_end(&rt, &mut over_book(rt.alloc())?)
+    with_book(&rt, |rt, office| assert_imported_in_the_end(rt, office))
 }

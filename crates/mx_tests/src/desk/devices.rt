@@ -46,7 +46,7 @@ impl Read for Pieces<'_> {
 }
 
 /// A writer that takes so many bytes and then fails. It takes no memory.
-#[derive(Drop)]
+#[derive(Clone, Copy)]
 pub(super) struct Page {
     bytes: [u8; 4096],
     len: usize,

@@ -2,13 +2,13 @@
 use super::devices::{Page, Pieces};
 use super::scripts::Exchange;
 use super::{assert_served, served};
-use crate::empty::{over_book, over_faulty};
+use crate::empty::{with_book, with_faulty};
 use crate::faulty::Faulty;
 use mx_book::{Book, PlainBook};
 use mx_desk::desk::{Served, run, serve_one};
 use mx_desk::{Counted, DeskFault};
 use mx_office::Office;
-use mx_pay::{Name, Token};
+use mx_pay::Name;
 use mx_wire::Routes;
 use std::alloc::Global;
 use std::io::Read;
@@ -24,7 +24,7 @@ const FOUR_RESPONSES: &str =
     "HTTP/1.1 200 OK\r\ncontent-type: application/json\r\ncontent-length: 16\r\nconnection: close\r\n\r\n{\"done\":\"added\"}HTTP/1.1 200 OK\r\ncontent-type: application/json\r\ncontent-length: 16\r\nconnection: close\r\n\r\n{\"done\":\"added\"}HTTP/1.1 200 OK\r\ncontent-type: application/json\r\ncontent-length: 16\r\nconnection: close\r\n\r\n{\"done\":\"added\"}HTTP/1.1 200 OK\r\ncontent-type: application/json\r\ncontent-length: 53\r\nconnection: close\r\n\r\n{\"balance\":0,\"next\":0,\"purse\":\"p1\",\"status\":\"eaFrom\"}";
 
 /// How a run ended, what its devices counted, and what was written.
-#[derive(Drop)]
+#[derive(Clone, Copy)]
 struct Ended {
     end: Result<u64, DeskFault>,
     reads: u64,
@@ -95,7 +95,7 @@ fn assert_cut_short(
 
 #[test]
 fn write_that_fails_ends_the_run(rt: HostRuntime) -> Result<(), Fail> {
-    assert_cut_short(&rt, &mut over_book(rt.alloc())?)
+    with_book(&rt, |rt, office| assert_cut_short(rt, office))
 }
 
 /// A run of the first 40 bytes of four requests, so many at a time, and then a failure.
@@ -121,9 +121,10 @@ fn assert_cut_at_40(
 /// A reader that fails inside the first request: nothing is written, and nothing is there.
 #[test]
 fn read_that_fails_ends_the_run(rt: HostRuntime) -> Result<(), Fail> {
-    let mut office = over_book(rt.alloc())?;
-    assert_cut_at_40(&rt, &mut office, 1, 41)?;
-    assert_cut_at_40(&rt, &mut office, 40, 2)
+    with_book(&rt, |rt, office| {
+        assert_cut_at_40(rt, office, 1, 41)?;
+        assert_cut_at_40(rt, office, 40, 2)
+    })
 }
 
 /// What `serve_one` makes of some bytes, and what it writes.
@@ -154,7 +155,10 @@ fn is_served(
 }
 
 /// Asserts that `serve_one` answers one request, whatever follows it.
-fn assert_first_alone(rt: &(impl Abort + AllocGlobal), office: &mut Office<PlainBook>) {
+fn assert_first_alone(
+    rt: &(impl Abort + AllocGlobal),
+    office: &mut Office<PlainBook>,
+) -> Result<(), Fail> {
     let alloc = rt.alloc();
     for (bytes, end, output) in [
         ("", Served::Nothing, ""),
@@ -164,12 +168,12 @@ fn assert_first_alone(rt: &(impl Abort + AllocGlobal), office: &mut Office<Plain
         assert!(rt; is_served(alloc, office, bytes, end, output), "{bytes}");
     }
     assert_eq!(rt; m_and_ann(alloc, office), Some((true, false)));
+    Ok(())
 }
 
 #[test]
 fn first_request_alone(rt: HostRuntime) -> Result<(), Fail> {
-    assert_first_alone(&rt, &mut over_book(rt.alloc())?);
-    Ok(())
+    with_book(&rt, |rt, office| assert_first_alone(rt, office))
 }
 
 const BAD_HEAD_BYTES: &str =
@@ -232,26 +236,31 @@ fn answered_in_the_end(
     }
 }
 
-/// With every growth granted this says what the first worked input says. Run with one growth refused, it says that
-/// a response is the usual one or 503, and that the same request sent again has the usual one.
-#[test]
-fn refused_growth_is_unavailable_once(rt: HostRuntime) {
-    let alloc = rt.alloc();
-    let Ok(routes) = Routes::new(alloc) else {
-        return;
-    };
-    let Some(operator) = Token::read("00000000000000000000000000000001") else {
-        return;
-    };
-    let mut office = Office::new(PlainBook::new(alloc, operator));
+/// Asserts that each of four requests is answered so.
+fn assert_answered(
+    rt: &(impl Abort + AllocGlobal),
+    routes: &Routes,
+    office: &mut Office<PlainBook>,
+) -> Result<(), Fail> {
     for (request, response) in [
         (NEW_MEMBER, ADDED_BYTES),
         (NEW_HOLDER, ADDED_BYTES),
         (NEW_PURSE, ADDED_BYTES),
         (SHOW, SHOWN_BYTES),
     ] {
-        assert!(rt; answered_in_the_end(alloc, request, &routes, &mut office, response));
+        assert!(rt; answered_in_the_end(rt.alloc(), request, routes, office, response));
     }
+    Ok(())
+}
+
+/// With every growth granted this says what the first worked input says. Run with one growth refused, it says that
+/// a response is the usual one or 503, and that the same request sent again has the usual one.
+#[test]
+fn refused_growth_is_unavailable_once(rt: HostRuntime) -> Result<(), Fail> {
+    let Ok(routes) = Routes::new(rt.alloc()) else {
+        return Ok(());
+    };
+    with_book(&rt, |rt, office| assert_answered(rt, &routes, office))
 }
 
 /// A member and a holder.
@@ -297,7 +306,7 @@ fn tell_with_fault(
     passed: u64,
     scripts: &[&str],
 ) -> Result<(), Fail> {
-    tell_with_left(rt, &mut over_faulty(rt.alloc())?, passed, scripts)
+    with_faulty(rt, |rt, office| tell_with_left(rt, office, passed, scripts))
 }
 
 /// A call of the book that fails leaves its request undone, and no other.

@@ -1,9 +1,12 @@
 //! Payments of p1, which holds 100, to q1.
 use super::devices::Pieces;
 use super::scripts::Exchange;
-use super::{FUNDED, STANDING, Told, assert_told, played, serve_from};
-use crate::empty::over_book;
+use super::{FUNDED, STANDING, assert_told, played, serve_from};
+use crate::empty::with_book;
+use mx_book::PlainBook;
+use mx_office::Office;
 use std::alloc::{AllocError, Global};
+use std::process::Abort;
 use std::test::Fail;
 
 const PAYMENTS: &str =
@@ -89,10 +92,16 @@ fn payment(alloc: Global) -> Result<Exchange, AllocError> {
     Ok(exchange)
 }
 
-/// What is told of it where so many bytes are read at a time.
-fn told_in_pieces(alloc: Global, exchange: &Exchange, size: usize) -> Result<Told, Fail> {
+/// Asserts what is told of it where so many bytes are read at a time.
+fn assert_in_pieces(
+    rt: &(impl Abort + AllocGlobal),
+    office: &mut Office<PlainBook>,
+    exchange: &Exchange,
+    size: usize,
+) -> Result<(), Fail> {
     let reader = Pieces::new(exchange.input().as_bytes(), size);
-    serve_from(alloc, &mut over_book(alloc)?, reader)
+    let told = serve_from(rt.alloc(), office, reader)?;
+    assert_told(rt, &told, exchange)
 }
 
 /// However the bytes come, the responses are the same.
@@ -100,8 +109,9 @@ fn told_in_pieces(alloc: Global, exchange: &Exchange, size: usize) -> Result<Tol
 fn payment_read_in_pieces(rt: HostRuntime) -> Result<(), Fail> {
     let exchange = payment(rt.alloc())?;
     for size in 1..=40 {
-        let told = told_in_pieces(rt.alloc(), &exchange, size)?;
-        assert_told(&rt, &told, &exchange)?;
+        with_book(&rt, |rt, office| {
+            assert_in_pieces(rt, office, &exchange, size)
+        })?;
     }
     Ok(())
 }
