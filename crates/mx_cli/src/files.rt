@@ -4,7 +4,7 @@ ghost use Rattle.std.specs.Prelude.{◌≡◌, ◌≤◌, IfOk, IfErr, vec_len};
 use crate::fault::CliFault;
 use mx_office::Office;
 use mx_pay::Token;
-use mx_tables::Tables;
+use mx_tables::{OpenRefused, Tables};
 use sqlite::{Connection, Error, ErrorCode, File, FileStore};
 use std::fs::Metadata;
 use std::io::{ErrorKind, Read};
@@ -76,6 +76,16 @@ fn open_new(rt: &HostRuntime, path: &str) -> Result<Connection<Store>, CliFault>
     }
 }
 
+/// The office over books that were made or opened, or why there are none.
+fn office_over(
+    books: Result<Tables<Store>, OpenRefused<Store>>,
+) -> Result<Office<Tables<Store>>, CliFault> {
+    match books {
+        Ok(book) => Ok(Office::new(book)),
+        Err(refused) => Err(CliFault::from(refused.fault)),
+    }
+}
+
 /// The office over the books in a file that is there.
 ///
 /// # Errors
@@ -84,10 +94,7 @@ fn open_new(rt: &HostRuntime, path: &str) -> Result<Connection<Store>, CliFault>
 /// where it is empty or has no books of this version; `Store` where it has other tables, or refuses a statement; `Memory`.
 pub fn open_office(rt: &HostRuntime, path: &str) -> Result<Office<Tables<Store>>, CliFault> {
     let store = open_found(rt, path)?;
-    match Tables::open(rt.alloc(), store) {
-        Ok(book) => Ok(Office::new(book)),
-        Err(refused) => Err(CliFault::from(refused.fault)),
-    }
+    office_over(Tables::open(rt.alloc(), store))
 }
 
 /// The office over new books, in which nothing is but the operator's token, in a file that isn't there or is empty.
@@ -102,10 +109,7 @@ pub fn make_office(
     operator: Token,
 ) -> Result<Office<Tables<Store>>, CliFault> {
     let store = open_new(rt, path)?;
-    match Tables::create(rt.alloc(), store, operator) {
-        Ok(book) => Ok(Office::new(book)),
-        Err(refused) => Err(CliFault::from(refused.fault)),
-    }
+    office_over(Tables::create(rt.alloc(), store, operator))
 }
 
 /// Closes the file of an office, and passes on what was answered before. Where that is a fault, it stays the fault;
@@ -117,9 +121,9 @@ pub fn closed<T: Drop>(
     ensures ok { IfOk result (λ value. answer ≡ Ok value) }
     ensures first { IfErr answer (λ fault. result ≡ Err fault) }
 {
-    let end = office.into_book().into_store().close();
+    let is_closed = office.into_book().into_store().close().is_ok();
     let value = answer?;
-    if end.is_err() {
+    if !is_closed {
         return Err(CliFault::Store);
     }
     Ok(value)
