@@ -6,6 +6,7 @@ pub mod MoneyLemmas
 pub mod LawLemmas
 pub mod RuleLemmas
 pub mod RefuseLemmas
+pub mod StayLemmas
 pub mod OutcomeLemmas
 pub mod EntrySumLemmas
 pub mod BalanceLemmas

@@ -23,7 +23,7 @@ use Rattle.mx_report.specs.declared.rolls.RowOutcome.{RowOutcome}
 use Rattle.mx_report.specs.declared.rolls.RowOutcome.TheVariants.{Added, Same, Refused}
 use Rattle.mx_report.specs.Roll.{Fields, is_clerk, is_holder, is_holders, is_same, asker, command_of, row_of}
 use Rattle.mx_report.specs.Import.{Import, Imported, IsSame, after_record, after_records, asked, import, no_rows, outcome_of, record_imported, row_imported, row_standing, rows_counted, rows_standing, spelled_imported, tallied, Tally}
-use Rattle.mx_report.proofs.StayLemmas.{Stays, holder_at, stays_itself, stays_on, step_stays}
+use Rattle.mx_office.proofs.StayLemmas.{Stays, holder_at, stays_itself, stays_on, step_stays}
 
 -- ---- a row that is same stays so
 

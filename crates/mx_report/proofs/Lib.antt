@@ -3,5 +3,4 @@ pub mod RollLemmas
 pub mod RowLemmas
 pub mod ReadingLemmas
 pub mod ImportLemmas
-pub mod StayLemmas
 pub mod KeptLemmas

@@ -2,7 +2,7 @@ use Rattle.std.proofs.Common.{refl, arith}
 use Rattle.mx_book.specs.World.{World}
 use Rattle.mx_office.specs.Step.{steps}
 use Rattle.mx_report.specs.Import.{import, no_rows}
-use Rattle.mx_report.proofs.StayLemmas.{step_stays, steps_stay}
+use Rattle.mx_office.proofs.StayLemmas.{step_stays, steps_stay}
 use Rattle.mx_report.proofs.KeptLemmas.{added_same, adds_nothing, all_standing, same_stays, tallies_again}
 use Rattle.mx_report.proofs.rows.rows_stay.Goals as goal
 
