@@ -5,6 +5,7 @@ pub mod Results
 pub mod RequestLemmas
 pub mod Lists
 pub mod Known
+pub mod KnowsLemmas
 pub mod StepLemmas
 pub mod RunLemmas
 pub mod ApartLemmas

@@ -6,5 +6,6 @@ pub mod Respond
 pub mod Serve
 pub mod Steps
 pub mod Answers
+pub mod Knows
 pub mod Isolation
 pub mod Conservation

@@ -5,8 +5,10 @@ ghost use Rattle.mx_book.specs.World.{World};
 ghost use Rattle.mx_book.specs.declared.contract.StoreFault.{StoreFault as Fault};
 ghost use Rattle.mx_desk.specs.Answers.{IsAnswer};
 ghost use Rattle.mx_desk.specs.Found.{request_view};
+ghost use Rattle.mx_desk.specs.Knows.{Knows, Stands};
 ghost use Rattle.mx_desk.specs.Respond.{is_of_class, caller_of, is_callers, after_body, after_caller, respond, MayBeGivenUp};
 
+use crate::callers::Callers;
 use crate::head::Received;
 use crate::workspace::Workspace;
 use mx_book::Book;
@@ -28,14 +30,17 @@ fn is_of_class(caller: &Caller, class: Class) -> bool
     }
 }
 
-/// Who has the token of a token field. None where there is no one such field, or it is nobody's token.
+/// Who has the token of a token field. None where there is no one such field, or it is nobody's token. A token whose caller
+/// is remembered is not asked for; else its caller is remembered.
 fn caller_of<B: Book>(
     alloc: Global,
+    callers: &mut Callers,
     office: &mut Office<B>,
     field: Option<&[u8]>,
 ) -> Result<Option<Caller>, StoreFault>
     ensures keeps { Keeps B.doubt B.rows office.old.book office.new.book }
-    ensures value { (w : World) → B.doubt office.new.book ≡ 0 → B.spells (B.rows office.old.book) w → IfOk result (λ r. r ≡ caller_of w (option_map (λ x. x.now) field.entry)) }
+    ensures value { (w : World) → B.doubt office.new.book ≡ 0 → Stands (B.spells (B.rows office.old.book)) callers.old w → IfOk result (λ r. r ≡ caller_of w (option_map (λ x. x.now) field.entry)) }
+    ensures known { (w : World) → B.doubt office.new.book ≡ 0 → Stands (B.spells (B.rows office.old.book)) callers.old w → Knows w callers.new }
     ensures fault { IfErr result B.fails }
 {
     let Some(text) = field else {
@@ -44,7 +49,14 @@ fn caller_of<B: Book>(
     let Some(token) = Token::read_bytes(text) else {
         return Ok(None);
     };
-    office.book.who(alloc, &token)
+    if let Some(caller) = callers.find(&token) {
+        return Ok(Some(caller));
+    }
+    let Some(caller) = office.book.who(alloc, &token)? else {
+        return Ok(None);
+    };
+    callers.add(&token, &caller);
+    Ok(Some(caller))
 }
 
 /// Decides the command in the workspace, makes the response, and only then changes the books.
@@ -55,7 +67,8 @@ fn answer_command<B: Book>(
     caller: Caller,
 ) -> Result<Response, StoreFault>
     ensures later { B.doubt office.old.book ≤ B.doubt office.new.book }
-    ensures answers { (w : World) → B.doubt office.new.book ≡ 0 → B.spells (B.rows office.old.book) w → IsAnswer (B.spells (B.rows office.new.book)) w (after_body w caller (Some workspace.old.command)) (Unit {0}) result }
+    ensures answers { (w : World) → B.doubt office.new.book ≡ 0 → Stands (B.spells (B.rows office.old.book)) workspace.old.callers w
+        → IsAnswer (Stands (B.spells (B.rows office.new.book)) workspace.new.callers) w (after_body w caller (Some workspace.old.command)) (Unit {0}) result }
     ensures err { B.doubt office.new.book ≡ 0 → OnErr result (B.rows office.new.book ≡ B.rows office.old.book) }
 {
     let decided = &mut workspace.decided;
@@ -77,12 +90,12 @@ fn answer_routed<B: Book>(
     request: &Received<'_>,
 ) -> Result<Response, StoreFault>
     ensures later { B.doubt office.old.book ≤ B.doubt office.new.book }
-    ensures answers { (w : World) → B.doubt office.new.book ≡ 0 → B.spells (B.rows office.old.book) w
-        → IsAnswer (B.spells (B.rows office.new.book)) w (after_caller w (request_view request.now) route.now (caller_of w (request_view request.now).token))
+    ensures answers { (w : World) → B.doubt office.new.book ≡ 0 → Stands (B.spells (B.rows office.old.book)) workspace.old.callers w
+        → IsAnswer (Stands (B.spells (B.rows office.new.book)) workspace.new.callers) w (after_caller w (request_view request.now) route.now (caller_of w (request_view request.now).token))
         (IsTrue (is_callers (caller_of w (request_view request.now).token) (Some route.now)) ⊎ ((e : Fault) × B.fails e)) result }
     ensures err { B.doubt office.new.book ≡ 0 → OnErr result (B.rows office.new.book ≡ B.rows office.old.book) }
 {
-    let Some(caller) = caller_of(alloc, office, request.token)? else {
+    let Some(caller) = caller_of(alloc, &mut workspace.callers, office, request.token)? else {
         return Ok(Response::Always(Fixed::TokenUnknown));
     };
     if !is_of_class(&caller, route.class()) {
@@ -113,8 +126,8 @@ pub fn answer_request<B: Book>(
     request: &Received<'_>,
 ) -> Result<Response, StoreFault>
     ensures later { B.doubt office.old.book ≤ B.doubt office.new.book }
-    ensures answers { (w : World) → B.doubt office.new.book ≡ 0 → B.spells (B.rows office.old.book) w
-        → IsAnswer (B.spells (B.rows office.new.book)) w (respond w (request_view request.now)) (MayBeGivenUp B.fails w (request_view request.now)) result }
+    ensures answers { (w : World) → B.doubt office.new.book ≡ 0 → Stands (B.spells (B.rows office.old.book)) workspace.old.callers w
+        → IsAnswer (Stands (B.spells (B.rows office.new.book)) workspace.new.callers) w (respond w (request_view request.now)) (MayBeGivenUp B.fails w (request_view request.now)) result }
     ensures err { B.doubt office.new.book ≡ 0 → OnErr result (B.rows office.new.book ≡ B.rows office.old.book) }
 {
     match routes.route(request.method, request.path) {

@@ -7,10 +7,12 @@ ghost use Rattle.mx_desk.specs.Conservation.{LeavesReachable};
 ghost use Rattle.mx_desk.specs.Devices.{capped};
 ghost use Rattle.mx_desk.specs.Found.{request_view};
 ghost use Rattle.mx_desk.specs.Isolation.{IsLeft};
+ghost use Rattle.mx_desk.specs.Knows.{Stands};
 ghost use Rattle.mx_desk.specs.Serve.{Marked, MayBeMarked, response_to, world_after_one, stop_text, stop_fixed, ServedAll};
 ghost use Rattle.mx_desk.specs.Steps.{state, Steps, Faults, Leads, IsReplied, IsCut};
 
 use crate::answer::answer_request;
+use crate::callers::Callers;
 use crate::counted::Counted;
 use crate::fault::DeskFault;
 use crate::first::first;
@@ -66,10 +68,10 @@ fn reply<W: Write, B: Book>(
     office: &mut Office<B>,
 ) -> Result<(), DeskFault>
     ensures later { B.doubt office.old.book ≤ B.doubt office.new.book }
-    ensures ok { (w : World) → B.doubt office.new.book ≡ 0 → B.spells (B.rows office.old.book) w
-        → OnOk result (IsReplied B.fails (B.spells (B.rows office.new.book)) w (request_view request.now) (W.contents writer.old.device) (W.contents writer.new.device)) }
-    ensures err { (w : World) → B.doubt office.new.book ≡ 0 → B.spells (B.rows office.old.book) w
-        → OnErr result (IsCut B.fails (B.spells (B.rows office.new.book)) w (request_view request.now) (W.contents writer.old.device) (W.contents writer.new.device)) }
+    ensures ok { (w : World) → B.doubt office.new.book ≡ 0 → Stands (B.spells (B.rows office.old.book)) workspace.old.callers w
+        → OnOk result (IsReplied B.fails (Stands (B.spells (B.rows office.new.book)) workspace.new.callers) w (request_view request.now) (W.contents writer.old.device) (W.contents writer.new.device)) }
+    ensures err { (w : World) → B.doubt office.new.book ≡ 0 → Stands (B.spells (B.rows office.old.book)) workspace.old.callers w
+        → OnErr result (IsCut B.fails (Stands (B.spells (B.rows office.new.book)) workspace.new.callers) w (request_view request.now) (W.contents writer.old.device) (W.contents writer.new.device)) }
     ensures fault { IfErr result (λ e. (e ≡ DeskFault.Write) × (writer.new.failures ≡ capped (writer.old.failures + 1))) }
     ensures whole { OnOk result (writer.new.failures ≡ writer.old.failures) }
 {
@@ -106,8 +108,8 @@ fn serve_next<R: Read, W: Write, B: Book>(
     office: &mut Office<B>,
 ) -> Result<Served, DeskFault>
     ensures later { B.doubt office.old.book ≤ B.doubt office.new.book }
-    ensures steps { (w : World) → B.doubt office.new.book ≡ 0 → B.spells (B.rows office.old.book) w
-        → Leads (B.spells (B.rows office.new.book)) (λ v. Steps B.fails
+    ensures steps { (w : World) → B.doubt office.new.book ≡ 0 → Stands (B.spells (B.rows office.old.book)) workspace.old.callers w
+        → Leads (Stands (B.spells (B.rows office.new.book)) workspace.new.callers) (λ v. Steps B.fails
         (state input.old (R.remaining reader.old.device) (W.contents writer.old.device) w) result
         (state input.new (R.remaining reader.new.device) (W.contents writer.new.device) v)) }
     ensures reads { (reads : ℕ) × (turns.old ≡ turns.new + reads) × (0 < reads → reads + length input.old ≤ 12288)
@@ -186,7 +188,7 @@ pub fn serve_one<R: Read, W: Write, B: Book>(
     ensures read_failed { result ≡ Err DeskFault.Read → reader.new.failures ≡ capped (reader.old.failures + 1) }
     ensures write_failed { result ≡ Err DeskFault.Write → writer.new.failures ≡ capped (writer.old.failures + 1) }
 {
-    let mut workspace = Workspace::new(alloc);
+    let mut workspace = Workspace::new(alloc, Callers::none(alloc));
     let mut input = Input::new();
     let mut turns = 12288;
     let served = serve_next(
@@ -249,7 +251,7 @@ pub fn run<R: Read, W: Write, B: Book>(
     ensures write_failed { result ≡ Err DeskFault.Write → writer.new.failures ≡ capped (writer.old.failures + 1) }
 {
     let _calls = reader.calls();
-    let mut workspace = Workspace::new(alloc);
+    let mut workspace = Workspace::new(alloc, Callers::new(alloc));
     let mut input = Input::new();
     let mut turns = MOST_READS;
     let mut count = 0;

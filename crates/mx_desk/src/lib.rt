@@ -2,6 +2,7 @@
 #![tactic(auto)]
 
 pub mod answer;
+pub mod callers;
 pub mod counted;
 pub mod desk;
 pub mod fault;

@@ -1,6 +1,7 @@
 //! What requests are worked out in.
 ghost use Rattle.std.specs.Prelude.{◌≡◌, []};
 
+use crate::callers::Callers;
 use mx_office::Command;
 use mx_office::values::Decided;
 use mx_wire::Scratch;
@@ -15,17 +16,21 @@ pub struct Workspace {
     pub command: Command,
     /// The last decision.
     pub decided: Decided,
+    /// Whose the tokens were that came so far.
+    pub callers: Callers,
 }
 
 impl Workspace {
-    /// A workspace in which nothing was worked out yet.
-    pub fn new(alloc: Global) -> Workspace
-        ensures { result.decided.edits ≡ [] }
+    /// A workspace in which nothing was worked out yet, and this is known of tokens.
+    pub fn new(alloc: Global, callers: Callers) -> Workspace
+        ensures edits { result.decided.edits ≡ [] }
+        ensures callers { result.callers ≡ callers }
     {
         Workspace {
             scratch: Scratch::new(alloc),
             command: Command::Collect,
             decided: Decided::new(),
+            callers,
         }
     }
 }

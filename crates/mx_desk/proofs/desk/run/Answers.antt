@@ -12,7 +12,7 @@ use Rattle.mx_desk.proofs.desk.run.Goals as goal
 pub requests-init : goal.requests-init
 requests-init g c = record {
   later = search rules;
-  ran = λ w honest spelled. record { end = w; stands = spelled; holds = ([], rw c.new-input.ensures (Ran-none g.B.Book.fails _), refl) };
+  ran = λ w honest spelled. record { end = w; stands = (spelled, rw c.new-workspace.ensures.callers (c.new.ensures w)); holds = ([], rw c.new-input.ensures (Ran-none g.B.Book.fails _), refl) };
   reads = (0, refl, capped_none _ (rw c.calls-calls.ensures at c.calls-calls.type_inv));
   small = rw c.new-input.ensures (omega arith);
   read_failures = refl;
@@ -53,7 +53,7 @@ returns-in_err-serve_next-clause-fault g c = λ w honest spelled.
     let led = c.in_err-serve_next.ensures.steps ran.end honest ran.stands in
     rw (p.1, p.2) (record {
       end = led.end;
-      stands = led.stands;
+      stands = led.stands.0;
       holds = record {
         marked = ran.holds.0;
         before = state c.requests.input (g.R.Read.remaining c.requests.reader.device) (g.W.Write.contents c.requests.writer.device) ran.end;
@@ -77,7 +77,7 @@ returns-in-Nothing-clause-ok g c = λ w honest spelled.
     let steps = led.holds in
     let count = ran.holds.2 in
     leads_if _ (λ b now. (out : List ℕ) × Appends (g.W.Write.contents c.args.writer.now.device) (g.W.Write.contents c.serve_next.new.writer.device) out × ServedAll g.B.Book.fails w b out now c.requests.count)
-    _ led.end led.stands (rw count (serves_nothing g.B.Book.fails _ _ _ ran.holds.0 refl ran.holds.1 (rw c.in-Nothing.is at steps)))
+    _ led.end led.stands.0 (rw count (serves_nothing g.B.Book.fails _ _ _ ran.holds.0 refl ran.holds.1 (rw c.in-Nothing.is at steps)))
 
 pub returns-in-Nothing-clause-reads : goal.returns-in-Nothing-clause-reads
 returns-in-Nothing-clause-reads g c =
@@ -93,7 +93,7 @@ returns-in-Stopped-clause-ok g c = λ w honest spelled.
     let steps = led.holds in
     let count = ran.holds.2 in
     leads_if _ (λ b now. (out : List ℕ) × Appends (g.W.Write.contents c.args.writer.now.device) (g.W.Write.contents c.serve_next.new.writer.device) out × ServedAll g.B.Book.fails w b out now (c.requests.count + 1))
-    _ led.end led.stands (rw count (serves_stopped g.B.Book.fails _ _ _ ran.holds.0 refl ran.holds.1 (rw c.in-Stopped.is at steps)))
+    _ led.end led.stands.0 (rw count (serves_stopped g.B.Book.fails _ _ _ ran.holds.0 refl ran.holds.1 (rw c.in-Stopped.is at steps)))
 
 pub returns-in-Stopped-clause-reads : goal.returns-in-Stopped-clause-reads
 returns-in-Stopped-clause-reads g c =
@@ -107,21 +107,21 @@ returns-in_err-serve_next-clause-apart g c = λ w honest spelled.
     let before : g.B.Book.doubt c.requests.office.book ≡ 0 = search rules in
     let ran = c.requests.invariant.ran w before spelled in
     let led = c.in_err-serve_next.ensures.steps ran.end honest ran.stands in
-    record { end = led.end; stands = led.stands; holds = leaves g.B.Book.fails _ _ _ ran.holds.0 _ [] ran.holds.1 led.holds }
+    record { end = led.end; stands = led.stands.0; holds = leaves g.B.Book.fails _ _ _ ran.holds.0 _ [] ran.holds.1 led.holds }
 
 pub returns-in-Nothing-clause-apart : goal.returns-in-Nothing-clause-apart
 returns-in-Nothing-clause-apart g c = λ w honest spelled.
     let before : g.B.Book.doubt c.requests.office.book ≡ 0 = search rules in
     let ran = c.requests.invariant.ran w before spelled in
     let led = c.in_ok-serve_next.ensures.steps ran.end honest ran.stands in
-    record { end = led.end; stands = led.stands; holds = leaves g.B.Book.fails _ _ _ ran.holds.0 _ [] ran.holds.1 led.holds }
+    record { end = led.end; stands = led.stands.0; holds = leaves g.B.Book.fails _ _ _ ran.holds.0 _ [] ran.holds.1 led.holds }
 
 pub returns-in-Stopped-clause-apart : goal.returns-in-Stopped-clause-apart
 returns-in-Stopped-clause-apart g c = λ w honest spelled.
     let before : g.B.Book.doubt c.requests.office.book ≡ 0 = search rules in
     let ran = c.requests.invariant.ran w before spelled in
     let led = c.in_ok-serve_next.ensures.steps ran.end honest ran.stands in
-    record { end = led.end; stands = led.stands; holds = leaves g.B.Book.fails _ _ _ ran.holds.0 _ [] ran.holds.1 led.holds }
+    record { end = led.end; stands = led.stands.0; holds = leaves g.B.Book.fails _ _ _ ran.holds.0 _ [] ran.holds.1 led.holds }
 
 -- from a World that commands lead to the run ends in such a World, however it ends
 pub returns-in_err-serve_next-clause-reachable : goal.returns-in_err-serve_next-clause-reachable

@@ -1,6 +1,7 @@
 use Rattle.std.proofs.Common.{◌≡◌, ◌+◌, ◌*◌, ◌≤◌, ℕ, List, [], length}
 use Rattle.mx_book.specs.World.{World}
 use Rattle.mx_desk.specs.Devices.{capped}
+use Rattle.mx_desk.specs.Knows.{Stands}
 use Rattle.mx_desk.specs.Serve.{Marked}
 use Rattle.mx_desk.specs.Steps.{State, state, Ran, Leads}
 use Rattle.mx_desk.proofs.desk.run.Given as goal
@@ -9,7 +10,7 @@ abbrev pub invariant-requests : goal.invariant-requests
 invariant-requests g l = record {
   later : g.B.Book.doubt l.fn.office.book ≤ g.B.Book.doubt l.office.book;
   ran : (w : World) → g.B.Book.doubt l.office.book ≡ 0 → g.B.Book.spells (g.B.Book.rows l.fn.office.book) w
-      → Leads (g.B.Book.spells (g.B.Book.rows l.office.book)) (λ v. (ms : List Marked)
+      → Leads (Stands (g.B.Book.spells (g.B.Book.rows l.office.book)) l.workspace.callers) (λ v. (ms : List Marked)
       × Ran g.B.Book.fails (state [] (g.R.Read.remaining l.fn.reader.device) (g.W.Write.contents l.fn.writer.device) w) ms
       (state l.input (g.R.Read.remaining l.reader.device) (g.W.Write.contents l.writer.device) v)
       × (l.count ≡ length ms));

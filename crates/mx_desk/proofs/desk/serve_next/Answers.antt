@@ -5,6 +5,7 @@ use Rattle.std.proofs.lemmas.Result.{err_from_is_err_and}
 use Rattle.std.specs.Io.KnownBytes.{Appends, Consumes}
 use Rattle.mx_desk.specs.Devices.{capped}
 use Rattle.mx_desk.specs.Found.{request_view}
+use Rattle.mx_desk.specs.Knows.{Stands}
 use Rattle.mx_desk.specs.Serve.{Marked, response_to, world_after_one, stop_text}
 use Rattle.mx_desk.specs.Steps.{state, Steps, Leads}
 use Rattle.mx_desk.proofs.Known.{Appends-none, Appends-then, Appends-kept, Consumes-none, Consumes-then, Consumes-kept}
@@ -21,12 +22,13 @@ pieces-init g c = record {
   write_failures = refl;
   wrote = Appends-none _;
   office = refl;
+  callers = refl;
 }
 
 pub returns-in_err-reply-in-Whole-clause-steps : goal.returns-in_err-reply-in-Whole-clause-steps
 returns-in_err-reply-in-Whole-clause-steps g c = λ w honest spelled.
     let p = err_from_is_err_and c.from_residual.result c.from_residual.ensures.1 in
-    let still : g.B.Book.spells (g.B.Book.rows c.pieces.office.book) w = rw c.pieces.invariant.office spelled in
+    let still : Stands (g.B.Book.spells (g.B.Book.rows c.pieces.office.book)) c.pieces.workspace.callers w = rw (c.pieces.invariant.office, c.pieces.invariant.callers) spelled in
     let err = c.in_err-reply-in-Whole.ensures.err w honest still in
     let came = c.pieces.invariant.came in
     let less = err.cut in
@@ -44,7 +46,7 @@ returns-in_err-reply-in-Whole-clause-steps g c = λ w honest spelled.
 
 pub returns-in-Whole-clause-steps : goal.returns-in-Whole-clause-steps
 returns-in-Whole-clause-steps g c = λ w honest spelled.
-    let still : g.B.Book.spells (g.B.Book.rows c.pieces.office.book) w = rw c.pieces.invariant.office spelled in
+    let still : Stands (g.B.Book.spells (g.B.Book.rows c.pieces.office.book)) c.pieces.workspace.callers w = rw (c.pieces.invariant.office, c.pieces.invariant.callers) spelled in
     let ok = c.in_ok-reply-in-Whole.ensures.ok w honest still in
     let came = c.pieces.invariant.came in
     record {
@@ -75,7 +77,7 @@ returns-in_err-write_stop-in-Stopped-clause-steps g c = λ w honest spelled.
     let how = c.in-Stopped.ensures in
     rw (p.1, p.2, c.in_err-write_stop-in-Stopped.ensures.fault) (record {
       end = w;
-      stands = rw c.pieces.invariant.office spelled;
+      stands = rw (c.pieces.invariant.office, c.pieces.invariant.callers) spelled;
       holds =
           cut_stop_step g.B.Book.fails _ _ c.pieces.input c.in-Stopped.stop err.0
           (record { came = came.0; consumed = came.1; pending_is = came.2 })
@@ -91,7 +93,7 @@ returns-in-Stopped-clause-steps g c = λ w honest spelled.
     let how = c.in-Stopped.ensures in
     record {
       end = w;
-      stands = rw c.pieces.invariant.office spelled;
+      stands = rw (c.pieces.invariant.office, c.pieces.invariant.callers) spelled;
       holds =
           stop_step g.B.Book.fails _ _ c.pieces.input c.in-Stopped.stop
           (record { came = came.0; consumed = came.1; pending_is = came.2 })
@@ -106,7 +108,7 @@ returns-in_default-clause-steps g c = λ w honest spelled.
     let how = c.in-Open.ensures in
     record {
       end = w;
-      stands = rw c.pieces.invariant.office spelled;
+      stands = rw (c.pieces.invariant.office, c.pieces.invariant.callers) spelled;
       holds =
           nothing_step g.B.Book.fails _ _ c.pieces.input
           (record { came = came.0; consumed = came.1; pending_is = came.2 })
@@ -125,7 +127,7 @@ returns-in_err-write_stop-in-Open-clause-steps g c = λ w honest spelled.
     let last = rw (c.pending.ensures.value, c.in-Some.is) at how in
     rw (p.1, p.2, c.in_err-write_stop-in-Open.ensures.fault) (record {
       end = w;
-      stands = rw c.pieces.invariant.office spelled;
+      stands = rw (c.pieces.invariant.office, c.pieces.invariant.callers) spelled;
       holds =
           cut_stop_at_end g.B.Book.fails _ _ c.pieces.input c.in-Some.stop err.0
           (record { came = came.0; consumed = came.1; pending_is = came.2 })
@@ -143,7 +145,7 @@ returns-in-Open-clause-steps g c = λ w honest spelled.
     let last = rw (c.pending.ensures.value, c.in-Some.is) at how in
     record {
       end = w;
-      stands = rw c.pieces.invariant.office spelled;
+      stands = rw (c.pieces.invariant.office, c.pieces.invariant.callers) spelled;
       holds =
           stop_at_end g.B.Book.fails _ _ c.pieces.input c.in-Some.stop
           (record { came = came.0; consumed = came.1; pending_is = came.2 })
@@ -160,7 +162,7 @@ returns-in_err-flush_out-clause-steps g c = λ w honest spelled.
     let how = c.in-Open.ensures in
     rw (p.1, p.2, c.in_err-flush_out.ensures.fault) (record {
       end = w;
-      stands = rw c.pieces.invariant.office spelled;
+      stands = rw (c.pieces.invariant.office, c.pieces.invariant.callers) spelled;
       holds =
           flush_step g.B.Book.fails _ _ c.pieces.input c.in-Open.fault
           (record { came = came.0; consumed = came.1; pending_is = came.2 })
@@ -176,7 +178,7 @@ returns-then-turns-eq0-clause-steps g c = λ w honest spelled.
     let how = c.in-Open.ensures in
     record {
       end = w;
-      stands = rw c.pieces.invariant.office spelled;
+      stands = rw (c.pieces.invariant.office, c.pieces.invariant.callers) spelled;
       holds =
           turns_step g.B.Book.fails _ _ c.pieces.input c.in-Open.fault
           (record { came = came.0; consumed = came.1; pending_is = came.2 })
@@ -194,7 +196,7 @@ returns-in_err-ended-clause-steps g c = λ w honest spelled.
     let err = c.in_err-ended.ensures.err in
     rw (p.1, p.2, c.in_err-ended.ensures.fault) (record {
       end = w;
-      stands = rw c.pieces.invariant.office spelled;
+      stands = rw (c.pieces.invariant.office, c.pieces.invariant.callers) spelled;
       holds =
           read_step g.B.Book.fails _ _ c.pieces.input c.in-Open.fault
           (record { came = came.0; consumed = Consumes-kept _ _ _ came.0 came.1 err.1; pending_is = came.2 })
@@ -232,4 +234,5 @@ pieces-preserved g c =
       write_failures = c.in_ok-flush_out.ensures.ok ∙ c.pieces.invariant.write_failures;
       wrote = Appends-kept _ _ _ [] c.pieces.invariant.wrote c.flush_out.ensures.bytes;
       office = c.pieces.invariant.office;
+      callers = c.pieces.invariant.callers;
     }

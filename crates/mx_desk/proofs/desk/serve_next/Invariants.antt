@@ -13,6 +13,7 @@ invariant-pieces g l = record {
   write_failures : l.writer.failures ≡ l.fn.writer.failures;
   wrote : Appends (g.W.Write.contents l.fn.writer.device) (g.W.Write.contents l.writer.device) [];
   office : l.office ≡ l.fn.office;
+  callers : l.workspace.callers ≡ l.fn.workspace.callers;
 }
 
 abbrev pub decreases-pieces : goal.decreases-pieces
