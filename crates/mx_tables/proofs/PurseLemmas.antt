@@ -39,9 +39,9 @@ use Rattle.mx_tables.specs.Contents.{Contents}
 use Rattle.mx_tables.specs.Cells.{purse_cells, number, status_text, details_text}
 use Rattle.mx_tables.specs.Holds.{Holds}
 use Rattle.mx_tables.specs.States.{Goes}
-use Rattle.mx_tables.specs.Answers.{at_key, text_shown, state_shown, state_columns, purse_shown, purse_columns, next_shown}
+use Rattle.mx_tables.specs.Answers.{at_key, text_shown, state_shown, state_columns, own_shown, purse_shown, purse_columns, next_shown}
 use Rattle.mx_tables.proofs.Queries.{is_given}
-use Rattle.mx_tables.proofs.Texts.{IsUpdate, select_held, select_held_is, insert_purse, insert_purse_is, select_purse, select_purse_is, update_purse, update_purse_is, select_next, select_next_is, select_owner, select_owner_is, raise_next, raise_next_is}
+use Rattle.mx_tables.proofs.Texts.{IsUpdate, select_held, select_held_is, insert_purse, insert_purse_is, select_purse, select_purse_is, select_own, select_own_is, update_purse, update_purse_is, select_next, select_next_is, select_owner, select_owner_is, raise_next, raise_next_is}
 use Rattle.mx_pay.proofs.TestLemmas.{is_equal}
 use Rattle.mx_tables.proofs.Statements.{env, passes}
 use Rattle.mx_tables.proofs.StoredLemmas.{and_true, same_text, same_numbers, cast_int, cast_null}
@@ -63,6 +63,12 @@ pub finds_purse : (p : Name) (old new : State) (rows : List Row) → Shown selec
     → IsPermutation (map (λ (e : Name × PurseRow). purse_shown e.1) (at_key name_cmp p (fmap.entries r.purses))) rows
 finds_purse p =
     answers purses select_purse _ _ _ select_purse_is (Text p ∷ []) (λ (e : Name × PurseRow). is_name p e.0) (λ (e : Name × PurseRow). purse_shown e.1)
+    (λ id e. rw (same_text e.0 p) (and_true _ ∙ turned e.0 p)) (λ id e. refl)
+
+pub finds_own : (p : Name) (old new : State) (rows : List Row) → Shown select_own (Text p ∷ []) old new rows → (r : Rows) → Holds old.now r
+    → IsPermutation (map (λ (e : Name × PurseRow). own_shown e.1) (at_key name_cmp p (fmap.entries r.purses))) rows
+finds_own p =
+    answers purses select_own _ _ _ select_own_is (Text p ∷ []) (λ (e : Name × PurseRow). is_name p e.0) (λ (e : Name × PurseRow). own_shown e.1)
     (λ id e. rw (same_text e.0 p) (and_true _ ∙ turned e.0 p)) (λ id e. refl)
 
 pub finds_owner : (p : Name) (old new : State) (rows : List Row) → Shown select_owner (Text p ∷ []) old new rows → (r : Rows) → Holds old.now r
@@ -210,6 +216,12 @@ purse_back v x row one two named is shown =
     let purse = same_state v.purse x.purse one two named (ap state_columns h) in
     let next = same_number v.next_message x.next_message (ap (λ r. column r 7) h) in
     λ i. record { holder = sym holder i; purse = sym purse i; next_message = sym next i }
+
+pub own_back : (x : PurseRow) (p : Purse) (row : Row) → IsPurse x.purse → IsPurse p → x.purse.name ≡ p.name → own_shown x ≡ row → state_columns row ≡ state_shown p → p ≡ x.purse
+own_back x p row one two named is shown = sym (same_state x.purse p one two named (ap state_columns is ∙ shown))
+
+pub holder_back : (x : PurseRow) (h : Name) (row : Row) → own_shown x ≡ row → column row 0 ≡ Text h → h ≡ x.holder
+holder_back x h row is shown = sym (same_words _ _ (ap (λ r. column r 0) is ∙ shown))
 
 pub next_back : (x : PurseRow) (n : ℕ) (row : Row) → next_shown x ≡ row → column row 0 ≡ number n → x.next_message ≡ n
 next_back x n row is shown = same_number x.next_message n (ap (λ r. column r 0) is ∙ shown)

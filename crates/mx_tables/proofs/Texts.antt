@@ -154,6 +154,14 @@ pub select_purse_is : IsSelect select_purse 8 (is_given 1 0 ∷ []) (col 1 2 ∷
 unfolding understood everything
 select_purse_is = record { is = refl; plain = (refl, refl); unlisted = refl }
 
+abbrev pub select_own : List ℕ
+select_own = codes "SELECT holder, balance, next_number, status, details, log, line_count FROM purse WHERE name = ?1"
+
+pub select_own_is : IsSelect select_own 8 (is_given 1 0 ∷ []) (col 1 2 ∷ col 1 3 ∷ col 1 4 ∷ col 1 5 ∷ col 1 6 ∷ col 1 7 ∷ col 1 8 ∷ []) []
+    (codes "holder" ∷ codes "balance" ∷ codes "next_number" ∷ codes "status" ∷ codes "details" ∷ codes "log" ∷ codes "line_count" ∷ [])
+unfolding understood everything
+select_own_is = record { is = refl; plain = (refl, refl); unlisted = refl }
+
 abbrev pub update_purse : List ℕ
 update_purse = codes "UPDATE purse SET balance = ?2, next_number = ?3, status = ?4, details = ?5, log = ?6, line_count = ?7 WHERE name = ?1"
 

@@ -6,7 +6,8 @@ use Rattle.sqlite_value.specs.Order.{Row, column}
 use Rattle.sqlite_value.specs.declared.value.Value.TheVariants.{Text}
 use Rattle.mx_book.specs.declared.values.Caller.{Caller}
 use Rattle.mx_book.specs.declared.values.MemberRow.{MemberRow}
-use Rattle.std.specs.Prelude.{◌≡◌, ◌≤◌, Some}
+use Rattle.std.specs.Prelude.{◌≡◌, ◌≤◌, Option, Some, None, if◌then◌else◌}
+use Rattle.mx_pay.specs.Names.{is_name}
 use Rattle.std.specs.FinMap as fmap
 use Rattle.mx_purse.specs.declared.message.Message.{Message}
 use Rattle.mx_purse.specs.Messages.{IsMessage}
@@ -52,6 +53,14 @@ HaveNumbers r = (k : Name × ℕ) (m : Message) → fmap.get r.inbox k ≡ Some 
 -- what a row of a purse shows of the purse, but for its name
 abbrev pub state_shown : State → Row
 state_shown p = number p.balance ∷ number p.next ∷ Text (status_text p.status) ∷ Text (details_text p.status) ∷ Text (code p.log) ∷ number p.lines ∷ []
+
+-- what a row of a purse shows of its holder and of the purse
+abbrev pub own_shown : PurseRow → Row
+own_shown x = Text x.holder ∷ state_shown x.purse
+
+-- the purse of a row, where it is the holder's
+abbrev pub own_state : Name → PurseRow → Option State
+own_state h x = if is_name h x.holder then Some x.purse else None
 
 -- the columns of the purse in a row of a purse
 abbrev pub state_columns : Row → Row

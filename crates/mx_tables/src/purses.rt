@@ -13,10 +13,11 @@ ghost use Rattle.mx_purse.specs.State.{IsPurse, details_of};
 ghost use Rattle.mx_book.specs.declared.edits.Edit.TheVariants.{NewPurse, SetPurse};
 ghost use Rattle.mx_book.specs.RowEdits.{rewritten, on_purse};
 ghost use Rattle.mx_book.specs.RowReads.{row_purses_of, row_account_of, row_own_purse, row_finds_place};
+ghost use Rattle.mx_book.specs.declared.values.PurseRow.{PurseRow};
 ghost use Rattle.mx_tables.specs.Schema.{office_schema};
 ghost use Rattle.mx_tables.specs.States.{worry, IsOurs, Stays, Goes};
 ghost use Rattle.mx_tables.specs.Holds.{Holds};
-ghost use Rattle.mx_tables.specs.Answers.{at_key, text_shown, state_shown, state_columns, purse_shown, purse_columns, next_shown, ArePurses};
+ghost use Rattle.mx_tables.specs.Answers.{at_key, text_shown, state_shown, state_columns, own_shown, own_state, purse_shown, purse_columns, next_shown, ArePurses};
 ghost use Rattle.mx_tables.specs.Cells.{number, status_text, details_text};
 
 use crate::asking::{ask, ask_inside, run, run_one};
@@ -196,6 +197,31 @@ pub fn read_account<S: Alter>(
     }))
 }
 
+/// The holder and the purse, in the rows of that name.
+fn select_own<S: Alter>(conn: &mut Connection<S>, name: &Name) -> Result<Vec<Row>, StoreFault>
+    ensures stays { IsOurs (state S.Store conn.old) → Stays (state S.Store conn.old) (state S.Store conn.new) }
+    ensures rows { worry (state S.Store conn.new) ≡ 0 → (r : _) → Holds (state S.Store conn.old).now r → IfOk result (λ rows. IsPermutation (map (λ e. own_shown e.1) (at_key name_cmp name.now (fmap.entries r.purses))) rows.items) }
+{
+    let name = name.as_str();
+    ask(
+        conn,
+        "SELECT holder, balance, next_number, status, details, log, line_count FROM purse WHERE name = ?1",
+        params![name],
+    )
+}
+
+/// The purse of that name that a row shows, where the row is this holder's.
+fn own_in(holder: &Name, name: &Name, row: &Row) -> Result<Option<Purse>, StoreFault>
+    ensures { (x : PurseRow) → own_shown x ≡ row.now → x.purse.name ≡ name.now → IsPurse x.purse → IfOk result (λ v. v ≡ own_state holder.now x) }
+{
+    let owner = name_at(row, 0)?;
+    if !same_name(holder, &owner) {
+        return Ok(None);
+    }
+    let purse = state_in(name, row)?;
+    Ok(Some(purse))
+}
+
 /// The purse of that name where it is the holder's, or None where it is another's or there is none.
 pub fn find_own<S: Alter>(
     conn: &mut Connection<S>,
@@ -205,9 +231,11 @@ pub fn find_own<S: Alter>(
     ensures stays { IsOurs (state S.Store conn.old) → Stays (state S.Store conn.old) (state S.Store conn.new) }
     ensures value { worry (state S.Store conn.new) ≡ 0 → (r : _) → Holds (state S.Store conn.old).now r → ArePurses r → IfOk result (λ v. v ≡ row_own_purse r holder.now name.now) }
 {
-    match find_purse(conn, name)? {
-        Some(row) if same_name(holder, &row.holder) => Ok(Some(row.purse)),
-        _ => Ok(None),
+    let rows = select_own(conn, name)?;
+    match rows.as_slice() {
+        [] => Ok(None),
+        [row] => own_in(holder, name, row),
+        _ => Err(StoreFault::Store),
     }
 }
 
