@@ -4,7 +4,7 @@ use Rattle.mx_pay.specs.Names.{is_name}
 use Rattle.mx_book.specs.World.{World, Name}
 use Rattle.mx_book.specs.declared.values.Caller.{Caller}
 use Rattle.mx_book.specs.declared.values.Caller.TheVariants.{Operator, Clerk, Holder}
-use Rattle.mx_office.specs.Step.{Deed, Course, ends, asks, base, step, course}
+use Rattle.mx_office.specs.Step.{Course, ends, asks, base, step}
 use Rattle.mx_office.specs.Isolation.{Event, Holdings, only_if, for_holder, issued_event, put_event, view_of, on_holdings, after_event, local, cut}
 use Rattle.mx_office.specs.declared.values.Command.{Command}
 use Rattle.mx_office.specs.declared.values.Refusal.TheVariants.{NotForCaller}

@@ -5,8 +5,7 @@ use Rattle.mx_office.specs.Step.{Course, ends}
 use Rattle.mx_office.specs.Isolation.{cut}
 use Rattle.mx_office.proofs.LawLemmas.{and_then, course-append}
 use Rattle.mx_desk.specs.Serve.{Marked, world_after, world_after_one}
-use Rattle.mx_desk.specs.Steps.{State}
-use Rattle.mx_desk.specs.Isolation.{Seen, after_seen, alone, seen_of, seen, told_one, told, IsApart, LeavesApart, Calls, none, then}
+use Rattle.mx_desk.specs.Isolation.{after_seen, alone, seen_of, seen, told_one, told, IsApart, Calls, none, then}
 
 world_after-append : (w : World) (xs ys : List Marked) → world_after w (xs ++ ys) ≡ world_after (world_after w xs) ys
 world_after-append w [] ys = refl

@@ -1,17 +1,16 @@
 -- What a call of the desk leaves keeps holders apart, however it ends.
-use Rattle.std.proofs.Common.{◌≡◌, ℕ, ◌⊎◌, inl, inr, List, [], ◌∷◌, ◌++◌, take, length, refl, sym, ap, subst, ◌∙◌, append_assoc, arith}
+use Rattle.std.proofs.Common.{◌≡◌, ℕ, inl, inr, List, [], ◌∷◌, ◌++◌, take, length, refl, sym, ap, subst, ◌∙◌, append_assoc, arith}
 use Rattle.std.specs.Prelude.{Result, Ok, Err}
 use Rattle.std.proofs.lemmas.List.{append-nil, map-append, take_all}
 use Rattle.std.specs.Io.KnownBytes.{Appends, Consumes}
-use Rattle.mx_book.specs.World.{World}
 use Rattle.mx_book.specs.declared.contract.StoreFault.{StoreFault}
 use Rattle.mx_desk.specs.declared.head.Stop.{Stop}
 use Rattle.mx_desk.specs.declared.desk.Served.{Served}
 use Rattle.mx_desk.specs.declared.desk.Served.TheVariants as served
 use Rattle.mx_desk.specs.declared.fault.DeskFault.{DeskFault}
 use Rattle.mx_desk.specs.declared.fault.DeskFault.TheVariants as fault
-use Rattle.mx_desk.specs.Requests.{Request, Whole, First, Begins}
-use Rattle.mx_desk.specs.Serve.{Marked, MayBeMarked, AllMayBeMarked, world_after, world_after_one, outputs, requests_of, response_to, stop_text}
+use Rattle.mx_desk.specs.Requests.{Whole, First}
+use Rattle.mx_desk.specs.Serve.{Marked, MayBeMarked, world_after_one, outputs, requests_of, response_to, stop_text}
 use Rattle.mx_desk.specs.Steps.{State, StepCase, Steps, Ran}
 use Rattle.mx_desk.specs.Isolation.{IsWritten, IsLeft}
 use Rattle.mx_desk.proofs.Known.{Appends-none, Appends-then, Consumes-none, Consumes-then}

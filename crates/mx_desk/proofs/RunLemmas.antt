@@ -1,16 +1,15 @@
 -- Turns of the desk one after another.
-use Rattle.std.proofs.Common.{◌≡◌, ℕ, zero, suc, ◌+◌, ◌<◌, ◌≤◌, Bool, true, false, List, [], ◌∷◌, ◌++◌, length, take, drop, map, Option, Some, None, refl, sym, ap, ◌∙◌, subst, inl, append_assoc, arith, length-append}
-use Rattle.std.specs.Prelude.{Result, Ok, Err, IfSome}
+use Rattle.std.proofs.Common.{◌≡◌, ℕ, ◌+◌, List, [], ◌∷◌, ◌++◌, length, Option, Some, None, refl, sym, ap, ◌∙◌, inl, append_assoc, arith}
+use Rattle.std.specs.Prelude.{Ok, Err, IfSome}
 use Rattle.std.proofs.lemmas.List.{append-nil, map-append, take_all}
 use Rattle.std.specs.Io.KnownBytes.{Appends, Consumes, Keeps, IsAtEnd}
 use Rattle.mx_book.specs.World.{World}
 use Rattle.mx_book.specs.declared.contract.StoreFault.{StoreFault}
-use Rattle.mx_desk.specs.declared.head.Stop.{Stop}
 use Rattle.mx_desk.specs.declared.desk.Served.TheVariants as served
 use Rattle.mx_desk.specs.declared.fault.DeskFault.TheVariants as fault
-use Rattle.mx_desk.specs.Requests.{Request, Next, Nothing, Stops, Whole, First, IsEnd, Begins, none, nothing}
-use Rattle.mx_desk.specs.Serve.{Marked, MayBeMarked, AllMayBeMarked, world_after_one, response_to, stop_text, world_after, outputs, requests_of, Answered, ServedAll, end_text, end_count}
-use Rattle.mx_desk.specs.Steps.{State, state, Steps, Answers, Stopping, Ran, Faults, Leads}
+use Rattle.mx_desk.specs.Requests.{Nothing, Stops, First, none, nothing}
+use Rattle.mx_desk.specs.Serve.{Marked, MayBeMarked, AllMayBeMarked, world_after_one, response_to, stop_text, world_after, outputs, requests_of, ServedAll}
+use Rattle.mx_desk.specs.Steps.{State, Steps, Ran, Leads}
 use Rattle.mx_desk.proofs.Known.{Appends-none, Appends-then, Appends-kept, Consumes-none, Consumes-then}
 use Rattle.mx_desk.proofs.RequestLemmas.{Begins-append, Begins-snoc}
 

@@ -1,18 +1,17 @@
 -- The ways that a turn of the desk ends.
-use Rattle.std.proofs.Common.{◌≡◌, ℕ, zero, suc, ◌*◌, ◌^◌, ◌+◌, ◌<◌, ◌≤◌, ◌⊎◌, inl, inr, Bool, true, false, List, [], ◌∷◌, ◌++◌, length, take, drop, Option, Some, None, refl, sym, ap, ◌∙◌, arith}
-use Rattle.std.specs.Prelude.{Result, Ok, Err, IfSome}
+use Rattle.std.proofs.Common.{◌≡◌, ℕ, zero, suc, ◌*◌, ◌^◌, ◌+◌, ◌<◌, ◌≤◌, inl, inr, List, [], ◌++◌, length, take, drop, Option, Some, None, refl, sym, ◌∙◌, arith}
+use Rattle.std.specs.Prelude.{Ok, Err, IfSome}
 use Rattle.std.proofs.lemmas.List.{append-nil}
-use Rattle.std.specs.Io.KnownBytes.{Appends, Consumes, Keeps, IsAtEnd}
-use Rattle.mx_book.specs.World.{World}
+use Rattle.std.specs.Io.KnownBytes.{Appends, Consumes, IsAtEnd}
 use Rattle.mx_book.specs.declared.contract.StoreFault.{StoreFault}
 use Rattle.mx_desk.specs.declared.head.Stop.{Stop}
 use Rattle.mx_desk.specs.declared.desk.Served.TheVariants as served
 use Rattle.mx_desk.specs.declared.fault.DeskFault.TheVariants as fault
 use Rattle.mx_desk.specs.Devices.{capped}
 use Rattle.mx_desk.specs.Requests.{Request, Next, Nothing, Stops, Whole, First, IsEnd, nothing}
-use Rattle.mx_desk.specs.Found.{request_view, IsOpen}
+use Rattle.mx_desk.specs.Found.{IsOpen}
 use Rattle.mx_desk.specs.Serve.{Marked, MayBeMarked, world_after_one, response_to, stop_text}
-use Rattle.mx_desk.specs.Steps.{State, Steps, StepCase, Answers, Waits, Stopping, CutAnswer, CutStop, Ends}
+use Rattle.mx_desk.specs.Steps.{State, Steps, Waits}
 
 pub first_now : (b : List ℕ) (r : Request) (n : ℕ)
     → ((more : List ℕ) → First (b ++ more) (Whole r (drop n b ++ more))) → First b (Whole r (drop n b))

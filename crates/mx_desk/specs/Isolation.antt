@@ -4,7 +4,7 @@ use Rattle.mx_book.specs.World.{World, Name}
 use Rattle.std.specs.Io.KnownBytes.{Appends, Consumes}
 use Rattle.mx_book.specs.declared.contract.StoreFault.{StoreFault}
 use Rattle.mx_book.specs.declared.values.Caller.{Caller}
-use Rattle.mx_office.specs.Step.{Deed, Asked, Course, ends, asks, base, course}
+use Rattle.mx_office.specs.Step.{Asked, Course, ends, asks, base, course}
 use Rattle.mx_office.specs.Isolation.{Event, Holdings, for_holder, issued_event, put_event, on_holdings, after_event, cut}
 use Rattle.mx_office.specs.declared.values.Command.{Command}
 use Rattle.mx_office.specs.declared.values.Refusal.TheVariants.{NotForCaller}

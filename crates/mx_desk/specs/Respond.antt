@@ -1,5 +1,5 @@
 -- The response to a request, and the World after it (RFC 9110).
-use Rattle.std.specs.Prelude.{◌≡◌, ◌⊎◌, ℕ, List, Bool, true, false, Option, Some, None, option_and_then, is_some, if◌then◌else◌, bytes_eq, codes, IsTrue}
+use Rattle.std.specs.Prelude.{◌⊎◌, ℕ, List, Bool, true, false, Option, Some, None, option_and_then, is_some, if◌then◌else◌, bytes_eq, codes, IsTrue}
 use Rattle.mx_pay.specs.Tokens.{token_of}
 use Rattle.mx_book.specs.World.{World}
 use Rattle.mx_book.specs.Reads.{who_of}

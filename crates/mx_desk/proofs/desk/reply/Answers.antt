@@ -1,7 +1,5 @@
 use Rattle.std.proofs.Common.{◌≡◌, ◌∙◌, true, false, refl}
 use Rattle.mx_wire.specs.Replies.{sent}
-use Rattle.mx_wire.specs.Made.{parts_of}
-use Rattle.mx_book.specs.World.{World}
 use Rattle.mx_desk.specs.Found.{request_view}
 use Rattle.mx_desk.specs.Respond.{respond, is_head}
 use Rattle.mx_desk.proofs.Results.{on_ok, on_err}

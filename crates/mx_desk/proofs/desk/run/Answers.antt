@@ -12,7 +12,7 @@ use Rattle.mx_desk.proofs.desk.run.Goals as goal
 pub requests-init : goal.requests-init
 requests-init g c = record {
   later = search rules;
-  ran = λ w honest spelled. record { end = w; stands = (spelled, rw c.new-workspace.ensures.callers (c.new.ensures w)); holds = ([], rw c.new-input.ensures (Ran-none g.B.Book.fails _), refl) };
+  ran = λ w honest spelled. record { end = w; stands = (spelled, rw c.new-workspace.ensures.callers (c.new.ensures.knows w)); holds = ([], rw c.new-input.ensures (Ran-none g.B.Book.fails _), refl) };
   reads = (0, refl, capped_none _ (rw c.calls-calls.ensures at c.calls-calls.type_inv));
   small = rw c.new-input.ensures (omega arith);
   read_failures = refl;

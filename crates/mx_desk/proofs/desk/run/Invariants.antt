@@ -3,7 +3,7 @@ use Rattle.mx_book.specs.World.{World}
 use Rattle.mx_desk.specs.Devices.{capped}
 use Rattle.mx_desk.specs.Knows.{Stands}
 use Rattle.mx_desk.specs.Serve.{Marked}
-use Rattle.mx_desk.specs.Steps.{State, state, Ran, Leads}
+use Rattle.mx_desk.specs.Steps.{state, Ran, Leads}
 use Rattle.mx_desk.proofs.desk.run.Given as goal
 
 abbrev pub invariant-requests : goal.invariant-requests

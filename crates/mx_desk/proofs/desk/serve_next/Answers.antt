@@ -1,16 +1,13 @@
-use Rattle.std.proofs.Common.{rules, ◌≡◌, ◌+◌, ◌-◌, ◌*◌, ◌<◌, ◌≤◌, ◌⊎◌, ℕ, List, [], ◌++◌, ◌≢◌, Ok, Err, length, take, drop, true, false, refl, sym, ap, ◌∙◌, append_assoc, arith, length-append, length-drop}
+use Rattle.std.proofs.Common.{◌+◌, [], ◌++◌, Ok, length, refl, sym, ap, ◌∙◌, append_assoc, arith, length-append}
 use Rattle.std.proofs.lemmas.Bool.{eqb-true, eqb-false}
 use Rattle.std.proofs.lemmas.List.{append-nil}
 use Rattle.std.proofs.lemmas.Result.{err_from_is_err_and}
-use Rattle.std.specs.Io.KnownBytes.{Appends, Consumes}
-use Rattle.mx_desk.specs.Devices.{capped}
 use Rattle.mx_desk.specs.Found.{request_view}
 use Rattle.mx_desk.specs.Knows.{Stands}
-use Rattle.mx_desk.specs.Serve.{Marked, response_to, world_after_one, stop_text}
-use Rattle.mx_desk.specs.Steps.{state, Steps, Leads}
+use Rattle.mx_desk.specs.Serve.{world_after_one}
 use Rattle.mx_desk.proofs.Known.{Appends-none, Appends-then, Appends-kept, Consumes-none, Consumes-then, Consumes-kept}
 use Rattle.mx_desk.proofs.RequestLemmas.{Whole-shorter}
-use Rattle.mx_desk.proofs.StepLemmas.{Came, answered_step, cut_step, turns_step, read_step, flush_step, stop_step, cut_stop_step, stop_at_end, cut_stop_at_end, nothing_step, smaller, first_now, open_room, capped_none, capped_more}
+use Rattle.mx_desk.proofs.StepLemmas.{answered_step, cut_step, turns_step, read_step, flush_step, stop_step, cut_stop_step, stop_at_end, cut_stop_at_end, nothing_step, smaller, first_now, open_room, capped_none, capped_more}
 use Rattle.mx_desk.proofs.desk.serve_next.Goals as goal
 
 pub pieces-init : goal.pieces-init

@@ -1,7 +1,6 @@
 use Rattle.std.proofs.Common.{◌≡◌, ◌+◌, ◌≤◌, ◌<◌, ℕ, List, [], ◌++◌, length, true, false}
 use Rattle.std.specs.Io.KnownBytes.{Appends, Consumes, IsAtEnd}
 use Rattle.mx_desk.specs.Devices.{capped}
-use Rattle.mx_desk.proofs.StepLemmas.{Came}
 use Rattle.mx_desk.proofs.desk.serve_next.Given as goal
 
 abbrev pub invariant-pieces : goal.invariant-pieces

@@ -9,14 +9,14 @@ use Rattle.mx_desk.proofs.desk.serve_one.Goals.{in-Answered+in_ok-flush_out, in_
 pub returns-in_err-served-clause-steps : goal.returns-in_err-served-clause-steps
 returns-in_err-served-clause-steps g c = λ w honest spelled.
     let p = err_from_is_err_and c.from_residual.result c.from_residual.ensures.1 in
-    let led = c.in_err-served.ensures.steps w honest (spelled, rw c.new-workspace.ensures.callers (c.none.ensures w)) in
+    let led = c.in_err-served.ensures.steps w honest (spelled, rw c.new-workspace.ensures.callers (c.none.ensures.knows w)) in
     let steps = led.holds in
     rw (p.1, p.2) (record { end = led.end; stands = led.stands.0; holds = (c.serve_next.new.input, rw c.new-input.ensures at steps) })
 
 pub returns-in_err-flush_out-clause-steps : goal.returns-in_err-flush_out-clause-steps
 returns-in_err-flush_out-clause-steps g c = λ w honest spelled.
     let p = err_from_is_err_and c.from_residual-in_err-flush_out.result c.from_residual-in_err-flush_out.ensures.1 in
-    let led = c.in_ok-served.ensures.steps w honest (spelled, rw c.new-workspace.ensures.callers (c.none.ensures w)) in
+    let led = c.in_ok-served.ensures.steps w honest (spelled, rw c.new-workspace.ensures.callers (c.none.ensures.knows w)) in
     let steps = led.holds in
     rw (p.1, p.2, c.in_err-flush_out.ensures.fault) (record {
       end = led.end;
@@ -26,7 +26,7 @@ returns-in_err-flush_out-clause-steps g c = λ w honest spelled.
 
 pub returns-clause-steps : goal.returns-clause-steps
 returns-clause-steps g c = λ w honest spelled.
-    let led = c.in_ok-served.ensures.steps w honest (spelled, rw c.new-workspace.ensures.callers (c.none.ensures w)) in
+    let led = c.in_ok-served.ensures.steps w honest (spelled, rw c.new-workspace.ensures.callers (c.none.ensures.knows w)) in
     let steps = led.holds in
     elim c.match-served.branch [
       | in-Answered+in_ok-flush_out v ↦ rw (v.writer-is, v.in-Answered.is) (record {

@@ -1,14 +1,17 @@
-use Rattle.std.proofs.Common.{Option, Some, IfSome, ◌≡◌, ◌∙◌, sym, ap, subst}
+use Rattle.std.proofs.Common.{◌≡◌, Some, IfSome, refl, sym, subst}
 use Rattle.mx_book.specs.Reads.{who_of}
-use Rattle.mx_book.specs.World.{Token}
-use Rattle.mx_book.specs.declared.values.Caller.{Caller}
-use Rattle.mx_book.proofs.NameLemmas.{same_name}
-use Rattle.mx_desk.specs.Knows.{Knows}
+use Rattle.mx_desk.proofs.KnowsLemmas.{remembered_is}
 use Rattle.mx_desk.proofs.callers.Callers.find.Goals as goal
 
-pub returns-in-Some-Some : goal.returns-in-Some-Some
-returns-in-Some-Some c = λ w knows.
-    let known : Knows w c.deref.result.now = rw (c.deref.ensures.value, c.self.view_is) knows in
-    let at = c.in-Some-Some.ensures.lookup.3 in
-    let there = subst (λ place. IfSome place (λ (e : Token × Caller). who_of w e.0 ≡ Some e.1)) (sym (at.1 c.in-Some-Some.field-0.now) ∙ c.in-Some-Some.field-0-is) (known c.place_of.result c.in-Some-Some.field-0.now at.0) in
-    ap (who_of w) (sym (same_name _ _ (sym c.same_token.ensures.value ∙ c.if-same_token.true))) ∙ there
+pub returns-in_err-known-clause-value : goal.returns-in_err-known-clause-value
+returns-in_err-known-clause-value c = rw (c.from_residual.ensures, sym c.place_of.ensures, sym c.at.ensures, c.in_err-known.was) refl
+
+pub returns-then-same_token-clause-value : goal.returns-then-same_token-clause-value
+returns-then-same_token-clause-value c = rw (sym c.place_of.ensures, sym c.at.ensures, c.in_ok-known.was, sym c.same_token.ensures.value, c.if-same_token.true) refl
+
+pub returns-then-same_token-clause-knows : goal.returns-then-same_token-clause-knows
+returns-then-same_token-clause-knows c = λ w knows.
+    subst (λ found. IfSome found (λ caller. who_of w c.args.token.now ≡ Some caller)) (sym (returns-then-same_token-clause-value c)) (remembered_is w c.args.self.now c.args.token.now knows)
+
+pub returns-else-same_token-clause-value : goal.returns-else-same_token-clause-value
+returns-else-same_token-clause-value c = rw (sym c.place_of.ensures, sym c.at.ensures, c.in_ok-known.was, sym c.same_token.ensures.value, c.if-same_token.false) refl
