@@ -44,7 +44,7 @@ split_side f None a d = refl
 split_side f (Some r) a d = refl
 
 -- what is waited for isn't an entry
-not_both : (w : World) → Invariant w → (d : Details) (o : Option Row) → fmap.get w.rows d.to ≡ o → from_row false (λ (r : Row). expects_val r.holding.purse.status d) o ≡ true
+pub not_both : (w : World) → Invariant w → (d : Details) (o : Option Row) → fmap.get w.rows d.to ≡ o → from_row false (λ (r : Row). expects_val r.holding.purse.status d) o ≡ true
     → (from_row false (λ (r : Row). has_logged r.holding.purse.log d) o || is_archived w d.to d) ≡ false
 not_both w i d None at h = clash false h refl
 not_both w i d (Some r) at h = waits r.holding.purse.status (i.sound d.to r at).present h
@@ -72,12 +72,12 @@ value_case true false false false v h = refl
 value_case false true false false v h = refl
 value_case false false false false v h = refl
 
-value_split : (w : World) → Invariant w → (d : Details) → cond (maybe_lost w d) d.value 0 + cond (definitely_lost w d) d.value 0 ≡ cond (flowing w d) d.value 0
+pub value_split : (w : World) → Invariant w → (d : Details) → cond (maybe_lost w d) d.value 0 + cond (definitely_lost w d) d.value 0 ≡ cond (flowing w d) d.value 0
 value_split w i d =
     value_case (from_in_epa w d) (from_logged w d) (to_in_epv w d) (to_logged w d) d.value (not_both w i d (fmap.get w.rows d.to) refl)
     ∙ ap (λ b. cond b d.value 0) (λ k. sym (split_side expects_ack (fmap.get w.rows d.from) (is_archived w d.from d) d) k && sym (split_side expects_val (fmap.get w.rows d.to) (is_archived w d.to d) d) k)
 
-two_sums : (f g h : Details → ℕ) → ((d : Details) → f d + g d ≡ h d) → (ks : List Details) → sum_by f ks + sum_by g ks ≡ sum_by h ks
+pub two_sums : (f g h : Details → ℕ) → ((d : Details) → f d + g d ≡ h d) → (ks : List Details) → sum_by f ks + sum_by g ks ≡ sum_by h ks
 two_sums f g h same [] = refl
 two_sums f g h same (k ∷ ks) =
     let head : f k + g k ≡ h k = same k in

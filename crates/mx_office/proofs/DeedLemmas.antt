@@ -73,7 +73,7 @@ removed_case : {X : Type 0} (b : Bool) (o : Option X) (x : X) → cond b None o 
 removed_case true o x h = not_some x h
 removed_case false o x h = h
 
-not_below : (n m : ℕ) → nat_lt n m ≡ false → m ≤ n
+pub not_below : (n m : ℕ) → nat_lt n m ≡ false → m ≤ n
 not_below n m h = grind arith
 
 -- ---- the rules on the purse of a row

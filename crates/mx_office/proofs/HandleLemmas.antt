@@ -45,7 +45,7 @@ expects_val_is (Epr e) d t = clash false t refl
 expects_val_is (Epv e) d t = ap Epv (same_details e d t)
 expects_val_is (Epa e) d t = clash false t refl
 
-expects_ack_is : (s : Status) (d : Details) → expects_ack s d ≡ true → s ≡ Epa d
+pub expects_ack_is : (s : Status) (d : Details) → expects_ack s d ≡ true → s ≡ Epa d
 expects_ack_is EaFrom d t = clash false t refl
 expects_ack_is EaTo d t = clash false t refl
 expects_ack_is (Epr e) d t = clash false t refl
@@ -67,7 +67,7 @@ module _ (w : World) (p : Name) (r : Row) (at : fmap.get w.rows p ≡ Some r) (i
   ignored_kept : IsKept w p r (deed_of took.Ignored)
   ignored_kept = same_kept w p r at i b _ refl refl refl refl refl
 
-  request_due : (d : Details) → r.holding.purse.status ≡ Epr d → IsTimely (seen w) p (message.Req d) → (seen w).due d ≡ true
+  pub request_due : (d : Details) → r.holding.purse.status ≡ Epr d → IsTimely (seen w) p (message.Req d) → (seen w).due d ≡ true
   request_due d was (inl due) = due
   request_due d was (inr past) =
       let own : d.from ≡ p = (subst (IsPresent r.holding.purse (is_archived w p)) was (i.sound p r at).present).0.own ∙ i.named p r at in

@@ -268,7 +268,7 @@ run_law w h (c ∷ cs) =
     ∙ ap (λ (x : Course Holdings Reply). ends x.end (for_holder h c.0 (step w c.0 c.1).reply ++ x.replies)) (run_law (step w c.0 c.1).world h cs)
 
 -- a run that may have left some commands undone comes to the steps of those that it answered
-run_steps : (fails : StoreFault → Type 0) (w end : World) (cs : List Asked) (os : List Outcome) → IsRun fails w cs os end → ends end (replies cs os) ≡ steps w (answered cs os)
+pub run_steps : (fails : StoreFault → Type 0) (w end : World) (cs : List Asked) (os : List Outcome) → IsRun fails w cs os end → ends end (replies cs os) ≡ steps w (answered cs os)
 run_steps fails w end [] [] is = ap (λ x. ends x []) (sym is)
 run_steps fails w end [] (o ∷ os) is = absurd is
 run_steps fails w end (c ∷ cs) [] is = absurd is

@@ -36,3 +36,9 @@ pub mod CapLemmas
 pub mod FullLemmas
 pub mod MoveLemmas
 pub mod SecurityLemmas
+pub mod FateLemmas
+pub mod ActLemmas
+pub mod AlikeLemmas
+pub mod RuleActLemmas
+pub mod RefinementLemmas
+pub mod AccountedLemmas

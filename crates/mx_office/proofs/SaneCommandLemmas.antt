@@ -111,7 +111,7 @@ run_sane w (c ∷ cs) s = run_sane (step w c.0 c.1).world cs (step_sane w s c.0 
 
 -- ---- Worlds that commands lead to
 
-opening_sane : (t : Token) → Sane (opening t)
+pub opening_sane : (t : Token) → Sane (opening t)
 opening_sane t =
     let none : (p : Name) → fmap.get (opening t).rows p ≡ None = λ p. fmap.get-empty name_cmp p in
     let never : (p : Name) (d : Details) → is_archived (opening t) p d ≡ false = λ p d. ap is_some (fmap.get-empty result_cmp (p, d)) in

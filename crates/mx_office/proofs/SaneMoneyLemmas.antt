@@ -36,7 +36,7 @@ use Rattle.mx_office.proofs.SaneRowLemmas.{like_step}
 abbrev grown : State → ℕ → ℕ → State
 grown q balance lines = record q { balance = balance; lines = lines }
 
-loaded_quiet : (q : State) (balance lines : ℕ) (archived : Details → Bool) → q.balance ≤ balance → IsSound q archived → Quiet q (grown q balance lines) archived
+pub loaded_quiet : (q : State) (balance lines : ℕ) (archived : Details → Bool) → q.balance ≤ balance → IsSound q archived → Quiet q (grown q balance lines) archived
 loaded_quiet q balance lines archived more i = record {
   name = refl;
   next = λ k h. h;

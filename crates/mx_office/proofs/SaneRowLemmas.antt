@@ -61,13 +61,13 @@ module _ (w : World) (p h : Name) (none : fmap.get w.rows p ≡ None) (s : Sane 
   each_new : (P : Name → Row → Type 0) → P p (new_row h p) → ((x : Name) (y : Row) → fmap.get w.rows x ≡ Some y → P x y) → (x : Name) (y : Row) → fmap.get (set_row w p (new_row h p)).rows x ≡ Some y → P x y
   each_new = each_inserted w.rows p (new_row h p)
 
-  new_gone : (d : Details) → (seen (set_row w p (new_row h p))).gone d ≡ (seen w).gone d
+  pub new_gone : (d : Details) → (seen (set_row w p (new_row h p))).gone d ≡ (seen w).gone d
   new_gone d = over_new (λ a b. side expects_ack b (is_archived w d.from d) d ≡ side expects_ack a (is_archived w d.from d) d) d.from (λ o. refl) (ap (λ x. x || is_archived w d.from d) (has-none_logged d))
 
-  new_due : (d : Details) → (seen (set_row w p (new_row h p))).due d ≡ (seen w).due d
+  pub new_due : (d : Details) → (seen (set_row w p (new_row h p))).due d ≡ (seen w).due d
   new_due d = over_new (λ a b. side expects_val b (is_archived w d.to d) d ≡ side expects_val a (is_archived w d.to d) d) d.to (λ o. refl) (ap (λ x. x || is_archived w d.to d) (has-none_logged d))
 
-  new_step : Step (seen w) (seen (set_row w p (new_row h p)))
+  pub new_step : Step (seen w) (seen (set_row w p (new_row h p)))
   new_step = like_step _ _ new_gone new_due
       (λ d. over_new (λ a b. has_status expects_req b d ≡ has_status expects_req a d) d.from (λ o. refl) refl)
       (λ d. over_new (λ a b. has_status expects_val b d ≡ has_status expects_val a d) d.to (λ o. refl) refl)
@@ -76,7 +76,7 @@ module _ (w : World) (p h : Name) (none : fmap.get w.rows p ≡ None) (s : Sane 
       (λ x d t. t)
       (λ x d. over_new (λ a b. entry_of a (is_archived w x d) d ≡ true → entry_of b (is_archived w x d) d ≡ true) x (λ o t. t) (λ t. either_true (has_logged none_logged d) _ t))
 
-  no_archive : (d : Details) → is_archived w p d ≡ false
+  pub no_archive : (d : Details) → is_archived w p d ≡ false
   no_archive d = not_true _ (λ t. clash false (ap is_some (sym none) ∙ s.invariant.held p d t) refl)
 
   no_tray : (d : Details) → in_tray w p d ≡ false
@@ -165,7 +165,7 @@ module _ (w : World) (p : Name) (s : Sane w) where
   mark_same : (x : Name) (c : Details) (r : Row) → fmap.get w.rows x ≡ Some r → (has_logged r.holding.purse.log c || is_archived (with_archived w p) x c) ≡ (has_logged r.holding.purse.log c || is_archived w x c)
   mark_same x c r at = ap (λ y. has_logged r.holding.purse.log c || y) (now_archived x c) ∙ absorb _ (is_archived w x c) _ (λ t. s.invariant.tray x c (laid_tray x c t) r at)
 
-  side_same : (f : Status → Details → Bool) (x : Name) (c : Details) (o : Option Row) → fmap.get w.rows x ≡ o → side f o (is_archived (with_archived w p) x c) c ≡ side f o (is_archived w x c) c
+  pub side_same : (f : Status → Details → Bool) (x : Name) (c : Details) (o : Option Row) → fmap.get w.rows x ≡ o → side f o (is_archived (with_archived w p) x c) c ≡ side f o (is_archived w x c) c
   side_same f x c None at = now_archived x c ∙ absorb false (is_archived w x c) _ (λ t. clash false (ap is_some (sym at) ∙ s.invariant.shelf x c (laid_tray x c t)) refl)
   side_same f x c (Some r) at = ap (λ y. f r.holding.purse.status c || y) (mark_same x c r at)
 
@@ -173,7 +173,7 @@ module _ (w : World) (p : Name) (s : Sane w) where
   entry_widens None x c t = now_archived x c ∙ widen _ _ t
   entry_widens (Some r) x c t = ap (λ y. has_logged r.holding.purse.log c || y) (now_archived x c) ∙ widen_or _ (is_archived w x c) _ t
 
-  archive_step : Step (seen w) (seen (with_archived w p))
+  pub archive_step : Step (seen w) (seen (with_archived w p))
   archive_step = like_step _ _ (λ d. side_same expects_ack d.from d _ refl) (λ d. side_same expects_val d.to d _ refl) (λ d. refl) (λ d. refl) (λ d t. t) (λ d t. t)
       (λ x d t. now_archived x d ∙ widen _ _ t) (λ x d. entry_widens (fmap.get w.rows x) x d)
 

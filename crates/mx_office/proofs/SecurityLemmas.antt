@@ -48,7 +48,7 @@ lost_is : (w : World) (d : Details) → definitely_lost w d ≡ lost_in (seen w)
 lost_is w d = ap (λ b. to_logged w d && b) (or_turned (from_logged w d) (from_in_epa w d) ∙ sym (split_side expects_ack (fmap.get w.rows d.from) (is_archived w d.from d) d))
 
 -- what is lost occurs
-lost_occurs : (w : World) (d : Details) → definitely_lost w d ≡ true → is_some (fmap.get (occurring w) d) ≡ true
+pub lost_occurs : (w : World) (d : Details) → definitely_lost w d ≡ true → is_some (fmap.get (occurring w) d) ≡ true
 lost_occurs w d h = due_occurs w d (waits (fmap.get w.rows d.to) (both_parts _ _ h).0)
   where
     waits : (o : Option Row) → (from_row false (λ (r : Row). has_logged r.holding.purse.log d) o || is_archived w d.to d) ≡ true → side expects_val o (is_archived w d.to d) d ≡ true

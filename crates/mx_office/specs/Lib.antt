@@ -10,3 +10,4 @@ pub mod Reachable
 pub mod Faults
 pub mod Conservation
 pub mod Statement
+pub mod Abstract

@@ -2,17 +2,13 @@
 #![tactic(auto)]
 
 mod archive;
-pub mod balance;
-pub mod conservation;
 mod decisions;
-pub mod isolation;
+pub mod laws;
 mod limits;
 mod members;
 mod money;
 pub mod office;
 mod purses;
-pub mod reachable;
-pub mod statements;
 pub mod values;
 
 pub use office::Office;

@@ -8,6 +8,7 @@ ghost use Rattle.mx_book.specs.World.{World, Name as HolderName};
 ghost use Rattle.mx_book.specs.declared.contract.StoreFault.TheVariants.{Memory};
 ghost use Rattle.mx_office.specs.declared.values.Refusal.{Refusal};
 ghost use Rattle.mx_office.specs.declared.values.Reply.TheVariants.{Refused};
+ghost use Rattle.mx_office.specs.Abstract.{Refines};
 ghost use Rattle.mx_office.specs.Commands.{IsAsked, IsCommand};
 ghost use Rattle.mx_office.specs.Conservation.{IsNeverFullOutcome};
 ghost use Rattle.mx_office.specs.Decides.{Decides};
@@ -168,6 +169,9 @@ impl<B: Book> Office<B> {
     /// It keeps holders apart, as `answer` does: for every holder, the replies to the holder, in order, are those that
     /// the holder's view of the commands that were answered gives (`told`), and what is the holder's own in the end is
     /// what that view leaves (`accounts`). Commands that were not answered are in no view, and change nothing.
+    ///
+    /// The commands that were answered are operations of the abstract purses, in which a payment is one operation, for
+    /// every choice of losses at the end (`refines`). What these are stands at `refinement`.
     pub fn run(
         &mut self,
         alloc: Global,
@@ -179,6 +183,9 @@ impl<B: Book> Office<B> {
         ensures never_full { (w : World) → B.doubt self.new.book ≡ 0 → B.spells (B.rows self.old.book) w → IsReachable w → IfOk result (λ outcomes. AllByRecursion IsNeverFullOutcome outcomes.items) }
         ensures accounts { (w v : World) → B.doubt self.new.book ≡ 0 → B.spells (B.rows self.old.book) w → B.spells (B.rows self.new.book) v → IfOk result (λ outcomes. (h : HolderName) → cut v h ≡ (local (cut w h) (view h w (answered commands.now outcomes.items))).end) }
         ensures told { (w : World) → B.doubt self.new.book ≡ 0 → B.spells (B.rows self.old.book) w → IfOk result (λ outcomes. (h : HolderName) → told_to h (replies commands.now outcomes.items) ≡ (local (cut w h) (view h w (answered commands.now outcomes.items))).replies) }
+        ensures refines { (w v : World) → B.doubt self.new.book ≡ 0 → B.spells (B.rows self.old.book) w
+            → B.spells (B.rows self.new.book) v → IsReachable w
+            → IfOk result (λ outcomes. Refines w (answered commands.now outcomes.items) v) }
         ensures each { IfOk result (λ outcomes. length outcomes.items ≡ length commands.now) }
         ensures err { OnErr result (self.new ≡ self.old) }
     {

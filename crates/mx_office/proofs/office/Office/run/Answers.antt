@@ -8,6 +8,7 @@ use Rattle.mx_office.proofs.OutcomeLemmas.{asked_more, run_replied_at, run_undon
 use Rattle.mx_office.proofs.BalanceCommandLemmas.{reachable_balanced}
 use Rattle.mx_office.proofs.LawLemmas.{run_accounts, run_told}
 use Rattle.mx_office.proofs.ConservedLemmas.{reachable_conserved}
+use Rattle.mx_office.proofs.RefinementLemmas.{answered_refine}
 use Rattle.mx_office.proofs.ReachLemmas.{reachable_run, never_full_run}
 use Rattle.mx_office.proofs.StepLemmas.{reachable_world}
 use Rattle.mx_office.proofs.office.Office.run.Goals as goal
@@ -71,3 +72,9 @@ pub returns-clause-told : goal.returns-clause-told
 returns-clause-told g c = λ w honest spelled h.
     let led = returns-clause-run g c w honest spelled in
     run_told g.B.Book.fails w led.end h c.args.commands.now c.loop-caller.outcomes.items led.run
+
+-- what was answered is what the abstract purses do
+pub returns-clause-refines : goal.returns-clause-refines
+returns-clause-refines g c = λ w v honest spelled here reachable.
+    let led = returns-clause-run g c w honest spelled in
+    answered_refine g.B.Book.fails w led.end v c.args.commands.now c.loop-caller.outcomes.items led.run (g.met.B.Book.single _ v led.end here led.stands) reachable

@@ -1,7 +1,7 @@
 use Rattle.std.proofs.Common.{sym, ◌∙◌, ap}
 use Rattle.mx_office.specs.Isolation.{local}
 use Rattle.mx_office.proofs.LawLemmas.{one_law, run_law}
-use Rattle.mx_office.proofs.isolation.isolation.Goals as goal
+use Rattle.mx_office.proofs.laws.isolation.isolation.Goals as goal
 
 pub returns : goal.returns
 returns c = record {

@@ -1,5 +1,5 @@
 use Rattle.mx_office.proofs.BalanceCommandLemmas.{reachable_balanced}
-use Rattle.mx_office.proofs.balance.balance.Goals as goal
+use Rattle.mx_office.proofs.laws.balance.balance.Goals as goal
 
 pub returns : goal.returns
 returns c = record { reachable = reachable_balanced }

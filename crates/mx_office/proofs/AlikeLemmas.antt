@@ -1,0 +1,134 @@
+-- Worlds with the same purses are the same abstract world.
+use Rattle.std.proofs.Common.{◌≡◌, ◌+◌, Bool, true, false, cond, not, refl, sym, ◌∙◌, ap, Option, Some, None, option_map, ◌&&◌, ◌||◌}
+use Rattle.std.specs.FinMap as fmap
+use Rattle.std.specs.Option.{option_map_or}
+use Rattle.mx_pay.specs.Names.{name_cmp}
+use Rattle.mx_pay.specs.Details.{Details}
+use Rattle.mx_pay.specs.Log.{has_logged}
+use Rattle.mx_purse.specs.State.{State}
+use Rattle.mx_purse.specs.declared.message.Message.{Message}
+use Rattle.mx_purse.specs.Operations.{expects_val, expects_ack}
+use Rattle.mx_book.specs.declared.values.MemberRow.{MemberRow}
+use Rattle.mx_book.specs.Reads.{from_row, of_purse, is_archived}
+use Rattle.mx_book.specs.Totals.{maybe_lost, definitely_lost}
+use Rattle.mx_book.specs.World.{World, Row, Holding, Name, set_row, changed_row, has_room, delivered, with_message, is_of_member, with_collected, all_collected}
+use Rattle.mx_book.proofs.NameLemmas.{names_total, names_exact}
+use Rattle.mx_book.proofs.UnderLemmas.{get-remake}
+use Rattle.mx_office.specs.declared.values.Command.{Command}
+use Rattle.mx_office.specs.declared.values.Reply.{Reply}
+use Rattle.mx_office.specs.Abstract.{AbstractPurse, Act, ChosenLost, IsAct, received_by, losses_of, abstract_purse, abstract_of}
+use Rattle.mx_office.specs.Step.{change_member, put_sent, is_kept, with_result}
+use Rattle.mx_office.proofs.ActLemmas.{Simulated, get-abstract}
+use Rattle.mx_office.proofs.FateLemmas.{received_same, lost_same}
+use Rattle.mx_office.proofs.SeenWorldLemmas.{over_row}
+
+-- the purse of a name, if there is one
+abbrev pub purse_of : Option Row → Option State
+purse_of o = option_map (λ (r : Row). r.holding.purse) o
+
+-- the same purses, and the same archive
+pub record Alike (w v : World) : Type 0 where
+  pub purses : (q : Name) → purse_of (fmap.get v.rows q) ≡ purse_of (fmap.get w.rows q)
+  pub archive : v.archive ≡ w.archive
+
+abbrev from_purse : (State → Bool) → Option State → Bool
+from_purse g None = false
+from_purse g (Some q) = g q
+
+by_purse : (g : State → Bool) (o : Option Row) → from_row false (λ (r : Row). g r.holding.purse) o ≡ from_purse g (purse_of o)
+by_purse g None = refl
+by_purse g (Some r) = refl
+
+by_state : (w : World) (c : ChosenLost) (q : Name) (o : Option Row)
+    → option_map (abstract_purse w c q) o ≡ option_map (λ (s : State). let x : AbstractPurse = record { balance = s.balance + received_by w c q; lost = losses_of w c q } in x) (purse_of o)
+by_state w c q None = refl
+by_state w c q (Some r) = refl
+
+module _ (w v : World) (a : Alike w v) where
+  tests : (g : State → Bool) (q : Name) → of_purse false (λ (r : Row). g r.holding.purse) v q ≡ of_purse false (λ (r : Row). g r.holding.purse) w q
+  tests g q = by_purse g (fmap.get v.rows q) ∙ ap (from_purse g) (a.purses q) ∙ sym (by_purse g (fmap.get w.rows q))
+
+  archives : (q : Name) (d : Details) → is_archived v q d ≡ is_archived w q d
+  archives q d = ap (λ x. fmap.contains_key x (q, d)) a.archive
+
+  maybe_alike : (d : Details) → maybe_lost v d ≡ maybe_lost w d
+  maybe_alike d =
+      (λ k. (tests (λ q. expects_ack q.status d) d.from k || (tests (λ q. has_logged q.log d) d.from k || archives d.from d k)) && tests (λ q. expects_val q.status d) d.to k)
+
+  lost_alike : (d : Details) → definitely_lost v d ≡ definitely_lost w d
+  lost_alike d =
+      (λ k. (tests (λ q. has_logged q.log d) d.to k || archives d.to d k)
+      && ((tests (λ q. has_logged q.log d) d.from k || archives d.from d k) || tests (λ q. expects_ack q.status d) d.from k))
+
+  pub abstract_alike : (c : ChosenLost) → abstract_of v c ≡ abstract_of w c
+  abstract_alike c = fmap.same_map names_total names_exact (abstract_of v c) (abstract_of w c) each
+    where
+      received : (q : Name) → received_by v c q ≡ received_by w c q
+      received = received_same w v c c (λ d. (λ k. maybe_alike d k && not (c d)))
+
+      lost : (q : Name) → losses_of v c q ≡ losses_of w c q
+      lost = lost_same w v c c (λ d. (λ k. lost_alike d k || (maybe_alike d k && c d)))
+
+      each : (q : Name) → fmap.get (abstract_of v c) q ≡ fmap.get (abstract_of w c) q
+      each q =
+          get-abstract v c q ∙ by_state v c q (fmap.get v.rows q)
+          ∙ (λ k. option_map (λ (s : State). let x : AbstractPurse = record { balance = s.balance + received q k; lost = lost q k } in x) (a.purses q k))
+          ∙ sym (by_state w c q (fmap.get w.rows q)) ∙ sym (get-abstract w c q)
+
+-- ---- what leads to such a World
+
+pub alike_itself : (w : World) → Alike w w
+alike_itself w = record { purses = λ q. refl; archive = refl }
+
+pub alike_simulated : (w v : World) (asked : Command) (x : Reply) (c : ChosenLost) → Alike w v → IsAct w asked x Act.Ignore → Simulated w asked v x c
+alike_simulated w v asked x c a is = record { before = c; act = Act.Ignore; is = is; leads = ap Some (sym (abstract_alike w v a c)) }
+
+pub then_alike : (w v u : World) (asked : Command) (x : Reply) (c : ChosenLost) → Simulated w asked v x c → Alike v u → Simulated w asked u x c
+then_alike w v u asked x c s a = record { before = s.before; act = s.act; is = s.is; leads = s.leads ∙ ap Some (sym (abstract_alike v u a c)) }
+
+pub row_alike : (w : World) (p : Name) (r s : Row) → fmap.get w.rows p ≡ Some r → s.holding.purse ≡ r.holding.purse → Alike w (set_row w p s)
+row_alike w p r s at same = record { purses = λ q. over_row w p r s at (λ a b. purse_of b ≡ purse_of a) q (λ o. refl) (λ _. ap Some same); archive = refl }
+
+room_purse : (a : Holding) (m : Message) (b : Bool) → (cond b (delivered a m) a).purse ≡ a.purse
+room_purse a m true = refl
+room_purse a m false = refl
+
+put_case : (w : World) (p : Name) (m : Message) (o : Option Row) → fmap.get w.rows p ≡ o → Alike w (changed_row w p (λ r. record r { holding = with_message r.holding m }) o)
+put_case w p m None at = alike_itself w
+put_case w p m (Some r) at = row_alike w p r (record r { holding = with_message r.holding m }) at (room_purse r.holding m (has_room r.holding))
+
+pub put_alike : (w : World) (sent : Option (Name × Message)) → Alike w (put_sent w sent)
+put_alike w None = alike_itself w
+put_alike w (Some m) = put_case w m.0 m.1 (fmap.get w.rows m.0) refl
+
+kept_case : (w : World) (result : Name × Details) (b : Bool) → Alike w (cond b w (record w { tray = fmap.insert w.tray result tt }))
+kept_case w result true = alike_itself w
+kept_case w result false = record { purses = λ q. refl; archive = refl }
+
+pub result_alike : (w : World) (o : Option (Name × Details)) → Alike w (with_result w o)
+result_alike w None = alike_itself w
+result_alike w (Some result) = kept_case w result (is_kept w result)
+
+-- ---- members, and what is collected
+
+member_case : (w v : World) (m : Name) (f : MemberRow → MemberRow) → Alike w v → (o : Option MemberRow) → Alike w (option_map_or (λ row. let u : World = record v { members = fmap.insert v.members m (f row) } in u) o v)
+member_case w v m f a None = a
+member_case w v m f a (Some row) = record { purses = a.purses; archive = a.archive }
+
+pub member_alike : (w v : World) (m : Name) (f : MemberRow → MemberRow) → Alike w v → Alike w (change_member v m f)
+member_alike w v m f a = member_case w v m f a (fmap.get v.members m)
+
+module _ (w : World) (m : Name) where
+  abbrev taken : Name → Row → Row
+  taken p r = cond (is_of_member w m r) (with_collected r) r
+
+  taken_purse : (r : Row) (b : Bool) → (cond b (with_collected r) r).holding.purse ≡ r.holding.purse
+  taken_purse r true = refl
+  taken_purse r false = refl
+
+  taken_case : (q : Name) (o : Option Row) → purse_of (option_map (taken q) o) ≡ purse_of o
+  taken_case q None = refl
+  taken_case q (Some r) = ap Some (taken_purse r (is_of_member w m r))
+
+  pub collected_alike : Alike w (all_collected w m)
+  collected_alike = record { purses = λ q. ap purse_of (get-remake name_cmp taken names_exact w.rows q) ∙ taken_case q (fmap.get w.rows q); archive = refl }
