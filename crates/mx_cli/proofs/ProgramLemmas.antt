@@ -11,9 +11,11 @@ use Rattle.mx_book.specs.declared.contract.StoreFault.{StoreFault}
 use Rattle.mx_office.specs.Reachable.{IsReachable}
 use Rattle.mx_desk.specs.Conservation.{LeavesReachable}
 use Rattle.mx_desk.specs.Isolation.{IsLeft}
+use Rattle.mx_desk.specs.Refinement.{LeavesRefined}
 use Rattle.mx_desk.specs.Steps.{Leads, state}
 use Rattle.mx_desk.proofs.ConservationLemmas.{leaves_reachable}
 use Rattle.mx_desk.proofs.LeavesLemmas.{leaves_nothing}
+use Rattle.mx_desk.proofs.RefinedLemmas.{leaves_refined}
 use Rattle.mx_tables.specs.States.{worry}
 use Rattle.mx_tables.specs.declared.opening.OpenFault.{OpenFault}
 use Rattle.mx_tables.specs.declared.opening.OpenFault.TheVariants as open_fault
@@ -36,6 +38,10 @@ nothing_left fails input output w = leaves_nothing fails (state [] input output 
 -- and a World that commands lead to is left
 pub nothing_reached : (fails : StoreFault → Type 0) (input output : Option (List ℕ)) (w : World) → IsReachable w → LeavesReachable (state [] input output w) (state [] input output w)
 nothing_reached fails input output w from = leaves_reachable _ _ (nothing_left fails input output w).0 from
+
+-- and nothing is asked
+pub nothing_refined : (fails : StoreFault → Type 0) (input output : Option (List ℕ)) (w : World) → IsReachable w → LeavesRefined (state [] input output w) (state [] input output w)
+nothing_refined fails input output w from = leaves_refined _ _ (nothing_left fails input output w).0 from
 
 -- a store in memory gives no doubt
 pub no_worry : (t : Held MemStore) → worry (state_of over_memory t) ≡ 0

@@ -64,8 +64,8 @@ fn serve_connection<B: Book>(
 /// connection and no other. The answer is how many were served.
 ///
 /// The connections keep holders apart (`apart`): the requests that were answered, all in order, are those of calls of the
-/// desk that follow one another, of which `mx_desk::isolation` says what each holder is told. From a World that commands
-/// lead to they end in such a World (`reachable`).
+/// desk that follow one another. Of these the laws in `mx_desk::laws` say what each holder is told, and that the commands
+/// asked are operations of the abstract purses. From a World that commands lead to they end in such a World (`reachable`).
 ///
 /// # Errors
 ///

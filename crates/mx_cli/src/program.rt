@@ -6,6 +6,7 @@ ghost use Rattle.mx_cli.specs.Faults.{fault_of};
 ghost use Rattle.mx_desk.specs.Conservation.{LeavesReachable};
 ghost use Rattle.mx_desk.specs.Devices.{capped};
 ghost use Rattle.mx_desk.specs.Isolation.{IsLeft};
+ghost use Rattle.mx_desk.specs.Refinement.{LeavesRefined, LeavesRefinedFromNone};
 ghost use Rattle.mx_desk.specs.Serve.{ServedAll};
 ghost use Rattle.mx_desk.specs.Steps.{state, Faults, Leads};
 ghost use Rattle.mx_desk.specs.declared.fault.DeskFault.{DeskFault as Fault};
@@ -30,7 +31,9 @@ use std::io::{Read, Write};
 ///
 /// What is said of the bytes holds where the office's rows spell a World, and its book has no doubt in the end. Then,
 /// however it ends, it keeps holders apart (`apart`); and from a World that commands lead to it ends in such a World
-/// (`reachable`), and no command that a request asks is refused because a purse or a float is full.
+/// (`reachable`), and no command that a request asks is refused because a purse or a float is full. And the commands that the
+/// requests ask are operations of the abstract purses, in which a payment is one operation, for every choice of losses at
+/// the end (`refines`).
 pub fn run_office<R: Read, W: Write, B: Book>(
     alloc: Global,
     office: &mut Office<B>,
@@ -54,6 +57,10 @@ pub fn run_office<R: Read, W: Write, B: Book>(
         → Leads (B.spells (B.rows office.new.book)) (λ now. LeavesReachable
         (state [] (R.remaining reader.old.device) (W.contents writer.old.device) w)
         (state [] (R.remaining reader.new.device) (W.contents writer.new.device) now)) }
+    ensures refines { (w : World) → B.doubt office.new.book ≡ 0 → B.spells (B.rows office.old.book) w → IsReachable w
+        → Leads (B.spells (B.rows office.new.book)) (λ now. LeavesRefined
+        (state [] (R.remaining reader.old.device) (W.contents writer.old.device) w)
+        (state [] (R.remaining reader.new.device) (W.contents writer.new.device) now)) }
 {
     let routes = Routes::new(alloc)?;
     let count = run(alloc, reader, writer, &routes, office)?;
@@ -70,6 +77,9 @@ pub fn run_office<R: Read, W: Write, B: Book>(
 ///
 /// It ends in a World that commands lead to (`reachable`), and no command that a request asks is refused because a purse or
 /// a float is full.
+///
+/// Whatever bytes came in, and for every choice of losses at the end, operations of the abstract purses lead from no purses
+/// to what the World at the end is there (`refines`): one for each command that the requests asked, a payment being one.
 pub fn run_memory<R: Read, W: Write>(
     alloc: Global,
     operator: Token,
@@ -87,6 +97,9 @@ pub fn run_memory<R: Read, W: Write>(
         (state [] (R.remaining reader.old.device) (W.contents writer.old.device) (opening operator))
         (state [] (R.remaining reader.new.device) (W.contents writer.new.device) now) }
     ensures reachable { (now : World) × LeavesReachable
+        (state [] (R.remaining reader.old.device) (W.contents writer.old.device) (opening operator))
+        (state [] (R.remaining reader.new.device) (W.contents writer.new.device) now) }
+    ensures refines { (now : World) × LeavesRefinedFromNone operator
         (state [] (R.remaining reader.old.device) (W.contents writer.old.device) (opening operator))
         (state [] (R.remaining reader.new.device) (W.contents writer.new.device) now) }
 {
@@ -118,6 +131,9 @@ pub fn run_memory_tables<R: Read, W: Write>(
         (state [] (R.remaining reader.old.device) (W.contents writer.old.device) (opening operator))
         (state [] (R.remaining reader.new.device) (W.contents writer.new.device) now) }
     ensures reachable { (now : World) × LeavesReachable
+        (state [] (R.remaining reader.old.device) (W.contents writer.old.device) (opening operator))
+        (state [] (R.remaining reader.new.device) (W.contents writer.new.device) now) }
+    ensures refines { (now : World) × LeavesRefinedFromNone operator
         (state [] (R.remaining reader.old.device) (W.contents writer.old.device) (opening operator))
         (state [] (R.remaining reader.new.device) (W.contents writer.new.device) now) }
 {

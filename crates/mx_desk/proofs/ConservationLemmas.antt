@@ -68,7 +68,7 @@ request_asks w r is = asked_is r (caller_of w r.token) (route_of r.method r.path
 -- ---- the World after a request
 
 -- the World after what is asked
-abbrev after_asked : World → Option Asked → World
+abbrev pub after_asked : World → Option Asked → World
 after_asked w None = w
 after_asked w (Some c) = (step w c.0 c.1).world
 
@@ -93,7 +93,7 @@ module _ (w : World) (r : Request) where
   by_route None = no_route (caller_of w r.token)
   by_route (Some route) = by_caller (caller_of w r.token) route
 
-  respond_asked : (respond w r).world ≡ after_asked w (asked_of w r)
+  pub respond_asked : (respond w r).world ≡ after_asked w (asked_of w r)
   unfolding respond
   respond_asked = by_route (route_of r.method r.path)
 

@@ -12,3 +12,4 @@ pub mod ApartLemmas
 pub mod LeavesLemmas
 pub mod LawLemmas
 pub mod ConservationLemmas
+pub mod RefinedLemmas

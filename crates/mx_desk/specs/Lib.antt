@@ -9,3 +9,4 @@ pub mod Answers
 pub mod Knows
 pub mod Isolation
 pub mod Conservation
+pub mod Refinement

@@ -8,6 +8,7 @@ ghost use Rattle.mx_desk.specs.Devices.{capped};
 ghost use Rattle.mx_desk.specs.Found.{request_view};
 ghost use Rattle.mx_desk.specs.Isolation.{IsLeft};
 ghost use Rattle.mx_desk.specs.Knows.{Stands};
+ghost use Rattle.mx_desk.specs.Refinement.{LeavesRefined};
 ghost use Rattle.mx_desk.specs.Serve.{Marked, MayBeMarked, response_to, world_after_one, stop_text, stop_fixed, ServedAll};
 ghost use Rattle.mx_desk.specs.Steps.{state, Steps, Faults, Leads, IsReplied, IsCut};
 
@@ -162,7 +163,8 @@ fn serve_next<R: Read, W: Write, B: Book>(
 /// that is given up is seen by nobody.
 ///
 /// From a World that commands lead to it ends in such a World (`reachable`), and no command that the request asks is
-/// refused because a purse or a float is full.
+/// refused because a purse or a float is full. And the command that it asks is an operation of the abstract purses, in
+/// which a payment is one operation, for every choice of losses at the end (`refines`).
 pub fn serve_one<R: Read, W: Write, B: Book>(
     alloc: Global,
     reader: &mut Counted<R>,
@@ -181,6 +183,10 @@ pub fn serve_one<R: Read, W: Write, B: Book>(
         (state [] (R.remaining reader.new.device) (W.contents writer.new.device) v)) }
     ensures reachable { (w : World) → B.doubt office.new.book ≡ 0 → B.spells (B.rows office.old.book) w → IsReachable w
         → Leads (B.spells (B.rows office.new.book)) (λ v. LeavesReachable
+        (state [] (R.remaining reader.old.device) (W.contents writer.old.device) w)
+        (state [] (R.remaining reader.new.device) (W.contents writer.new.device) v)) }
+    ensures refines { (w : World) → B.doubt office.new.book ≡ 0 → B.spells (B.rows office.old.book) w → IsReachable w
+        → Leads (B.spells (B.rows office.new.book)) (λ v. LeavesRefined
         (state [] (R.remaining reader.old.device) (W.contents writer.old.device) w)
         (state [] (R.remaining reader.new.device) (W.contents writer.new.device) v)) }
     ensures reads { (reads : ℕ) × (reads ≤ 12288) × (reader.new.calls ≡ capped (reader.old.calls + reads)) }
@@ -221,7 +227,8 @@ pub const MOST_READS: u64 = 1_000_000_000;
 /// gives. Requests that are given up are seen by nobody; after `Write` the last response may be cut.
 ///
 /// From a World that commands lead to it ends in such a World (`reachable`), and no command that a request asks is
-/// refused because a purse or a float is full.
+/// refused because a purse or a float is full. And the commands that the requests ask are operations of the abstract
+/// purses, in which a payment is one operation, for every choice of losses at the end (`refines`).
 pub fn run<R: Read, W: Write, B: Book>(
     alloc: Global,
     reader: &mut Counted<R>,
@@ -243,6 +250,10 @@ pub fn run<R: Read, W: Write, B: Book>(
         (state [] (R.remaining reader.new.device) (W.contents writer.new.device) v)) }
     ensures reachable { (w : World) → B.doubt office.new.book ≡ 0 → B.spells (B.rows office.old.book) w → IsReachable w
         → Leads (B.spells (B.rows office.new.book)) (λ v. LeavesReachable
+        (state [] (R.remaining reader.old.device) (W.contents writer.old.device) w)
+        (state [] (R.remaining reader.new.device) (W.contents writer.new.device) v)) }
+    ensures refines { (w : World) → B.doubt office.new.book ≡ 0 → B.spells (B.rows office.old.book) w → IsReachable w
+        → Leads (B.spells (B.rows office.new.book)) (λ v. LeavesRefined
         (state [] (R.remaining reader.old.device) (W.contents writer.old.device) w)
         (state [] (R.remaining reader.new.device) (W.contents writer.new.device) v)) }
     ensures reads { (reads : ℕ) × (reads ≤ 1000000000) × (reader.new.calls ≡ capped (reader.old.calls + reads)) }

@@ -10,7 +10,7 @@ pub mod fields;
 pub mod first;
 pub mod head;
 pub mod input;
-pub mod isolation;
+pub mod laws;
 pub mod output;
 pub mod workspace;
 

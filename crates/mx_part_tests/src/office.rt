@@ -1,4 +1,6 @@
-//! The office over a book in memory: random commands, and the words of each refusal.
+//! The office over a book in memory: random commands, worked payments as abstract purses see them, and the words of each
+//! refusal.
+mod abstract_world;
 mod random;
 
 use mx_office::Refusal;

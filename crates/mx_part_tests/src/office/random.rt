@@ -262,22 +262,22 @@ struct Trial<'a> {
     asked: u64,
 }
 
-fn name(word: &str) -> Result<Name, Fail> {
+pub(super) fn name(word: &str) -> Result<Name, Fail> {
     Ok(Name::read(word).ok_or("no name")?)
 }
 
 /// The token whose 32 digits are zeros but for the last.
-fn token(last: u8) -> Result<Token, Fail> {
+pub(super) fn token(last: u8) -> Result<Token, Fail> {
     let mut digits = [b'0'; 32];
     digits[31] = last;
     Ok(Token::read_bytes(&digits).ok_or("no token")?)
 }
 
-fn amount(number: u64) -> Result<Amount, Fail> {
+pub(super) fn amount(number: u64) -> Result<Amount, Fail> {
     Ok(Amount::new(number).ok_or("no amount")?)
 }
 
-fn seq(number: u64) -> Result<Seq, Fail> {
+pub(super) fn seq(number: u64) -> Result<Seq, Fail> {
     Ok(Seq::new(number).ok_or("no number")?)
 }
 
@@ -512,7 +512,7 @@ fn add_purses(commands: &mut Vec<(Caller, Command)>) -> Result<(), Fail> {
 }
 
 /// Opens an office with these purses.
-fn open(alloc: Global, office: &mut Office<PlainBook>) -> Result<(), Fail> {
+pub(super) fn open(alloc: Global, office: &mut Office<PlainBook>) -> Result<(), Fail> {
     let mut commands = Vec::new(alloc);
     add_members(&mut commands)?;
     add_holders(&mut commands)?;

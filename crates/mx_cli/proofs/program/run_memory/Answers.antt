@@ -3,6 +3,7 @@ use Rattle.std.proofs.lemmas.Result.{IfErr-weaker, IfOk-weaker}
 use Rattle.mx_book.specs.World.{opening}
 use Rattle.mx_book.specs.Spells.{Spells}
 use Rattle.mx_book.specs.Shelves.{rows_of}
+use Rattle.mx_desk.proofs.RefinedLemmas.{leaves_refined_from_none}
 use Rattle.mx_cli.proofs.ProgramLemmas.{some_world, opening_reachable}
 use Rattle.mx_cli.proofs.program.run_memory.Goals as goal
 
@@ -32,3 +33,9 @@ returns-clause-reachable g c =
     let spelled : Spells (rows_of c.new-office.result.book.shelves) (opening c.args.operator) = rw c.new-office.ensures c.new.ensures in
     let led = c.run_office.ensures.reachable (opening c.args.operator) refl spelled (opening_reachable c.args.operator c.as_bytes-bytes.ensures.valid) in
     (led.end, led.holds)
+
+-- what the requests asked is what the abstract purses do, from no purses
+pub returns-clause-refines : goal.returns-clause-refines
+returns-clause-refines g c =
+    let left = returns-clause-apart g c in
+    (left.0, leaves_refined_from_none c.args.operator _ _ _ left.1.0)

@@ -4,6 +4,7 @@ use Rattle.sqlite.specs.Held.{state as state_of}
 use Rattle.sqlite.specs.Steps.{over_memory}
 use Rattle.mx_book.specs.World.{opening}
 use Rattle.mx_tables.specs.Holds.{SpellsOne}
+use Rattle.mx_desk.proofs.RefinedLemmas.{leaves_refined_from_none}
 use Rattle.mx_cli.proofs.ProgramLemmas.{some_world, opening_reachable, nothing_left, nothing_reached, no_worry}
 use Rattle.mx_cli.proofs.program.run_memory_tables.Goals as goal
 
@@ -53,3 +54,19 @@ returns-clause-reachable g c =
     let spelled : SpellsOne (state_of over_memory c.new-kept.result.book).now (opening c.args.operator) = rw c.new-kept.ensures (c.in-Ok.ensures.opens (no_worry c.in-Ok.book)) in
     let led = c.run_office.ensures.reachable (opening c.args.operator) (no_worry c.run_office.new.office.book) spelled (opening_reachable c.args.operator c.as_bytes-bytes.ensures.valid) in
     (led.end, led.holds)
+
+-- what the requests asked is what the abstract purses do, from no purses
+pub returns-clause-refines : goal.returns-clause-refines
+returns-clause-refines g c =
+    let left = returns-clause-apart g c in
+    (left.0, leaves_refined_from_none c.args.operator _ _ _ left.1.0)
+
+pub returns-in_err-store-clause-refines : goal.returns-in_err-store-clause-refines
+returns-in_err-store-clause-refines g c =
+    let left = returns-in_err-store-clause-apart g c in
+    (left.0, leaves_refined_from_none c.args.operator _ _ _ left.1.0)
+
+pub returns-in-Err-clause-refines : goal.returns-in-Err-clause-refines
+returns-in-Err-clause-refines g c =
+    let left = returns-in-Err-clause-apart g c in
+    (left.0, leaves_refined_from_none c.args.operator _ _ _ left.1.0)

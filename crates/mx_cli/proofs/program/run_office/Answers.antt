@@ -1,6 +1,6 @@
 use Rattle.std.proofs.Common.{inr}
 use Rattle.std.proofs.lemmas.Result.{err_from_is_err_and}
-use Rattle.mx_cli.proofs.ProgramLemmas.{nothing_left, nothing_reached}
+use Rattle.mx_cli.proofs.ProgramLemmas.{nothing_left, nothing_reached, nothing_refined}
 use Rattle.mx_cli.proofs.program.run_office.Goals as goal
 
 -- there is no memory for the routes
@@ -16,6 +16,13 @@ returns-in_err-routes-clause-reachable g c = λ w honest spelled from. record {
   end = w;
   stands = spelled;
   holds = nothing_reached g.B.Book.fails (g.R.Read.remaining c.args.reader.now.device) (g.W.Write.contents c.args.writer.now.device) w from;
+}
+
+pub returns-in_err-routes-clause-refines : goal.returns-in_err-routes-clause-refines
+returns-in_err-routes-clause-refines g c = λ w honest spelled from. record {
+  end = w;
+  stands = spelled;
+  holds = nothing_refined g.B.Book.fails (g.R.Read.remaining c.args.reader.now.device) (g.W.Write.contents c.args.writer.now.device) w from;
 }
 
 -- the desk's fault, passed on

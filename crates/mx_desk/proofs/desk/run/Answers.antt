@@ -2,6 +2,7 @@ use Rattle.std.proofs.Common.{◌≡◌, ◌+◌, ℕ, List, [], ◌∷◌, ◌+
 use Rattle.mx_desk.proofs.StepLemmas.{capped_none, capped_then}
 use Rattle.mx_desk.proofs.ConservationLemmas.{leaves_reachable}
 use Rattle.mx_desk.proofs.LeavesLemmas.{leaves}
+use Rattle.mx_desk.proofs.RefinedLemmas.{leaves_refined}
 use Rattle.mx_desk.proofs.RunLemmas.{Ran-none, Ran-step, serves_nothing, serves_stopped, leads_if}
 use Rattle.std.proofs.lemmas.Result.{err_from_is_err_and}
 use Rattle.std.specs.Io.KnownBytes.{Appends}
@@ -138,3 +139,19 @@ pub returns-in-Stopped-clause-reachable : goal.returns-in-Stopped-clause-reachab
 returns-in-Stopped-clause-reachable g c = λ w honest spelled from.
     let led = returns-in-Stopped-clause-apart g c w honest spelled in
     record { end = led.end; stands = led.stands; holds = leaves_reachable _ _ led.holds.0 from }
+
+-- from such a World what the requests asked is what the abstract purses do
+pub returns-in_err-serve_next-clause-refines : goal.returns-in_err-serve_next-clause-refines
+returns-in_err-serve_next-clause-refines g c = λ w honest spelled from.
+    let led = returns-in_err-serve_next-clause-apart g c w honest spelled in
+    record { end = led.end; stands = led.stands; holds = leaves_refined _ _ led.holds.0 from }
+
+pub returns-in-Nothing-clause-refines : goal.returns-in-Nothing-clause-refines
+returns-in-Nothing-clause-refines g c = λ w honest spelled from.
+    let led = returns-in-Nothing-clause-apart g c w honest spelled in
+    record { end = led.end; stands = led.stands; holds = leaves_refined _ _ led.holds.0 from }
+
+pub returns-in-Stopped-clause-refines : goal.returns-in-Stopped-clause-refines
+returns-in-Stopped-clause-refines g c = λ w honest spelled from.
+    let led = returns-in-Stopped-clause-apart g c w honest spelled in
+    record { end = led.end; stands = led.stands; holds = leaves_refined _ _ led.holds.0 from }

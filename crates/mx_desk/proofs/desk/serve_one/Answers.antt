@@ -2,6 +2,7 @@ use Rattle.std.proofs.Common.{[]}
 use Rattle.std.proofs.lemmas.Result.{err_from_is_err_and}
 use Rattle.mx_desk.proofs.ConservationLemmas.{leaves_reachable}
 use Rattle.mx_desk.proofs.LeavesLemmas.{leaves_one}
+use Rattle.mx_desk.proofs.RefinedLemmas.{leaves_refined}
 use Rattle.mx_desk.proofs.RunLemmas.{flushed, unflushed}
 use Rattle.mx_desk.proofs.desk.serve_one.Goals as goal
 use Rattle.mx_desk.proofs.desk.serve_one.Goals.{in-Answered+in_ok-flush_out, in_default}
@@ -68,3 +69,19 @@ pub returns-clause-reachable : goal.returns-clause-reachable
 returns-clause-reachable g c = λ w honest spelled from.
     let led = returns-clause-apart g c w honest spelled in
     record { end = led.end; stands = led.stands; holds = leaves_reachable _ _ led.holds.0 from }
+
+-- from such a World what the request asked is what the abstract purses do
+pub returns-in_err-served-clause-refines : goal.returns-in_err-served-clause-refines
+returns-in_err-served-clause-refines g c = λ w honest spelled from.
+    let led = returns-in_err-served-clause-apart g c w honest spelled in
+    record { end = led.end; stands = led.stands; holds = leaves_refined _ _ led.holds.0 from }
+
+pub returns-in_err-flush_out-clause-refines : goal.returns-in_err-flush_out-clause-refines
+returns-in_err-flush_out-clause-refines g c = λ w honest spelled from.
+    let led = returns-in_err-flush_out-clause-apart g c w honest spelled in
+    record { end = led.end; stands = led.stands; holds = leaves_refined _ _ led.holds.0 from }
+
+pub returns-clause-refines : goal.returns-clause-refines
+returns-clause-refines g c = λ w honest spelled from.
+    let led = returns-clause-apart g c w honest spelled in
+    record { end = led.end; stands = led.stands; holds = leaves_refined _ _ led.holds.0 from }

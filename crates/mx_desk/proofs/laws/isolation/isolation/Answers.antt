@@ -1,7 +1,7 @@
 use Rattle.std.proofs.Common.{sym, ◌∙◌, ap}
 use Rattle.mx_office.specs.Isolation.{cut}
 use Rattle.mx_desk.proofs.LawLemmas.{calls_compose, told_alike}
-use Rattle.mx_desk.proofs.isolation.isolation.Goals as goal
+use Rattle.mx_desk.proofs.laws.isolation.isolation.Goals as goal
 
 pub returns : goal.returns
 returns c = record {

@@ -1,0 +1,279 @@
+//! The abstract purses of worked payments, for each choice of what becomes of the value that is under way.
+use super::random::{amount, name, open, seq, token};
+use mx_book::{Book, Caller, PlainBook};
+use mx_office::{Command, Office, Reply};
+use mx_pay::{Name, PayDetails, Token};
+use mx_purse::{Purse, Status};
+use std::alloc::Global;
+use std::process::Abort;
+use std::test::Fail;
+
+/// The purses of the table, each with its holder.
+const PURSES: [(&str, &str); 3] = [("p1", "ann"), ("q0", "cy"), ("q1", "dan")];
+
+/// What a purse is asked.
+#[derive(Clone, Copy)]
+enum Ask {
+    /// To pay the purse at that place so much, whose next number is this.
+    StartFrom(usize, u64, u64),
+    /// To be paid so.
+    StartTo(usize, u64, u64),
+    /// To handle the message of that number.
+    Handle(u64),
+    /// To abort.
+    Abort,
+}
+
+/// What each purse has in the abstract world, and what it has lost there.
+type AbstractWorld = [(u64, u64); 3];
+
+/// A row of the table: the purse at that place is asked this; then the abstract world is the first where the value that is
+/// under way will arrive, and the second where it will be lost. Where no value is under way the two are the same.
+struct Row(usize, Ask, AbstractWorld, AbstractWorld);
+
+/// p1 pays 60 to q0, which breaks off before the value comes; then p1 pays 25 to q1.
+const TABLE: [Row; 8] = [
+    Row(
+        0,
+        Ask::StartFrom(1, 60, 0),
+        [(100, 0), (0, 0), (0, 0)],
+        [(100, 0), (0, 0), (0, 0)],
+    ),
+    Row(
+        1,
+        Ask::StartTo(0, 60, 0),
+        [(100, 0), (0, 0), (0, 0)],
+        [(100, 0), (0, 0), (0, 0)],
+    ),
+    Row(
+        0,
+        Ask::Handle(0),
+        [(40, 0), (60, 0), (0, 0)],
+        [(40, 60), (0, 0), (0, 0)],
+    ),
+    Row(
+        1,
+        Ask::Abort,
+        [(40, 60), (0, 0), (0, 0)],
+        [(40, 60), (0, 0), (0, 0)],
+    ),
+    Row(
+        0,
+        Ask::StartFrom(2, 25, 0),
+        [(40, 60), (0, 0), (0, 0)],
+        [(40, 60), (0, 0), (0, 0)],
+    ),
+    Row(
+        2,
+        Ask::StartTo(0, 25, 1),
+        [(40, 60), (0, 0), (0, 0)],
+        [(40, 60), (0, 0), (0, 0)],
+    ),
+    Row(
+        0,
+        Ask::Handle(1),
+        [(15, 60), (0, 0), (25, 0)],
+        [(15, 85), (0, 0), (0, 0)],
+    ),
+    Row(
+        2,
+        Ask::Handle(0),
+        [(15, 60), (0, 0), (25, 0)],
+        [(15, 60), (0, 0), (25, 0)],
+    ),
+];
+
+/// The name of the purse at that place.
+fn purse_at(place: usize) -> Result<Name, Fail> {
+    name(PURSES[place % 3].0)
+}
+
+/// The command by which a purse is asked.
+fn command_of(purse: Name, ask: Ask) -> Result<Command, Fail> {
+    Ok(match ask {
+        Ask::StartFrom(peer, value, next) => Command::StartFrom {
+            purse,
+            peer: purse_at(peer)?,
+            value: amount(value)?,
+            seq: seq(next)?,
+        },
+        Ask::StartTo(peer, value, next) => Command::StartTo {
+            purse,
+            peer: purse_at(peer)?,
+            value: amount(value)?,
+            seq: seq(next)?,
+        },
+        Ask::Handle(number) => Command::Handle {
+            purse,
+            number: seq(number)?,
+        },
+        Ask::Abort => Command::Abort { purse },
+    })
+}
+
+/// Whether the value of a payment has left its from purse, which then waits for the acknowledgement, or has logged it.
+fn has_left(purses: &[Purse], details: &PayDetails) -> bool {
+    purses.iter().any(|from| {
+        from.name() == details.from()
+            && (matches!(from.status(), Status::Epa(present) if present == *details)
+                || from.log().has(details))
+    })
+}
+
+/// Payments whose value has left their from purses.
+#[derive(Drop)]
+struct Payments {
+    /// Those that their to purses wait for: they are under way.
+    awaited: Vec<PayDetails>,
+    /// Those that their to purses have logged: they are lost.
+    logged: Vec<PayDetails>,
+}
+
+impl Payments {
+    /// Adds the payment that a purse waits for, if its value has left.
+    fn add_awaited(&mut self, purses: &[Purse], to: &Purse) -> Result<(), Fail> {
+        if let Status::Epv(details) = to.status() {
+            if has_left(purses, &details) {
+                self.awaited.push(details)?;
+            }
+        }
+        Ok(())
+    }
+
+    /// Adds the payments to a purse that it has logged, where their values have left.
+    fn add_logged(&mut self, purses: &[Purse], to: &Purse) -> Result<(), Fail> {
+        for place in 0..to.log().len() {
+            if let Some(details) = to.log().at(place) {
+                if details.to() == to.name() && has_left(purses, &details) {
+                    self.logged.push(details)?;
+                }
+            }
+        }
+        Ok(())
+    }
+}
+
+/// The payments of these purses.
+fn payments_of(alloc: Global, purses: &[Purse]) -> Result<Payments, Fail> {
+    let mut payments = Payments {
+        awaited: Vec::new(alloc),
+        logged: Vec::new(alloc),
+    };
+    for to in purses {
+        payments.add_awaited(purses, to)?;
+        payments.add_logged(purses, to)?;
+    }
+    Ok(payments)
+}
+
+/// What payments from a purse come to.
+fn sum_from(payments: &[PayDetails], purse: Name) -> u64 {
+    let mut sum: u64 = 0;
+    for details in payments {
+        if details.from() == purse {
+            sum = sum.saturating_add(details.value().get());
+        }
+    }
+    sum
+}
+
+/// What payments to a purse come to.
+fn sum_to(payments: &[PayDetails], purse: Name) -> u64 {
+    let mut sum: u64 = 0;
+    for details in payments {
+        if details.to() == purse {
+            sum = sum.saturating_add(details.value().get());
+        }
+    }
+    sum
+}
+
+/// What a purse has and has lost in the abstract world: what is under way counts as received by its to purse, or as lost by
+/// its from purse.
+fn abstract_purse(payments: &Payments, purse: &Purse, is_lost: bool) -> (u64, u64) {
+    let name = purse.name();
+    let lost = sum_from(payments.logged.as_slice(), name);
+    let awaited = payments.awaited.as_slice();
+    if is_lost {
+        (
+            purse.balance(),
+            lost.saturating_add(sum_from(awaited, name)),
+        )
+    } else {
+        (purse.balance().saturating_add(sum_to(awaited, name)), lost)
+    }
+}
+
+/// The purses of the table, as an office shows them.
+fn purses_of(alloc: Global, office: &mut Office<PlainBook>) -> Result<Vec<Purse>, Fail> {
+    let mut purses = Vec::new(alloc);
+    for (purse, _) in PURSES {
+        match office.book().purse(alloc, name(purse)?) {
+            Ok(Some(account)) => purses.push(account.purse)?,
+            _ => Err("no purse")?,
+        }
+    }
+    Ok(purses)
+}
+
+/// Asserts what the abstract purses are, for one choice.
+fn assert_abstract(
+    rt: &impl Abort,
+    payments: &Payments,
+    purses: &[Purse],
+    is_lost: bool,
+    expected: &AbstractWorld,
+) {
+    for (purse, expected) in purses.iter().zip(expected) {
+        assert_eq!(rt; abstract_purse(payments, purse, is_lost), *expected);
+    }
+}
+
+/// Asks what a row asks, and asserts what the row says.
+fn assert_row(
+    rt: &(impl Abort + AllocGlobal),
+    office: &mut Office<PlainBook>,
+    row: &Row,
+) -> Result<(), Fail> {
+    let holder = Caller::Holder(name(PURSES[row.0 % 3].1)?);
+    let command = command_of(purse_at(row.0)?, row.1)?;
+    if let Ok(Reply::Refused(_)) | Err(_) = office.answer(rt.alloc(), holder, &command) {
+        Err("refused")?;
+    }
+    let purses = purses_of(rt.alloc(), office)?;
+    let payments = payments_of(rt.alloc(), purses.as_slice())?;
+    assert_abstract(rt, &payments, purses.as_slice(), false, &row.2);
+    assert_abstract(rt, &payments, purses.as_slice(), true, &row.3);
+    Ok(())
+}
+
+/// Loads p1 with 100, and goes through the table, in an office in which nothing is.
+fn assert_table(
+    rt: &(impl Abort + AllocGlobal),
+    office: &mut Office<PlainBook>,
+) -> Result<(), Fail> {
+    open(rt.alloc(), office)?;
+    let load = Command::Load {
+        purse: purse_at(0)?,
+        amount: amount(100)?,
+        reference: name("a1")?,
+    };
+    if office
+        .answer(rt.alloc(), Caller::Clerk(name("m")?), &load)
+        .is_err()
+    {
+        Err("not loaded")?;
+    }
+    for row in &TABLE {
+        assert_row(rt, office, row)?;
+    }
+    Ok(())
+}
+
+/// A payment whose value is lost, and one that is under way: the abstract purses after each command, for each choice.
+#[test]
+fn abstract_purses_of_worked_payments(rt: HostRuntime) -> Result<(), Fail> {
+    let operator: Token = token(b'1')?;
+    let mut office = Office::new(PlainBook::new(rt.alloc(), operator));
+    assert_table(&rt, &mut office)
+}
