@@ -6,8 +6,6 @@ use Rattle.std.specs.FinMap as fmap
 use Rattle.mx_pay.specs.Names.{is_name}
 use Rattle.mx_pay.specs.Details.{Details}
 use Rattle.mx_pay.specs.Log.{Entries, logged}
-use Rattle.mx_purse.specs.declared.status.Status.{Status}
-use Rattle.mx_book.specs.Reads.{is_archived}
 use Rattle.mx_book.specs.Sums.{sum_entries, sum_values}
 use Rattle.mx_book.specs.Totals.{balance_row, of_all, maybe_lost, definitely_lost, occurring, value_where, transit, lost}
 use Rattle.mx_book.specs.World.{World, Row, Name}
@@ -16,13 +14,11 @@ use Rattle.mx_book.proofs.SumLemmas.{value_of, total, total_is, total_same, tota
 use Rattle.mx_office.specs.Abstract.{AbstractPurse, AccountsFor, ChosenLost, counts_lost, counts_received, received_by, abstract_purse, abstract_of}
 use Rattle.mx_office.specs.Reachable.{IsReachable}
 use Rattle.mx_office.proofs.ConservedLemmas.{two_sums, value_split}
-use Rattle.mx_office.proofs.DeedLemmas.{both_parts}
 use Rattle.mx_office.proofs.EntrySumLemmas.{sum_values-remake, sum_entries-add, values_are}
 use Rattle.mx_office.proofs.FateLemmas.{never_received, never_lost, one_of_two}
-use Rattle.mx_office.proofs.FlowLemmas.{flowing}
 use Rattle.mx_office.proofs.SaneCommandLemmas.{reachable_sane}
-use Rattle.mx_office.proofs.SeenLemmas.{clash}
-use Rattle.mx_office.proofs.SeenWorldLemmas.{Invariant, side}
+use Rattle.mx_office.proofs.SeenLemmas.{clash, both_parts}
+use Rattle.mx_office.proofs.SeenWorldLemmas.{Invariant, flowing, side_there}
 
 -- ---- the details of each purse are all details
 
@@ -60,19 +56,15 @@ module _ (rows : fmap.FinMap Rattle.mx_pay.specs.Names.name_cmp Row) (own : Deta
 -- ---- both sums
 
 module _ (w : World) (i : Invariant w) (c : ChosenLost) where
-  side_there : (f : Status → Details → Bool) (q : Name) (d : Details) (o : Option Row) → fmap.get w.rows q ≡ o → side f o (is_archived w q d) d ≡ true → is_some (fmap.get w.rows q) ≡ true
-  side_there f q d None at h = i.held q d h
-  side_there f q d (Some r) at h = ap is_some at
-
   flows_case : (d : Details) (t b : Bool) → (b ≡ false → t ≡ false) → t ≡ true → b ≡ true
   flows_case d t true h k = refl
   flows_case d t false h k = clash t k (h refl)
 
   received_there : (d : Details) → counts_received w c d ≡ true → is_some (fmap.get w.rows d.to) ≡ true
-  received_there d h = side_there _ d.to d (fmap.get w.rows d.to) refl (both_parts _ _ (flows_case d _ (flowing w d) (never_received w i c d) h)).1
+  received_there d h = side_there w i _ d.to d (fmap.get w.rows d.to) refl (both_parts _ _ (flows_case d _ (flowing w d) (never_received w i c d) h)).1
 
   lost_there : (d : Details) → counts_lost w c d ≡ true → is_some (fmap.get w.rows d.from) ≡ true
-  lost_there d h = side_there _ d.from d (fmap.get w.rows d.from) refl (both_parts _ _ (flows_case d _ (flowing w d) (never_lost w i c d) h)).0
+  lost_there d h = side_there w i _ d.from d (fmap.get w.rows d.from) refl (both_parts _ _ (flows_case d _ (flowing w d) (never_lost w i c d) h)).0
 
   balances_are : sum_values (λ (x : AbstractPurse). x.balance) (abstract_of w c) ≡ of_all w balance_row + value_where (counts_received w c) (occurring w)
   balances_are =

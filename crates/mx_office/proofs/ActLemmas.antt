@@ -12,9 +12,8 @@ use Rattle.mx_office.specs.declared.values.Reply.{Reply}
 use Rattle.mx_office.specs.Abstract.{AbstractPurse, AbstractWorld, Act, ChosenLost, IsAct, allows, perform, performed, changed, change, has_funds, may_transfer, gains, pays, loses, counts_lost, counts_received, received_by, losses_of, abstract_purse, abstract_of}
 use Rattle.mx_office.proofs.FateLemmas as fate
 use Rattle.mx_office.proofs.FateLemmas.{share, maybe_is, never_received, never_lost, one_of_two}
-use Rattle.mx_office.proofs.FlowLemmas.{flowing}
 use Rattle.mx_office.proofs.SeenLemmas.{Step, clash}
-use Rattle.mx_office.proofs.SeenWorldLemmas.{Invariant, seen}
+use Rattle.mx_office.proofs.SeenWorldLemmas.{Invariant, seen, flowing}
 
 -- ---- what is found after an operation
 

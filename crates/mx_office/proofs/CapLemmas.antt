@@ -4,8 +4,9 @@ use Rattle.std.specs.FinMap as fmap
 use Rattle.mx_pay.specs.Limits.{most_number}
 use Rattle.mx_pay.specs.Details.{Details, details_cmp}
 use Rattle.mx_pay.proofs.LogLemmas.{details_total}
+use Rattle.mx_pay.proofs.SameLemmas.{details_itself}
 use Rattle.mx_purse.specs.declared.message.Message.TheVariants as message
-use Rattle.mx_purse.specs.declared.status.Status.TheVariants.{EaTo}
+use Rattle.mx_purse.specs.Operations.{expects_val}
 use Rattle.mx_book.specs.declared.values.MemberRow.{MemberRow}
 use Rattle.mx_book.specs.Conditions.{IsWorld, all_granted}
 use Rattle.mx_book.specs.Reads.{uncollected_row, uncollected_of}
@@ -22,8 +23,7 @@ use Rattle.mx_office.proofs.EntrySumLemmas.{values_are, sum_values-same, sum_ent
 use Rattle.mx_office.proofs.KeySumLemmas.{number}
 use Rattle.mx_office.proofs.SeenLemmas.{clash}
 use Rattle.mx_office.proofs.SeenWorldLemmas.{Invariant}
-use Rattle.mx_office.proofs.PaymentLemmas as moves
-use Rattle.mx_office.proofs.FlowLemmas.{flowing}
+use Rattle.mx_office.proofs.HandleLemmas.{value_left}
 use Rattle.mx_office.proofs.OutLemmas.{Books}
 use Rattle.mx_office.proofs.SaneLemmas.{Sane}
 use Rattle.mx_office.proofs.SaneCommandLemmas.{reachable_sane}
@@ -102,9 +102,8 @@ module _ (w : World) (s : Sane w) (is : IsWorld w) (balanced : IsBalanced w) whe
   value_fits p r d n at was sent =
       let i : Invariant w = s.invariant in
       let b : Books w = s.books in
-      let next : Row = record r { holding = record r.holding { purse = record r.holding.purse { status = EaTo } } } in
-      let flows : flowing w d ≡ true = moves.value_before w p r next at i d refl refl refl was refl (i.timely p r at n (message.Val d) sent) in
-      let value : number (fmap.get b.out d) ≡ d.value = b.covers d ∙ ap (λ x. cond x d.value 0) flows in
+      let left = value_left w p r at i d (ap (λ x. expects_val x d) was ∙ details_itself d) (i.timely p r at n (message.Val d) sent) in
+      let value : number (fmap.get b.out d) ≡ d.value = b.covers d ∙ ap (λ x. cond x d.value 0) left.2 in
       let within : number (fmap.get b.out d) ≤ sum_values (λ n. n) b.out = one_within b.out d in
       let balance : balance_row r ≤ of_all w balance_row = balance_within w p r at in
       let sum : ((floats w + of_all w uncollected_row) + of_all w balance_row) + sum_values (λ n. n) b.out ≡ all_granted w = whole w s is balanced in

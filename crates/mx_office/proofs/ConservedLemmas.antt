@@ -12,7 +12,7 @@ use Rattle.mx_pay.specs.Details.{Details, details_cmp, is_details}
 use Rattle.mx_pay.specs.Log.{Entries, has_logged, logged, marks}
 use Rattle.mx_pay.specs.Orders.{details_exact, keys-marks}
 use Rattle.mx_pay.proofs.LogLemmas.{details_total}
-use Rattle.mx_pay.proofs.SameLemmas.{same_details, details_itself, has-with_entry}
+use Rattle.mx_pay.proofs.SameLemmas.{details_itself, has-with_entry}
 use Rattle.mx_purse.specs.declared.status.Status.{Status}
 use Rattle.mx_purse.specs.declared.status.Status.TheVariants.{EaFrom, EaTo, Epr, Epv, Epa}
 use Rattle.mx_purse.specs.Operations.{pending, with_pending, aborted, expects_val, expects_ack}
@@ -27,12 +27,11 @@ use Rattle.mx_book.proofs.UnderLemmas.{get-remake}
 use Rattle.mx_office.specs.Conservation.{IsConserved}
 use Rattle.mx_office.specs.Reachable.{IsReachable}
 use Rattle.mx_office.proofs.KeySumLemmas.{number, sum-keys, sum-keys-within}
-use Rattle.mx_office.proofs.SeenLemmas.{clash}
-use Rattle.mx_office.proofs.SoundLemmas.{IsPresent, either_true, details_turned}
-use Rattle.mx_office.proofs.SeenWorldLemmas.{Invariant, or_cases, seen, side}
-use Rattle.mx_office.proofs.FlowLemmas.{flowing}
+use Rattle.mx_office.proofs.SeenLemmas.{clash, either_true, both_parts, or_cases}
+use Rattle.mx_office.proofs.SoundLemmas.{IsPresent, details_turned, expects_val_is}
+use Rattle.mx_office.proofs.SeenWorldLemmas.{Invariant, seen, side, flowing}
 use Rattle.mx_office.proofs.OutLemmas.{Books}
-use Rattle.mx_office.proofs.DeedLemmas.{not_some, both_parts}
+use Rattle.mx_office.proofs.DeedLemmas.{not_some}
 use Rattle.mx_office.proofs.SaneLemmas.{Sane}
 use Rattle.mx_office.proofs.SaneCommandLemmas.{reachable_sane}
 
@@ -47,14 +46,7 @@ split_side f (Some r) a d = refl
 pub not_both : (w : World) → Invariant w → (d : Details) (o : Option Row) → fmap.get w.rows d.to ≡ o → from_row false (λ (r : Row). expects_val r.holding.purse.status d) o ≡ true
     → (from_row false (λ (r : Row). has_logged r.holding.purse.log d) o || is_archived w d.to d) ≡ false
 not_both w i d None at h = clash false h refl
-not_both w i d (Some r) at h = waits r.holding.purse.status (i.sound d.to r at).present h
-  where
-    waits : (s : Status) → IsPresent r.holding.purse (is_archived w d.to) s → expects_val s d ≡ true → (has_logged r.holding.purse.log d || is_archived w d.to d) ≡ false
-    waits EaFrom x h = clash false h refl
-    waits EaTo x h = clash false h refl
-    waits (Epr e) x h = clash false h refl
-    waits (Epa e) x h = clash false h refl
-    waits (Epv e) x h = subst (λ y. (has_logged r.holding.purse.log y || is_archived w d.to y) ≡ false) (same_details e d h) x.fresh
+not_both w i d (Some r) at h = let x : IsPresent r.holding.purse (is_archived w d.to) (Epv d) = subst (IsPresent r.holding.purse (is_archived w d.to)) (expects_val_is r.holding.purse.status d h) (i.sound d.to r at).present in x.fresh
 
 -- a: in epa, b: an entry of the from purse, c: in epv, d: an entry of the to purse
 value_case : (a b c d : Bool) (v : ℕ) → (c ≡ true → d ≡ false) → cond ((a || b) && c) v 0 + cond (d && (b || a)) v 0 ≡ cond ((a || b) && (c || d)) v 0

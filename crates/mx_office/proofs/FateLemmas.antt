@@ -17,12 +17,10 @@ use Rattle.mx_book.proofs.SumLemmas.{sum_values-insert}
 use Rattle.mx_book.proofs.UnderLemmas.{get-remake}
 use Rattle.mx_office.specs.Abstract.{ChosenLost, counts_lost, counts_received, received_by, losses_of}
 use Rattle.mx_office.proofs.ConservedLemmas.{split_side, not_both, due_occurs}
-use Rattle.mx_office.proofs.DeedLemmas.{both_parts}
-use Rattle.mx_office.proofs.FlowLemmas.{flowing}
 use Rattle.mx_office.proofs.KeySumLemmas.{number, sum-keys}
 use Rattle.mx_office.proofs.SecurityLemmas.{lost_occurs}
-use Rattle.mx_office.proofs.SeenLemmas.{Step, clash}
-use Rattle.mx_office.proofs.SeenWorldLemmas.{Invariant, seen, has_status, or_cases}
+use Rattle.mx_office.proofs.SeenLemmas.{Step, clash, both_parts, or_cases}
+use Rattle.mx_office.proofs.SeenWorldLemmas.{Invariant, seen, flowing, has_status}
 use Rattle.mx_office.proofs.SoundLemmas.{details_turned}
 use Rattle.mx_pay.proofs.SameLemmas.{same_details}
 

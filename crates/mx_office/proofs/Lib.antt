@@ -22,8 +22,6 @@ pub mod SeenLemmas
 pub mod KeySumLemmas
 pub mod SoundLemmas
 pub mod SeenWorldLemmas
-pub mod FlowLemmas
-pub mod PaymentLemmas
 pub mod OutLemmas
 pub mod DeedLemmas
 pub mod HandleLemmas

@@ -1,15 +1,12 @@
 -- Loads, and redemptions that are collected, keep the invariant.
-use Rattle.std.proofs.Common.{◌≡◌, ℕ, ◌+◌, ◌≤◌, Bool, true, false, cond, refl, sym, ◌∙◌, ap, subst, Option, Some, None, ◌||◌, inl, arith, is_some, is_none, option_map}
+use Rattle.std.proofs.Common.{◌≡◌, ℕ, ◌+◌, Bool, true, false, cond, refl, sym, ◌∙◌, ap, subst, Option, Some, None, ◌||◌, arith, is_some, is_none, option_map}
 use Rattle.std.specs.Prelude.{nat_lt}
 use Rattle.std.specs.FinMap as fmap
 use Rattle.mx_pay.specs.Details.{Details}
 use Rattle.mx_pay.specs.Log.{has_logged}
 use Rattle.mx_pay.specs.Names.{name_cmp}
-use Rattle.mx_purse.specs.State.{State}
 use Rattle.mx_purse.specs.declared.message.Message.{Message}
 use Rattle.mx_purse.specs.declared.refusals.LoadRefusal.{LoadRefusal}
-use Rattle.mx_purse.specs.declared.status.Status.{Status}
-use Rattle.mx_purse.specs.declared.status.Status.TheVariants.{EaFrom, EaTo, Epr, Epv, Epa}
 use Rattle.mx_purse.specs.Operations.{expects_req, expects_val, expects_ack, load_refusal, loaded}
 use Rattle.mx_book.specs.declared.values.LineKind.TheVariants as kind
 use Rattle.mx_book.specs.Reads.{is_archived}
@@ -23,42 +20,14 @@ use Rattle.mx_office.specs.Step.{with_purse, money_line, loaded_holding, loaded_
 use Rattle.mx_office.proofs.AccountLemmas.{in_tray}
 use Rattle.mx_office.proofs.EntrySumLemmas.{sum_values-new, sum_values-remake, sum_entries-same, values_are}
 use Rattle.mx_office.proofs.SeenLemmas.{Step, IsTimely, timely-step, known-step}
-use Rattle.mx_office.proofs.SoundLemmas.{IsSound, IsPresent, IsSender, Quiet, entry_later}
-use Rattle.mx_office.proofs.SeenWorldLemmas.{Invariant, seen, side, has_status, entry_of, is_past, kept_by_step, quiet_step, same_gone, same_due}
-use Rattle.mx_office.proofs.FlowLemmas.{flow-same}
+use Rattle.mx_office.proofs.SoundLemmas.{IsSound, Turns, none_moves, still}
+use Rattle.mx_office.proofs.SeenWorldLemmas.{Invariant, seen, side, has_status, entry_of, is_past, flow-same, turn_step, turn_flow, turn_keeps}
 use Rattle.mx_office.proofs.OutLemmas.{Books, books_keep}
 use Rattle.mx_office.proofs.DeedLemmas.{not_some}
 use Rattle.mx_office.proofs.SaneLemmas.{Sane, IsNextSane, stays_lost}
 use Rattle.mx_office.proofs.SaneRowLemmas.{like_step}
 
 -- ---- a load
-
-abbrev grown : State → ℕ → ℕ → State
-grown q balance lines = record q { balance = balance; lines = lines }
-
-pub loaded_quiet : (q : State) (balance lines : ℕ) (archived : Details → Bool) → q.balance ≤ balance → IsSound q archived → Quiet q (grown q balance lines) archived
-loaded_quiet q balance lines archived more i = record {
-  name = refl;
-  next = λ k h. h;
-  gone = λ d h. refl;
-  due = λ d h. refl;
-  epr = λ d t. inl t;
-  epv = λ d t. t;
-  kept = λ d t. t;
-  sound = record { present = present_on q.status i.present; entries = λ d t. entry_later q (grown q balance lines) d refl (λ k h. h) (i.entries d t) };
-}
-  where
-    sender_on : (d : Details) → IsSender q archived d → IsSender (grown q balance lines) archived d
-    sender_on d x = record { own = x.own; other = x.other; past = x.past; fresh = x.fresh }
-
-    present_on : (s : Status) → IsPresent q archived s → IsPresent (grown q balance lines) archived s
-    present_on EaFrom x = tt
-    present_on EaTo x = tt
-    present_on (Epr d) x =
-        let enough : d.value ≤ q.balance = x.1 in
-        (sender_on d x.0, omega (arith, enough, more))
-    present_on (Epv d) x = record { own = x.own; other = x.other; past = x.past; fresh = x.fresh }
-    present_on (Epa d) x = sender_on d x
 
 module _ (w : World) (p : Name) (r : Row) (at : fmap.get w.rows p ≡ Some r) (s : Sane w) (amount : ℕ) (reference : Name) (new : fmap.get r.loads reference ≡ None) where
   -- the row, where the guard of the load answers so
@@ -72,16 +41,14 @@ module _ (w : World) (p : Name) (r : Row) (at : fmap.get w.rows p ≡ Some r) (s
   load_case (Some x) e = not_some x (sym e)
   load_case None e =
       let t : Row = by_guard None in
-      let more : r.holding.purse.balance ≤ r.holding.purse.balance + amount = omega arith in
-      let q : Quiet r.holding.purse t.holding.purse (is_archived w p) = loaded_quiet r.holding.purse (r.holding.purse.balance + amount) (r.holding.purse.lines + 1) (is_archived w p) more (s.invariant.sound p r at) in
+      let q : Turns (seen w) (is_archived w p) none_moves r.holding.purse t.holding.purse = still (seen w) (is_archived w p) r.holding.purse (r.holding.purse.balance + amount) (r.holding.purse.lines + 1) (omega arith) (s.invariant.sound p r at) in
       let sum : issued_row t ≡ issued_row r + amount = sum_values-new (λ n. n) r.loads reference amount new in
-      let step : Step (seen w) (seen (set_row w p t)) = quiet_step w p r t at s.invariant q in
       record {
         sane = record {
-          invariant = kept_by_step w p r t at s.invariant step q.sound (s.invariant.named p r at) (λ k m e. e) (λ d h. s.invariant.tray p d h r at);
-          books = books_keep w p r t at s.books (λ d. flow-same (set_row w p t) w d (same_gone w p r t at s.invariant q d) (same_due w p r t at s.invariant q d)) (omega (arith, sum));
+          invariant = turn_keeps w p r t at s.invariant none_moves q (s.invariant.timely p r at) (λ d h. s.invariant.tray p d h r at);
+          books = books_keep w p (Some r) t at s.books (λ d. turn_flow w p r t at s.invariant none_moves q d refl) (omega (arith, sum));
         };
-        lost = stays_lost w (set_row w p t) step;
+        lost = stays_lost w (set_row w p t) (turn_step w p r t at s.invariant none_moves q);
       }
 
   pub load_sane : load_refusal r.holding.purse amount ≡ None → IsNextSane w (set_row w p (loaded_row amount reference r))

@@ -7,7 +7,6 @@ use Rattle.mx_purse.specs.declared.message.Message.{Message}
 use Rattle.mx_purse.specs.declared.message.Message.TheVariants as message
 use Rattle.mx_purse.specs.declared.message.Handled.{Handled}
 use Rattle.mx_purse.specs.declared.message.Handled.TheVariants as took
-use Rattle.mx_purse.specs.declared.status.Status.TheVariants.{EaTo}
 use Rattle.mx_purse.specs.State.{State}
 use Rattle.mx_purse.specs.Operations.{expects_req, expects_val, expects_ack, handled}
 use Rattle.mx_book.specs.declared.values.Caller.{Caller}
@@ -24,17 +23,14 @@ use Rattle.mx_office.specs.Conservation.{CreatesNoValue, AccountsAllValue, Accep
 use Rattle.mx_office.specs.Reachable.{IsReachable}
 use Rattle.mx_office.specs.Step.{on_found, in_place, own_holding, handle, handle_message, step}
 use Rattle.mx_office.proofs.ConservedLemmas.{split_side, value_within, due_occurs, conserved}
-use Rattle.mx_office.proofs.DeedLemmas.{both_parts}
-use Rattle.mx_office.proofs.HandleLemmas.{expects_req_is, expects_val_is}
+use Rattle.mx_office.proofs.HandleLemmas.{value_left}
 use Rattle.mx_office.proofs.MoveLemmas.{IsMoved, step_moved}
 use Rattle.mx_office.proofs.OwnLemmas.{is_owned}
-use Rattle.mx_office.proofs.PaymentLemmas as moves
-use Rattle.mx_office.proofs.FlowLemmas.{flowing}
 use Rattle.mx_office.proofs.SaneLemmas.{Sane, StaysLost, IsNextSane, lost_in}
 use Rattle.mx_office.proofs.SaneCommandLemmas.{reachable_sane, step_sane}
-use Rattle.mx_office.proofs.SeenLemmas.{clash}
+use Rattle.mx_office.proofs.SeenLemmas.{clash, either_true, both_parts}
 use Rattle.mx_office.proofs.SeenWorldLemmas.{Invariant, seen, side}
-use Rattle.mx_office.proofs.SoundLemmas.{IsPresent, either_true}
+use Rattle.mx_office.proofs.SoundLemmas.{IsPresent, expects_req_is}
 
 -- ---- what is lost never falls
 
@@ -156,10 +152,7 @@ accepts_authentic w h p n reach d e =
     let t : IsTaken w p n (took.Val d) = is_taken w h p n (took.Val d) e in
     let r : Row = t.row in
     let v : IsVal r.holding.purse t.message d = is_val r.holding.purse d t.message t.is in
-    let was = expects_val_is r.holding.purse.status d v.waits in
-    let next : Row = record r { holding = record r.holding { purse = record r.holding.purse { status = EaTo } } } in
-    let flows : flowing w d ≡ true = moves.value_before w p r next t.at i d refl refl refl was refl (i.timely p r t.at n (message.Val d) (t.found ∙ ap Some v.same)) in
-    let gone : (seen w).gone d ≡ true = (both_parts _ _ flows).0 in
+    let gone : (seen w).gone d ≡ true = (value_left w p r t.at i d v.waits (i.timely p r t.at n (message.Val d) (t.found ∙ ap Some v.same))).0 in
     there_case w i d (fmap.get w.rows d.from) refl gone (sym (split_side expects_ack (fmap.get w.rows d.from) (is_archived w d.from d) d) ∙ gone)
 
 -- ---- sufficient funds
