@@ -11,7 +11,8 @@ use Rattle.mx_office.specs.declared.values.Command.{Command}
 use Rattle.mx_office.specs.declared.values.Reply.{Reply}
 use Rattle.mx_office.specs.Abstract.{AbstractPurse, AbstractWorld, Act, ChosenLost, IsAct, allows, perform, performed, changed, change, has_funds, may_transfer, gains, pays, loses, counts_lost, counts_received, received_by, losses_of, abstract_purse, abstract_of}
 use Rattle.mx_office.proofs.FateLemmas as fate
-use Rattle.mx_office.proofs.FateLemmas.{share, maybe_is, never_received, never_lost, one_of_two}
+use Rattle.mx_office.proofs.ConservedLemmas.{maybe_is}
+use Rattle.mx_office.proofs.FateLemmas.{share, never_received, never_lost, one_of_two}
 use Rattle.mx_office.proofs.SeenLemmas.{Step, clash}
 use Rattle.mx_office.proofs.SeenWorldLemmas.{Invariant, seen, flowing}
 

@@ -19,8 +19,7 @@ use Rattle.mx_office.specs.Balance.{IsBalanced, is_chosen, of_members, of_purses
 use Rattle.mx_office.specs.Conservation.{HasRoom}
 use Rattle.mx_office.specs.Reachable.{IsReachable}
 use Rattle.mx_office.proofs.BalanceCommandLemmas.{reachable_balanced}
-use Rattle.mx_office.proofs.EntrySumLemmas.{values_are, sum_values-same, sum_entries-add, sum_entries-same}
-use Rattle.mx_office.proofs.KeySumLemmas.{number}
+use Rattle.mx_office.proofs.EntrySumLemmas.{number, values_are, sum_values-same, sum_entries-add, sum_entries-same}
 use Rattle.mx_office.proofs.SeenLemmas.{clash}
 use Rattle.mx_office.proofs.SeenWorldLemmas.{Invariant}
 use Rattle.mx_office.proofs.HandleLemmas.{value_left}

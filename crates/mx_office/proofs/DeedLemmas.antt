@@ -31,7 +31,7 @@ use Rattle.mx_office.specs.declared.values.Refusal.TheVariants as refusal
 use Rattle.mx_office.specs.Abstract.{Act, IsAct}
 use Rattle.mx_office.specs.Step.{Deed, tell, unless, unless_told, on_found, idle, refusal_of_start, refusal_of_redeem, with_aborted, with_redemption, start_from, start_to, discard, abort, read_log, redeem}
 use Rattle.mx_office.proofs.AccountLemmas.{in_tray}
-use Rattle.mx_office.proofs.KeySumLemmas.{number}
+use Rattle.mx_office.proofs.EntrySumLemmas.{number}
 use Rattle.mx_office.proofs.SeenLemmas.{Step, IsTimely, clash, either_true}
 use Rattle.mx_office.proofs.SoundLemmas.{IsSound, IsBegun, IsNew, Turns, none_moves, still, restarted, grows}
 use Rattle.mx_office.proofs.SeenWorldLemmas.{Invariant, seen, flowing, side_of, turn_step, turn_flow, turn_keeps}

@@ -19,7 +19,6 @@ pub mod GrantedLemmas
 pub mod FaultLemmas
 pub mod StatementLemmas
 pub mod SeenLemmas
-pub mod KeySumLemmas
 pub mod SoundLemmas
 pub mod SeenWorldLemmas
 pub mod OutLemmas

@@ -9,7 +9,7 @@ use Rattle.mx_book.specs.Totals.{balance_row, issued_row, redeemed_row, of_all}
 use Rattle.mx_book.specs.World.{World, Row, Name, set_row}
 use Rattle.mx_book.proofs.NameLemmas.{names_total}
 use Rattle.mx_book.proofs.SumLemmas.{value_of, sum_values-insert}
-use Rattle.mx_office.proofs.KeySumLemmas.{number}
+use Rattle.mx_office.proofs.EntrySumLemmas.{number}
 use Rattle.mx_office.proofs.SoundLemmas.{details_turned}
 use Rattle.mx_office.proofs.SeenWorldLemmas.{flowing}
 

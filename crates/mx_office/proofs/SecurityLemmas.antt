@@ -1,5 +1,6 @@
 -- The security properties of the purses, for each command.
 use Rattle.std.proofs.Common.{◌≡◌, ℕ, ◌+◌, ◌≤◌, Bool, true, false, refl, sym, ◌∙◌, ap, subst, Option, Some, None, ◌&&◌, ◌||◌, arith, is_some}
+use Rattle.std.proofs.lemmas.Bool.{or_parts}
 use Rattle.std.specs.FinMap as fmap
 use Rattle.mx_pay.specs.Details.{Details}
 use Rattle.mx_pay.specs.Log.{has_logged}
@@ -22,7 +23,7 @@ use Rattle.mx_office.specs.declared.values.Reply.TheVariants as reply
 use Rattle.mx_office.specs.Conservation.{CreatesNoValue, AccountsAllValue, AcceptsAuthentic, IsAuthentic, PaysCovered, is_load, is_redemption}
 use Rattle.mx_office.specs.Reachable.{IsReachable}
 use Rattle.mx_office.specs.Step.{on_found, in_place, own_holding, handle, handle_message, step}
-use Rattle.mx_office.proofs.ConservedLemmas.{split_side, value_within, due_occurs, conserved}
+use Rattle.mx_office.proofs.ConservedLemmas.{or_turned, split_side, value_within, due_occurs, conserved}
 use Rattle.mx_office.proofs.HandleLemmas.{value_left}
 use Rattle.mx_office.proofs.MoveLemmas.{IsMoved, step_moved}
 use Rattle.mx_office.proofs.OwnLemmas.{is_owned}
@@ -34,14 +35,8 @@ use Rattle.mx_office.proofs.SoundLemmas.{IsPresent, expects_req_is}
 
 -- ---- what is lost never falls
 
-or_turned : (a b : Bool) → (a || b) ≡ (b || a)
-or_turned true true = refl
-or_turned true false = refl
-or_turned false true = refl
-or_turned false false = refl
-
-lost_is : (w : World) (d : Details) → definitely_lost w d ≡ lost_in (seen w) d
-lost_is w d = ap (λ b. to_logged w d && b) (or_turned (from_logged w d) (from_in_epa w d) ∙ sym (split_side expects_ack (fmap.get w.rows d.from) (is_archived w d.from d) d))
+lost_seen : (w : World) (d : Details) → definitely_lost w d ≡ lost_in (seen w) d
+lost_seen w d = ap (λ b. to_logged w d && b) (or_turned (from_logged w d) (from_in_epa w d) ∙ sym (split_side expects_ack (fmap.get w.rows d.from) (is_archived w d.from d) d))
 
 -- what is lost occurs
 pub lost_occurs : (w : World) (d : Details) → definitely_lost w d ≡ true → is_some (fmap.get (occurring w) d) ≡ true
@@ -52,13 +47,9 @@ lost_occurs w d h = due_occurs w d (waits (fmap.get w.rows d.to) (both_parts _ _
     waits (Some r) t = either_true (expects_val r.holding.purse.status d) _ t
 
 lost_grows : (w v : World) → StaysLost w v → lost w ≤ lost v
-lost_grows w v stays = value_within (definitely_lost w) (definitely_lost v) (occurring w) (occurring v) (λ d t. lost_is v d ∙ stays d (sym (lost_is w d) ∙ t)) (lost_occurs v)
+lost_grows w v stays = value_within (definitely_lost w) (definitely_lost v) (occurring w) (occurring v) (λ d t. lost_seen v d ∙ stays d (sym (lost_seen w d) ∙ t)) (lost_occurs v)
 
 -- ---- no value created, and all value accounted
-
-both_false : (a b : Bool) → (a || b) ≡ false → (a ≡ false) × (b ≡ false)
-both_false true b h = clash true refl h
-both_false false b h = (refl, h)
 
 pub creates_none : (w : World) (caller : Caller) (c : Command) → IsReachable w → CreatesNoValue w caller c
 creates_none w caller c r no_load =
@@ -79,7 +70,7 @@ all_accounted w caller c r neither =
     let v : World = (step w caller c).world in
     let next : IsNextSane w v = step_sane w s caller c in
     let moved : IsMoved w v c = step_moved w s caller c in
-    let no = both_false (is_load c) (is_redemption c) neither in
+    let no = or_parts (is_load c) (is_redemption c) neither in
     let e1 : ((of_all w balance_row + transit w) + lost w) + of_all w redeemed_row ≡ of_all w issued_row = conserved w s in
     let e2 : ((of_all v balance_row + transit v) + lost v) + of_all v redeemed_row ≡ of_all v issued_row = conserved v next.sane in
     let e3 : of_all v issued_row ≡ of_all w issued_row = moved.issued no.0 in
