@@ -48,8 +48,8 @@ all_members w f = sym (values_are f w.members)
 abbrev floats : World → ℕ
 floats w = sum_values (λ (row : MemberRow). row.float) w.members
 
-whole : (w : World) → (s : Sane w) → IsWorld w → IsBalanced w → ((floats w + of_all w uncollected_row) + of_all w balance_row) + sum_values (λ n. n) s.books.out ≡ all_granted w
-whole w s is balanced =
+whole_sum : (w : World) → (s : Sane w) → IsWorld w → IsBalanced w → ((floats w + of_all w uncollected_row) + of_all w balance_row) + sum_values (λ n. n) s.books.out ≡ all_granted w
+whole_sum w s is balanced =
     let own : (of_all w balance_row + sum_values (λ n. n) s.books.out) + of_all w redeemed_row ≡ of_all w issued_row = s.books.equal in
     let both : (of_members w all (λ x. x.float) + of_purses w all uncollected_row) + of_purses w all issued_row ≡ of_members w all (λ x. x.granted) + of_purses w all redeemed_row = balanced.chosen all in
     let m1 : of_members w all (λ x. x.float) ≡ floats w = all_members w (λ x. x.float) in
@@ -105,7 +105,7 @@ module _ (w : World) (s : Sane w) (is : IsWorld w) (balanced : IsBalanced w) whe
       let value : number (fmap.get b.out d) ≡ d.value = b.covers d ∙ ap (λ x. cond x d.value 0) left.2 in
       let within : number (fmap.get b.out d) ≤ sum_values (λ n. n) b.out = one_within b.out d in
       let balance : balance_row r ≤ of_all w balance_row = balance_within w p r at in
-      let sum : ((floats w + of_all w uncollected_row) + of_all w balance_row) + sum_values (λ n. n) b.out ≡ all_granted w = whole w s is balanced in
+      let sum : ((floats w + of_all w uncollected_row) + of_all w balance_row) + sum_values (λ n. n) b.out ≡ all_granted w = whole_sum w s is balanced in
       let cap : all_granted w ≤ most_number = is.members.granted in
       omega (arith, value, within, balance, sum, cap)
 
@@ -114,7 +114,7 @@ module _ (w : World) (s : Sane w) (is : IsWorld w) (balanced : IsBalanced w) whe
   load_fits p m r row amount at member enough =
       let balance : balance_row r ≤ of_all w balance_row = balance_within w p r at in
       let float : row.float ≤ floats w = float_within w m row member in
-      let sum : ((floats w + of_all w uncollected_row) + of_all w balance_row) + sum_values (λ n. n) s.books.out ≡ all_granted w = whole w s is balanced in
+      let sum : ((floats w + of_all w uncollected_row) + of_all w balance_row) + sum_values (λ n. n) s.books.out ≡ all_granted w = whole_sum w s is balanced in
       let cap : all_granted w ≤ most_number = is.members.granted in
       omega (arith, balance, float, sum, cap, enough)
 
@@ -122,7 +122,7 @@ module _ (w : World) (s : Sane w) (is : IsWorld w) (balanced : IsBalanced w) whe
   pub grant_fits : (m : Name) (row : MemberRow) (amount : ℕ) → fmap.get w.members m ≡ Some row → all_granted w + amount ≤ most_number → row.float + amount ≤ most_number
   grant_fits m row amount member room =
       let float : row.float ≤ floats w = float_within w m row member in
-      let sum : ((floats w + of_all w uncollected_row) + of_all w balance_row) + sum_values (λ n. n) s.books.out ≡ all_granted w = whole w s is balanced in
+      let sum : ((floats w + of_all w uncollected_row) + of_all w balance_row) + sum_values (λ n. n) s.books.out ≡ all_granted w = whole_sum w s is balanced in
       omega (arith, float, sum, room)
 
   -- what a member collects fits the float
@@ -130,7 +130,7 @@ module _ (w : World) (s : Sane w) (is : IsWorld w) (balanced : IsBalanced w) whe
   collect_fits m row member =
       let float : row.float ≤ floats w = float_within w m row member in
       let part : uncollected_of w m ≤ of_all w uncollected_row = uncollected_within w m in
-      let sum : ((floats w + of_all w uncollected_row) + of_all w balance_row) + sum_values (λ n. n) s.books.out ≡ all_granted w = whole w s is balanced in
+      let sum : ((floats w + of_all w uncollected_row) + of_all w balance_row) + sum_values (λ n. n) s.books.out ≡ all_granted w = whole_sum w s is balanced in
       let cap : all_granted w ≤ most_number = is.members.granted in
       omega (arith, float, part, sum, cap)
 

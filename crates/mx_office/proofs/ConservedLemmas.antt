@@ -108,14 +108,14 @@ occurs : (w : World) (d : Details) → is_some (fmap.get (occurring w) d) ≡ li
 unfolding occurring
 occurs w d = ap is_some (fmap.get-from_entries details_total (marks (occurring_list w)) d) ∙ is_some-find details_cmp d (marks (occurring_list w)) ∙ ap (list_any (is_details d)) (keys-marks (occurring_list w))
 
-found_case : (x : Name) (r : Row) (test : Details → Bool) (e : Name × Row) (es : List (Name × Row)) (b : Bool) → cond b (Some e.1) (find name_cmp x es) ≡ Some r → list_any test (entries_of (x, r)) ≡ true
+entry_found_case : (x : Name) (r : Row) (test : Details → Bool) (e : Name × Row) (es : List (Name × Row)) (b : Bool) → cond b (Some e.1) (find name_cmp x es) ≡ Some r → list_any test (entries_of (x, r)) ≡ true
     → (find name_cmp x es ≡ Some r → list_any test (flat_map entries_of es) ≡ true) → list_any test (entries_of e ++ flat_map entries_of es) ≡ true
-found_case x r test e es true h any rest = list_any-append test (entries_of e) _ ∙ or_left _ _ (ap (λ y. list_any test (entries_of (x, y))) (inside e.1 r h) ∙ any)
-found_case x r test e es false h any rest = list_any-append test (entries_of e) _ ∙ either_true (list_any test (entries_of e)) _ (rest h)
+entry_found_case x r test e es true h any rest = list_any-append test (entries_of e) _ ∙ or_left _ _ (ap (λ y. list_any test (entries_of (x, y))) (inside e.1 r h) ∙ any)
+entry_found_case x r test e es false h any rest = list_any-append test (entries_of e) _ ∙ either_true (list_any test (entries_of e)) _ (rest h)
 
 found : (x : Name) (r : Row) (test : Details → Bool) → list_any test (entries_of (x, r)) ≡ true → (es : List (Name × Row)) → find name_cmp x es ≡ Some r → list_any test (flat_map entries_of es) ≡ true
 found x r test any [] h = not_some r h
-found x r test any (e ∷ es) h = found_case x r test e es (eq_by_cmp name_cmp x e.0) h any (found x r test any es)
+found x r test any (e ∷ es) h = entry_found_case x r test e es (eq_by_cmp name_cmp x e.0) h any (found x r test any es)
 
 shelved : (x : Name) (d : Details) (ps : List (Name × Details)) → list_any (eq_by_cmp result_cmp (x, d)) ps ≡ true → list_any (is_details d) (map (λ (result : Name × Details). result.1) ps) ≡ true
 shelved x d [] h = clash false h refl
@@ -151,14 +151,14 @@ due_occurs w d h = occurs w d ∙ list_any-append (is_details d) (flat_map entri
 -- ---- the value of the details of a set that meet a test
 
 module _ (f : Details → Bool) (x : Entries) (there : (d : Details) → f d ≡ true → is_some (fmap.get x d) ≡ true) where
-  there_case : (n : ℕ) (b c : Bool) → (b ≡ true → c ≡ true) → cond b n 0 ≡ cond c (cond b n 0) 0
-  there_case n true c h = ap (λ z. cond z n 0) (sym (h refl))
-  there_case n false true h = refl
-  there_case n false false h = refl
+  worth_there : (n : ℕ) (b c : Bool) → (b ≡ true → c ≡ true) → cond b n 0 ≡ cond c (cond b n 0) 0
+  worth_there n true c h = ap (λ z. cond z n 0) (sym (h refl))
+  worth_there n false true h = refl
+  worth_there n false false h = refl
 
   -- where all that meet it are in the set, it is the sum of a map that has their values
   pub where_is : (m : fmap.FinMap details_cmp ℕ) → ((d : Details) → number (fmap.get m d) ≡ cond (f d) d.value 0) → value_where f x ≡ sum_values (λ n. n) m
-  where_is m is = sum-keys details_total (λ d. cond (f d) d.value 0) x m details_exact (λ d. is d ∙ there_case d.value (f d) _ (there d))
+  where_is m is = sum-keys details_total (λ d. cond (f d) d.value 0) x m details_exact (λ d. is d ∙ worth_there d.value (f d) _ (there d))
 
   -- such a map
   abbrev pub worths : fmap.FinMap details_cmp ℕ

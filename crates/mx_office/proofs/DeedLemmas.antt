@@ -174,19 +174,19 @@ module _ (w : World) (p : Name) (r : Row) (at : fmap.get w.rows p ≡ Some r) (i
   unfolding read_log
   read_kept place = quiet_kept _ at_rest refl refl refl refl refl refl (λ result h. read_case (read_entry q place) result place refl h)
 
-  discard_case : (k : ℕ) (o : Option Message) → IsKept w p r asked (on_found r.holding refusal.NoSuchMessage o (λ m. tell (record r.holding { inbox = fmap.remove r.holding.inbox k }) reply.Discarded))
-  discard_case k None = told_kept _ refl
-  discard_case k (Some x) = same_kept _ refl (λ j m h. removed_case _ _ m (sym (fmap.get-remove nat_cmp_total r.holding.inbox k j) ∙ h)) refl refl refl refl
+  discard_found : (k : ℕ) (o : Option Message) → IsKept w p r asked (on_found r.holding refusal.NoSuchMessage o (λ m. tell (record r.holding { inbox = fmap.remove r.holding.inbox k }) reply.Discarded))
+  discard_found k None = told_kept _ refl
+  discard_found k (Some x) = same_kept _ refl (λ j m h. removed_case _ _ m (sym (fmap.get-remove nat_cmp_total r.holding.inbox k j) ∙ h)) refl refl refl refl
 
   pub discard_kept : (k : ℕ) → IsKept w p r asked (discard k r.holding)
   unfolding discard
-  discard_kept k = discard_case k (fmap.get r.holding.inbox k)
+  discard_kept k = discard_found k (fmap.get r.holding.inbox k)
 
   -- ---- the starts
 
   -- a payment with the next number
-  new_side : (peer : Name) (s : State) → s.next ≡ q.next + 1 → is_name q.name peer ≡ false → IsNew q s q.name peer q.next
-  new_side peer s next differs = record { own = refl; other = λ same. names_differ q.name peer differs (sym same); past = ap (nat_lt q.next) next ∙ (grind arith); new = grind arith }
+  next_side : (peer : Name) (s : State) → s.next ≡ q.next + 1 → is_name q.name peer ≡ false → IsNew q s q.name peer q.next
+  next_side peer s next differs = record { own = refl; other = λ same. names_differ q.name peer differs (sym same); past = ap (nat_lt q.next) next ∙ (grind arith); new = grind arith }
 
   later : (k : ℕ) → nat_lt k q.next ≡ true → nat_lt k (q.next + 1) ≡ true
   later k h = grind arith
@@ -198,7 +198,7 @@ module _ (w : World) (p : Name) (r : Row) (at : fmap.get w.rows p ≡ Some r) (i
       let names : (is_name q.name peer ≡ false) × _ = cond_none (is_name q.name peer) _ _ e in
       let enough : (nat_lt q.balance v ≡ false) × _ = cond_none (nat_lt q.balance v) _ _ names.1 in
       let n : State = started q (Epr (from_details q peer v k)) in
-      quiet_kept _ (begun n refl refl later (new_side peer n refl names.0, at_most _ _ enough.0)) refl refl refl refl refl refl (λ c h. not_some c h)
+      quiet_kept _ (begun n refl refl later (next_side peer n refl names.0, at_most _ _ enough.0)) refl refl refl refl refl refl (λ c h. not_some c h)
 
   pub start_from_kept : (peer : Name) (v k : ℕ) → IsKept w p r asked (start_from peer v k r.holding)
   unfolding start_from
@@ -217,7 +217,7 @@ module _ (w : World) (p : Name) (r : Row) (at : fmap.get w.rows p ≡ Some r) (i
       let d : Details = to_details q peer v k in
       let n : State = started q (Epv d) in
       let s : Row = with_holding r (with_aborted r.holding n) in
-      let t : Turns (seen w) archived none_moves q n = begun n refl refl later (new_side peer n refl names.0) in
+      let t : Turns (seen w) archived none_moves q n = begun n refl refl later (next_side peer n refl names.0) in
       let due : (seen (set_row w p s)).due d ≡ true = side_of expects_val (set_row w p s) p s (get-inserted w.rows p s) d d.to (i.named p r at) ∙ ap (λ y. y || (has_logged n.log d || archived d)) (details_itself d) in
       turned_kept _ none_moves t (λ k m h. h) (λ e _ h. still_logged e h) (Rests (λ e. turn_flow w p r s at i none_moves t e refl) refl refl refl)
       (λ m h. subst (λ (y : Name × Message). IsTimely (seen (set_row w p s)) y.0 y.1) (inside (peer, message.Req d) m h) (inl due)) (λ c h. not_some c h)
@@ -235,12 +235,12 @@ module _ (w : World) (p : Name) (r : Row) (at : fmap.get w.rows p ≡ Some r) (i
   redeem_act : (before : Option ℕ) → fmap.get r.holding.redemptions reference ≡ before → (cond (is_none before) (Act.Redeem p amount) Act.Ignore) ≡ (cond (is_none (redemption_of w p reference)) (Act.Redeem p amount) Act.Ignore)
   redeem_act before is = ap (λ y. cond (is_none y) (Act.Redeem p amount) Act.Ignore) (sym (ap (from_row None (λ (x : Row). fmap.get x.holding.redemptions reference)) at ∙ is))
 
-  redeem_case : (before : Option ℕ) (o : Option RedeemRefusal) → fmap.get r.holding.redemptions reference ≡ before → redeem_refusal r.holding.purse amount ≡ o
+  redeem_guarded : (before : Option ℕ) (o : Option RedeemRefusal) → fmap.get r.holding.redemptions reference ≡ before → redeem_refusal r.holding.purse amount ≡ o
       → IsKept w p r redeeming (unless_told r.holding (idle before amount reply.Redeemed (option_map refusal_of_redeem o)) (tell (with_redemption r.holding (redeemed r.holding.purse amount) amount reference) reply.Redeemed))
-  redeem_case (Some x) o is e = told_kept w p r at i redeeming _
+  redeem_guarded (Some x) o is e = told_kept w p r at i redeeming _
       (idle_told (λ y. IsAct w redeeming y Act.Ignore) (Some x) amount reply.Redeemed (option_map refusal_of_redeem o) _ refl (λ _. redeem_act (Some x) is) (λ y. refl))
-  redeem_case None (Some x) new e = told_kept w p r at i redeeming _ refl
-  redeem_case None None new e =
+  redeem_guarded None (Some x) new e = told_kept w p r at i redeeming _ refl
+  redeem_guarded None None new e =
       let n : State = redeemed r.holding.purse amount in
       let s : Row = with_holding r (with_redemption r.holding n amount reference) in
       let t : Turns (seen w) (is_archived w p) none_moves r.holding.purse n = begun w p r at i redeeming n refl refl (λ k h. h) tt in
@@ -252,4 +252,4 @@ module _ (w : World) (p : Name) (r : Row) (at : fmap.get w.rows p ≡ Some r) (i
 
   pub redeem_kept : IsKept w p r redeeming (redeem amount reference r.holding)
   unfolding redeem
-  redeem_kept = redeem_case (fmap.get r.holding.redemptions reference) (redeem_refusal r.holding.purse amount) refl refl
+  redeem_kept = redeem_guarded (fmap.get r.holding.redemptions reference) (redeem_refusal r.holding.purse amount) refl refl

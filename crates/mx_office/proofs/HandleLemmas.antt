@@ -44,16 +44,16 @@ value_left w p r at i d t timely =
     (gone, waits, (λ k. gone k && waits_due d (fmap.get w.rows d.to) (is_archived w d.to d) waits k))
 
 module _ (w : World) (p : Name) (r : Row) (at : fmap.get w.rows p ≡ Some r) (i : Invariant w) (asked : Command) where
-  abbrev q : State
-  q = r.holding.purse
+  abbrev taker : State
+  taker = r.holding.purse
 
-  abbrev archived : Details → Bool
-  archived = is_archived w p
+  abbrev in_archive : Details → Bool
+  in_archive = is_archived w p
 
   -- what is done with a message that is handled so
   abbrev deed_of : Handled → Deed Holding
   deed_of h = record {
-    state = with_purse r.holding (after_message q h) (message_line (after_message q h) (pending q.status) h);
+    state = with_purse r.holding (after_message taker h) (message_line (after_message taker h) (pending taker.status) h);
     reply = reply.Handled h;
     sent = sent_for h;
     result = None;
@@ -66,57 +66,57 @@ module _ (w : World) (p : Name) (r : Row) (at : fmap.get w.rows p ≡ Some r) (i
   ignored_kept : IsKept w p r asked (deed_of took.Ignored)
   ignored_kept = same_kept w p r at i asked _ refl (λ k m h. h) refl refl refl refl
 
-  req_case : (d : Details) → IsTimely (seen w) p (message.Req d) → (x : Bool) → expects_req q.status d ≡ x → IsKept w p r asked (deed_of (cond x (took.Req d) took.Ignored))
+  req_case : (d : Details) → IsTimely (seen w) p (message.Req d) → (x : Bool) → expects_req taker.status d ≡ x → IsKept w p r asked (deed_of (cond x (took.Req d) took.Ignored))
   req_case d timely false t = ignored_kept
   req_case d timely true t =
-      let was = expects_req_is q.status d t in
+      let was = expects_req_is taker.status d t in
       let s : Row = row_of (took.Req d) in
       let v : World = set_row w p s in
-      let x : IsPresent q archived (Epr d) = subst (IsPresent q archived) was (i.sound p r at).present in
+      let x : IsPresent taker in_archive (Epr d) = subst (IsPresent taker in_archive) was (i.sound p r at).present in
       let own : d.from ≡ p = x.0.own ∙ i.named p r at in
       let due : (seen w).due d ≡ true = elim timely [ inl due ↦ due | inr past ↦ clash _ (waits_at expects_req w p r at d d.from own t) past.1 ] in
-      let turns : Turns (seen w) archived (is_details d) q s.holding.purse = request_turns (seen w) archived q d s.holding.purse.balance s.holding.purse.lines (i.sound p r at) was due in
-      let rests : (seen w).gone d ≡ false = side_of expects_ack w p r at d d.from own ∙ ap (λ y. expects_ack y d || (has_logged q.log d || archived d)) was ∙ x.0.fresh in
-      let gone : (seen v).gone d ≡ true = side_of expects_ack v p s (get-inserted w.rows p s) d d.from own ∙ ap (λ y. y || (has_logged q.log d || archived d)) (details_itself d) in
+      let turns : Turns (seen w) in_archive (is_details d) taker s.holding.purse = request_turns (seen w) in_archive taker d s.holding.purse.balance s.holding.purse.lines (i.sound p r at) was due in
+      let rests : (seen w).gone d ≡ false = side_of expects_ack w p r at d d.from own ∙ ap (λ y. expects_ack y d || (has_logged taker.log d || in_archive d)) was ∙ x.0.fresh in
+      let gone : (seen v).gone d ≡ true = side_of expects_ack v p s (get-inserted w.rows p s) d d.from own ∙ ap (λ y. y || (has_logged taker.log d || in_archive d)) (details_itself d) in
       let still_due : (seen v).due d ≡ true = elim (due_left w p r s at i (is_details d) turns d due) [ inl h ↦ h | inr y ↦ clash _ y.0 rests ] in
       turned_kept w p r at i asked (deed_of (took.Req d)) (is_details d) turns (λ k m h. h) (λ e _ h. h)
       (Requests d (turn_flow w p r s at i (is_details d) turns) own rests due (λ k. gone k && still_due k) (names_unlike d.from d.to (λ same. x.0.other (sym same ∙ x.0.own))) x.1 refl refl (inl refl) (inr refl))
       (λ m h. subst (λ (y : Name × Message). IsTimely (seen v) y.0 y.1) (inside (d.to, message.Val d) m h) ((turn_step w p r s at i (is_details d) turns).to_past d (due_past w i d due), λ _. gone))
       (λ c h. not_some c h)
 
-  val_case : (d : Details) → IsTimely (seen w) p (message.Val d) → (x : Bool) → (expects_val q.status d && nat_le (q.balance + d.value) most_number) ≡ x → IsKept w p r asked (deed_of (cond x (took.Val d) took.Ignored))
+  val_case : (d : Details) → IsTimely (seen w) p (message.Val d) → (x : Bool) → (expects_val taker.status d && nat_le (taker.balance + d.value) most_number) ≡ x → IsKept w p r asked (deed_of (cond x (took.Val d) took.Ignored))
   val_case d timely false t = ignored_kept
   val_case d timely true t =
       let waits = (both_parts _ _ t).0 in
-      let was = expects_val_is q.status d waits in
+      let was = expects_val_is taker.status d waits in
       let s : Row = row_of (took.Val d) in
       let v : World = set_row w p s in
-      let x : IsReceiver q archived d = subst (IsPresent q archived) was (i.sound p r at).present in
+      let x : IsReceiver taker in_archive d = subst (IsPresent taker in_archive) was (i.sound p r at).present in
       let own : d.to ≡ p = x.own ∙ i.named p r at in
       let left = value_left w p r at i d waits timely in
-      let turns : Turns (seen w) archived (is_details d) q s.holding.purse = value_turns (seen w) archived q d s.holding.purse.balance s.holding.purse.lines (i.sound p r at) was left.0 in
+      let turns : Turns (seen w) in_archive (is_details d) taker s.holding.purse = value_turns (seen w) in_archive taker d s.holding.purse.balance s.holding.purse.lines (i.sound p r at) was left.0 in
       let late : (seen v).due d ≡ false = side_of expects_val v p s (get-inserted w.rows p s) d d.to own ∙ x.fresh in
       turned_kept w p r at i asked (deed_of (took.Val d)) (is_details d) turns (λ k m h. h) (λ e _ h. h)
       (Receives d (turn_flow w p r s at i (is_details d) turns) own left.2 left.1 (neither _ _ late) refl refl refl)
       (λ m h. subst (λ (y : Name × Message). IsTimely (seen v) y.0 y.1) (inside (d.from, message.Ack d) m h) ((turn_step w p r s at i (is_details d) turns).to_past d timely.0, late))
       (λ c h. not_some c h)
 
-  ack_case : (d : Details) → IsTimely (seen w) p (message.Ack d) → (x : Bool) → expects_ack q.status d ≡ x → IsKept w p r asked (deed_of (cond x (took.Ack d) took.Ignored))
+  ack_case : (d : Details) → IsTimely (seen w) p (message.Ack d) → (x : Bool) → expects_ack taker.status d ≡ x → IsKept w p r asked (deed_of (cond x (took.Ack d) took.Ignored))
   ack_case d timely false t = ignored_kept
   ack_case d timely true t =
       let s : Row = row_of (took.Ack d) in
-      let turns : Turns (seen w) archived none_moves q s.holding.purse = finish_turns (seen w) archived q d q.balance q.lines (i.sound p r at) (expects_ack_is q.status d t) timely.1 in
+      let turns : Turns (seen w) in_archive none_moves taker s.holding.purse = finish_turns (seen w) in_archive taker d taker.balance taker.lines (i.sound p r at) (expects_ack_is taker.status d t) timely.1 in
       turned_kept w p r at i asked (deed_of (took.Ack d)) none_moves turns (λ k m h. h) (λ e _ h. h) (Rests (λ e. turn_flow w p r s at i none_moves turns e refl) refl refl refl) (λ m h. not_some m h) (λ c h. not_some c h)
 
-  clear_case : (set : Entries) → IsTimely (seen w) p (message.Clear set) → (x : Bool) → expects_clear q set ≡ x → IsKept w p r asked (deed_of (cond x took.Cleared took.Ignored))
+  clear_case : (set : Entries) → IsTimely (seen w) p (message.Clear set) → (x : Bool) → expects_clear taker set ≡ x → IsKept w p r asked (deed_of (cond x took.Cleared took.Ignored))
   clear_case set timely false t = ignored_kept
   clear_case set timely true t =
       let s : Row = row_of took.Cleared in
-      let same : set ≡ (aborted q).log = same_logs set (aborted q).log (both_parts _ _ t).1 in
-      let all : (d : Details) → has_logged (aborted q).log d ≡ true → archived d ≡ true = λ d h. timely d (ap (λ x. has_logged x d) same ∙ h) in
-      let turns : Turns (seen w) archived none_moves q s.holding.purse = restarted (seen w) archived q s.holding.purse (i.sound p r at)
-      (record { name = refl; next = λ k h. h; marks = λ d. ap (λ b. b || archived d) (has-none_logged d) ∙ or_kept _ (archived d) (all d) }) tt in
-      turned_kept w p r at i asked (deed_of took.Cleared) none_moves turns (λ k m h. h) (λ e h l. clash (archived e) (all e (still_logged w p r at i asked e l)) (i.once p e h))
+      let same : set ≡ (aborted taker).log = same_logs set (aborted taker).log (both_parts _ _ t).1 in
+      let all : (d : Details) → has_logged (aborted taker).log d ≡ true → in_archive d ≡ true = λ d h. timely d (ap (λ x. has_logged x d) same ∙ h) in
+      let turns : Turns (seen w) in_archive none_moves taker s.holding.purse = restarted (seen w) in_archive taker s.holding.purse (i.sound p r at)
+      (record { name = refl; next = λ k h. h; marks = λ d. ap (λ b. b || in_archive d) (has-none_logged d) ∙ or_kept _ (in_archive d) (all d) }) tt in
+      turned_kept w p r at i asked (deed_of took.Cleared) none_moves turns (λ k m h. h) (λ e h l. clash (in_archive e) (all e (still_logged w p r at i asked e l)) (i.once p e h))
       (Rests (λ e. turn_flow w p r s at i none_moves turns e refl) refl refl refl) (λ m h. not_some m h) (λ c h. not_some c h)
     where
       or_kept : (l a : Bool) → (l ≡ true → a ≡ true) → a ≡ (l || a)
@@ -124,18 +124,18 @@ module _ (w : World) (p : Name) (r : Row) (at : fmap.get w.rows p ≡ Some r) (i
       or_kept false a h = refl
 
   message_kept : (m : Message) → IsTimely (seen w) p m → IsKept w p r asked (handle_message r.holding m)
-  message_kept (message.Req d) t = req_case d t (expects_req q.status d) refl
+  message_kept (message.Req d) t = req_case d t (expects_req taker.status d) refl
   message_kept (message.Val d) t = val_case d t _ refl
-  message_kept (message.Ack d) t = ack_case d t (expects_ack q.status d) refl
+  message_kept (message.Ack d) t = ack_case d t (expects_ack taker.status d) refl
   message_kept (message.Clear set) t = clear_case set t _ refl
 
-  handle_case : (k : ℕ) (o : Option Message) → fmap.get r.holding.inbox k ≡ o → IsKept w p r asked (on_found r.holding refusal.NoSuchMessage o (handle_message r.holding))
-  handle_case k None e = told_kept w p r at i asked _ refl
-  handle_case k (Some m) e = message_kept m (i.timely p r at k m e)
+  handle_found : (k : ℕ) (o : Option Message) → fmap.get r.holding.inbox k ≡ o → IsKept w p r asked (on_found r.holding refusal.NoSuchMessage o (handle_message r.holding))
+  handle_found k None e = told_kept w p r at i asked _ refl
+  handle_found k (Some m) e = message_kept m (i.timely p r at k m e)
 
   handle_kept : (k : ℕ) → IsKept w p r asked (handle k r.holding)
   unfolding handle
-  handle_kept k = handle_case k (fmap.get r.holding.inbox k) refl
+  handle_kept k = handle_found k (fmap.get r.holding.inbox k) refl
 
 -- ---- each rule
 

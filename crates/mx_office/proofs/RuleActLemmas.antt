@@ -25,10 +25,10 @@ abbrev pub EachActs : World → ChosenLost → Command → Asks → Type 0
 EachActs w c asked (Asks.OnPurse p f) = (r : Row) → fmap.get w.rows p ≡ Some r → Simulated w asked (set_row w p (with_holding r (f r.holding).state)) (f r.holding).reply c
 EachActs w c asked x = Unit {0}
 
-each_case : (w : World) → Invariant w → (c : ChosenLost) (asked : Command) (x : Asks) → KeptByRule w asked x → EachActs w c asked x
-each_case w i c asked Asks.Names each = tt
-each_case w i c asked (Asks.OnPurse p f) each = λ r at. done_act w p r at i asked (f r.holding) (each r at) c (each r at).done
-each_case w i c asked Asks.NotAHolders each = tt
+asked_acts : (w : World) → Invariant w → (c : ChosenLost) (asked : Command) (x : Asks) → KeptByRule w asked x → EachActs w c asked x
+asked_acts w i c asked Asks.Names each = tt
+asked_acts w i c asked (Asks.OnPurse p f) each = λ r at. done_act w p r at i asked (f r.holding) (each r at) c (each r at).done
+asked_acts w i c asked Asks.NotAHolders each = tt
 
 pub each_acts : (w : World) → Sane w → (c : ChosenLost) (asked : Command) → EachActs w c asked (asks asked)
-each_acts w s c asked = each_case w s.invariant c asked (asks asked) (each_kept w s.invariant s.books asked).each
+each_acts w s c asked = asked_acts w s.invariant c asked (asks asked) (each_kept w s.invariant s.books asked).each

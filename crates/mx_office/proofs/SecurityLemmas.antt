@@ -96,16 +96,16 @@ module _ (w : World) (h p : Name) (n : ℕ) (x : Handled) where
   message_case r at None found e = cc
   message_case r at (Some m) found e = record { row = r; at = at; message = m; found = found; is = ap (taken_as x) e }
 
-  own_case : (o : Option Held) → own_holding w h p ≡ o → (on_found w NoSuchPurse o (λ a. in_place (λ b. change_holding w p (λ _. b)) (handle n a))).reply ≡ reply.Handled x → IsTaken w p n x
+  own_taken : (o : Option Held) → own_holding w h p ≡ o → (on_found w NoSuchPurse o (λ a. in_place (λ b. change_holding w p (λ _. b)) (handle n a))).reply ≡ reply.Handled x → IsTaken w p n x
   unfolding handle
-  own_case None own e = cc
-  own_case (Some a) own e =
+  own_taken None own e = cc
+  own_taken (Some a) own e =
       let r = is_owned w h p a own in
       message_case r.row r.at (fmap.get r.row.holding.inbox n) refl (subst (λ y. (handle n y).reply ≡ reply.Handled x) (sym r.holding) e)
 
   is_taken : (step w (Holder h) (Handle p n)).reply ≡ reply.Handled x → IsTaken w p n x
   unfolding step
-  is_taken e = own_case (own_holding w h p) refl e
+  is_taken e = own_taken (own_holding w h p) refl e
 
 -- the message is a val with the details, for which the purse waits
 record IsVal (q : State) (m : Message) (d : Details) : Type 0 where

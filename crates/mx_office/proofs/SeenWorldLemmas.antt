@@ -150,73 +150,73 @@ module _ (w : World) (p : Name) (r s : Row) (at : fmap.get w.rows p ≡ Some r) 
   -- ---- what a rule makes of the purse of a row
 
   module _ (i : Invariant w) (moves : Details → Bool) (t : Turns (seen w) (is_archived w p) moves r.holding.purse s.holding.purse) where
-    abbrev next : World
-    next = set_row w p s
+    abbrev row_set : World
+    row_set = set_row w p s
 
-    own : (q : Name) → q ≡ p → q ≡ r.holding.purse.name
-    own q e = e ∙ sym (i.named p r at)
+    own_name : (q : Name) → q ≡ p → q ≡ r.holding.purse.name
+    own_name q e = e ∙ sym (i.named p r at)
 
     over_side : (Rel : Bool → Bool → Type 0) (f : Status → Details → Bool) (q : Name) (d : Details) → ((b : Bool) → Rel b b)
         → (q ≡ r.holding.purse.name → Rel (marked f r.holding.purse (is_archived w p) d) (marked f s.holding.purse (is_archived w p) d))
-        → Rel (side f (fmap.get w.rows q) (is_archived w q d) d) (side f (fmap.get next.rows q) (is_archived w q d) d)
+        → Rel (side f (fmap.get w.rows q) (is_archived w q d) d) (side f (fmap.get row_set.rows q) (is_archived w q d) d)
     over_side Rel f q d stays changes = over_row (λ a b. Rel (side f a (is_archived w q d) d) (side f b (is_archived w q d) d)) q (λ o. stays _)
-        (λ e. subst (λ x. Rel (marked f r.holding.purse (is_archived w x) d) (marked f s.holding.purse (is_archived w x) d)) (sym e) (changes (own q e)))
+        (λ e. subst (λ x. Rel (marked f r.holding.purse (is_archived w x) d) (marked f s.holding.purse (is_archived w x) d)) (sym e) (changes (own_name q e)))
 
-    gone_left : (d : Details) → (seen w).gone d ≡ true → ((seen next).gone d ≡ true) ⊎ ((seen w).due d ≡ false)
+    gone_left : (d : Details) → (seen w).gone d ≡ true → ((seen row_set).gone d ≡ true) ⊎ ((seen w).due d ≡ false)
     gone_left d = over_side (λ a b. a ≡ true → (b ≡ true) ⊎ ((seen w).due d ≡ false)) expects_ack d.from d (λ b h. inl h) (t.gone_stays d)
 
-    gone_came : (d : Details) → (seen next).gone d ≡ true → ((seen w).gone d ≡ true) ⊎ (((seen w).due d ≡ true) × (moves d ≡ true))
+    gone_came : (d : Details) → (seen row_set).gone d ≡ true → ((seen w).gone d ≡ true) ⊎ (((seen w).due d ≡ true) × (moves d ≡ true))
     gone_came d = over_side (λ a b. b ≡ true → (a ≡ true) ⊎ (((seen w).due d ≡ true) × (moves d ≡ true))) expects_ack d.from d (λ b h. inl h) (t.gone_new d)
 
-    pub due_left : (d : Details) → (seen w).due d ≡ true → ((seen next).due d ≡ true) ⊎ (((seen w).gone d ≡ true) × (moves d ≡ true))
+    pub due_left : (d : Details) → (seen w).due d ≡ true → ((seen row_set).due d ≡ true) ⊎ (((seen w).gone d ≡ true) × (moves d ≡ true))
     due_left d = over_side (λ a b. a ≡ true → (b ≡ true) ⊎ (((seen w).gone d ≡ true) × (moves d ≡ true))) expects_val d.to d (λ b h. inl h) (t.due_stays d)
 
-    due_came : (d : Details) → (seen next).due d ≡ true → ((seen w).due d ≡ true) ⊎ ((seen w).to_past d ≡ false)
+    due_came : (d : Details) → (seen row_set).due d ≡ true → ((seen w).due d ≡ true) ⊎ ((seen w).to_past d ≡ false)
     due_came d = over_row (λ a b. side expects_val b (is_archived w d.to d) d ≡ true → (side expects_val a (is_archived w d.to d) d ≡ true) ⊎ (is_past a d.to_seq ≡ false)) d.to (λ o h. inl h)
-        (λ e. subst (λ x. marked expects_val s.holding.purse (is_archived w x) d ≡ true → (marked expects_val r.holding.purse (is_archived w x) d ≡ true) ⊎ (nat_lt d.to_seq r.holding.purse.next ≡ false)) (sym e) (t.due_new d (own d.to e)))
+        (λ e. subst (λ x. marked expects_val s.holding.purse (is_archived w x) d ≡ true → (marked expects_val r.holding.purse (is_archived w x) d ≡ true) ⊎ (nat_lt d.to_seq r.holding.purse.next ≡ false)) (sym e) (t.due_new d (own_name d.to e)))
 
     -- what is gone is due after it only where it was due before
-    still_due : (d : Details) → (seen w).gone d ≡ true → (seen next).due d ≡ true → (seen w).due d ≡ true
+    still_due : (d : Details) → (seen w).gone d ≡ true → (seen row_set).due d ≡ true → (seen w).due d ≡ true
     still_due d gone h = elim (due_came d h) [ inl due ↦ due | inr past ↦ clash _ (i.known d gone) past ]
 
-    epr_came : (d : Details) → (seen next).epr d ≡ true → ((seen w).epr d ≡ true) ⊎ ((seen w).from_past d ≡ false)
+    epr_came : (d : Details) → (seen row_set).epr d ≡ true → ((seen w).epr d ≡ true) ⊎ ((seen w).from_past d ≡ false)
     epr_came d = over_row (λ a b. has_status expects_req b d ≡ true → (has_status expects_req a d ≡ true) ⊎ (is_past a d.from_seq ≡ false)) d.from (λ o h. inl h) (λ _. t.epr d)
 
-    from_stays : (d : Details) → (seen w).from_past d ≡ true → (seen next).from_past d ≡ true
-    from_stays d = over_row (λ a b. is_past a d.from_seq ≡ true → is_past b d.from_seq ≡ true) d.from (λ o h. h) (λ _. t.next d.from_seq)
+    from_past_stays : (d : Details) → (seen w).from_past d ≡ true → (seen row_set).from_past d ≡ true
+    from_past_stays d = over_row (λ a b. is_past a d.from_seq ≡ true → is_past b d.from_seq ≡ true) d.from (λ o h. h) (λ _. t.next d.from_seq)
 
-    to_stays : (d : Details) → (seen w).to_past d ≡ true → (seen next).to_past d ≡ true
-    to_stays d = over_row (λ a b. is_past a d.to_seq ≡ true → is_past b d.to_seq ≡ true) d.to (λ o h. h) (λ _. t.next d.to_seq)
+    to_past_stays : (d : Details) → (seen w).to_past d ≡ true → (seen row_set).to_past d ≡ true
+    to_past_stays d = over_row (λ a b. is_past a d.to_seq ≡ true → is_past b d.to_seq ≡ true) d.to (λ o h. h) (λ _. t.next d.to_seq)
 
     -- the from purse is past what is gone, and doesn't wait for its request again
-    never_again : (d : Details) → (seen w).gone d ≡ true → ((seen next).from_past d ≡ true) × ((seen next).epr d ≡ false)
-    never_again d gone = let past = gone_past w i d gone in (from_stays d past.0, not_true _ (λ u. elim (epr_came d u) [ inl h ↦ clash _ h past.1 | inr f ↦ clash _ past.0 f ]))
+    never_again : (d : Details) → (seen w).gone d ≡ true → ((seen row_set).from_past d ≡ true) × ((seen row_set).epr d ≡ false)
+    never_again d gone = let past = gone_past w i d gone in (from_past_stays d past.0, not_true _ (λ u. elim (epr_came d u) [ inl h ↦ clash _ h past.1 | inr f ↦ clash _ past.0 f ]))
 
     -- what is gone and isn't due isn't due later
-    never_due : (d : Details) → (seen w).gone d ≡ true → (seen w).due d ≡ false → (seen next).due d ≡ false
-    never_due d gone late = not_true _ (λ h. clash _ (still_due d gone h) late)
+    late_stays : (d : Details) → (seen w).gone d ≡ true → (seen w).due d ≡ false → (seen row_set).due d ≡ false
+    late_stays d gone late = not_true _ (λ h. clash _ (still_due d gone h) late)
 
-    pub turn_step : Step (seen w) (seen next)
+    pub turn_step : Step (seen w) (seen row_set)
     turn_step = record {
       epr = epr_came;
       epv = λ d. over_row (λ a b. has_status expects_val b d ≡ true → (has_status expects_val a d ≡ true) ⊎ (is_past a d.to_seq ≡ false)) d.to (λ o h. inl h) (λ _. t.epv d);
-      from_past = from_stays;
-      to_past = to_stays;
+      from_past = from_past_stays;
+      to_past = to_past_stays;
       due_stays = λ d h. elim (due_left d h) [ inl due ↦ inl due | inr x ↦ inr (never_again d x.0) ];
       due_new = due_came;
-      gone_stays = λ d h. elim (gone_left d h) [ inl gone ↦ inl gone | inr late ↦ inr (not_true _ (λ u. clash _ (waits_due d (fmap.get next.rows d.to) _ u) (never_due d h late)), never_due d h late) ];
-      gone_new = λ d h. elim (gone_came d h) [ inl gone ↦ inl gone | inr x ↦ inr (to_stays d (due_past w i d x.0)) ];
+      gone_stays = λ d h. elim (gone_left d h) [ inl gone ↦ inl gone | inr late ↦ inr (not_true _ (λ u. clash _ (waits_due d (fmap.get row_set.rows d.to) _ u) (late_stays d h late)), late_stays d h late) ];
+      gone_new = λ d h. elim (gone_came d h) [ inl gone ↦ inl gone | inr x ↦ inr (to_past_stays d (due_past w i d x.0)) ];
       archived = λ x d h. h;
       kept = λ x d. over_row (λ a b. entry_of a (is_archived w x d) d ≡ true → entry_of b (is_archived w x d) d ≡ true) x (λ o h. h)
           (λ e. subst (λ y. entry_of (Some r) (is_archived w y d) d ≡ true → entry_of (Some s) (is_archived w y d) d ≡ true) (sym e) (t.kept d));
     }
 
     -- what is under way stays, but for what begins or ends to be
-    pub turn_flow : (d : Details) → moves d ≡ false → flowing next d ≡ flowing w d
+    pub turn_flow : (d : Details) → moves d ≡ false → flowing row_set d ≡ flowing w d
     turn_flow d rests = both_ways _ _
         (λ h. let x = both_parts _ _ h in elim (gone_came d x.0) [ inl gone ↦ (λ k. gone k && still_due d gone x.1 k) | inr y ↦ clash _ y.1 rests ])
         (λ h. let x = both_parts _ _ h in elim (gone_left d x.0) [ inr late ↦ clash _ x.1 late | inl gone ↦ elim (due_left d x.1) [ inl due ↦ (λ k. gone k && due k) | inr y ↦ clash _ y.1 rests ] ])
 
     -- the invariant stays, where messages leave the inbox and what is in the tray is logged
-    pub turn_keeps : ((k : ℕ) (m : Message) → fmap.get s.holding.inbox k ≡ Some m → IsTimely (seen w) p m) → ((d : Details) → in_tray w p d ≡ true → has_logged s.holding.purse.log d ≡ true) → Invariant next
+    pub turn_keeps : ((k : ℕ) (m : Message) → fmap.get s.holding.inbox k ≡ Some m → IsTimely (seen w) p m) → ((d : Details) → in_tray w p d ≡ true → has_logged s.holding.purse.log d ≡ true) → Invariant row_set
     turn_keeps inbox tray = kept_with w p (Some r) s at i turn_step t.sound (t.name ∙ i.named p r at) inbox tray
