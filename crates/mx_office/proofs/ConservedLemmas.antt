@@ -1,6 +1,6 @@
 -- What is under way and what is lost, and the scheme's equation of each World that commands lead to.
 use Rattle.std.proofs.Common.{◌≡◌, ℕ, ◌+◌, ◌≤◌, Bool, true, false, cond, not, List, [], ◌∷◌, ◌++◌, refl, sym, ◌∙◌, ap, subst, Option, Some, None, ◌&&◌, ◌||◌, arith, map, is_some, option_map}
-use Rattle.std.specs.Prelude.{sum_by, flat_map}
+use Rattle.std.specs.Prelude.{flat_map}
 use Rattle.std.specs.List.{list_any}
 use Rattle.std.specs.Ordering.{eq_by_cmp}
 use Rattle.std.specs.FinMap as fmap
@@ -30,7 +30,6 @@ use Rattle.mx_office.proofs.EntrySumLemmas.{number, two_sums, sum-keys, sum-keys
 use Rattle.mx_office.proofs.SeenLemmas.{clash, either_true, both_parts, neither, or_cases}
 use Rattle.mx_office.proofs.SoundLemmas.{IsPresent, details_turned, expects_val_is}
 use Rattle.mx_office.proofs.SeenWorldLemmas.{Invariant, seen, side, has_status, flowing}
-use Rattle.mx_office.proofs.OutLemmas.{Books}
 use Rattle.mx_office.proofs.DeedLemmas.{not_some}
 use Rattle.mx_office.proofs.SaneLemmas.{Sane}
 use Rattle.mx_office.proofs.SaneCommandLemmas.{reachable_sane}
@@ -71,9 +70,10 @@ or_turned false false = refl
 -- what is maybe lost and what is definitely lost, by what is under way and what is waited for
 module _ (w : World) (i : Invariant w) (d : Details) where
   parts : (flowing w d ≡ ((from_in_epa w d || from_logged w d) && (to_in_epv w d || to_logged w d))) × ((seen w).epv d ≡ to_in_epv w d)
-  parts =
-      ((λ k. split_side expects_ack (fmap.get w.rows d.from) (is_archived w d.from d) d k && split_side expects_val (fmap.get w.rows d.to) (is_archived w d.to d) d k),
-      waits_as expects_val (fmap.get w.rows d.to) d)
+  parts = (
+    (λ k. split_side expects_ack (fmap.get w.rows d.from) (is_archived w d.from d) d k && split_side expects_val (fmap.get w.rows d.to) (is_archived w d.to d) d k),
+    waits_as expects_val (fmap.get w.rows d.to) d,
+  )
 
   pub maybe_is : maybe_lost w d ≡ (flowing w d && (seen w).epv d)
   maybe_is = maybe_case (from_in_epa w d || from_logged w d) (to_in_epv w d) (to_logged w d) ∙ (λ k. sym parts.0 k && sym parts.1 k)

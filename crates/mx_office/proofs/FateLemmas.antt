@@ -1,27 +1,23 @@
 -- What counts as lost and as received, before and after a change of a World.
-use Rattle.std.proofs.Common.{◌≡◌, ℕ, ◌+◌, Bool, true, false, cond, not, refl, sym, ◌∙◌, ap, Option, Some, None, option_map, ◌&&◌, ◌||◌, inl, inr, arith, is_some}
+use Rattle.std.proofs.Common.{◌≡◌, ℕ, ◌+◌, Bool, true, false, cond, not, refl, sym, ◌∙◌, ap, Some, ◌&&◌, ◌||◌, inl, inr, arith, is_some}
 use Rattle.std.proofs.lemmas.Bool.{or_left}
 use Rattle.std.specs.FinMap as fmap
 use Rattle.mx_pay.specs.Names.{is_name}
 use Rattle.mx_pay.specs.Details.{Details, details_cmp, is_details}
 use Rattle.mx_pay.specs.Log.{Entries}
-use Rattle.mx_pay.specs.Orders.{details_exact}
 use Rattle.mx_pay.proofs.LogLemmas.{details_total}
-use Rattle.mx_purse.specs.declared.status.Status.{Status}
-use Rattle.mx_purse.specs.Operations.{expects_val, expects_ack}
-use Rattle.mx_book.specs.Reads.{from_row, is_archived}
+use Rattle.mx_purse.specs.Operations.{expects_val}
+use Rattle.mx_book.specs.Reads.{is_archived}
 use Rattle.mx_book.specs.Sums.{sum_values}
 use Rattle.mx_book.specs.Totals.{from_in_epa, from_logged, to_in_epv, to_logged, maybe_lost, definitely_lost, occurring, value_where}
-use Rattle.mx_book.specs.Under.{remake}
-use Rattle.mx_book.specs.World.{World, Row, Name}
+use Rattle.mx_book.specs.World.{World, Name}
 use Rattle.mx_book.proofs.SumLemmas.{sum_values-insert}
-use Rattle.mx_book.proofs.UnderLemmas.{get-remake}
 use Rattle.mx_office.specs.Abstract.{ChosenLost, counts_lost, counts_received, received_by, losses_of}
 use Rattle.mx_office.proofs.ConservedLemmas.{split_side, due_occurs, maybe_is, lost_is, where_is, worths, worths_are}
 use Rattle.mx_office.proofs.EntrySumLemmas.{number}
 use Rattle.mx_office.proofs.SecurityLemmas.{lost_occurs}
 use Rattle.mx_office.proofs.SeenLemmas.{Step, clash, both_parts, neither, or_cases}
-use Rattle.mx_office.proofs.SeenWorldLemmas.{Invariant, seen, flowing, has_status}
+use Rattle.mx_office.proofs.SeenWorldLemmas.{Invariant, seen, flowing}
 use Rattle.mx_office.proofs.SoundLemmas.{details_turned}
 use Rattle.mx_pay.proofs.SameLemmas.{same_details}
 

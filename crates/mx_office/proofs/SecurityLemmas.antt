@@ -1,5 +1,5 @@
 -- The security properties of the purses, for each command.
-use Rattle.std.proofs.Common.{◌≡◌, ℕ, ◌+◌, ◌≤◌, Bool, true, false, refl, sym, ◌∙◌, ap, subst, Option, Some, None, ◌&&◌, ◌||◌, arith, is_some}
+use Rattle.std.proofs.Common.{◌≡◌, ℕ, ◌+◌, ◌≤◌, true, false, refl, sym, ◌∙◌, ap, subst, Option, Some, None, ◌&&◌, ◌||◌, arith, is_some}
 use Rattle.std.proofs.lemmas.Bool.{or_parts}
 use Rattle.std.specs.FinMap as fmap
 use Rattle.mx_pay.specs.Details.{Details}
