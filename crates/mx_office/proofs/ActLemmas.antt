@@ -11,10 +11,10 @@ use Rattle.mx_office.specs.declared.values.Command.{Command}
 use Rattle.mx_office.specs.declared.values.Reply.{Reply}
 use Rattle.mx_office.specs.Abstract.{AbstractPurse, AbstractWorld, Act, ChosenLost, IsAct, allows, perform, performed, changed, change, has_funds, may_transfer, gains, pays, loses, counts_lost, counts_received, received_by, losses_of, abstract_purse, abstract_of}
 use Rattle.mx_office.proofs.FateLemmas as fate
-use Rattle.mx_office.proofs.FateLemmas.{share, maybe_is, never_received, never_lost, one_of_two}
-use Rattle.mx_office.proofs.FlowLemmas.{flowing}
+use Rattle.mx_office.proofs.ConservedLemmas.{maybe_is}
+use Rattle.mx_office.proofs.FateLemmas.{share, never_received, never_lost, one_of_two}
 use Rattle.mx_office.proofs.SeenLemmas.{Step, clash}
-use Rattle.mx_office.proofs.SeenWorldLemmas.{Invariant, seen}
+use Rattle.mx_office.proofs.SeenWorldLemmas.{Invariant, seen, flowing}
 
 -- ---- what is found after an operation
 
@@ -43,12 +43,12 @@ module _ (a : AbstractWorld) (p : Name) (f : AbstractPurse → AbstractPurse) (q
   some_case x true t at = sym (ap (option_map f) (ap (fmap.get a) (same_name q p t) ∙ at))
   some_case x false t at = sym (map_same (fmap.get a q))
 
-  change_case : (o : Option AbstractPurse) → fmap.get a p ≡ o → fmap.get (changed a p f o) q ≡ option_map (turned p f q) (fmap.get a q)
-  change_case None at = none_case (is_name q p) refl at
-  change_case (Some x) at = fmap.get-insert names_total a p (f x) q ∙ some_case x (is_name q p) refl at
+  found_changed : (o : Option AbstractPurse) → fmap.get a p ≡ o → fmap.get (changed a p f o) q ≡ option_map (turned p f q) (fmap.get a q)
+  found_changed None at = none_case (is_name q p) refl at
+  found_changed (Some x) at = fmap.get-insert names_total a p (f x) q ∙ some_case x (is_name q p) refl at
 
   pub get-change : fmap.get (change a p f) q ≡ option_map (turned p f q) (fmap.get a q)
-  get-change = change_case (fmap.get a p) refl
+  get-change = found_changed (fmap.get a p) refl
 
 pub get-abstract : (w : World) (c : ChosenLost) (q : Name) → fmap.get (abstract_of w c) q ≡ option_map (abstract_purse w c q) (fmap.get w.rows q)
 get-abstract w c q = get-remake name_cmp (abstract_purse w c) names_exact w.rows q
@@ -142,22 +142,22 @@ module _ (w : World) (p : Name) (r s : Row) (at : fmap.get w.rows p ≡ Some r) 
   next = set_row w p s
 
   -- the choice before
-  abbrev chosen_before : ChosenLost
-  chosen_before = counts_lost next c
+  abbrev choice_before : ChosenLost
+  choice_before = counts_lost next c
 
   module _ (asked : Command) (x : Reply) where
-    simulated : (act : Act) (E : Effect) → IsAct w asked x act → allows (abstract_of w chosen_before) act ≡ true → ((a : AbstractWorld) (q : Name) → fmap.get (performed a act) q ≡ option_map (E q) (fmap.get a q))
-        → ((q : Name) → is_name q p ≡ false → (y : Row) → E q (abstract_purse w chosen_before q y) ≡ abstract_purse next c q y) → E p (abstract_purse w chosen_before p r) ≡ abstract_purse next c p s
+    simulated : (act : Act) (E : Effect) → IsAct w asked x act → allows (abstract_of w choice_before) act ≡ true → ((a : AbstractWorld) (q : Name) → fmap.get (performed a act) q ≡ option_map (E q) (fmap.get a q))
+        → ((q : Name) → is_name q p ≡ false → (y : Row) → E q (abstract_purse w choice_before q y) ≡ abstract_purse next c q y) → E p (abstract_purse w choice_before p r) ≡ abstract_purse next c p s
         → Simulated w asked next x c
-    simulated act E is allowed gets each one = record { before = chosen_before; act = act; is = is; leads = leads_to w next chosen_before c act E allowed gets (row_each w p r s at chosen_before c E each one) }
+    simulated act E is allowed gets each one = record { before = choice_before; act = act; is = is; leads = leads_to w next choice_before c act E allowed gets (row_each w p r s at choice_before c E each one) }
 
     -- ---- what is under way stays
 
     module _ (flow : (d : Details) → flowing next d ≡ flowing w d) where
-      received : (q : Name) → received_by w chosen_before q ≡ received_by next c q
+      received : (q : Name) → received_by w choice_before q ≡ received_by next c q
       received q = sym (fate.still_received w next i j step c flow q)
 
-      lost : (q : Name) → losses_of w chosen_before q ≡ losses_of next c q
+      lost : (q : Name) → losses_of w choice_before q ≡ losses_of next c q
       lost q = sym (fate.still_lost w next i j step c flow q)
 
       pub still_nothing : s.holding.purse.balance ≡ r.holding.purse.balance → IsAct w asked x Act.Ignore → Simulated w asked next x c
@@ -166,19 +166,19 @@ module _ (w : World) (p : Name) (r s : Row) (at : fmap.get w.rows p ≡ Some r) 
           (purses_are _ _ _ _ (λ k. sym money k + received p k) (lost p))
 
       -- the purse is changed
-      still_turned : (act : Act) (f : AbstractPurse → AbstractPurse) → IsAct w asked x act → allows (abstract_of w chosen_before) act ≡ true → ((a : AbstractWorld) (q : Name) → fmap.get (performed a act) q ≡ option_map (turned p f q) (fmap.get a q))
-          → f (abstract_purse w chosen_before p r) ≡ abstract_purse w chosen_before p s → Simulated w asked next x c
+      still_turned : (act : Act) (f : AbstractPurse → AbstractPurse) → IsAct w asked x act → allows (abstract_of w choice_before) act ≡ true → ((a : AbstractWorld) (q : Name) → fmap.get (performed a act) q ≡ option_map (turned p f q) (fmap.get a q))
+          → f (abstract_purse w choice_before p r) ≡ abstract_purse w choice_before p s → Simulated w asked next x c
       still_turned act f is allowed gets one = simulated act (turned p f) is allowed gets
-          (λ q t y. ap (λ b. cond b (f (abstract_purse w chosen_before q y)) (abstract_purse w chosen_before q y)) t ∙ purses_are _ _ _ _ (ap (λ n. y.holding.purse.balance + n) (received q)) (lost q))
-          (ap (λ b. cond b (f (abstract_purse w chosen_before p r)) (abstract_purse w chosen_before p r)) (name_itself p) ∙ one ∙ purses_are _ _ _ _ (ap (λ n. s.holding.purse.balance + n) (received p)) (lost p))
+          (λ q t y. ap (λ b. cond b (f (abstract_purse w choice_before q y)) (abstract_purse w choice_before q y)) t ∙ purses_are _ _ _ _ (ap (λ n. y.holding.purse.balance + n) (received q)) (lost q))
+          (ap (λ b. cond b (f (abstract_purse w choice_before p r)) (abstract_purse w choice_before p r)) (name_itself p) ∙ one ∙ purses_are _ _ _ _ (ap (λ n. s.holding.purse.balance + n) (received p)) (lost p))
 
       pub still_load : (n : ℕ) → s.holding.purse.balance ≡ r.holding.purse.balance + n → IsAct w asked x (Act.Load p n) → Simulated w asked next x c
-      still_load n money is = still_turned (Act.Load p n) (gains n) is (ap is_some (found_at w p r s at chosen_before c)) (λ a q. get-change a p (gains n) q) (purses_are _ _ _ _ (omega (arith, money)) refl)
+      still_load n money is = still_turned (Act.Load p n) (gains n) is (ap is_some (found_at w p r s at choice_before c)) (λ a q. get-change a p (gains n) q) (purses_are _ _ _ _ (omega (arith, money)) refl)
 
       pub still_redeem : (n : ℕ) → n ≤ r.holding.purse.balance → s.holding.purse.balance ≡ r.holding.purse.balance - n → IsAct w asked x (Act.Redeem p n) → Simulated w asked next x c
       still_redeem n enough money is =
           still_turned (Act.Redeem p n) (pays n) is
-          (ap (λ o. has_funds o n) (found_at w p r s at chosen_before c) ∙ le_true n (r.holding.purse.balance + received_by w chosen_before p) (omega (arith, enough))) (λ a q. get-change a p (pays n) q)
+          (ap (λ o. has_funds o n) (found_at w p r s at choice_before c) ∙ le_true n (r.holding.purse.balance + received_by w choice_before p) (omega (arith, enough))) (λ a q. get-change a p (pays n) q)
           (purses_are _ _ _ _ (omega (arith, enough, money)) refl)
 
     -- ---- one payment begins or ends to be under way
@@ -187,20 +187,20 @@ module _ (w : World) (p : Name) (r s : Row) (at : fmap.get w.rows p ≡ Some r) 
       -- a request is accepted
       module _ (own : e.from ≡ p) (rests : flowing w e ≡ false) (flows : flowing next e ≡ true) (there : is_some (fmap.get w.rows e.to) ≡ true) (apart : is_name e.from e.to ≡ false)
           (enough : e.value ≤ r.holding.purse.balance) (money : s.holding.purse.balance ≡ r.holding.purse.balance - e.value) where
-        pays_allowed : may_transfer (abstract_of w chosen_before) e ≡ true
+        pays_allowed : may_transfer (abstract_of w choice_before) e ≡ true
         pays_allowed =
-            let from : fmap.get (abstract_of w chosen_before) e.from ≡ Some (abstract_purse w chosen_before e.from r) =
-            get-abstract w chosen_before e.from ∙ ap (option_map (abstract_purse w chosen_before e.from)) (ap (fmap.get w.rows) own ∙ at) in
-            let covered : has_funds (fmap.get (abstract_of w chosen_before) e.from) e.value ≡ true =
-            ap (λ o. has_funds o e.value) from ∙ le_true e.value (r.holding.purse.balance + received_by w chosen_before e.from) (omega (arith, enough)) in
-            let to : is_some (fmap.get (abstract_of w chosen_before) e.to) ≡ true = ap is_some (get-abstract w chosen_before e.to) ∙ some_map (abstract_purse w chosen_before e.to) (fmap.get w.rows e.to) ∙ there in
+            let from : fmap.get (abstract_of w choice_before) e.from ≡ Some (abstract_purse w choice_before e.from r) =
+            get-abstract w choice_before e.from ∙ ap (option_map (abstract_purse w choice_before e.from)) (ap (fmap.get w.rows) own ∙ at) in
+            let covered : has_funds (fmap.get (abstract_of w choice_before) e.from) e.value ≡ true =
+            ap (λ o. has_funds o e.value) from ∙ le_true e.value (r.holding.purse.balance + received_by w choice_before e.from) (omega (arith, enough)) in
+            let to : is_some (fmap.get (abstract_of w choice_before) e.to) ≡ true = ap is_some (get-abstract w choice_before e.to) ∙ some_map (abstract_purse w choice_before e.to) (fmap.get w.rows e.to) ∙ there in
             (λ k. covered k && (to k && not (apart k)))
 
-        received_as : (y : Bool) → counts_received next c e ≡ y → (q : Name) → received_by next c q + share (is_name q e.to) false e ≡ received_by w chosen_before q + share (is_name q e.to) y e
-        received_as y now = fate.received_now w next i j step c e other false y (never_received w i chosen_before e rests) now
+        received_as : (y : Bool) → counts_received next c e ≡ y → (q : Name) → received_by next c q + share (is_name q e.to) false e ≡ received_by w choice_before q + share (is_name q e.to) y e
+        received_as y now = fate.received_now w next i j step c e other false y (never_received w i choice_before e rests) now
 
-        lost_as : (y : Bool) → counts_lost next c e ≡ y → (q : Name) → losses_of next c q + share (is_name q e.from) false e ≡ losses_of w chosen_before q + share (is_name q e.from) y e
-        lost_as y now = fate.lost_now w next i j step c e other false y (never_lost w i chosen_before e rests) now
+        lost_as : (y : Bool) → counts_lost next c e ≡ y → (q : Name) → losses_of next c q + share (is_name q e.from) false e ≡ losses_of w choice_before q + share (is_name q e.from) y e
+        lost_as y now = fate.lost_now w next i j step c e other false y (never_lost w i choice_before e rests) now
 
         -- another purse doesn't pay, and this one does
         elsewhere : (q : Name) → is_name q p ≡ false → is_name q e.from ≡ false
@@ -234,14 +234,14 @@ module _ (w : World) (p : Name) (r s : Row) (at : fmap.get w.rows p ≡ Some r) 
 
       -- a value is accepted
       module _ (own : e.to ≡ p) (flows : flowing w e ≡ true) (waits : (seen w).epv e ≡ true) (rests : flowing next e ≡ false) (money : s.holding.purse.balance ≡ r.holding.purse.balance + e.value) where
-        was_received : counts_received w chosen_before e ≡ true
+        was_received : counts_received w choice_before e ≡ true
         was_received = (λ k. (maybe_is w i e ∙ (λ l. flows l && waits l)) k && not (never_lost next j c e rests k))
 
-        received_then : (q : Name) → received_by next c q + share (is_name q e.to) true e ≡ received_by w chosen_before q + share (is_name q e.to) false e
+        received_then : (q : Name) → received_by next c q + share (is_name q e.to) true e ≡ received_by w choice_before q + share (is_name q e.to) false e
         received_then = fate.received_now w next i j step c e other true false was_received (never_received next j c e rests)
 
-        lost_then : (q : Name) → losses_of next c q + share (is_name q e.from) false e ≡ losses_of w chosen_before q + share (is_name q e.from) false e
-        lost_then = fate.lost_now w next i j step c e other false false (one_of_two w i chosen_before e flows ∙ ap not was_received) (never_lost next j c e rests)
+        lost_then : (q : Name) → losses_of next c q + share (is_name q e.from) false e ≡ losses_of w choice_before q + share (is_name q e.from) false e
+        lost_then = fate.lost_now w next i j step c e other false false (one_of_two w i choice_before e flows ∙ ap not was_received) (never_lost next j c e rests)
 
         pub value_simulated : IsAct w asked x Act.Ignore → Simulated w asked next x c
         value_simulated is = simulated Act.Ignore (λ q y. y) is refl (λ a q. sym (map_same (fmap.get a q)))

@@ -4,8 +4,9 @@ use Rattle.std.specs.FinMap as fmap
 use Rattle.mx_pay.specs.Limits.{most_number}
 use Rattle.mx_pay.specs.Details.{Details, details_cmp}
 use Rattle.mx_pay.proofs.LogLemmas.{details_total}
+use Rattle.mx_pay.proofs.SameLemmas.{details_itself}
 use Rattle.mx_purse.specs.declared.message.Message.TheVariants as message
-use Rattle.mx_purse.specs.declared.status.Status.TheVariants.{EaTo}
+use Rattle.mx_purse.specs.Operations.{expects_val}
 use Rattle.mx_book.specs.declared.values.MemberRow.{MemberRow}
 use Rattle.mx_book.specs.Conditions.{IsWorld, all_granted}
 use Rattle.mx_book.specs.Reads.{uncollected_row, uncollected_of}
@@ -18,12 +19,10 @@ use Rattle.mx_office.specs.Balance.{IsBalanced, is_chosen, of_members, of_purses
 use Rattle.mx_office.specs.Conservation.{HasRoom}
 use Rattle.mx_office.specs.Reachable.{IsReachable}
 use Rattle.mx_office.proofs.BalanceCommandLemmas.{reachable_balanced}
-use Rattle.mx_office.proofs.EntrySumLemmas.{values_are, sum_values-same, sum_entries-add, sum_entries-same}
-use Rattle.mx_office.proofs.KeySumLemmas.{number}
+use Rattle.mx_office.proofs.EntrySumLemmas.{number, values_are, sum_values-same, sum_entries-add, sum_entries-same}
 use Rattle.mx_office.proofs.SeenLemmas.{clash}
 use Rattle.mx_office.proofs.SeenWorldLemmas.{Invariant}
-use Rattle.mx_office.proofs.PaymentLemmas as moves
-use Rattle.mx_office.proofs.FlowLemmas.{flowing}
+use Rattle.mx_office.proofs.HandleLemmas.{value_left}
 use Rattle.mx_office.proofs.OutLemmas.{Books}
 use Rattle.mx_office.proofs.SaneLemmas.{Sane}
 use Rattle.mx_office.proofs.SaneCommandLemmas.{reachable_sane}
@@ -49,8 +48,8 @@ all_members w f = sym (values_are f w.members)
 abbrev floats : World → ℕ
 floats w = sum_values (λ (row : MemberRow). row.float) w.members
 
-whole : (w : World) → (s : Sane w) → IsWorld w → IsBalanced w → ((floats w + of_all w uncollected_row) + of_all w balance_row) + sum_values (λ n. n) s.books.out ≡ all_granted w
-whole w s is balanced =
+whole_sum : (w : World) → (s : Sane w) → IsWorld w → IsBalanced w → ((floats w + of_all w uncollected_row) + of_all w balance_row) + sum_values (λ n. n) s.books.out ≡ all_granted w
+whole_sum w s is balanced =
     let own : (of_all w balance_row + sum_values (λ n. n) s.books.out) + of_all w redeemed_row ≡ of_all w issued_row = s.books.equal in
     let both : (of_members w all (λ x. x.float) + of_purses w all uncollected_row) + of_purses w all issued_row ≡ of_members w all (λ x. x.granted) + of_purses w all redeemed_row = balanced.chosen all in
     let m1 : of_members w all (λ x. x.float) ≡ floats w = all_members w (λ x. x.float) in
@@ -102,12 +101,11 @@ module _ (w : World) (s : Sane w) (is : IsWorld w) (balanced : IsBalanced w) whe
   value_fits p r d n at was sent =
       let i : Invariant w = s.invariant in
       let b : Books w = s.books in
-      let next : Row = record r { holding = record r.holding { purse = record r.holding.purse { status = EaTo } } } in
-      let flows : flowing w d ≡ true = moves.value_before w p r next at i d refl refl refl was refl (i.timely p r at n (message.Val d) sent) in
-      let value : number (fmap.get b.out d) ≡ d.value = b.covers d ∙ ap (λ x. cond x d.value 0) flows in
+      let left = value_left w p r at i d (ap (λ x. expects_val x d) was ∙ details_itself d) (i.timely p r at n (message.Val d) sent) in
+      let value : number (fmap.get b.out d) ≡ d.value = b.covers d ∙ ap (λ x. cond x d.value 0) left.2 in
       let within : number (fmap.get b.out d) ≤ sum_values (λ n. n) b.out = one_within b.out d in
       let balance : balance_row r ≤ of_all w balance_row = balance_within w p r at in
-      let sum : ((floats w + of_all w uncollected_row) + of_all w balance_row) + sum_values (λ n. n) b.out ≡ all_granted w = whole w s is balanced in
+      let sum : ((floats w + of_all w uncollected_row) + of_all w balance_row) + sum_values (λ n. n) b.out ≡ all_granted w = whole_sum w s is balanced in
       let cap : all_granted w ≤ most_number = is.members.granted in
       omega (arith, value, within, balance, sum, cap)
 
@@ -116,7 +114,7 @@ module _ (w : World) (s : Sane w) (is : IsWorld w) (balanced : IsBalanced w) whe
   load_fits p m r row amount at member enough =
       let balance : balance_row r ≤ of_all w balance_row = balance_within w p r at in
       let float : row.float ≤ floats w = float_within w m row member in
-      let sum : ((floats w + of_all w uncollected_row) + of_all w balance_row) + sum_values (λ n. n) s.books.out ≡ all_granted w = whole w s is balanced in
+      let sum : ((floats w + of_all w uncollected_row) + of_all w balance_row) + sum_values (λ n. n) s.books.out ≡ all_granted w = whole_sum w s is balanced in
       let cap : all_granted w ≤ most_number = is.members.granted in
       omega (arith, balance, float, sum, cap, enough)
 
@@ -124,7 +122,7 @@ module _ (w : World) (s : Sane w) (is : IsWorld w) (balanced : IsBalanced w) whe
   pub grant_fits : (m : Name) (row : MemberRow) (amount : ℕ) → fmap.get w.members m ≡ Some row → all_granted w + amount ≤ most_number → row.float + amount ≤ most_number
   grant_fits m row amount member room =
       let float : row.float ≤ floats w = float_within w m row member in
-      let sum : ((floats w + of_all w uncollected_row) + of_all w balance_row) + sum_values (λ n. n) s.books.out ≡ all_granted w = whole w s is balanced in
+      let sum : ((floats w + of_all w uncollected_row) + of_all w balance_row) + sum_values (λ n. n) s.books.out ≡ all_granted w = whole_sum w s is balanced in
       omega (arith, float, sum, room)
 
   -- what a member collects fits the float
@@ -132,7 +130,7 @@ module _ (w : World) (s : Sane w) (is : IsWorld w) (balanced : IsBalanced w) whe
   collect_fits m row member =
       let float : row.float ≤ floats w = float_within w m row member in
       let part : uncollected_of w m ≤ of_all w uncollected_row = uncollected_within w m in
-      let sum : ((floats w + of_all w uncollected_row) + of_all w balance_row) + sum_values (λ n. n) s.books.out ≡ all_granted w = whole w s is balanced in
+      let sum : ((floats w + of_all w uncollected_row) + of_all w balance_row) + sum_values (λ n. n) s.books.out ≡ all_granted w = whole_sum w s is balanced in
       let cap : all_granted w ≤ most_number = is.members.granted in
       omega (arith, float, part, sum, cap)
 

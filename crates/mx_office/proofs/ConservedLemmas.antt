@@ -1,18 +1,18 @@
 -- What is under way and what is lost, and the scheme's equation of each World that commands lead to.
-use Rattle.std.proofs.Common.{◌≡◌, ℕ, ◌+◌, ◌≤◌, Bool, true, false, cond, List, [], ◌∷◌, ◌++◌, refl, sym, ◌∙◌, ap, subst, Option, Some, None, ◌&&◌, ◌||◌, arith, map, is_some, option_map}
-use Rattle.std.specs.Prelude.{sum_by, flat_map}
+use Rattle.std.proofs.Common.{◌≡◌, ℕ, ◌+◌, ◌≤◌, Bool, true, false, cond, not, List, [], ◌∷◌, ◌++◌, refl, sym, ◌∙◌, ap, subst, Option, Some, None, ◌&&◌, ◌||◌, arith, map, is_some, option_map}
+use Rattle.std.specs.Prelude.{flat_map}
 use Rattle.std.specs.List.{list_any}
 use Rattle.std.specs.Ordering.{eq_by_cmp}
 use Rattle.std.specs.FinMap as fmap
 use Rattle.std.specs.FinMap.Entries.{find, is_some-find}
-use Rattle.std.proofs.lemmas.List.Sums.{sum_by-cons}
+use Rattle.std.proofs.lemmas.Bool.{or_left}
 use Rattle.std.proofs.lemmas.List.Folds.{list_any-append}
 use Rattle.mx_pay.specs.Names.{name_cmp}
 use Rattle.mx_pay.specs.Details.{Details, details_cmp, is_details}
 use Rattle.mx_pay.specs.Log.{Entries, has_logged, logged, marks}
 use Rattle.mx_pay.specs.Orders.{details_exact, keys-marks}
 use Rattle.mx_pay.proofs.LogLemmas.{details_total}
-use Rattle.mx_pay.proofs.SameLemmas.{same_details, details_itself, has-with_entry}
+use Rattle.mx_pay.proofs.SameLemmas.{details_itself, has-with_entry}
 use Rattle.mx_purse.specs.declared.status.Status.{Status}
 use Rattle.mx_purse.specs.declared.status.Status.TheVariants.{EaFrom, EaTo, Epr, Epv, Epa}
 use Rattle.mx_purse.specs.Operations.{pending, with_pending, aborted, expects_val, expects_ack}
@@ -26,13 +26,11 @@ use Rattle.mx_book.proofs.ResultLemmas.{same_result}
 use Rattle.mx_book.proofs.UnderLemmas.{get-remake}
 use Rattle.mx_office.specs.Conservation.{IsConserved}
 use Rattle.mx_office.specs.Reachable.{IsReachable}
-use Rattle.mx_office.proofs.KeySumLemmas.{number, sum-keys, sum-keys-within}
-use Rattle.mx_office.proofs.SeenLemmas.{clash}
-use Rattle.mx_office.proofs.SoundLemmas.{IsPresent, either_true, details_turned}
-use Rattle.mx_office.proofs.SeenWorldLemmas.{Invariant, or_cases, seen, side}
-use Rattle.mx_office.proofs.FlowLemmas.{flowing}
-use Rattle.mx_office.proofs.OutLemmas.{Books}
-use Rattle.mx_office.proofs.DeedLemmas.{not_some, both_parts}
+use Rattle.mx_office.proofs.EntrySumLemmas.{number, two_sums, sum-keys, sum-keys-within}
+use Rattle.mx_office.proofs.SeenLemmas.{clash, either_true, both_parts, neither, or_cases}
+use Rattle.mx_office.proofs.SoundLemmas.{IsPresent, details_turned, expects_val_is}
+use Rattle.mx_office.proofs.SeenWorldLemmas.{Invariant, seen, side, has_status, flowing}
+use Rattle.mx_office.proofs.DeedLemmas.{not_some}
 use Rattle.mx_office.proofs.SaneLemmas.{Sane}
 use Rattle.mx_office.proofs.SaneCommandLemmas.{reachable_sane}
 
@@ -43,46 +41,56 @@ pub split_side : (f : Status → Details → Bool) (o : Option Row) (a : Bool) (
 split_side f None a d = refl
 split_side f (Some r) a d = refl
 
+waits_as : (f : Status → Details → Bool) (o : Option Row) (d : Details) → has_status f o d ≡ from_row false (λ (r : Row). f r.holding.purse.status d) o
+waits_as f None d = refl
+waits_as f (Some r) d = refl
+
 -- what is waited for isn't an entry
-pub not_both : (w : World) → Invariant w → (d : Details) (o : Option Row) → fmap.get w.rows d.to ≡ o → from_row false (λ (r : Row). expects_val r.holding.purse.status d) o ≡ true
+not_both : (w : World) → Invariant w → (d : Details) (o : Option Row) → fmap.get w.rows d.to ≡ o → from_row false (λ (r : Row). expects_val r.holding.purse.status d) o ≡ true
     → (from_row false (λ (r : Row). has_logged r.holding.purse.log d) o || is_archived w d.to d) ≡ false
 not_both w i d None at h = clash false h refl
-not_both w i d (Some r) at h = waits r.holding.purse.status (i.sound d.to r at).present h
-  where
-    waits : (s : Status) → IsPresent r.holding.purse (is_archived w d.to) s → expects_val s d ≡ true → (has_logged r.holding.purse.log d || is_archived w d.to d) ≡ false
-    waits EaFrom x h = clash false h refl
-    waits EaTo x h = clash false h refl
-    waits (Epr e) x h = clash false h refl
-    waits (Epa e) x h = clash false h refl
-    waits (Epv e) x h = subst (λ y. (has_logged r.holding.purse.log y || is_archived w d.to y) ≡ false) (same_details e d h) x.fresh
+not_both w i d (Some r) at h = let x : IsPresent r.holding.purse (is_archived w d.to) (Epv d) = subst (IsPresent r.holding.purse (is_archived w d.to)) (expects_val_is r.holding.purse.status d h) (i.sound d.to r at).present in x.fresh
 
--- a: in epa, b: an entry of the from purse, c: in epv, d: an entry of the to purse
-value_case : (a b c d : Bool) (v : ℕ) → (c ≡ true → d ≡ false) → cond ((a || b) && c) v 0 + cond (d && (b || a)) v 0 ≡ cond ((a || b) && (c || d)) v 0
-value_case a b true true v h = clash true refl (h refl)
-value_case true true true false v h = omega arith
-value_case true false true false v h = omega arith
-value_case false true true false v h = omega arith
-value_case false false true false v h = refl
-value_case true true false true v h = omega arith
-value_case true false false true v h = omega arith
-value_case false true false true v h = omega arith
-value_case false false false true v h = refl
-value_case true true false false v h = refl
-value_case true false false false v h = refl
-value_case false true false false v h = refl
-value_case false false false false v h = refl
+maybe_case : (g c d : Bool) → (g && c) ≡ ((g && (c || d)) && c)
+maybe_case false c d = refl
+maybe_case true true d = refl
+maybe_case true false d = sym (neither d false refl)
 
-pub value_split : (w : World) → Invariant w → (d : Details) → cond (maybe_lost w d) d.value 0 + cond (definitely_lost w d) d.value 0 ≡ cond (flowing w d) d.value 0
-value_split w i d =
-    value_case (from_in_epa w d) (from_logged w d) (to_in_epv w d) (to_logged w d) d.value (not_both w i d (fmap.get w.rows d.to) refl)
-    ∙ ap (λ b. cond b d.value 0) (λ k. sym (split_side expects_ack (fmap.get w.rows d.from) (is_archived w d.from d) d) k && sym (split_side expects_val (fmap.get w.rows d.to) (is_archived w d.to d) d) k)
+lost_case : (g c d : Bool) → (c ≡ true → d ≡ false) → (d && g) ≡ ((g && (c || d)) && not c)
+lost_case false c d h = neither d false refl
+lost_case true true d h = ap (λ x. x && true) (h refl)
+lost_case true false true h = refl
+lost_case true false false h = refl
 
-pub two_sums : (f g h : Details → ℕ) → ((d : Details) → f d + g d ≡ h d) → (ks : List Details) → sum_by f ks + sum_by g ks ≡ sum_by h ks
-two_sums f g h same [] = refl
-two_sums f g h same (k ∷ ks) =
-    let head : f k + g k ≡ h k = same k in
-    let rest : sum_by f ks + sum_by g ks ≡ sum_by h ks = two_sums f g h same ks in
-    omega (arith, head, rest, sum_by-cons f k ks, sum_by-cons g k ks, sum_by-cons h k ks)
+pub or_turned : (a b : Bool) → (a || b) ≡ (b || a)
+or_turned true b = sym (either_true b true refl)
+or_turned false true = refl
+or_turned false false = refl
+
+-- what is maybe lost and what is definitely lost, by what is under way and what is waited for
+module _ (w : World) (i : Invariant w) (d : Details) where
+  parts : (flowing w d ≡ ((from_in_epa w d || from_logged w d) && (to_in_epv w d || to_logged w d))) × ((seen w).epv d ≡ to_in_epv w d)
+  parts = (
+    (λ k. split_side expects_ack (fmap.get w.rows d.from) (is_archived w d.from d) d k && split_side expects_val (fmap.get w.rows d.to) (is_archived w d.to d) d k),
+    waits_as expects_val (fmap.get w.rows d.to) d,
+  )
+
+  pub maybe_is : maybe_lost w d ≡ (flowing w d && (seen w).epv d)
+  maybe_is = maybe_case (from_in_epa w d || from_logged w d) (to_in_epv w d) (to_logged w d) ∙ (λ k. sym parts.0 k && sym parts.1 k)
+
+  pub lost_is : definitely_lost w d ≡ (flowing w d && not ((seen w).epv d))
+  lost_is =
+      ap (λ b. to_logged w d && b) (or_turned (from_logged w d) (from_in_epa w d))
+      ∙ lost_case (from_in_epa w d || from_logged w d) (to_in_epv w d) (to_logged w d) (not_both w i d (fmap.get w.rows d.to) refl)
+      ∙ (λ k. sym parts.0 k && not (sym parts.1 k))
+
+  pub value_split : cond (maybe_lost w d) d.value 0 + cond (definitely_lost w d) d.value 0 ≡ cond (flowing w d) d.value 0
+  value_split = (λ k. cond (maybe_is k) d.value 0 + cond (lost_is k) d.value 0) ∙ both_halves (flowing w d) ((seen w).epv d) d.value
+    where
+      both_halves : (f x : Bool) (n : ℕ) → cond (f && x) n 0 + cond (f && not x) n 0 ≡ cond f n 0
+      both_halves false x n = refl
+      both_halves true true n = omega arith
+      both_halves true false n = omega arith
 
 -- ---- a payment under way occurs
 
@@ -100,23 +108,19 @@ occurs : (w : World) (d : Details) → is_some (fmap.get (occurring w) d) ≡ li
 unfolding occurring
 occurs w d = ap is_some (fmap.get-from_entries details_total (marks (occurring_list w)) d) ∙ is_some-find details_cmp d (marks (occurring_list w)) ∙ ap (list_any (is_details d)) (keys-marks (occurring_list w))
 
-either_left : (a b : Bool) → a ≡ true → (a || b) ≡ true
-either_left true b h = refl
-either_left false b h = clash false h refl
-
-found_case : (x : Name) (r : Row) (test : Details → Bool) (e : Name × Row) (es : List (Name × Row)) (b : Bool) → cond b (Some e.1) (find name_cmp x es) ≡ Some r → list_any test (entries_of (x, r)) ≡ true
+entry_found_case : (x : Name) (r : Row) (test : Details → Bool) (e : Name × Row) (es : List (Name × Row)) (b : Bool) → cond b (Some e.1) (find name_cmp x es) ≡ Some r → list_any test (entries_of (x, r)) ≡ true
     → (find name_cmp x es ≡ Some r → list_any test (flat_map entries_of es) ≡ true) → list_any test (entries_of e ++ flat_map entries_of es) ≡ true
-found_case x r test e es true h any rest = list_any-append test (entries_of e) _ ∙ either_left _ _ (ap (λ y. list_any test (entries_of (x, y))) (inside e.1 r h) ∙ any)
-found_case x r test e es false h any rest = list_any-append test (entries_of e) _ ∙ either_true (list_any test (entries_of e)) _ (rest h)
+entry_found_case x r test e es true h any rest = list_any-append test (entries_of e) _ ∙ or_left _ _ (ap (λ y. list_any test (entries_of (x, y))) (inside e.1 r h) ∙ any)
+entry_found_case x r test e es false h any rest = list_any-append test (entries_of e) _ ∙ either_true (list_any test (entries_of e)) _ (rest h)
 
 found : (x : Name) (r : Row) (test : Details → Bool) → list_any test (entries_of (x, r)) ≡ true → (es : List (Name × Row)) → find name_cmp x es ≡ Some r → list_any test (flat_map entries_of es) ≡ true
 found x r test any [] h = not_some r h
-found x r test any (e ∷ es) h = found_case x r test e es (eq_by_cmp name_cmp x e.0) h any (found x r test any es)
+found x r test any (e ∷ es) h = entry_found_case x r test e es (eq_by_cmp name_cmp x e.0) h any (found x r test any es)
 
 shelved : (x : Name) (d : Details) (ps : List (Name × Details)) → list_any (eq_by_cmp result_cmp (x, d)) ps ≡ true → list_any (is_details d) (map (λ (result : Name × Details). result.1) ps) ≡ true
 shelved x d [] h = clash false h refl
 shelved x d (p ∷ ps) h =
-    or_cases (eq_by_cmp result_cmp (x, d) p) _ (λ t. either_left _ _ (ap (λ (q : Name × Details). is_details d q.1) (sym (same_result (x, d) p t)) ∙ details_itself d)) (λ t. either_true (is_details d p.1) _ (shelved x d ps t)) h
+    or_cases (eq_by_cmp result_cmp (x, d) p) _ (λ t. or_left _ _ (ap (λ (q : Name × Details). is_details d q.1) (sym (same_result (x, d) p t)) ∙ details_itself d)) (λ t. either_true (is_details d p.1) _ (shelved x d ps t)) h
 
 -- what a purse waits for in epv, or has logged, is in the log that an abort leaves
 pending_logged : (log : Entries) (d : Details) (s : Status) → (expects_val s d || has_logged log d) ≡ true → has_logged (with_pending log (pending s)) d ≡ true
@@ -137,51 +141,57 @@ due_occurs w d h = occurs w d ∙ list_any-append (is_details d) (flat_map entri
     shelf t = either_true (list_any (is_details d) (flat_map entries_of (fmap.entries w.rows))) (list_any (is_details d) (shelved_list w)) (shelved d.to d (fmap.keys w.archive) (sym (fmap.contains_key-keys w.archive (d.to, d)) ∙ t))
 
     row : (r : Row) → fmap.get w.rows d.to ≡ Some r → (expects_val r.holding.purse.status d || has_logged r.holding.purse.log d) ≡ true → (list_any (is_details d) (flat_map entries_of (fmap.entries w.rows)) || list_any (is_details d) (shelved_list w)) ≡ true
-    row r at t = either_left _ (list_any (is_details d) (shelved_list w))
+    row r at t = or_left _ (list_any (is_details d) (shelved_list w))
         (found d.to r (is_details d) (sym (fmap.contains_key-keys (aborted r.holding.purse).log d) ∙ pending_logged r.holding.purse.log d r.holding.purse.status t) (fmap.entries w.rows) (sym (fmap.get-entries w.rows d.to) ∙ at))
 
     place : (o : Option Row) → fmap.get w.rows d.to ≡ o → side expects_val o (is_archived w d.to d) d ≡ true → (list_any (is_details d) (flat_map entries_of (fmap.entries w.rows)) || list_any (is_details d) (shelved_list w)) ≡ true
     place None at h = shelf h
     place (Some r) at h = or_cases _ _ (row r at) shelf (sym (or_parts (expects_val r.holding.purse.status d) (has_logged r.holding.purse.log d) _) ∙ h)
 
--- ---- the equation
+-- ---- the value of the details of a set that meet a test
 
-flows_where : (w : World) (d : Details) (b c : Bool) → (b ≡ true → c ≡ true) → cond b d.value 0 ≡ cond c (cond b d.value 0) 0
-flows_where w d true c h = ap (λ x. cond x d.value 0) (sym (h refl))
-flows_where w d false true h = refl
-flows_where w d false false h = refl
+module _ (f : Details → Bool) (x : Entries) (there : (d : Details) → f d ≡ true → is_some (fmap.get x d) ≡ true) where
+  worth_there : (n : ℕ) (b c : Bool) → (b ≡ true → c ≡ true) → cond b n 0 ≡ cond c (cond b n 0) 0
+  worth_there n true c h = ap (λ z. cond z n 0) (sym (h refl))
+  worth_there n false true h = refl
+  worth_there n false false h = refl
 
--- transit and lost come to the value of the payments under way
-pub out_is : (w : World) → (s : Sane w) → transit w + lost w ≡ sum_values (λ n. n) s.books.out
-out_is w s =
-    let b : Books w = s.books in
-    let under : (d : Details) → flowing w d ≡ true → is_some (fmap.get (occurring w) d) ≡ true = λ d t. due_occurs w d (both_parts _ _ t).1 in
-    let all : sum_by (λ d. cond (flowing w d) d.value 0) (logged (occurring w)) ≡ sum_values (λ n. n) b.out =
-    sum-keys details_total (λ d. cond (flowing w d) d.value 0) (occurring w) b.out (λ d. b.covers d ∙ flows_where w d (flowing w d) _ (under d)) in
-    let parts : transit w + lost w ≡ sum_by (λ d. cond (flowing w d) d.value 0) (logged (occurring w)) =
-    two_sums (λ d. cond (maybe_lost w d) d.value 0) (λ d. cond (definitely_lost w d) d.value 0) (λ d. cond (flowing w d) d.value 0) (value_split w s.invariant) (logged (occurring w)) in
-    parts ∙ all
+  -- where all that meet it are in the set, it is the sum of a map that has their values
+  pub where_is : (m : fmap.FinMap details_cmp ℕ) → ((d : Details) → number (fmap.get m d) ≡ cond (f d) d.value 0) → value_where f x ≡ sum_values (λ n. n) m
+  where_is m is = sum-keys details_total (λ d. cond (f d) d.value 0) x m details_exact (λ d. is d ∙ worth_there d.value (f d) _ (there d))
+
+  -- such a map
+  abbrev pub worths : fmap.FinMap details_cmp ℕ
+  worths = remake (λ d _. cond (f d) d.value 0) x
+
+  made_case : (n : ℕ) (b : Bool) (o : Option (Unit {0})) → (b ≡ true → is_some o ≡ true) → number (option_map (λ _. cond b n 0) o) ≡ cond b n 0
+  made_case n true None h = clash false (h refl) refl
+  made_case n false None h = refl
+  made_case n b (Some u) h = refl
+
+  pub worths_are : (d : Details) → number (fmap.get worths d) ≡ cond (f d) d.value 0
+  worths_are d = ap number (get-remake details_cmp (λ c _. cond (f c) c.value 0) details_exact x d) ∙ made_case d.value (f d) (fmap.get x d) (there d)
 
 -- what the details of a set come to that meet a test is at most what those of another come to, where they meet a test
 -- there and are in it
 pub value_within : (f g : Details → Bool) (x y : Entries) → ((d : Details) → f d ≡ true → g d ≡ true) → ((d : Details) → g d ≡ true → is_some (fmap.get y d) ≡ true) → value_where f x ≤ value_where g y
 value_within f g x y more there =
-    let number_of : Details → ℕ = λ d. cond (g d) d.value 0 in
-    let m : fmap.FinMap details_cmp ℕ = remake (λ d _. number_of d) y in
-    let numbers : (d : Details) → number (fmap.get m d) ≡ cond (is_some (fmap.get y d)) (number_of d) 0 = λ d. ap number (get-remake details_cmp (λ d _. number_of d) details_exact y d) ∙ made_case (number_of d) (fmap.get y d) in
-    let all : value_where g y ≡ sum_values (λ n. n) m = sum-keys details_total number_of y m numbers in
-    let within : value_where f x ≤ sum_values (λ n. n) m = sum-keys-within details_total (λ d. cond (f d) d.value 0) x m (λ d _. number_case d (f d) (g d) _ _ (more d) (there d) (numbers d)) in
+    let all : value_where g y ≡ sum_values (λ n. n) (worths g y there) = where_is g y there (worths g y there) (worths_are g y there) in
+    let within : value_where f x ≤ sum_values (λ n. n) (worths g y there) =
+    sum-keys-within details_total (λ d. cond (f d) d.value 0) x (worths g y there) (λ d _. subst (λ n. cond (f d) d.value 0 ≤ n) (sym (worths_are g y there d)) (less_case d.value (f d) (g d) (more d))) in
     omega (arith, all, within)
   where
-    made_case : (n : ℕ) (o : Option (Unit {0})) → number (option_map (λ _. n) o) ≡ cond (is_some o) n 0
-    made_case n None = refl
-    made_case n (Some u) = refl
+    less_case : (n : ℕ) (b c : Bool) → (b ≡ true → c ≡ true) → cond b n 0 ≤ cond c n 0
+    less_case n true c h = let e : cond c n 0 ≡ n = ap (λ z. cond z n 0) (h refl) in omega (arith, e)
+    less_case n false c h = omega arith
 
-    number_case : (d : Details) (b c found : Bool) (n : ℕ) → (b ≡ true → c ≡ true) → (c ≡ true → found ≡ true) → n ≡ cond found (cond c d.value 0) 0 → cond b d.value 0 ≤ n
-    number_case d false c found n h k e = omega arith
-    number_case d true false found n h k e = clash true refl (sym (h refl))
-    number_case d true true false n h k e = clash true refl (sym (k refl))
-    number_case d true true true n h k e = omega (arith, e)
+-- ---- the equation
+
+-- transit and lost come to the value of the payments under way
+pub out_is : (w : World) → (s : Sane w) → transit w + lost w ≡ sum_values (λ n. n) s.books.out
+out_is w s =
+    two_sums (λ d. cond (maybe_lost w d) d.value 0) (λ d. cond (definitely_lost w d) d.value 0) (λ d. cond (flowing w d) d.value 0) (value_split w s.invariant) (logged (occurring w))
+    ∙ where_is (flowing w) (occurring w) (λ d t. due_occurs w d (both_parts _ _ t).1) s.books.out s.books.covers
 
 pub conserved : (w : World) → Sane w → IsConserved w
 conserved w s =

@@ -1,109 +1,65 @@
--- Sums over the entries of a map by name.
-use Rattle.std.proofs.Common.{◌≡◌, ℕ, ◌+◌, Bool, true, false, cond, List, [], ◌∷◌, refl, sym, ◌∙◌, ap, Option, Some, None, option_map, arith}
+-- Sums over the entries and the keys of a map.
+use Rattle.std.proofs.Common.{◌≡◌, ℕ, ◌+◌, ◌≤◌, Bool, true, false, cond, List, [], ◌∷◌, refl, sym, ◌∙◌, ap, subst, Option, Some, None, option_map, T, arith, map, is_some}
 use Rattle.std.specs.Prelude.{sum_by}
+use Rattle.std.specs.declared.cmp.Ordering.{Ordering}
+use Rattle.std.specs.declared.cmp.Ordering.TheVariants.{Less}
+use Rattle.std.specs.Ordering.{eq_by_cmp, is_eq}
+use Rattle.std.specs.Cmp.{IsTotalOrder, tied_itself}
 use Rattle.std.specs.FinMap as fmap
-use Rattle.std.proofs.lemmas.List.Sums.{sum_by-cons}
+use Rattle.std.specs.FinMap.{FinMap, IsAntisymmetric, get, insert, entries}
+use Rattle.std.specs.FinMap.Entries.{find, put, is_sorted, below_all}
 use Rattle.mx_pay.specs.Names.{name_cmp, is_name}
+use Rattle.mx_pay.proofs.TestLemmas.{first_true, second_true, is_equal}
 use Rattle.mx_book.specs.Sums.{sum_entries, sum_values}
 use Rattle.mx_book.specs.Under.{remake, remade}
 use Rattle.mx_book.specs.World.{Name}
-use Rattle.mx_book.proofs.FoundLemmas.{inside}
-use Rattle.mx_book.proofs.NameLemmas.{names_total, names_exact, same_name, name_itself}
-use Rattle.mx_book.proofs.SumLemmas.{value_of, sum_values-insert}
+use Rattle.mx_book.proofs.MapLemmas.{find_below}
+use Rattle.mx_book.proofs.NameLemmas.{names_total, names_exact}
+use Rattle.mx_book.proofs.SumLemmas.{value_of, total, total_is, total_same, total_zero, total_add, total_map, total_entries, total_key, sum_values-insert}
 use Rattle.mx_book.proofs.UnderLemmas.{entries-remake, get-remake, entries_empty}
 
--- a map by name with numbers
-abbrev Numbers : Type 0
-Numbers = fmap.FinMap name_cmp ℕ
-
--- the sum of the numbers themselves
-abbrev total : Numbers → ℕ
-total m = sum_values (λ n. n) m
+abbrev pub number : Option ℕ → ℕ
+number o = value_of (λ n. n) o
 
 -- ---- a sum by key and value is the sum of a map with new values
 
-module _ {X Y : Type 0} (f : Name → X → Y) (g : Y → ℕ) where
-  remade_sum : (es : List (Name × X)) → sum_by (λ (e : Name × Y). g e.1) (remade f es) ≡ sum_by (λ (e : Name × X). g (f e.0 e.1)) es
-  remade_sum [] = refl
-  remade_sum (e ∷ es) =
-      omega (arith, remade_sum es, sum_by-cons (λ (x : Name × Y). g x.1) (e.0, f e.0 e.1) (remade f es), sum_by-cons (λ (x : Name × X). g (f x.0 x.1)) e es)
+remade_total : {K X Y : Type 0} (f : K → X → Y) (g : Y → ℕ) (es : List (K × X)) → total (λ (e : K × Y). g e.1) (remade f es) ≡ total (λ (e : K × X). g (f e.0 e.1)) es
+remade_total f g [] = refl
+remade_total f g (e ∷ es) = ap (λ n. g (f e.0 e.1) + n) (remade_total f g es)
 
-  pub sum_values-remake : (m : fmap.FinMap name_cmp X) → sum_values g (remake f m) ≡ sum_entries (λ k x. g (f k x)) m
-  unfolding sum_entries sum_values
-  sum_values-remake m = ap (sum_by (λ (e : Name × Y). g e.1)) (entries-remake name_cmp f m) ∙ remade_sum (fmap.entries m)
+pub sum_values-remake : {K X Y : Type 0} {R : K → K → Ordering} (f : K → X → Y) (g : Y → ℕ) (m : FinMap R X) → sum_values g (remake f m) ≡ sum_entries (λ k x. g (f k x)) m
+unfolding sum_entries sum_values
+sum_values-remake {K = K} {X = X} {Y = Y} {R = R} f g m =
+    ap (sum_by (λ (e : K × Y). g e.1)) (entries-remake R f m) ∙ total_is _ (remade f (entries m)) ∙ remade_total f g (entries m) ∙ sym (total_is (λ (e : K × X). g (f e.0 e.1)) (entries m))
 
 -- a sum by value is one by key and value
-pub values_are : {X : Type 0} (f : X → ℕ) (m : fmap.FinMap name_cmp X) → sum_values f m ≡ sum_entries (λ k x. f x) m
+pub values_are : {X : Type 0} (f : X → ℕ) (m : FinMap name_cmp X) → sum_values f m ≡ sum_entries (λ k x. f x) m
 unfolding sum_entries sum_values
 values_are f m = refl
 
+-- ---- sums of a list
+
+-- two sums that are a third
+pub two_sums : {X : Type 0} (f g h : X → ℕ) → ((x : X) → f x + g x ≡ h x) → (xs : List X) → sum_by f xs + sum_by g xs ≡ sum_by h xs
+two_sums f g h same xs = (λ i. total_is f xs i + total_is g xs i) ∙ sym (total_add f g xs) ∙ total_same _ h xs same ∙ sym (total_is h xs)
+
 module _ {X : Type 0} where
-  numbers_are : (f : Name → X → ℕ) (m : fmap.FinMap name_cmp X) → total (remake f m) ≡ sum_entries f m
-  numbers_are f m = sum_values-remake f (λ n. n) m
-
-  same_found : (f g : X → ℕ) (o : Option X) → ((x : X) → o ≡ Some x → f x ≡ g x) → option_map f o ≡ option_map g o
-  same_found f g None same = refl
-  same_found f g (Some x) same = ap Some (same x refl)
-
   -- sums that agree on each entry that is there
-  pub sum_entries-same : (f g : Name → X → ℕ) (m : fmap.FinMap name_cmp X) → ((k : Name) (x : X) → fmap.get m k ≡ Some x → f k x ≡ g k x) → sum_entries f m ≡ sum_entries g m
-  sum_entries-same f g m same =
-      let maps : remake f m ≡ remake g m = fmap.same_map names_total names_exact _ _ (λ k.
-      get-remake name_cmp f names_exact m k ∙ same_found (f k) (g k) (fmap.get m k) (same k) ∙ sym (get-remake name_cmp g names_exact m k)) in
-      sym (numbers_are f m) ∙ ap total maps ∙ numbers_are g m
+  pub sum_entries-same : (f g : Name → X → ℕ) (m : FinMap name_cmp X) → ((k : Name) (x : X) → get m k ≡ Some x → f k x ≡ g k x) → sum_entries f m ≡ sum_entries g m
+  unfolding sum_entries
+  sum_entries-same f g m same = total_is _ (entries m) ∙ total_entries names_total f g m same ∙ sym (total_is (λ (e : Name × X). g e.0 e.1) (entries m))
 
-  pub sum_values-same : (f g : X → ℕ) (m : fmap.FinMap name_cmp X) → ((k : Name) (x : X) → fmap.get m k ≡ Some x → f x ≡ g x) → sum_values f m ≡ sum_values g m
+  pub sum_values-same : (f g : X → ℕ) (m : FinMap name_cmp X) → ((k : Name) (x : X) → get m k ≡ Some x → f x ≡ g x) → sum_values f m ≡ sum_values g m
   sum_values-same f g m same = values_are f m ∙ sum_entries-same (λ k x. f x) (λ k x. g x) m same ∙ sym (values_are g m)
 
-  value_made : (f : X → ℕ) (o : Option X) → value_of (λ n. n) (option_map f o) ≡ value_of f o
-  value_made f None = refl
-  value_made f (Some x) = refl
+  pub sum_values-zero : (m : FinMap name_cmp X) → sum_values (λ x. 0) m ≡ 0
+  unfolding sum_values
+  sum_values-zero m = total_is (λ (e : Name × X). 0) (entries m) ∙ total_zero (entries m)
 
-  -- ---- a write
+  pub sum_entries-add : (f g : Name → X → ℕ) (m : FinMap name_cmp X) → sum_entries f m + sum_entries g m ≡ sum_entries (λ k x. f k x + g k x) m
+  unfolding sum_entries
+  sum_entries-add f g m = two_sums (λ (e : Name × X). f e.0 e.1) (λ e. g e.0 e.1) _ (λ e. refl) (entries m)
 
-  made_case : (f : Name → X → ℕ) (m : fmap.FinMap name_cmp X) (k q : Name) (v : X) (b : Bool) → is_name q k ≡ b → option_map (f q) (cond b (Some v) (fmap.get m q)) ≡ cond b (Some (f k v)) (option_map (f q) (fmap.get m q))
-  made_case f m k q v true t = ap (λ n. Some (f n v)) (same_name q k t)
-  made_case f m k q v false t = refl
-
-  made_insert : (f : Name → X → ℕ) (m : fmap.FinMap name_cmp X) (k : Name) (v : X) → remake f (fmap.insert m k v) ≡ fmap.insert (remake f m) k (f k v)
-  made_insert f m k v = fmap.same_map names_total names_exact _ _ (λ q.
-      get-remake name_cmp f names_exact (fmap.insert m k v) q
-      ∙ ap (option_map (f q)) (fmap.get-insert names_total m k v q)
-      ∙ made_case f m k q v (is_name q k) refl
-      ∙ ap (cond (is_name q k) (Some (f k v))) (sym (get-remake name_cmp f names_exact m q))
-      ∙ sym (fmap.get-insert names_total (remake f m) k (f k v) q))
-
-  -- a value that is set takes the place of the one before
-  pub sum_entries-insert : (f : Name → X → ℕ) (m : fmap.FinMap name_cmp X) (k : Name) (v : X) → sum_entries f (fmap.insert m k v) + value_of (f k) (fmap.get m k) ≡ sum_entries f m + f k v
-  sum_entries-insert f m k v =
-      let e1 : total (remake f (fmap.insert m k v)) ≡ sum_entries f (fmap.insert m k v) = numbers_are f (fmap.insert m k v) in
-      let e2 : total (remake f m) ≡ sum_entries f m = numbers_are f m in
-      let e3 : total (remake f (fmap.insert m k v)) ≡ total (fmap.insert (remake f m) k (f k v)) = ap total (made_insert f m k v) in
-      let e4 : total (fmap.insert (remake f m) k (f k v)) + value_of (λ n. n) (fmap.get (remake f m) k) ≡ total (remake f m) + f k v = sum_values-insert names_total (λ n. n) (remake f m) k (f k v) in
-      let e5 : value_of (λ n. n) (fmap.get (remake f m) k) ≡ value_of (f k) (fmap.get m k) = ap (value_of (λ n. n)) (get-remake name_cmp f names_exact m k) ∙ value_made (f k) (fmap.get m k) in
-      omega (arith, e1, e2, e3, e4, e5)
-
-  -- a value under a new key is added
-  pub sum_entries-new : (f : Name → X → ℕ) (m : fmap.FinMap name_cmp X) (k : Name) (v : X) → fmap.get m k ≡ None → sum_entries f (fmap.insert m k v) ≡ sum_entries f m + f k v
-  sum_entries-new f m k v none = let old : value_of (f k) (fmap.get m k) ≡ 0 = ap (value_of (f k)) none in omega (arith, old, sum_entries-insert f m k v)
-
-  pub sum_values-new : (f : X → ℕ) (m : fmap.FinMap name_cmp X) (k : Name) (v : X) → fmap.get m k ≡ None → sum_values f (fmap.insert m k v) ≡ sum_values f m + f v
-  sum_values-new f m k v none = values_are f (fmap.insert m k v) ∙ sum_entries-new (λ q x. f x) m k v none ∙ ap (λ n. n + f v) (sym (values_are f m))
-
--- ---- numbers that are all zero
-
-zero_sum : {X : Type 0} (es : List (Name × X)) → sum_by (λ (e : Name × X). 0) es ≡ 0
-zero_sum [] = refl
-zero_sum {X = X} (e ∷ es) = omega (arith, zero_sum es, sum_by-cons (λ (x : Name × X). 0) e es)
-
-pub sum_values-zero : {X : Type 0} (m : fmap.FinMap name_cmp X) → sum_values (λ x. 0) m ≡ 0
-unfolding sum_values
-sum_values-zero m = zero_sum (fmap.entries m)
-
-all_zero : (m : Numbers) → ((k : Name) (n : ℕ) → fmap.get m k ≡ Some n → n ≡ 0) → total m ≡ 0
-all_zero m zero = sum_values-same (λ n. n) (λ n. 0) m zero ∙ sum_values-zero m
-
-module _ {X : Type 0} where
   -- ---- a sum of nothing, and of one entry alone
 
   pub sum_entries-empty : (f : Name → X → ℕ) → sum_entries f (fmap.empty {X = X} {R = name_cmp}) ≡ 0
@@ -117,33 +73,82 @@ module _ {X : Type 0} where
   abbrev at_key : Name → (X → ℕ) → Name → X → ℕ
   at_key k f q x = cond (is_name k q) (f x) 0
 
-  other_zero : (k q : Name) (f : X → ℕ) (x : X) (b : Bool) → is_name q k ≡ false → is_name k q ≡ b → at_key k f q x ≡ 0
-  other_zero k q f x true apart t = absurd (let e : true ≡ false = sym (ap (λ z. is_name z k) (sym (same_name k q t)) ∙ name_itself k) ∙ apart in cc)
-  other_zero k q f x false apart t = ap (λ b. cond b (f x) 0) t
-
-  zero_case : (k q : Name) (f : X → ℕ) (o : Option X) (n : ℕ) (b : Bool) → is_name q k ≡ b → cond b (Some 0) (option_map (at_key k f q) o) ≡ Some n → n ≡ 0
-  zero_case k q f o n true t e = sym (inside 0 n e)
-  zero_case k q f None n false t e = cc
-  zero_case k q f (Some x) n false t e = sym (inside (at_key k f q x) n e) ∙ other_zero k q f x (is_name k q) t refl
-
-  pub sum_entries-one : (f : X → ℕ) (m : fmap.FinMap name_cmp X) (k : Name) (x : X) → fmap.get m k ≡ Some x → sum_entries (at_key k f) m ≡ f x
-  sum_entries-one f m k x at =
-      let made : Numbers = remake (at_key k f) m in
-      let e1 : total made ≡ sum_entries (at_key k f) m = numbers_are (at_key k f) m in
-      let e2 : total (fmap.insert made k 0) + value_of (λ n. n) (fmap.get made k) ≡ total made + 0 = sum_values-insert names_total (λ n. n) made k 0 in
-      let e3 : value_of (λ n. n) (fmap.get made k) ≡ f x =
-      ap (value_of (λ n. n)) (get-remake name_cmp (at_key k f) names_exact m k ∙ ap (option_map (at_key k f k)) at) ∙ ap (λ b. cond b (f x) 0) (name_itself k) in
-      let e4 : total (fmap.insert made k 0) ≡ 0 =
-      all_zero (fmap.insert made k 0) (λ q n found. zero_case k q f (fmap.get m q) n (is_name q k) refl
-      (ap (cond (is_name q k) (Some 0)) (sym (get-remake name_cmp (at_key k f) names_exact m q)) ∙ sym (fmap.get-insert names_total made k 0 q) ∙ found)) in
-      omega (arith, e1, e2, e3, e4)
-
-  -- ---- two sums
-
-  two_sums : (f g : Name × X → ℕ) (es : List (Name × X)) → sum_by f es + sum_by g es ≡ sum_by (λ e. f e + g e) es
-  two_sums f g [] = refl
-  two_sums f g (e ∷ es) = omega (arith, two_sums f g es, sum_by-cons f e es, sum_by-cons g e es, sum_by-cons (λ x. f x + g x) e es)
-
-  pub sum_entries-add : (f g : Name → X → ℕ) (m : fmap.FinMap name_cmp X) → sum_entries f m + sum_entries g m ≡ sum_entries (λ k x. f k x + g k x) m
+  pub sum_entries-one : (f : X → ℕ) (m : FinMap name_cmp X) (k : Name) (x : X) → get m k ≡ Some x → sum_entries (at_key k f) m ≡ f x
   unfolding sum_entries
-  sum_entries-add f g m = two_sums (λ e. f e.0 e.1) (λ e. g e.0 e.1) (fmap.entries m)
+  sum_entries-one f m k x at = total_is _ (entries m) ∙ total_key names_total names_exact (λ q y. f y) k m ∙ ap (value_of f) at
+
+  -- ---- a write
+
+  name_below : (k x : Name) (es : List (Name × X)) → name_cmp k x ≡ Less → T (below_all name_cmp x es) → find name_cmp k es ≡ None
+  name_below k x [] l h = refl
+  name_below k x (e ∷ es) l h = grind (arith, name_below k x es, names_total.trans k x e.0)
+
+  entry-put : (f : Name → X → ℕ) (k : Name) (v : X) (es : List (Name × X)) → T (is_sorted name_cmp es)
+      → total (λ (e : Name × X). f e.0 e.1) (put name_cmp k v es) + value_of (f k) (find name_cmp k es) ≡ total (λ (e : Name × X). f e.0 e.1) es + f k v
+  entry-put f k v [] h = omega arith
+  entry-put f k v (e ∷ es) h = grind (arith, entry-put f k v es, name_below k e.0 es, names_exact k e.0)
+
+  -- a value that is set takes the place of the one before
+  pub sum_entries-insert : (f : Name → X → ℕ) (m : FinMap name_cmp X) (k : Name) (v : X) → sum_entries f (insert m k v) + value_of (f k) (get m k) ≡ sum_entries f m + f k v
+  unfolding sum_entries
+  sum_entries-insert f m k v =
+      (λ i. (total_is (λ (e : Name × X). f e.0 e.1) (entries (insert m k v)) ∙ ap (total (λ (e : Name × X). f e.0 e.1)) (fmap.entries-insert names_total m k v)) i + value_of (f k) (fmap.get-entries m k i))
+      ∙ entry-put f k v (entries m) (fmap.entries_sorted m) ∙ ap (λ n. n + f k v) (sym (total_is (λ (e : Name × X). f e.0 e.1) (entries m)))
+
+  -- a value under a new key is added
+  pub sum_entries-new : (f : Name → X → ℕ) (m : FinMap name_cmp X) (k : Name) (v : X) → get m k ≡ None → sum_entries f (insert m k v) ≡ sum_entries f m + f k v
+  sum_entries-new f m k v none = let old : value_of (f k) (get m k) ≡ 0 = ap (value_of (f k)) none in omega (arith, old, sum_entries-insert f m k v)
+
+  pub sum_values-new : (f : X → ℕ) (m : FinMap name_cmp X) (k : Name) (v : X) → get m k ≡ None → sum_values f (insert m k v) ≡ sum_values f m + f v
+  sum_values-new f m k v none = values_are f (insert m k v) ∙ sum_entries-new (λ q x. f x) m k v none ∙ ap (λ n. n + f v) (sym (values_are f m))
+
+-- ---- listed keys, beside a map of numbers
+
+pub sum-empty : {K : Type 0} {R : K → K → Ordering} → IsTotalOrder R → sum_values (λ n. n) (fmap.empty {X = ℕ} {R = R}) ≡ 0
+unfolding sum_values
+sum-empty {K = K} {R = R} o = ap (sum_by (λ (e : K × ℕ). e.1)) (entries_empty {V = ℕ} R)
+
+module _ {K X : Type 0} {R : K → K → Ordering} (o : IsTotalOrder R) where
+  -- a map has at least these numbers of entries
+  abbrev HasMore : (K → X → ℕ) → List (K × X) → FinMap R ℕ → Type 0
+  HasMore g es m = (q : K) (x : X) → find R q es ≡ Some x → g q x ≤ number (get m q)
+
+  more_tail : (g : K → X → ℕ) (e : K × X) (es : List (K × X)) (m : FinMap R ℕ) → T (below_all R e.0 es) → HasMore g (e ∷ es) m
+      → (q : K) (x : X) → find R q es ≡ Some x → (b : Bool) → eq_by_cmp R q e.0 ≡ b → g q x ≤ number (cond b (Some 0) (get m q))
+  more_tail g e es m h is q x found true t = let none : find R q es ≡ None = find_below o q e.0 es (is_equal _ t) h in absurd (cc)
+  more_tail g e es m h is q x found false t = is q x (ap (λ b. cond b (Some e.1) (find R q es)) t ∙ found)
+
+  entries_within : (g : K → X → ℕ) (es : List (K × X)) → T (is_sorted R es) → (m : FinMap R ℕ) → HasMore g es m → total (λ (e : K × X). g e.0 e.1) es ≤ sum_values (λ n. n) m
+  entries_within g [] h m is = omega arith
+  entries_within g (e ∷ es) h m is =
+      let below = first_true (below_all R e.0 es) (is_sorted R es) h in
+      let rest : total (λ (x : K × X). g x.0 x.1) es ≤ sum_values (λ n. n) (insert m e.0 0) =
+      entries_within g es (second_true (below_all R e.0 es) (is_sorted R es) h) (insert m e.0 0)
+      (λ q x found. subst (λ y. g q x ≤ number y) (sym (fmap.get-insert o m e.0 0 q)) (more_tail g e es m below is q x found (eq_by_cmp R q e.0) refl)) in
+      let at : g e.0 e.1 ≤ number (get m e.0) = is e.0 e.1 (ap (λ b. cond b (Some e.1) (find R e.0 es)) (ap is_eq (tied_itself o e.0))) in
+      let step : sum_values (λ n. n) (insert m e.0 0) + number (get m e.0) ≡ sum_values (λ n. n) m + 0 = sum_values-insert o (λ n. n) m e.0 0 in
+      omega (arith, rest, at, step)
+
+module _ {K X : Type 0} {R : K → K → Ordering} (o : IsTotalOrder R) (f : K → ℕ) (s : FinMap R X) (m : FinMap R ℕ) where
+  keys_are : sum_by f (map (λ (e : K × X). e.0) (entries s)) ≡ total (λ (e : K × X). f e.0) (entries s)
+  keys_are = total_is f _ ∙ total_map f (λ (e : K × X). e.0) (entries s)
+
+  pub sum-keys-within : ((q : K) → is_some (get s q) ≡ true → f q ≤ number (get m q)) → sum_by f (map (λ (e : K × X). e.0) (entries s)) ≤ sum_values (λ n. n) m
+  sum-keys-within is =
+      let within : total (λ (e : K × X). f e.0) (entries s) ≤ sum_values (λ n. n) m = entries_within o (λ k _. f k) (entries s) (fmap.entries_sorted s) m (λ q x found. is q (ap is_some (fmap.get-entries s q ∙ found))) in
+      omega (arith, keys_are, within)
+
+  pub sum-keys : IsAntisymmetric R → ((q : K) → number (get m q) ≡ cond (is_some (get s q)) (f q) 0) → sum_by f (map (λ (e : K × X). e.0) (entries s)) ≡ sum_values (λ n. n) m
+  unfolding sum_entries sum_values
+  sum-keys exact is =
+      let made : FinMap R ℕ = remake (λ k _. f k) s in
+      let less : sum_by f (map (λ (e : K × X). e.0) (entries s)) ≤ sum_values (λ n. n) m = sum-keys-within (λ q there. let e : number (get m q) ≡ f q = is q ∙ ap (λ b. cond b (f q) 0) there in omega (arith, e)) in
+      let more : total (λ (e : K × ℕ). e.1) (entries m) ≤ sum_values (λ n. n) made = entries_within o (λ _ n. n) (entries m) (fmap.entries_sorted m) made (λ q n found.
+      let e : n ≡ number (get made q) = ap number (sym found ∙ sym (fmap.get-entries m q)) ∙ is q ∙ made_number (f q) (get s q) ∙ ap number (sym (get-remake R (λ k _. f k) exact s q)) in omega (arith, e)) in
+      let same : sum_values (λ n. n) made ≡ total (λ (e : K × X). f e.0) (entries s) = sum_values-remake (λ k _. f k) (λ n. n) s ∙ total_is _ (entries s) in
+      let all : sum_values (λ n. n) m ≡ total (λ (e : K × ℕ). e.1) (entries m) = total_is _ (entries m) in
+      omega (arith, less, more, same, all, keys_are)
+    where
+      made_number : (n : ℕ) (x : Option X) → cond (is_some x) n 0 ≡ number (option_map (λ _. n) x)
+      made_number n None = refl
+      made_number n (Some x) = refl

@@ -1,28 +1,23 @@
 -- What counts as lost and as received, before and after a change of a World.
-use Rattle.std.proofs.Common.{◌≡◌, ℕ, ◌+◌, Bool, true, false, cond, not, refl, sym, ◌∙◌, ap, Option, Some, None, option_map, ◌&&◌, ◌||◌, inl, inr, arith, is_some}
+use Rattle.std.proofs.Common.{◌≡◌, ℕ, ◌+◌, Bool, true, false, cond, not, refl, sym, ◌∙◌, ap, Some, ◌&&◌, ◌||◌, inl, inr, arith, is_some}
+use Rattle.std.proofs.lemmas.Bool.{or_left}
 use Rattle.std.specs.FinMap as fmap
 use Rattle.mx_pay.specs.Names.{is_name}
 use Rattle.mx_pay.specs.Details.{Details, details_cmp, is_details}
 use Rattle.mx_pay.specs.Log.{Entries}
-use Rattle.mx_pay.specs.Orders.{details_exact}
 use Rattle.mx_pay.proofs.LogLemmas.{details_total}
-use Rattle.mx_purse.specs.declared.status.Status.{Status}
-use Rattle.mx_purse.specs.Operations.{expects_val, expects_ack}
-use Rattle.mx_book.specs.Reads.{from_row, is_archived}
+use Rattle.mx_purse.specs.Operations.{expects_val}
+use Rattle.mx_book.specs.Reads.{is_archived}
 use Rattle.mx_book.specs.Sums.{sum_values}
 use Rattle.mx_book.specs.Totals.{from_in_epa, from_logged, to_in_epv, to_logged, maybe_lost, definitely_lost, occurring, value_where}
-use Rattle.mx_book.specs.Under.{remake}
-use Rattle.mx_book.specs.World.{World, Row, Name}
+use Rattle.mx_book.specs.World.{World, Name}
 use Rattle.mx_book.proofs.SumLemmas.{sum_values-insert}
-use Rattle.mx_book.proofs.UnderLemmas.{get-remake}
 use Rattle.mx_office.specs.Abstract.{ChosenLost, counts_lost, counts_received, received_by, losses_of}
-use Rattle.mx_office.proofs.ConservedLemmas.{split_side, not_both, due_occurs}
-use Rattle.mx_office.proofs.DeedLemmas.{both_parts}
-use Rattle.mx_office.proofs.FlowLemmas.{flowing}
-use Rattle.mx_office.proofs.KeySumLemmas.{number, sum-keys}
+use Rattle.mx_office.proofs.ConservedLemmas.{split_side, due_occurs, maybe_is, lost_is, where_is, worths, worths_are}
+use Rattle.mx_office.proofs.EntrySumLemmas.{number}
 use Rattle.mx_office.proofs.SecurityLemmas.{lost_occurs}
-use Rattle.mx_office.proofs.SeenLemmas.{Step, clash}
-use Rattle.mx_office.proofs.SeenWorldLemmas.{Invariant, seen, has_status, or_cases}
+use Rattle.mx_office.proofs.SeenLemmas.{Step, clash, both_parts, neither, or_cases}
+use Rattle.mx_office.proofs.SeenWorldLemmas.{Invariant, seen, flowing}
 use Rattle.mx_office.proofs.SoundLemmas.{details_turned}
 use Rattle.mx_pay.proofs.SameLemmas.{same_details}
 
@@ -33,118 +28,36 @@ module _ (f g : Details → Bool) (x y : Entries) (fs : (d : Details) → f d �
   abbrev value_at : (Details → Bool) → Details → ℕ
   value_at t d = cond (t d) d.value 0
 
-  abbrev numbers : fmap.FinMap details_cmp ℕ
-  numbers = remake (λ d _. value_at f d) x
-
-  made : (n : ℕ) (b : Bool) (o : Option (Unit {0})) → (b ≡ true → is_some o ≡ true) → number (option_map (λ _. cond b n 0) o) ≡ cond b n 0
-  made n true None h = clash false (h refl) refl
-  made n false None h = refl
-  made n b (Some u) h = refl
-
-  numbered : (d : Details) → number (fmap.get numbers d) ≡ value_at f d
-  numbered d = ap number (get-remake details_cmp (λ c _. value_at f c) details_exact x d) ∙ made d.value (f d) (fmap.get x d) (fs d)
-
-  moved : (d : Details) (b : Bool) → is_details d e ≡ b → number (cond b (Some (value_at g e)) (fmap.get numbers d)) ≡ value_at g d
-  moved d true t = ap (value_at g) (sym (same_details d e t))
-  moved d false t = numbered d ∙ ap (λ b. cond b d.value 0) (sym (other d (details_turned e d ∙ t)))
+  value_moved : (d : Details) (b : Bool) → is_details d e ≡ b → number (cond b (Some (value_at g e)) (fmap.get (worths f x fs) d)) ≡ value_at g d
+  value_moved d true t = ap (value_at g) (sym (same_details d e t))
+  value_moved d false t = worths_are f x fs d ∙ ap (λ b. cond b d.value 0) (sym (other d (details_turned e d ∙ t)))
 
   pub value_moves : value_where g y + value_at f e ≡ value_where f x + value_at g e
   value_moves =
-      let e1 : value_where f x ≡ sum_values (λ n. n) numbers = sum-keys details_total (value_at f) x numbers (λ d. numbered d ∙ flows_where_at d (f d) _ (fs d)) in
-      let next : fmap.FinMap details_cmp ℕ = fmap.insert numbers e (value_at g e) in
-      let e2 : value_where g y ≡ sum_values (λ n. n) next =
-      sum-keys details_total (value_at g) y next (λ d. ap number (fmap.get-insert details_total numbers e (value_at g e) d) ∙ moved d (is_details d e) refl ∙ flows_where_at d (g d) _ (gs d)) in
-      let e3 : sum_values (λ n. n) next + number (fmap.get numbers e) ≡ sum_values (λ n. n) numbers + value_at g e = sum_values-insert details_total (λ n. n) numbers e (value_at g e) in
-      let e4 : number (fmap.get numbers e) ≡ value_at f e = numbered e in
+      let m : fmap.FinMap details_cmp ℕ = worths f x fs in
+      let e1 : value_where f x ≡ sum_values (λ n. n) m = where_is f x fs m (worths_are f x fs) in
+      let next : fmap.FinMap details_cmp ℕ = fmap.insert m e (value_at g e) in
+      let e2 : value_where g y ≡ sum_values (λ n. n) next = where_is g y gs next (λ d. ap number (fmap.get-insert details_total m e (value_at g e) d) ∙ value_moved d (is_details d e) refl) in
+      let e3 : sum_values (λ n. n) next + number (fmap.get m e) ≡ sum_values (λ n. n) m + value_at g e = sum_values-insert details_total (λ n. n) m e (value_at g e) in
+      let e4 : number (fmap.get m e) ≡ value_at f e = worths_are f x fs e in
       omega (arith, e1, e2, e3, e4)
-    where
-      flows_where_at : (d : Details) (b c : Bool) → (b ≡ true → c ≡ true) → cond b d.value 0 ≡ cond c (cond b d.value 0) 0
-      flows_where_at d true c h = ap (λ z. cond z d.value 0) (sym (h refl))
-      flows_where_at d false true h = refl
-      flows_where_at d false false h = refl
-
--- ---- what is maybe lost and what is definitely lost, by what is under way and what is waited for
-
-waits_as : (f : Status → Details → Bool) (o : Option Row) (d : Details) → has_status f o d ≡ from_row false (λ (r : Row). f r.holding.purse.status d) o
-waits_as f None d = refl
-waits_as f (Some r) d = refl
-
-maybe_case : (g c d : Bool) → (g && c) ≡ ((g && (c || d)) && c)
-maybe_case false c d = refl
-maybe_case true true d = refl
-maybe_case true false true = refl
-maybe_case true false false = refl
-
-lost_case : (a b c d : Bool) → (c ≡ true → d ≡ false) → (d && (b || a)) ≡ (((a || b) && (c || d)) && not c)
-lost_case a b true true h = clash true refl (h refl)
-lost_case true true true false h = refl
-lost_case true false true false h = refl
-lost_case false true true false h = refl
-lost_case false false true false h = refl
-lost_case true true false true h = refl
-lost_case true false false true h = refl
-lost_case false true false true h = refl
-lost_case false false false true h = refl
-lost_case true true false false h = refl
-lost_case true false false false h = refl
-lost_case false true false false h = refl
-lost_case false false false false h = refl
-
-module _ (w : World) (i : Invariant w) (d : Details) where
-  gone_parts : (seen w).gone d ≡ (from_in_epa w d || from_logged w d)
-  gone_parts = split_side expects_ack (fmap.get w.rows d.from) (is_archived w d.from d) d
-
-  due_parts : (seen w).due d ≡ (to_in_epv w d || to_logged w d)
-  due_parts = split_side expects_val (fmap.get w.rows d.to) (is_archived w d.to d) d
-
-  epv_part : (seen w).epv d ≡ to_in_epv w d
-  epv_part = waits_as expects_val (fmap.get w.rows d.to) d
-
-  pub maybe_is : maybe_lost w d ≡ (flowing w d && (seen w).epv d)
-  maybe_is = maybe_case (from_in_epa w d || from_logged w d) (to_in_epv w d) (to_logged w d) ∙ (λ k. (sym gone_parts k && sym due_parts k) && sym epv_part k)
-
-  pub lost_is : definitely_lost w d ≡ (flowing w d && not ((seen w).epv d))
-  lost_is =
-      lost_case (from_in_epa w d) (from_logged w d) (to_in_epv w d) (to_logged w d) (not_both w i d (fmap.get w.rows d.to) refl)
-      ∙ (λ k. (sym gone_parts k && sym due_parts k) && not (sym epv_part k))
 
 -- ---- what counts occurs
 
-due_left : (a b : Bool) → a ≡ true → (a || b) ≡ true
-due_left true b h = refl
-due_left false b h = clash false h refl
-
 maybe_occurs : (w : World) (d : Details) → maybe_lost w d ≡ true → is_some (fmap.get (occurring w) d) ≡ true
-maybe_occurs w d h = due_occurs w d (split_side expects_val (fmap.get w.rows d.to) (is_archived w d.to d) d ∙ due_left (to_in_epv w d) (to_logged w d) (both_parts (from_in_epa w d || from_logged w d) (to_in_epv w d) h).1)
+maybe_occurs w d h = due_occurs w d (split_side expects_val (fmap.get w.rows d.to) (is_archived w d.to d) d ∙ or_left (to_in_epv w d) (to_logged w d) (both_parts (from_in_epa w d || from_logged w d) (to_in_epv w d) h).1)
 
-received_occurs : (w : World) (c : ChosenLost) (b : Bool) (d : Details) → (b && counts_received w c d) ≡ true → is_some (fmap.get (occurring w) d) ≡ true
-received_occurs w c b d h = maybe_occurs w d (both_parts (maybe_lost w d) _ (both_parts b _ h).1).0
+received_occurs : (w : World) (c : ChosenLost) (d : Details) → counts_received w c d ≡ true → is_some (fmap.get (occurring w) d) ≡ true
+received_occurs w c d h = maybe_occurs w d (both_parts (maybe_lost w d) _ h).0
 
-counted_occurs : (w : World) (c : ChosenLost) (b : Bool) (d : Details) → (b && counts_lost w c d) ≡ true → is_some (fmap.get (occurring w) d) ≡ true
-counted_occurs w c b d h = or_cases (definitely_lost w d) _ (lost_occurs w d) (λ t. maybe_occurs w d (both_parts (maybe_lost w d) _ t).0) (both_parts b _ h).1
+counted_occurs : (w : World) (c : ChosenLost) (d : Details) → counts_lost w c d ≡ true → is_some (fmap.get (occurring w) d) ≡ true
+counted_occurs w c d h = or_cases (definitely_lost w d) _ (lost_occurs w d) (λ t. maybe_occurs w d (both_parts (maybe_lost w d) _ t).0) h
 
 -- ---- the sums of a purse
 
 -- the value of details that are of a purse and meet a test
 abbrev pub share : Bool → Bool → Details → ℕ
 share own test d = cond (own && test) d.value 0
-
-module _ (w v : World) (b c : ChosenLost) (e : Details) where
-  pub received_moves : ((d : Details) → is_details e d ≡ false → counts_received v c d ≡ counts_received w b d) → (p : Name)
-      → received_by v c p + share (is_name p e.to) (counts_received w b e) e ≡ received_by w b p + share (is_name p e.to) (counts_received v c e) e
-  received_moves other p =
-      value_moves (λ d. is_name p d.to && counts_received w b d) (λ d. is_name p d.to && counts_received v c d) (occurring w) (occurring v)
-      (λ d. received_occurs w b (is_name p d.to) d) (λ d. received_occurs v c (is_name p d.to) d) e (λ d apart. ap (λ x. is_name p d.to && x) (other d apart))
-
-  pub lost_moves : ((d : Details) → is_details e d ≡ false → counts_lost v c d ≡ counts_lost w b d) → (p : Name)
-      → losses_of v c p + share (is_name p e.from) (counts_lost w b e) e ≡ losses_of w b p + share (is_name p e.from) (counts_lost v c e) e
-  lost_moves other p =
-      value_moves (λ d. is_name p d.from && counts_lost w b d) (λ d. is_name p d.from && counts_lost v c d) (occurring w) (occurring v)
-      (λ d. counted_occurs w b (is_name p d.from) d) (λ d. counted_occurs v c (is_name p d.from) d) e (λ d apart. ap (λ x. is_name p d.from && x) (other d apart))
-
-pub no_share : (own : Bool) (e : Details) → share own false e ≡ 0
-no_share true e = refl
-no_share false e = refl
 
 -- details of no value
 nothing_of : Name → Details
@@ -156,61 +69,60 @@ nothing_shared true true p = refl
 nothing_shared true false p = refl
 nothing_shared false test p = refl
 
+-- what a purse has of the details that meet a test, which occur
+module _ (w v : World) (own : Details → Name) (f g : Details → Bool) (fs : (d : Details) → f d ≡ true → is_some (fmap.get (occurring w) d) ≡ true) (gs : (d : Details) → g d ≡ true → is_some (fmap.get (occurring v) d) ≡ true) where
+  own_moves : (e : Details) → ((d : Details) → is_details e d ≡ false → g d ≡ f d) → (p : Name)
+      → value_where (λ d. is_name p (own d) && g d) (occurring v) + share (is_name p (own e)) (f e) e ≡ value_where (λ d. is_name p (own d) && f d) (occurring w) + share (is_name p (own e)) (g e) e
+  own_moves e other p = value_moves (λ d. is_name p (own d) && f d) (λ d. is_name p (own d) && g d) (occurring w) (occurring v)
+      (λ d t. fs d (both_parts _ _ t).1) (λ d t. gs d (both_parts _ _ t).1) e (λ d apart. ap (λ x. is_name p (own d) && x) (other d apart))
+
+  own_same : ((d : Details) → g d ≡ f d) → (p : Name) → value_where (λ d. is_name p (own d) && g d) (occurring v) ≡ value_where (λ d. is_name p (own d) && f d) (occurring w)
+  own_same same p =
+      let e : Details = nothing_of p in
+      omega (arith, own_moves e (λ d _. same d) p, nothing_shared (is_name p (own e)) (f e) p, nothing_shared (is_name p (own e)) (g e) p)
+
 module _ (w v : World) (b c : ChosenLost) where
   pub received_same : ((d : Details) → counts_received v c d ≡ counts_received w b d) → (p : Name) → received_by v c p ≡ received_by w b p
-  received_same same p =
-      let e : Details = nothing_of p in
-      omega (arith, received_moves w v b c e (λ d _. same d) p, nothing_shared (is_name p e.to) (counts_received w b e) p, nothing_shared (is_name p e.to) (counts_received v c e) p)
+  received_same = own_same w v (λ d. d.to) (counts_received w b) (counts_received v c) (received_occurs w b) (received_occurs v c)
 
   pub lost_same : ((d : Details) → counts_lost v c d ≡ counts_lost w b d) → (p : Name) → losses_of v c p ≡ losses_of w b p
-  lost_same same p =
-      let e : Details = nothing_of p in
-      omega (arith, lost_moves w v b c e (λ d _. same d) p, nothing_shared (is_name p e.from) (counts_lost w b e) p, nothing_shared (is_name p e.from) (counts_lost v c e) p)
+  lost_same = own_same w v (λ d. d.from) (counts_lost w b) (counts_lost v c) (counted_occurs w b) (counted_occurs v c)
 
 -- ---- the choice before
 
 -- f: is under way, x and y: is waited for before and after, h: is chosen
 received_case : (f x y h : Bool) → (f ≡ true → y ≡ true → x ≡ true) → ((f && y) && not h) ≡ ((f && x) && not ((f && not y) || ((f && y) && h)))
 received_case false x y h k = refl
-received_case true true true h k = refl
-received_case true false true h k = clash false (k refl refl) refl
-received_case true true false h k = refl
-received_case true false false h k = refl
+received_case true x true h k = ap (λ z. z && not h) (sym (k refl refl))
+received_case true x false h k = sym (neither x false refl)
 
 counts_case : (f x y h : Bool) → (f ≡ true → y ≡ true → x ≡ true) → ((f && not y) || ((f && y) && h)) ≡ ((f && not x) || ((f && x) && ((f && not y) || ((f && y) && h))))
 counts_case false x y h k = refl
-counts_case true true true h k = refl
-counts_case true false true h k = clash false (k refl refl) refl
+counts_case true x true h k = ap (λ z. not z || (z && h)) (sym (k refl refl))
 counts_case true true false h k = refl
 counts_case true false false h k = refl
 
 -- what counts as lost after a command is chosen before it: then each payment that is under way before and after counts
 -- as it did
-module _ (w v : World) (i : Invariant w) (j : Invariant v) (step : Step (seen w) (seen v)) (c : ChosenLost) (d : Details) where
+module _ (w v : World) (i : Invariant w) (j : Invariant v) (step : Step (seen w) (seen v)) (c : ChosenLost) (d : Details) (flow : flowing v d ≡ flowing w d) where
   waited : flowing w d ≡ true → (seen v).epv d ≡ true → (seen w).epv d ≡ true
   waited flows t = elim (step.epv d t) [ inl h ↦ h | inr past ↦ clash ((seen w).to_past d) (i.known d (both_parts _ _ flows).0) past ]
 
-  after_lost : counts_lost v c d ≡ ((flowing v d && not ((seen v).epv d)) || ((flowing v d && (seen v).epv d) && c d))
-  after_lost = (λ k. lost_is v j d k || (maybe_is v j d k && c d))
+  after_lost : counts_lost v c d ≡ ((flowing w d && not ((seen v).epv d)) || ((flowing w d && (seen v).epv d) && c d))
+  after_lost = (λ k. lost_is v j d k || (maybe_is v j d k && c d)) ∙ (λ k. (flow k && not ((seen v).epv d)) || ((flow k && (seen v).epv d) && c d))
 
-  after_received : counts_received v c d ≡ ((flowing v d && (seen v).epv d) && not (c d))
-  after_received = (λ k. maybe_is v j d k && not (c d))
-
-  pub received_stays : flowing v d ≡ flowing w d → counts_received v c d ≡ counts_received w (counts_lost v c) d
-  received_stays flow =
-      after_received
+  received_stays : counts_received v c d ≡ counts_received w (counts_lost v c) d
+  received_stays =
+      (λ k. maybe_is v j d k && not (c d))
       ∙ (λ k. (flow k && (seen v).epv d) && not (c d))
       ∙ received_case (flowing w d) ((seen w).epv d) ((seen v).epv d) (c d) waited
-      ∙ (λ k. sym (maybe_is w i d) k && not ((sym flow k && not ((seen v).epv d)) || ((sym flow k && (seen v).epv d) && c d)))
-      ∙ (λ k. maybe_lost w d && not (sym after_lost k))
+      ∙ (λ k. sym (maybe_is w i d) k && not (sym after_lost k))
 
-  pub counts_stays : flowing v d ≡ flowing w d → counts_lost v c d ≡ counts_lost w (counts_lost v c) d
-  counts_stays flow =
+  counts_stays : counts_lost v c d ≡ counts_lost w (counts_lost v c) d
+  counts_stays =
       after_lost
-      ∙ (λ k. (flow k && not ((seen v).epv d)) || ((flow k && (seen v).epv d) && c d))
       ∙ counts_case (flowing w d) ((seen w).epv d) ((seen v).epv d) (c d) waited
-      ∙ (λ k. sym (lost_is w i d) k || (sym (maybe_is w i d) k && ((sym flow k && not ((seen v).epv d)) || ((sym flow k && (seen v).epv d) && c d))))
-      ∙ (λ k. definitely_lost w d || (maybe_lost w d && sym after_lost k))
+      ∙ (λ k. sym (lost_is w i d) k || (sym (maybe_is w i d) k && sym after_lost k))
 
 -- the sums of a purse, where what is under way stays, and where one payment begins or ends to be under way
 module _ (w v : World) (i : Invariant w) (j : Invariant v) (step : Step (seen w) (seen v)) (c : ChosenLost) where
@@ -225,13 +137,13 @@ module _ (w v : World) (i : Invariant w) (j : Invariant v) (step : Step (seen w)
     pub received_now : counts_received w (counts_lost v c) e ≡ x → counts_received v c e ≡ y → (q : Name) → received_by v c q + share (is_name q e.to) x e ≡ received_by w (counts_lost v c) q + share (is_name q e.to) y e
     received_now before now q =
         ap (λ b. received_by v c q + share (is_name q e.to) b e) (sym before)
-        ∙ received_moves w v (counts_lost v c) c e (λ d apart. received_stays w v i j step c d (other d apart)) q
+        ∙ own_moves w v (λ d. d.to) (counts_received w (counts_lost v c)) (counts_received v c) (received_occurs w (counts_lost v c)) (received_occurs v c) e (λ d apart. received_stays w v i j step c d (other d apart)) q
         ∙ ap (λ b. received_by w (counts_lost v c) q + share (is_name q e.to) b e) now
 
     pub lost_now : counts_lost w (counts_lost v c) e ≡ x → counts_lost v c e ≡ y → (q : Name) → losses_of v c q + share (is_name q e.from) x e ≡ losses_of w (counts_lost v c) q + share (is_name q e.from) y e
     lost_now before now q =
         ap (λ b. losses_of v c q + share (is_name q e.from) b e) (sym before)
-        ∙ lost_moves w v (counts_lost v c) c e (λ d apart. counts_stays w v i j step c d (other d apart)) q
+        ∙ own_moves w v (λ d. d.from) (counts_lost w (counts_lost v c)) (counts_lost v c) (counted_occurs w (counts_lost v c)) (counted_occurs v c) e (λ d apart. counts_stays w v i j step c d (other d apart)) q
         ∙ ap (λ b. losses_of w (counts_lost v c) q + share (is_name q e.from) b e) now
 
 -- what isn't under way counts as neither

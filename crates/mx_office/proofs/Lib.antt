@@ -19,11 +19,8 @@ pub mod GrantedLemmas
 pub mod FaultLemmas
 pub mod StatementLemmas
 pub mod SeenLemmas
-pub mod KeySumLemmas
 pub mod SoundLemmas
 pub mod SeenWorldLemmas
-pub mod FlowLemmas
-pub mod PaymentLemmas
 pub mod OutLemmas
 pub mod DeedLemmas
 pub mod HandleLemmas

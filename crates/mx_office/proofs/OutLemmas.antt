@@ -1,5 +1,5 @@
 -- The value of each payment that is under way, and what a change of one row does to the scheme's equation.
-use Rattle.std.proofs.Common.{◌≡◌, ℕ, ◌+◌, Bool, true, false, cond, refl, sym, ◌∙◌, ap, Some, arith}
+use Rattle.std.proofs.Common.{◌≡◌, ℕ, ◌+◌, Bool, true, false, cond, refl, sym, ◌∙◌, ap, Option, Some, arith}
 use Rattle.std.specs.FinMap as fmap
 use Rattle.mx_pay.specs.Details.{Details, details_cmp, is_details}
 use Rattle.mx_pay.proofs.LogLemmas.{details_total}
@@ -9,9 +9,9 @@ use Rattle.mx_book.specs.Totals.{balance_row, issued_row, redeemed_row, of_all}
 use Rattle.mx_book.specs.World.{World, Row, Name, set_row}
 use Rattle.mx_book.proofs.NameLemmas.{names_total}
 use Rattle.mx_book.proofs.SumLemmas.{value_of, sum_values-insert}
-use Rattle.mx_office.proofs.KeySumLemmas.{number}
+use Rattle.mx_office.proofs.EntrySumLemmas.{number}
 use Rattle.mx_office.proofs.SoundLemmas.{details_turned}
-use Rattle.mx_office.proofs.FlowLemmas.{flowing}
+use Rattle.mx_office.proofs.SeenWorldLemmas.{flowing}
 
 -- the value of each payment that is under way, and the scheme's equation
 pub record Books (w : World) : Type 0 where
@@ -19,21 +19,9 @@ pub record Books (w : World) : Type 0 where
   pub covers : (d : Details) → number (fmap.get out d) ≡ cond (flowing w d) d.value 0
   pub equal : (of_all w balance_row + sum_values (λ n. n) out) + of_all w redeemed_row ≡ of_all w issued_row
 
-module _ (w : World) (p : Name) (r s : Row) (at : fmap.get w.rows p ≡ Some r) (b : Books w) where
-  changed_sum : (f : Row → ℕ) → sum_values f (set_row w p s).rows + f r ≡ sum_values f w.rows + f s
-  changed_sum f = ap (λ o. sum_values f (set_row w p s).rows + value_of f o) (sym at) ∙ sum_values-insert names_total f w.rows p s
-
-  pub books_keep : ((d : Details) → flowing (set_row w p s) d ≡ flowing w d) → (balance_row s + redeemed_row s) + issued_row r ≡ (balance_row r + redeemed_row r) + issued_row s → Books (set_row w p s)
-  books_keep same money = record {
-    out = b.out;
-    covers = λ d. b.covers d ∙ ap (λ x. cond x d.value 0) (sym (same d));
-    equal =
-        let x1 : of_all (set_row w p s) balance_row + balance_row r ≡ of_all w balance_row + balance_row s = changed_sum balance_row in
-        let x2 : of_all (set_row w p s) redeemed_row + redeemed_row r ≡ of_all w redeemed_row + redeemed_row s = changed_sum redeemed_row in
-        let x3 : of_all (set_row w p s) issued_row + issued_row r ≡ of_all w issued_row + issued_row s = changed_sum issued_row in
-        let x4 : (of_all w balance_row + sum_values (λ n. n) b.out) + of_all w redeemed_row ≡ of_all w issued_row = b.equal in
-        omega (arith, money, x1, x2, x3, x4);
-  }
+module _ (w : World) (p : Name) (o : Option Row) (s : Row) (at : fmap.get w.rows p ≡ o) (b : Books w) where
+  changed_sum : (f : Row → ℕ) → sum_values f (set_row w p s).rows + value_of f o ≡ sum_values f w.rows + f s
+  changed_sum f = ap (λ x. sum_values f (set_row w p s).rows + value_of f x) (sym at) ∙ sum_values-insert names_total f w.rows p s
 
   covers_case : (e : Details) (v : ℕ) (d : Details) → ((d : Details) → is_details e d ≡ false → flowing (set_row w p s) d ≡ flowing w d) → v ≡ cond (flowing (set_row w p s) e) e.value 0
       → (x : Bool) → is_details d e ≡ x → number (cond x (Some v) (fmap.get b.out d)) ≡ cond (flowing (set_row w p s) d) d.value 0
@@ -43,16 +31,23 @@ module _ (w : World) (p : Name) (r s : Row) (at : fmap.get w.rows p ≡ Some r) 
   -- one payment begins or ends to be under way
   pub books_move : (e : Details) → ((d : Details) → is_details e d ≡ false → flowing (set_row w p s) d ≡ flowing w d)
       → (v u : ℕ) → v ≡ cond (flowing (set_row w p s) e) e.value 0 → u ≡ cond (flowing w e) e.value 0
-      → ((balance_row s + redeemed_row s) + issued_row r) + v ≡ ((balance_row r + redeemed_row r) + issued_row s) + u → Books (set_row w p s)
+      → ((balance_row s + redeemed_row s) + value_of issued_row o) + v ≡ ((value_of balance_row o + value_of redeemed_row o) + issued_row s) + u → Books (set_row w p s)
   books_move e other v u after before money = record {
     out = fmap.insert b.out e v;
     covers = λ d. ap number (fmap.get-insert details_total b.out e v d) ∙ covers_case e v d other after (is_details d e) refl;
     equal =
-        let x1 : of_all (set_row w p s) balance_row + balance_row r ≡ of_all w balance_row + balance_row s = changed_sum balance_row in
-        let x2 : of_all (set_row w p s) redeemed_row + redeemed_row r ≡ of_all w redeemed_row + redeemed_row s = changed_sum redeemed_row in
-        let x3 : of_all (set_row w p s) issued_row + issued_row r ≡ of_all w issued_row + issued_row s = changed_sum issued_row in
+        let x1 : of_all (set_row w p s) balance_row + value_of balance_row o ≡ of_all w balance_row + balance_row s = changed_sum balance_row in
+        let x2 : of_all (set_row w p s) redeemed_row + value_of redeemed_row o ≡ of_all w redeemed_row + redeemed_row s = changed_sum redeemed_row in
+        let x3 : of_all (set_row w p s) issued_row + value_of issued_row o ≡ of_all w issued_row + issued_row s = changed_sum issued_row in
         let x4 : (of_all w balance_row + sum_values (λ n. n) b.out) + of_all w redeemed_row ≡ of_all w issued_row = b.equal in
         let x5 : sum_values (λ n. n) (fmap.insert b.out e v) + number (fmap.get b.out e) ≡ sum_values (λ n. n) b.out + v = sum_values-insert details_total (λ n. n) b.out e v in
         let x6 : number (fmap.get b.out e) ≡ u = b.covers e ∙ sym before in
         omega (arith, money, x1, x2, x3, x4, x5, x6);
   }
+
+  -- and none does
+  pub books_keep : ((d : Details) → flowing (set_row w p s) d ≡ flowing w d) → (balance_row s + redeemed_row s) + value_of issued_row o ≡ (value_of balance_row o + value_of redeemed_row o) + issued_row s → Books (set_row w p s)
+  books_keep same money =
+      let e : Details = record { from = p; to = p; value = 0; from_seq = 0; to_seq = 0 } in
+      let u : ℕ = cond (flowing w e) e.value 0 in
+      books_move e (λ d _. same d) u u (ap (λ x. cond x e.value 0) (sym (same e))) refl (omega (arith, money))

@@ -32,19 +32,18 @@ use Rattle.mx_office.specs.Step.{Deed, Asks, Asked, unless, unless_told, on_foun
 use Rattle.mx_office.proofs.ActLemmas.{Simulated, map_same, get-abstract, act_leads, leads_to, still_load}
 use Rattle.mx_office.proofs.AlikeLemmas.{Alike, purse_of, alike_itself, alike_simulated, then_alike, put_alike, result_alike, member_alike, collected_alike}
 use Rattle.mx_office.proofs.BalanceCommandLemmas.{IsLoad, is_load}
-use Rattle.mx_office.proofs.DeedLemmas.{not_some, with_holding}
+use Rattle.mx_office.proofs.DeedLemmas.{not_some, with_holding, idle_told}
 use Rattle.mx_office.proofs.FateLemmas.{value_moves, still_received, still_lost, never_received, never_lost}
-use Rattle.mx_office.proofs.FlowLemmas.{flowing, flow-same, neither}
 use Rattle.mx_office.proofs.LawLemmas.{run_steps}
 use Rattle.mx_office.proofs.OwnLemmas.{is_owned, absent, none_refused}
-use Rattle.mx_office.proofs.RuleActLemmas.{EachActs, each_acts, idle_told}
+use Rattle.mx_office.proofs.RuleActLemmas.{EachActs, each_acts}
 use Rattle.mx_office.proofs.SaneLemmas.{Sane, IsNextSane}
 use Rattle.mx_office.proofs.SaneCommandLemmas.{opening_sane, reachable_sane, step_sane}
-use Rattle.mx_office.proofs.SaneMoneyLemmas.{loaded_quiet, load_sane}
+use Rattle.mx_office.proofs.SaneMoneyLemmas.{load_sane}
 use Rattle.mx_office.proofs.SaneRowLemmas.{new_sane, new_gone, new_due, new_step, no_archive, archive_sane, archive_step, side_same}
-use Rattle.mx_office.proofs.SeenLemmas.{clash}
-use Rattle.mx_office.proofs.SeenWorldLemmas.{Invariant, seen, side, quiet_step, same_gone, same_due}
-use Rattle.mx_office.proofs.SoundLemmas.{Quiet}
+use Rattle.mx_office.proofs.SeenLemmas.{clash, neither}
+use Rattle.mx_office.proofs.SeenWorldLemmas.{Invariant, seen, side, flowing, flow-same, turn_step, turn_flow}
+use Rattle.mx_office.proofs.SoundLemmas.{Turns, none_moves, still}
 
 -- ---- what is told changes nothing
 
@@ -93,8 +92,8 @@ module _ (w : World) (p : Name) (r : Row) (at : fmap.get w.rows p ≡ Some r) (s
   load_case None e new next =
       let i : Invariant w = s.invariant in
       let t : Row = by_guard None in
-      let q : Quiet r.holding.purse t.holding.purse (is_archived w p) = loaded_quiet r.holding.purse (r.holding.purse.balance + amount) (r.holding.purse.lines + 1) (is_archived w p) (omega arith) (i.sound p r at) in
-      still_load w p r t at i next.sane.invariant (quiet_step w p r t at i q) c (Load p amount reference) reply.Loaded (λ d. flow-same (set_row w p t) w d (same_gone w p r t at i q d) (same_due w p r t at i q d)) amount
+      let q : Turns (seen w) (is_archived w p) none_moves r.holding.purse t.holding.purse = still (seen w) (is_archived w p) r.holding.purse (r.holding.purse.balance + amount) (r.holding.purse.lines + 1) (omega arith) (i.sound p r at) in
+      still_load w p r t at i next.sane.invariant (turn_step w p r t at i none_moves q) c (Load p amount reference) reply.Loaded (λ d. turn_flow w p r t at i none_moves q d refl) amount
       refl (ap (λ y. cond (is_none y) (Act.Load p amount) Act.Ignore) (sym (known_is ∙ new)))
 
   row_act : load_refusal r.holding.purse amount ≡ None → fmap.get r.loads reference ≡ None → IsNextSane w (set_row w p (loaded_row amount reference r)) → Simulated w (Load p amount reference) (set_row w p (loaded_row amount reference r)) reply.Loaded c

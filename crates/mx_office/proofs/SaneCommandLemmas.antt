@@ -22,8 +22,7 @@ use Rattle.mx_office.specs.Reachable.{IsReachable}
 use Rattle.mx_office.specs.Step.{Asked, asks, new_member, new_member_refusal, new_holder, new_holder_refusal, new_purse, new_purse_refusal, change_member, grant, grant_refusal, loaded_row, idle_load, load_purse, collect, collect_refusal, archive, archive_refusal, may_clear, clear, clear_refusal, base, step, steps}
 use Rattle.mx_office.proofs.ArchiveLemmas.{clear_means}
 use Rattle.mx_office.proofs.BalanceCommandLemmas.{IsLoad, is_load}
-use Rattle.mx_office.proofs.EntrySumLemmas.{sum_values-empty}
-use Rattle.mx_office.proofs.KeySumLemmas.{number, sum-empty}
+use Rattle.mx_office.proofs.EntrySumLemmas.{number, sum-empty, sum_values-empty}
 use Rattle.mx_office.proofs.OwnLemmas.{absent, none_refused}
 use Rattle.mx_office.proofs.SeenLemmas.{IsTimely, clash}
 use Rattle.mx_office.proofs.SeenWorldLemmas.{seen, side}

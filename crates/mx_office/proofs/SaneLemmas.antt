@@ -1,5 +1,5 @@
 -- The invariant and the scheme's equation, where a rule is done to the World, a message is put and a result is sent.
-use Rattle.std.proofs.Common.{◌≡◌, ℕ, ◌+◌, Bool, true, false, cond, refl, sym, ◌∙◌, ap, subst, Option, Some, None, ◌&&◌, ◌||◌, inl, inr, is_some}
+use Rattle.std.proofs.Common.{◌≡◌, ℕ, ◌+◌, Bool, true, false, cond, refl, sym, ◌∙◌, ap, subst, Option, Some, None, ◌&&◌, ◌||◌, inl, inr, is_some, arith}
 use Rattle.std.specs.Cmp.{nat_cmp_total}
 use Rattle.std.specs.FinMap as fmap
 use Rattle.mx_pay.specs.Names.{name_cmp}
@@ -18,6 +18,7 @@ use Rattle.mx_book.proofs.FoundLemmas.{inside}
 use Rattle.mx_book.proofs.NameLemmas.{get-inserted}
 use Rattle.mx_book.proofs.PurseLemmas.{change_there}
 use Rattle.mx_book.proofs.ResultLemmas.{results_total, same_result}
+use Rattle.mx_office.specs.declared.values.Command.{Command}
 use Rattle.mx_office.specs.declared.values.Refusal.{Refusal}
 use Rattle.mx_office.specs.declared.values.Refusal.TheVariants.{NoSuchPurse}
 use Rattle.mx_office.specs.declared.values.Reply.{Reply}
@@ -25,12 +26,11 @@ use Rattle.mx_office.specs.Step.{Deed, Asks, tell, unless, unless_told, on_found
 use Rattle.std.specs.Option.{option_map_or}
 use Rattle.mx_office.proofs.AccountLemmas.{in_tray}
 use Rattle.mx_office.proofs.OwnLemmas.{is_owned}
-use Rattle.mx_office.proofs.SeenLemmas.{Seen, Step, IsTimely, clash}
-use Rattle.mx_office.proofs.SoundLemmas.{Quiet, either_true}
-use Rattle.mx_office.proofs.SeenWorldLemmas.{Invariant, seen, side, entry_of, or_cases, over_row, kept_with, quiet_step, same_gone, same_due}
-use Rattle.mx_office.proofs.FlowLemmas.{flow-same}
+use Rattle.mx_office.proofs.SeenLemmas.{Seen, Step, IsTimely, clash, either_true, both_parts, or_cases}
+use Rattle.mx_office.proofs.SoundLemmas.{Turns, none_moves, still}
+use Rattle.mx_office.proofs.SeenWorldLemmas.{Invariant, seen, side, entry_of, over_row, turn_step, turn_flow, turn_keeps}
 use Rattle.mx_office.proofs.OutLemmas.{Books, books_keep}
-use Rattle.mx_office.proofs.DeedLemmas.{IsKept, with_holding, not_some, both_parts, still}
+use Rattle.mx_office.proofs.DeedLemmas.{IsKept, with_holding, not_some, done_books}
 use Rattle.mx_office.proofs.HandleLemmas.{EachKept}
 
 -- the invariant and the equation
@@ -112,12 +112,12 @@ member_lost w v m f lost = member_lost_case w v m f (fmap.get v.members m) lost
 
 -- ---- a rule on a purse
 
-row_sane : (w : World) (p : Name) (r : Row) (d : Deed Holding) → fmap.get w.rows p ≡ Some r → IsKept w p r d → IsSaneDeed w (in_place (λ b. change_holding w p (λ _. b)) d)
-row_sane w p r d at k =
+row_sane : (w : World) (p : Name) (r : Row) (asked : Command) (d : Deed Holding) → fmap.get w.rows p ≡ Some r → Sane w → IsKept w p r asked d → IsSaneDeed w (in_place (λ b. change_holding w p (λ _. b)) d)
+row_sane w p r asked d at sane k =
     let s : Row = with_holding r d.state in
     subst (λ v. IsSaneDeed w (record { state = v; reply = d.reply; sent = d.sent; result = d.result })) (sym (change_there w p (λ x. with_holding x d.state) r at))
     (record {
-      sane = record { invariant = k.invariant; books = k.books };
+      sane = record { invariant = k.invariant; books = done_books w p r d.state asked d.reply at sane.books k.done };
       lost = stays_lost w (set_row w p s) k.step;
       sent = k.sent;
       read = λ result e.
@@ -125,16 +125,16 @@ row_sane w p r d at k =
           ap (λ y. logs (fmap.get (set_row w p s).rows y) result.1) x.0 ∙ ap (λ o. logs o result.1) (get-inserted w.rows p s) ∙ x.1;
     })
 
-rule_sane : (w : World) (h p : Name) (f : Holding → Deed Holding) (o : Option Holding) → own_holding w h p ≡ o → Sane w → ((r : Row) → fmap.get w.rows p ≡ Some r → IsKept w p r (f r.holding))
+rule_sane : (w : World) (h p : Name) (asked : Command) (f : Holding → Deed Holding) (o : Option Holding) → own_holding w h p ≡ o → Sane w → ((r : Row) → fmap.get w.rows p ≡ Some r → IsKept w p r asked (f r.holding))
     → IsSaneDeed w (on_found w NoSuchPurse o (λ a. in_place (λ b. change_holding w p (λ _. b)) (f a)))
-rule_sane w h p f None own s each = told_sane w w _ s (λ d t. t)
-rule_sane w h p f (Some a) own s each =
+rule_sane w h p asked f None own s each = told_sane w w _ s (λ d t. t)
+rule_sane w h p asked f (Some a) own s each =
     let r = is_owned w h p a own in
-    row_sane w p r.row (f a) r.at (subst (λ x. IsKept w p r.row (f x)) r.holding (each r.row r.at))
+    row_sane w p r.row asked (f a) r.at s (subst (λ x. IsKept w p r.row asked (f x)) r.holding (each r.row r.at))
 
-pub asks_sane : (w : World) (h : Name) (x : Asks) → Sane w → EachKept w x → IsSaneDeed w (on_world w h x)
+pub asks_sane : (w : World) (h : Name) {asked : Command} (x : Asks) → Sane w → EachKept w asked x → IsSaneDeed w (on_world w h x)
 asks_sane w h Asks.Names s each = told_sane w w _ s (λ d t. t)
-asks_sane w h (Asks.OnPurse p f) s each = rule_sane w h p f (own_holding w h p) refl s each
+asks_sane w h {asked} (Asks.OnPurse p f) s each = rule_sane w h p asked f (own_holding w h p) refl s each.each
 asks_sane w h Asks.NotAHolders s each = told_sane w w _ s (λ d t. t)
 
 -- ---- a message that is put
@@ -153,19 +153,18 @@ module _ (w : World) (p : Name) (m : Message) (s : Sane w) (timely : IsTimely (s
   i : Invariant w
   i = s.invariant
 
-  same : Quiet r.holding.purse r.holding.purse (is_archived w p)
-  same = still r.holding.purse (is_archived w p) (i.sound p r at)
+  same : Turns (seen w) (is_archived w p) none_moves r.holding.purse r.holding.purse
+  same = still (seen w) (is_archived w p) r.holding.purse r.holding.purse.balance r.holding.purse.lines (omega arith) (i.sound p r at)
 
   room_put : (a : Holding) → a.purse ≡ r.holding.purse → a.redemptions ≡ r.holding.redemptions → ((k : ℕ) (n : Message) → fmap.get a.inbox k ≡ Some n → IsTimely (seen w) p n) → IsPut w (set_row w p (with_holding r a))
   room_put a purse redemptions inbox =
       let y : Row = with_holding r a in
-      let q : Quiet r.holding.purse a.purse (is_archived w p) = subst (λ x. Quiet r.holding.purse x (is_archived w p)) (sym purse) same in
-      let step : Step (seen w) (seen (set_row w p y)) = quiet_step w p r y at i q in
+      let q : Turns (seen w) (is_archived w p) none_moves r.holding.purse a.purse = subst (Turns (seen w) (is_archived w p) none_moves r.holding.purse) (sym purse) same in
+      let step : Step (seen w) (seen (set_row w p y)) = turn_step w p r y at i none_moves q in
       record {
         sane = record {
-          invariant = kept_with w p r y at i step q.sound (q.name ∙ i.named p r at) inbox (λ d h. ap (λ x. has_logged x.log d) purse ∙ i.tray p d h r at);
-          books = books_keep w p r y at s.books (λ d. flow-same (set_row w p y) w d (same_gone w p r y at i q d) (same_due w p r y at i q d))
-              (λ k. ((purse k).balance + sum_values (λ n. n) (redemptions k)) + issued_row r);
+          invariant = turn_keeps w p r y at i none_moves q inbox (λ d h. ap (λ x. has_logged x.log d) purse ∙ i.tray p d h r at);
+          books = books_keep w p (Some r) y at s.books (λ d. turn_flow w p r y at i none_moves q d refl) (λ k. ((purse k).balance + sum_values (λ n. n) (redemptions k)) + issued_row r);
         };
         lost = stays_lost w (set_row w p y) step;
         logged = λ x d. over_row w p r y at (λ a b. logs a d ≡ true → logs b d ≡ true) x (λ o t. t) (λ _ t. ap (λ z. has_logged z.log d) purse ∙ t);

@@ -1,5 +1,6 @@
 -- The security properties of the purses, for each command.
-use Rattle.std.proofs.Common.{◌≡◌, ℕ, ◌+◌, ◌≤◌, Bool, true, false, refl, sym, ◌∙◌, ap, subst, Option, Some, None, ◌&&◌, ◌||◌, arith, is_some}
+use Rattle.std.proofs.Common.{◌≡◌, ℕ, ◌+◌, ◌≤◌, true, false, refl, sym, ◌∙◌, ap, subst, Option, Some, None, ◌&&◌, ◌||◌, arith, is_some}
+use Rattle.std.proofs.lemmas.Bool.{or_parts}
 use Rattle.std.specs.FinMap as fmap
 use Rattle.mx_pay.specs.Details.{Details}
 use Rattle.mx_pay.specs.Log.{has_logged}
@@ -7,7 +8,6 @@ use Rattle.mx_purse.specs.declared.message.Message.{Message}
 use Rattle.mx_purse.specs.declared.message.Message.TheVariants as message
 use Rattle.mx_purse.specs.declared.message.Handled.{Handled}
 use Rattle.mx_purse.specs.declared.message.Handled.TheVariants as took
-use Rattle.mx_purse.specs.declared.status.Status.TheVariants.{EaTo}
 use Rattle.mx_purse.specs.State.{State}
 use Rattle.mx_purse.specs.Operations.{expects_req, expects_val, expects_ack, handled}
 use Rattle.mx_book.specs.declared.values.Caller.{Caller}
@@ -23,29 +23,20 @@ use Rattle.mx_office.specs.declared.values.Reply.TheVariants as reply
 use Rattle.mx_office.specs.Conservation.{CreatesNoValue, AccountsAllValue, AcceptsAuthentic, IsAuthentic, PaysCovered, is_load, is_redemption}
 use Rattle.mx_office.specs.Reachable.{IsReachable}
 use Rattle.mx_office.specs.Step.{on_found, in_place, own_holding, handle, handle_message, step}
-use Rattle.mx_office.proofs.ConservedLemmas.{split_side, value_within, due_occurs, conserved}
-use Rattle.mx_office.proofs.DeedLemmas.{both_parts}
-use Rattle.mx_office.proofs.HandleLemmas.{expects_req_is, expects_val_is}
+use Rattle.mx_office.proofs.ConservedLemmas.{or_turned, split_side, value_within, due_occurs, conserved}
+use Rattle.mx_office.proofs.HandleLemmas.{value_left}
 use Rattle.mx_office.proofs.MoveLemmas.{IsMoved, step_moved}
 use Rattle.mx_office.proofs.OwnLemmas.{is_owned}
-use Rattle.mx_office.proofs.PaymentLemmas as moves
-use Rattle.mx_office.proofs.FlowLemmas.{flowing}
 use Rattle.mx_office.proofs.SaneLemmas.{Sane, StaysLost, IsNextSane, lost_in}
 use Rattle.mx_office.proofs.SaneCommandLemmas.{reachable_sane, step_sane}
-use Rattle.mx_office.proofs.SeenLemmas.{clash}
+use Rattle.mx_office.proofs.SeenLemmas.{clash, either_true, both_parts}
 use Rattle.mx_office.proofs.SeenWorldLemmas.{Invariant, seen, side}
-use Rattle.mx_office.proofs.SoundLemmas.{IsPresent, either_true}
+use Rattle.mx_office.proofs.SoundLemmas.{IsPresent, expects_req_is}
 
 -- ---- what is lost never falls
 
-or_turned : (a b : Bool) → (a || b) ≡ (b || a)
-or_turned true true = refl
-or_turned true false = refl
-or_turned false true = refl
-or_turned false false = refl
-
-lost_is : (w : World) (d : Details) → definitely_lost w d ≡ lost_in (seen w) d
-lost_is w d = ap (λ b. to_logged w d && b) (or_turned (from_logged w d) (from_in_epa w d) ∙ sym (split_side expects_ack (fmap.get w.rows d.from) (is_archived w d.from d) d))
+lost_seen : (w : World) (d : Details) → definitely_lost w d ≡ lost_in (seen w) d
+lost_seen w d = ap (λ b. to_logged w d && b) (or_turned (from_logged w d) (from_in_epa w d) ∙ sym (split_side expects_ack (fmap.get w.rows d.from) (is_archived w d.from d) d))
 
 -- what is lost occurs
 pub lost_occurs : (w : World) (d : Details) → definitely_lost w d ≡ true → is_some (fmap.get (occurring w) d) ≡ true
@@ -56,13 +47,9 @@ lost_occurs w d h = due_occurs w d (waits (fmap.get w.rows d.to) (both_parts _ _
     waits (Some r) t = either_true (expects_val r.holding.purse.status d) _ t
 
 lost_grows : (w v : World) → StaysLost w v → lost w ≤ lost v
-lost_grows w v stays = value_within (definitely_lost w) (definitely_lost v) (occurring w) (occurring v) (λ d t. lost_is v d ∙ stays d (sym (lost_is w d) ∙ t)) (lost_occurs v)
+lost_grows w v stays = value_within (definitely_lost w) (definitely_lost v) (occurring w) (occurring v) (λ d t. lost_seen v d ∙ stays d (sym (lost_seen w d) ∙ t)) (lost_occurs v)
 
 -- ---- no value created, and all value accounted
-
-both_false : (a b : Bool) → (a || b) ≡ false → (a ≡ false) × (b ≡ false)
-both_false true b h = clash true refl h
-both_false false b h = (refl, h)
 
 pub creates_none : (w : World) (caller : Caller) (c : Command) → IsReachable w → CreatesNoValue w caller c
 creates_none w caller c r no_load =
@@ -83,7 +70,7 @@ all_accounted w caller c r neither =
     let v : World = (step w caller c).world in
     let next : IsNextSane w v = step_sane w s caller c in
     let moved : IsMoved w v c = step_moved w s caller c in
-    let no = both_false (is_load c) (is_redemption c) neither in
+    let no = or_parts (is_load c) (is_redemption c) neither in
     let e1 : ((of_all w balance_row + transit w) + lost w) + of_all w redeemed_row ≡ of_all w issued_row = conserved w s in
     let e2 : ((of_all v balance_row + transit v) + lost v) + of_all v redeemed_row ≡ of_all v issued_row = conserved v next.sane in
     let e3 : of_all v issued_row ≡ of_all w issued_row = moved.issued no.0 in
@@ -109,16 +96,16 @@ module _ (w : World) (h p : Name) (n : ℕ) (x : Handled) where
   message_case r at None found e = cc
   message_case r at (Some m) found e = record { row = r; at = at; message = m; found = found; is = ap (taken_as x) e }
 
-  own_case : (o : Option Held) → own_holding w h p ≡ o → (on_found w NoSuchPurse o (λ a. in_place (λ b. change_holding w p (λ _. b)) (handle n a))).reply ≡ reply.Handled x → IsTaken w p n x
+  own_taken : (o : Option Held) → own_holding w h p ≡ o → (on_found w NoSuchPurse o (λ a. in_place (λ b. change_holding w p (λ _. b)) (handle n a))).reply ≡ reply.Handled x → IsTaken w p n x
   unfolding handle
-  own_case None own e = cc
-  own_case (Some a) own e =
+  own_taken None own e = cc
+  own_taken (Some a) own e =
       let r = is_owned w h p a own in
       message_case r.row r.at (fmap.get r.row.holding.inbox n) refl (subst (λ y. (handle n y).reply ≡ reply.Handled x) (sym r.holding) e)
 
   is_taken : (step w (Holder h) (Handle p n)).reply ≡ reply.Handled x → IsTaken w p n x
   unfolding step
-  is_taken e = own_case (own_holding w h p) refl e
+  is_taken e = own_taken (own_holding w h p) refl e
 
 -- the message is a val with the details, for which the purse waits
 record IsVal (q : State) (m : Message) (d : Details) : Type 0 where
@@ -156,10 +143,7 @@ accepts_authentic w h p n reach d e =
     let t : IsTaken w p n (took.Val d) = is_taken w h p n (took.Val d) e in
     let r : Row = t.row in
     let v : IsVal r.holding.purse t.message d = is_val r.holding.purse d t.message t.is in
-    let was = expects_val_is r.holding.purse.status d v.waits in
-    let next : Row = record r { holding = record r.holding { purse = record r.holding.purse { status = EaTo } } } in
-    let flows : flowing w d ≡ true = moves.value_before w p r next t.at i d refl refl refl was refl (i.timely p r t.at n (message.Val d) (t.found ∙ ap Some v.same)) in
-    let gone : (seen w).gone d ≡ true = (both_parts _ _ flows).0 in
+    let gone : (seen w).gone d ≡ true = (value_left w p r t.at i d v.waits (i.timely p r t.at n (message.Val d) (t.found ∙ ap Some v.same))).0 in
     there_case w i d (fmap.get w.rows d.from) refl gone (sym (split_side expects_ack (fmap.get w.rows d.from) (is_archived w d.from d) d) ∙ gone)
 
 -- ---- sufficient funds

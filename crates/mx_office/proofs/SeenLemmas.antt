@@ -1,5 +1,6 @@
 -- What of a World decides which value is under way, and how one command may change it.
-use Rattle.std.proofs.Common.{◌≡◌, Bool, true, false, refl, sym, ◌∙◌, ◌⊎◌, inl, inr, true≢false}
+use Rattle.std.proofs.Common.{◌≡◌, Bool, true, false, sym, ◌∙◌, ◌||◌, ◌⊎◌, inl, inr, true≢false}
+pub use Rattle.std.proofs.lemmas.Bool.{false_from_ne_true as not_true, or_right as either_true, and_parts as both_parts, and_right as neither}
 use Rattle.mx_pay.specs.Details.{Details}
 use Rattle.mx_pay.specs.Log.{has_logged}
 use Rattle.mx_purse.specs.declared.message.Message.{Message}
@@ -10,9 +11,9 @@ use Rattle.mx_book.specs.World.{Name}
 pub clash : {A : Type 0} (b : Bool) → b ≡ true → b ≡ false → A
 clash b p q = absurd (true≢false (sym p ∙ q))
 
-pub not_true : (b : Bool) → (b ≡ true → ⊥) → b ≡ false
-not_true true h = absurd (h refl)
-not_true false h = refl
+pub or_cases : {A : Type 0} (a b : Bool) → (a ≡ true → A) → (b ≡ true → A) → (a || b) ≡ true → A
+or_cases true b f g h = f h
+or_cases false b f g h = g h
 
 -- what is seen of a World
 pub record Seen : Type 0 where

@@ -1,22 +1,23 @@
--- The invariant of a World under which value is conserved, and the change of one row.
-use Rattle.std.proofs.Common.{◌≡◌, ℕ, Bool, true, false, cond, refl, sym, ◌∙◌, ap, subst, Option, Some, None, ◌||◌, ◌⊎◌, inl}
+-- The invariant of a World under which value is conserved, what is under way, and the change of one row.
+use Rattle.std.proofs.Common.{◌≡◌, ℕ, Bool, true, false, cond, refl, sym, ◌∙◌, ap, subst, Option, Some, None, ◌&&◌, ◌||◌, ◌⊎◌, inl, inr}
 use Rattle.std.specs.Prelude.{nat_lt, is_some}
+use Rattle.std.specs.Cmp.{both_ways}
 use Rattle.std.specs.FinMap as fmap
-use Rattle.mx_pay.specs.Details.{Details, is_details}
+use Rattle.mx_pay.specs.Details.{Details}
 use Rattle.mx_pay.specs.Log.{has_logged}
 use Rattle.mx_pay.specs.Names.{is_name}
-use Rattle.mx_pay.proofs.SameLemmas.{same_details}
 use Rattle.mx_purse.specs.declared.message.Message.{Message}
 use Rattle.mx_purse.specs.declared.status.Status.{Status}
+use Rattle.mx_purse.specs.declared.status.Status.TheVariants.{Epr, Epv, Epa}
 use Rattle.mx_purse.specs.Operations.{expects_req, expects_val, expects_ack}
 use Rattle.mx_book.specs.Reads.{from_row, is_archived}
 use Rattle.mx_book.specs.Totals.{is_entry}
 use Rattle.mx_book.specs.World.{World, Row, Name, set_row}
-use Rattle.mx_book.proofs.FoundLemmas.{inside}
+use Rattle.mx_book.proofs.FoundLemmas.{each_inserted}
 use Rattle.mx_book.proofs.NameLemmas.{names_total, same_name}
 use Rattle.mx_office.proofs.AccountLemmas.{in_tray}
-use Rattle.mx_office.proofs.SeenLemmas.{Seen, Step, IsTimely, IsKnown, clash, not_true, timely-step, known-step}
-use Rattle.mx_office.proofs.SoundLemmas.{IsSound, IsPresent, Quiet}
+use Rattle.mx_office.proofs.SeenLemmas.{Seen, Step, IsTimely, IsKnown, clash, not_true, both_parts, or_cases, timely-step, known-step}
+use Rattle.mx_office.proofs.SoundLemmas.{IsSound, IsPresent, Turns, marked, expects_req_is, expects_val_is, expects_ack_is}
 
 -- ---- what is seen of a World
 
@@ -51,6 +52,13 @@ seen w = record {
   kept = is_entry w;
 }
 
+-- whether the value of a payment has left its from purse and is still due
+abbrev pub flowing : World → Details → Bool
+flowing w d = (seen w).gone d && (seen w).due d
+
+pub flow-same : (v w : World) (d : Details) → (seen v).gone d ≡ (seen w).gone d → (seen v).due d ≡ (seen w).due d → flowing v d ≡ flowing w d
+flow-same v w d gone due = (λ i. gone i && due i)
+
 -- what each command keeps: purses are kept under their names and are sound, what is archived or in the tray is of purses
 -- that are there, what is in the tray is logged and not archived, and messages are timely
 pub record Invariant (w : World) : Type 0 where
@@ -65,27 +73,20 @@ pub record Invariant (w : World) : Type 0 where
 
 -- ---- what follows for one payment
 
-pub or_cases : {A : Type 0} (a b : Bool) → (a ≡ true → A) → (b ≡ true → A) → (a || b) ≡ true → A
-or_cases true b f g h = f refl
-or_cases false b f g h = g h
-
 module _ (w : World) (i : Invariant w) where
+  -- the purse of what is gone or due is there
+  pub side_there : (f : Status → Details → Bool) (q : Name) (d : Details) (o : Option Row) → fmap.get w.rows q ≡ o → side f o (is_archived w q d) d ≡ true → is_some (fmap.get w.rows q) ≡ true
+  side_there f q d None at h = i.held q d h
+  side_there f q d (Some r) at h = ap is_some at
+
   gone_at : (d : Details) (o : Option Row) → fmap.get w.rows d.from ≡ o → side expects_ack o (is_archived w d.from d) d ≡ true → (is_past o d.from_seq ≡ true) × (has_status expects_req o d ≡ false)
   gone_at d None at h = clash (is_some (fmap.get w.rows d.from)) (i.held d.from d h) (ap is_some at)
   gone_at d (Some r) at h =
       let sound : IsSound r.holding.purse (is_archived w d.from) = i.sound d.from r at in
-      let own : d.from ≡ r.holding.purse.name = sym (i.named d.from r at) in
-      gone_in r.holding.purse.status sound.present (λ l. (sound.entries d l).from own) own h
-    where
-      gone_in : (s : Status) → IsPresent r.holding.purse (is_archived w d.from) s → ((has_logged r.holding.purse.log d || is_archived w d.from d) ≡ true → nat_lt d.from_seq r.holding.purse.next ≡ true) → d.from ≡ r.holding.purse.name
-          → (expects_ack s d || (has_logged r.holding.purse.log d || is_archived w d.from d)) ≡ true → (nat_lt d.from_seq r.holding.purse.next ≡ true) × (expects_req s d ≡ false)
-      gone_in Status.EaFrom present entry own h = (entry h, refl)
-      gone_in Status.EaTo present entry own h = (entry h, refl)
-      gone_in (Status.Epr e) present entry own h =
-          (entry h, not_true _ (λ t. clash (has_logged r.holding.purse.log d || is_archived w d.from d) h (subst (λ x. (has_logged r.holding.purse.log x || is_archived w d.from x) ≡ false) (same_details e d t) present.0.fresh)))
-      gone_in (Status.Epv e) present entry own h = (entry h, refl)
-      gone_in (Status.Epa e) present entry own h =
-          (or_cases (is_details e d) _ (λ t. subst (λ x. nat_lt x.from_seq r.holding.purse.next ≡ true) (same_details e d t) present.past) entry h, refl)
+      let Present : Status → Type 0 = IsPresent r.holding.purse (is_archived w d.from) in
+      or_cases (expects_ack r.holding.purse.status d) _
+      (λ t. let was = expects_ack_is r.holding.purse.status d t in let x : Present (Epa d) = subst Present was sound.present in (x.past, ap (λ s. expects_req s d) was))
+      (λ l. ((sound.entries d l).from (sym (i.named d.from r at)), not_true _ (λ t. let x : Present (Epr d) = subst Present (expects_req_is r.holding.purse.status d t) sound.present in clash _ l x.0.fresh))) h
 
   -- the from purse is past a payment that is gone
   pub gone_past : (d : Details) → (seen w).gone d ≡ true → ((seen w).from_past d ≡ true) × ((seen w).epr d ≡ false)
@@ -95,39 +96,34 @@ module _ (w : World) (i : Invariant w) where
   due_at d None at h = clash (is_some (fmap.get w.rows d.to)) (i.held d.to d h) (ap is_some at)
   due_at d (Some r) at h =
       let sound : IsSound r.holding.purse (is_archived w d.to) = i.sound d.to r at in
-      let own : d.to ≡ r.holding.purse.name = sym (i.named d.to r at) in
-      due_in r.holding.purse.status sound.present (λ l. (sound.entries d l).to own) h
-    where
-      due_in : (s : Status) → IsPresent r.holding.purse (is_archived w d.to) s → ((has_logged r.holding.purse.log d || is_archived w d.to d) ≡ true → nat_lt d.to_seq r.holding.purse.next ≡ true)
-          → (expects_val s d || (has_logged r.holding.purse.log d || is_archived w d.to d)) ≡ true → nat_lt d.to_seq r.holding.purse.next ≡ true
-      due_in Status.EaFrom present entry h = entry h
-      due_in Status.EaTo present entry h = entry h
-      due_in (Status.Epr e) present entry h = entry h
-      due_in (Status.Epa e) present entry h = entry h
-      due_in (Status.Epv e) present entry h = or_cases (is_details e d) _ (λ t. subst (λ x. nat_lt x.to_seq r.holding.purse.next ≡ true) (same_details e d t) present.past) entry h
+      let Present : Status → Type 0 = IsPresent r.holding.purse (is_archived w d.to) in
+      or_cases (expects_val r.holding.purse.status d) _
+      (λ t. let x : Present (Epv d) = subst Present (expects_val_is r.holding.purse.status d t) sound.present in x.past)
+      (λ l. (sound.entries d l).to (sym (i.named d.to r at))) h
 
   pub due_past : (d : Details) → (seen w).due d ≡ true → (seen w).to_past d ≡ true
   due_past d h = due_at d (fmap.get w.rows d.to) refl h
 
--- ---- a row that takes the place of another
+-- what is waited for is due
+pub waits_due : (d : Details) (o : Option Row) (a : Bool) → has_status expects_val o d ≡ true → side expects_val o a d ≡ true
+waits_due d None a t = clash false t refl
+waits_due d (Some x) a t = ap (λ b. b || (has_logged x.holding.purse.log d || a)) t
 
-module _ (w : World) (p : Name) (r s : Row) (at : fmap.get w.rows p ≡ Some r) where
-  over_case : (Rel : Option Row → Option Row → Type 0) (q : Name) (b : Bool) → is_name q p ≡ b → ((o : Option Row) → Rel o o) → (q ≡ p → Rel (Some r) (Some s))
+-- what is seen of the purse of a row
+pub side_of : (f : Status → Details → Bool) (w : World) (p : Name) (r : Row) → fmap.get w.rows p ≡ Some r → (d : Details) (q : Name) → q ≡ p → side f (fmap.get w.rows q) (is_archived w q d) d ≡ marked f r.holding.purse (is_archived w p) d
+side_of f w p r at d q h = ap (λ x. side f (fmap.get w.rows x) (is_archived w x d) d) h ∙ ap (λ o. side f o (is_archived w p d) d) at
+
+-- ---- a row that is new, or takes the place of another
+
+module _ (w : World) (p : Name) (before : Option Row) (s : Row) (at : fmap.get w.rows p ≡ before) where
+  over_case : (Rel : Option Row → Option Row → Type 0) (q : Name) (b : Bool) → is_name q p ≡ b → ((o : Option Row) → Rel o o) → (q ≡ p → Rel before (Some s))
       → Rel (fmap.get w.rows q) (cond b (Some s) (fmap.get w.rows q))
   over_case Rel q true t stays moves = subst (λ o. Rel o (Some s)) (sym (ap (fmap.get w.rows) (same_name q p t) ∙ at)) (moves (same_name q p t))
   over_case Rel q false t stays moves = stays (fmap.get w.rows q)
 
   -- what relates the rows at a name before and after
-  pub over_row : (Rel : Option Row → Option Row → Type 0) (q : Name) → ((o : Option Row) → Rel o o) → (q ≡ p → Rel (Some r) (Some s)) → Rel (fmap.get w.rows q) (fmap.get (set_row w p s).rows q)
-  over_row Rel q stays moves = subst (λ o. Rel (fmap.get w.rows q) o) (sym (fmap.get-insert names_total w.rows p s q)) (over_case Rel q (is_name q p) refl stays moves)
-
-  set_case : (P : Name → Row → Type 0) → P p s → ((x : Name) (y : Row) → fmap.get w.rows x ≡ Some y → P x y) → (x : Name) (y : Row) (b : Bool) → is_name x p ≡ b → cond b (Some s) (fmap.get w.rows x) ≡ Some y → P x y
-  set_case P new old x y true t e = subst (λ n. P n y) (sym (same_name x p t)) (subst (P p) (inside s y e) new)
-  set_case P new old x y false t e = old x y e
-
-  -- what holds of each row
-  each_row : (P : Name → Row → Type 0) → P p s → ((x : Name) (y : Row) → fmap.get w.rows x ≡ Some y → P x y) → (x : Name) (y : Row) → fmap.get (set_row w p s).rows x ≡ Some y → P x y
-  each_row P new old x y e = set_case P new old x y (is_name x p) refl (sym (fmap.get-insert names_total w.rows p s x) ∙ e)
+  pub over_set : (Rel : Option Row → Option Row → Type 0) (q : Name) → ((o : Option Row) → Rel o o) → (q ≡ p → Rel before (Some s)) → Rel (fmap.get w.rows q) (fmap.get (set_row w p s).rows q)
+  over_set Rel q stays moves = subst (λ o. Rel (fmap.get w.rows q) o) (sym (fmap.get-insert names_total w.rows p s q)) (over_case Rel q (is_name q p) refl stays moves)
 
   -- the messages of its inbox are timely
   pub kept_with : Invariant w → Step (seen w) (seen (set_row w p s)) → IsSound s.holding.purse (is_archived w p) → s.holding.purse.name ≡ p
@@ -135,48 +131,92 @@ module _ (w : World) (p : Name) (r s : Row) (at : fmap.get w.rows p ≡ Some r) 
       → ((d : Details) → in_tray w p d ≡ true → has_logged s.holding.purse.log d ≡ true)
       → Invariant (set_row w p s)
   kept_with i step sound name inbox tray = record {
-    named = each_row (λ x y. y.holding.purse.name ≡ x) name i.named;
-    sound = each_row (λ x y. IsSound y.holding.purse (is_archived w x)) sound i.sound;
-    held = λ q d h. over_row (λ a b. is_some a ≡ true → is_some b ≡ true) q (λ o t. t) (λ e t. refl) (i.held q d h);
-    tray = λ q d h y e. each_row (λ x z. (c : Details) → in_tray w x c ≡ true → has_logged z.holding.purse.log c ≡ true) tray (λ x z a c t. i.tray x c t z a) q y e d h;
-    shelf = λ q d h. over_row (λ a b. is_some a ≡ true → is_some b ≡ true) q (λ o t. t) (λ e t. refl) (i.shelf q d h);
+    named = each_inserted w.rows p s (λ x y. y.holding.purse.name ≡ x) name i.named;
+    sound = each_inserted w.rows p s (λ x y. IsSound y.holding.purse (is_archived w x)) sound i.sound;
+    held = λ q d h. over_set (λ a b. is_some a ≡ true → is_some b ≡ true) q (λ o t. t) (λ e t. refl) (i.held q d h);
+    tray = λ q d h y e. each_inserted w.rows p s (λ x z. (c : Details) → in_tray w x c ≡ true → has_logged z.holding.purse.log c ≡ true) tray (λ x z a c t. i.tray x c t z a) q y e d h;
+    shelf = λ q d h. over_set (λ a b. is_some a ≡ true → is_some b ≡ true) q (λ o t. t) (λ e t. refl) (i.shelf q d h);
     once = i.once;
-    timely = each_row (λ x y. (k : ℕ) (m : Message) → fmap.get y.holding.inbox k ≡ Some m → IsTimely (seen (set_row w p s)) x m)
+    timely = each_inserted w.rows p s (λ x y. (k : ℕ) (m : Message) → fmap.get y.holding.inbox k ≡ Some m → IsTimely (seen (set_row w p s)) x m)
         (λ k m e. timely-step _ _ step p m (inbox k m e))
         (λ x y a k m e. timely-step _ _ step x m (i.timely x y a k m e));
     known = known-step _ _ step i.known;
   }
 
-  pub kept_by_step : Invariant w → Step (seen w) (seen (set_row w p s)) → IsSound s.holding.purse (is_archived w p) → s.holding.purse.name ≡ p
-      → ((k : ℕ) (m : Message) → fmap.get s.holding.inbox k ≡ Some m → fmap.get r.holding.inbox k ≡ Some m)
-      → ((d : Details) → in_tray w p d ≡ true → has_logged s.holding.purse.log d ≡ true)
-      → Invariant (set_row w p s)
-  kept_by_step i step sound name inbox tray = kept_with i step sound name (λ k m e. i.timely p r at k m (inbox k m e)) tray
+module _ (w : World) (p : Name) (r s : Row) (at : fmap.get w.rows p ≡ Some r) where
+  pub over_row : (Rel : Option Row → Option Row → Type 0) (q : Name) → ((o : Option Row) → Rel o o) → (q ≡ p → Rel (Some r) (Some s)) → Rel (fmap.get w.rows q) (fmap.get (set_row w p s).rows q)
+  over_row = over_set w p (Some r) s at
 
-  -- ---- a quiet change
-  module _ (i : Invariant w) (q : Quiet r.holding.purse s.holding.purse (is_archived w p)) where
-    pub same_gone : (d : Details) → (seen (set_row w p s)).gone d ≡ (seen w).gone d
-    same_gone d = over_row (λ a b. side expects_ack b (is_archived w d.from d) d ≡ side expects_ack a (is_archived w d.from d) d) d.from (λ o. refl)
-        (λ e. subst (λ x. side expects_ack (Some s) (is_archived w x d) d ≡ side expects_ack (Some r) (is_archived w x d) d) (sym e) (q.gone d (e ∙ sym (i.named p r at))))
+  -- ---- what a rule makes of the purse of a row
 
-    pub same_due : (d : Details) → (seen (set_row w p s)).due d ≡ (seen w).due d
-    same_due d = over_row (λ a b. side expects_val b (is_archived w d.to d) d ≡ side expects_val a (is_archived w d.to d) d) d.to (λ o. refl)
-        (λ e. subst (λ x. side expects_val (Some s) (is_archived w x d) d ≡ side expects_val (Some r) (is_archived w x d) d) (sym e) (q.due d (e ∙ sym (i.named p r at))))
+  module _ (i : Invariant w) (moves : Details → Bool) (t : Turns (seen w) (is_archived w p) moves r.holding.purse s.holding.purse) where
+    abbrev row_set : World
+    row_set = set_row w p s
 
-    pub quiet_kept : (x : Name) (d : Details) → is_entry w x d ≡ true → is_entry (set_row w p s) x d ≡ true
-    quiet_kept x d = over_row (λ a b. entry_of a (is_archived w x d) d ≡ true → entry_of b (is_archived w x d) d ≡ true) x (λ o t. t)
-        (λ e. subst (λ y. entry_of (Some r) (is_archived w y d) d ≡ true → entry_of (Some s) (is_archived w y d) d ≡ true) (sym e) (q.kept d))
+    own_name : (q : Name) → q ≡ p → q ≡ r.holding.purse.name
+    own_name q e = e ∙ sym (i.named p r at)
 
-    pub quiet_step : Step (seen w) (seen (set_row w p s))
-    quiet_step = record {
-      epr = λ d. over_row (λ a b. has_status expects_req b d ≡ true → (has_status expects_req a d ≡ true) ⊎ (is_past a d.from_seq ≡ false)) d.from (λ o t. inl t) (λ e t. q.epr d t);
-      epv = λ d. over_row (λ a b. has_status expects_val b d ≡ true → (has_status expects_val a d ≡ true) ⊎ (is_past a d.to_seq ≡ false)) d.to (λ o t. inl t) (λ e t. inl (q.epv d t));
-      from_past = λ d. over_row (λ a b. is_past a d.from_seq ≡ true → is_past b d.from_seq ≡ true) d.from (λ o t. t) (λ e t. q.next d.from_seq t);
-      to_past = λ d. over_row (λ a b. is_past a d.to_seq ≡ true → is_past b d.to_seq ≡ true) d.to (λ o t. t) (λ e t. q.next d.to_seq t);
-      due_stays = λ d t. inl (same_due d ∙ t);
-      due_new = λ d t. inl (sym (same_due d) ∙ t);
-      gone_stays = λ d t. inl (same_gone d ∙ t);
-      gone_new = λ d t. inl (sym (same_gone d) ∙ t);
-      archived = λ x d t. t;
-      kept = quiet_kept;
+    over_side : (Rel : Bool → Bool → Type 0) (f : Status → Details → Bool) (q : Name) (d : Details) → ((b : Bool) → Rel b b)
+        → (q ≡ r.holding.purse.name → Rel (marked f r.holding.purse (is_archived w p) d) (marked f s.holding.purse (is_archived w p) d))
+        → Rel (side f (fmap.get w.rows q) (is_archived w q d) d) (side f (fmap.get row_set.rows q) (is_archived w q d) d)
+    over_side Rel f q d stays changes = over_row (λ a b. Rel (side f a (is_archived w q d) d) (side f b (is_archived w q d) d)) q (λ o. stays _)
+        (λ e. subst (λ x. Rel (marked f r.holding.purse (is_archived w x) d) (marked f s.holding.purse (is_archived w x) d)) (sym e) (changes (own_name q e)))
+
+    gone_left : (d : Details) → (seen w).gone d ≡ true → ((seen row_set).gone d ≡ true) ⊎ ((seen w).due d ≡ false)
+    gone_left d = over_side (λ a b. a ≡ true → (b ≡ true) ⊎ ((seen w).due d ≡ false)) expects_ack d.from d (λ b h. inl h) (t.gone_stays d)
+
+    gone_came : (d : Details) → (seen row_set).gone d ≡ true → ((seen w).gone d ≡ true) ⊎ (((seen w).due d ≡ true) × (moves d ≡ true))
+    gone_came d = over_side (λ a b. b ≡ true → (a ≡ true) ⊎ (((seen w).due d ≡ true) × (moves d ≡ true))) expects_ack d.from d (λ b h. inl h) (t.gone_new d)
+
+    pub due_left : (d : Details) → (seen w).due d ≡ true → ((seen row_set).due d ≡ true) ⊎ (((seen w).gone d ≡ true) × (moves d ≡ true))
+    due_left d = over_side (λ a b. a ≡ true → (b ≡ true) ⊎ (((seen w).gone d ≡ true) × (moves d ≡ true))) expects_val d.to d (λ b h. inl h) (t.due_stays d)
+
+    due_came : (d : Details) → (seen row_set).due d ≡ true → ((seen w).due d ≡ true) ⊎ ((seen w).to_past d ≡ false)
+    due_came d = over_row (λ a b. side expects_val b (is_archived w d.to d) d ≡ true → (side expects_val a (is_archived w d.to d) d ≡ true) ⊎ (is_past a d.to_seq ≡ false)) d.to (λ o h. inl h)
+        (λ e. subst (λ x. marked expects_val s.holding.purse (is_archived w x) d ≡ true → (marked expects_val r.holding.purse (is_archived w x) d ≡ true) ⊎ (nat_lt d.to_seq r.holding.purse.next ≡ false)) (sym e) (t.due_new d (own_name d.to e)))
+
+    -- what is gone is due after it only where it was due before
+    still_due : (d : Details) → (seen w).gone d ≡ true → (seen row_set).due d ≡ true → (seen w).due d ≡ true
+    still_due d gone h = elim (due_came d h) [ inl due ↦ due | inr past ↦ clash _ (i.known d gone) past ]
+
+    epr_came : (d : Details) → (seen row_set).epr d ≡ true → ((seen w).epr d ≡ true) ⊎ ((seen w).from_past d ≡ false)
+    epr_came d = over_row (λ a b. has_status expects_req b d ≡ true → (has_status expects_req a d ≡ true) ⊎ (is_past a d.from_seq ≡ false)) d.from (λ o h. inl h) (λ _. t.epr d)
+
+    from_past_stays : (d : Details) → (seen w).from_past d ≡ true → (seen row_set).from_past d ≡ true
+    from_past_stays d = over_row (λ a b. is_past a d.from_seq ≡ true → is_past b d.from_seq ≡ true) d.from (λ o h. h) (λ _. t.next d.from_seq)
+
+    to_past_stays : (d : Details) → (seen w).to_past d ≡ true → (seen row_set).to_past d ≡ true
+    to_past_stays d = over_row (λ a b. is_past a d.to_seq ≡ true → is_past b d.to_seq ≡ true) d.to (λ o h. h) (λ _. t.next d.to_seq)
+
+    -- the from purse is past what is gone, and doesn't wait for its request again
+    never_again : (d : Details) → (seen w).gone d ≡ true → ((seen row_set).from_past d ≡ true) × ((seen row_set).epr d ≡ false)
+    never_again d gone = let past = gone_past w i d gone in (from_past_stays d past.0, not_true _ (λ u. elim (epr_came d u) [ inl h ↦ clash _ h past.1 | inr f ↦ clash _ past.0 f ]))
+
+    -- what is gone and isn't due isn't due later
+    late_stays : (d : Details) → (seen w).gone d ≡ true → (seen w).due d ≡ false → (seen row_set).due d ≡ false
+    late_stays d gone late = not_true _ (λ h. clash _ (still_due d gone h) late)
+
+    pub turn_step : Step (seen w) (seen row_set)
+    turn_step = record {
+      epr = epr_came;
+      epv = λ d. over_row (λ a b. has_status expects_val b d ≡ true → (has_status expects_val a d ≡ true) ⊎ (is_past a d.to_seq ≡ false)) d.to (λ o h. inl h) (λ _. t.epv d);
+      from_past = from_past_stays;
+      to_past = to_past_stays;
+      due_stays = λ d h. elim (due_left d h) [ inl due ↦ inl due | inr x ↦ inr (never_again d x.0) ];
+      due_new = due_came;
+      gone_stays = λ d h. elim (gone_left d h) [ inl gone ↦ inl gone | inr late ↦ inr (not_true _ (λ u. clash _ (waits_due d (fmap.get row_set.rows d.to) _ u) (late_stays d h late)), late_stays d h late) ];
+      gone_new = λ d h. elim (gone_came d h) [ inl gone ↦ inl gone | inr x ↦ inr (to_past_stays d (due_past w i d x.0)) ];
+      archived = λ x d h. h;
+      kept = λ x d. over_row (λ a b. entry_of a (is_archived w x d) d ≡ true → entry_of b (is_archived w x d) d ≡ true) x (λ o h. h)
+          (λ e. subst (λ y. entry_of (Some r) (is_archived w y d) d ≡ true → entry_of (Some s) (is_archived w y d) d ≡ true) (sym e) (t.kept d));
     }
+
+    -- what is under way stays, but for what begins or ends to be
+    pub turn_flow : (d : Details) → moves d ≡ false → flowing row_set d ≡ flowing w d
+    turn_flow d rests = both_ways _ _
+        (λ h. let x = both_parts _ _ h in elim (gone_came d x.0) [ inl gone ↦ (λ k. gone k && still_due d gone x.1 k) | inr y ↦ clash _ y.1 rests ])
+        (λ h. let x = both_parts _ _ h in elim (gone_left d x.0) [ inr late ↦ clash _ x.1 late | inl gone ↦ elim (due_left d x.1) [ inl due ↦ (λ k. gone k && due k) | inr y ↦ clash _ y.1 rests ] ])
+
+    -- the invariant stays, where messages leave the inbox and what is in the tray is logged
+    pub turn_keeps : ((k : ℕ) (m : Message) → fmap.get s.holding.inbox k ≡ Some m → IsTimely (seen w) p m) → ((d : Details) → in_tray w p d ≡ true → has_logged s.holding.purse.log d ≡ true) → Invariant row_set
+    turn_keeps inbox tray = kept_with w p (Some r) s at i turn_step t.sound (t.name ∙ i.named p r at) inbox tray
