@@ -1,10 +1,12 @@
 pub mod OwnLemmas
+pub mod CaseLemmas
 pub mod DecideLemmas
 pub mod AccountLemmas
 pub mod CommandLemmas
 pub mod MoneyLemmas
 pub mod LawLemmas
 pub mod RuleLemmas
+pub mod MoveCaseLemmas
 pub mod RefuseLemmas
 pub mod StayLemmas
 pub mod OutcomeLemmas
