@@ -1,17 +1,21 @@
 -- The cases of what is done: what tells and what does, a message that is put, a result that lies in the tray, and rows whose redemptions are collected.
-use Rattle.std.proofs.Common.{◌≡◌, Bool, true, false, cond, refl, sym, ◌∙◌, ap, subst, Option, Some, None, option_map}
+use Rattle.std.proofs.Common.{◌≡◌, Bool, true, false, cond, List, [], ◌∷◌, refl, sym, ◌∙◌, ap, subst, Option, Some, None, option_map}
 use Rattle.std.specs.FinMap as fmap
 use Rattle.mx_pay.specs.Names.{name_cmp}
+use Rattle.std.specs.List.{AllByRecursion}
 use Rattle.mx_pay.specs.Details.{Details}
+use Rattle.mx_pay.specs.Tokens.{IsToken}
 use Rattle.mx_purse.specs.declared.message.Message.{Message}
-use Rattle.mx_book.specs.World.{World, Row, Holding, Name, set_row, has_room, delivered, with_message, is_of_member, with_collected, all_collected}
+use Rattle.mx_book.specs.World.{World, Row, Holding, Name, Token, opening, set_row, has_room, delivered, with_message, is_of_member, with_collected, all_collected}
 use Rattle.mx_book.proofs.NameLemmas.{names_exact}
 use Rattle.mx_book.proofs.PurseLemmas.{put_leads, put_vanishes, put_nowhere, change_there}
 use Rattle.mx_book.proofs.UnderLemmas.{get-remake}
 use Rattle.mx_office.specs.declared.values.Refusal.{Refusal}
 use Rattle.mx_office.specs.declared.values.Reply.{Reply}
 use Rattle.mx_office.specs.declared.values.Reply.TheVariants as reply
-use Rattle.mx_office.specs.Step.{Deed, tell, refuse, unless, unless_told, on_found, put_sent, is_kept, with_result, world_after}
+use Rattle.mx_office.specs.Step.{Deed, tell, refuse, unless, unless_told, on_found, put_sent, is_kept, with_result, world_after, Asked, step, steps}
+use Rattle.mx_office.specs.Commands.{IsAsked}
+use Rattle.mx_office.specs.Reachable.{IsReachable}
 
 -- ---- a deed
 
@@ -93,3 +97,13 @@ by_collected Rel w m q none some = subst (Rel (fmap.get w.rows q)) (sym (get-rem
 -- what doesn't look at what is collected is the same
 pub collected_same : {X : Type 0} (f : Option Row → X) (w : World) (m q : Name) → ((r : Row) → f (Some (with_collected r)) ≡ f (Some r)) → f (fmap.get (all_collected w m).rows q) ≡ f (fmap.get w.rows q)
 collected_same f w m q same = by_collected (λ a b. f b ≡ f a) w m q refl (λ r at. (refl, same r))
+
+-- ---- Worlds that commands lead to
+
+pub by_steps : (P : World → Type 0) → ((w : World) (c : Asked) → IsAsked c → P w → P (step w c.0 c.1).world) → (w : World) (cs : List Asked) → AllByRecursion IsAsked cs → P w → P (steps w cs).end
+by_steps P keeps w [] values h = h
+by_steps P keeps w (c ∷ cs) values h = by_steps P keeps (step w c.0 c.1).world cs values.1 (keeps w c values.0 h)
+
+-- what holds of an opening, and what each command that is a value keeps
+pub by_reachable : (P : World → Type 0) → ((t : Token) → IsToken t → P (opening t)) → ((w : World) (c : Asked) → IsAsked c → P w → P (step w c.0 c.1).world) → (w : World) → IsReachable w → P w
+by_reachable P opens keeps w r = subst P r.leads (by_steps P keeps (opening r.operator) r.commands r.values (opens r.operator r.bytes))
