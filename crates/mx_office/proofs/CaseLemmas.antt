@@ -1,5 +1,5 @@
 -- The cases of what is done: what tells and what does, a message that is put, a result that lies in the tray, and rows whose redemptions are collected.
-use Rattle.std.proofs.Common.{◌≡◌, Bool, true, false, cond, List, [], ◌∷◌, refl, sym, ◌∙◌, ap, subst, Option, Some, None, option_map}
+use Rattle.std.proofs.Common.{◌≡◌, ℕ, Bool, true, false, cond, List, [], ◌∷◌, refl, sym, ◌∙◌, ap, subst, Option, Some, None, option_map}
 use Rattle.std.specs.FinMap as fmap
 use Rattle.mx_pay.specs.Names.{name_cmp}
 use Rattle.std.specs.List.{AllByRecursion}
@@ -13,7 +13,7 @@ use Rattle.mx_book.proofs.UnderLemmas.{get-remake}
 use Rattle.mx_office.specs.declared.values.Refusal.{Refusal}
 use Rattle.mx_office.specs.declared.values.Reply.{Reply}
 use Rattle.mx_office.specs.declared.values.Reply.TheVariants as reply
-use Rattle.mx_office.specs.Step.{Deed, tell, refuse, unless, unless_told, on_found, put_sent, is_kept, with_result, world_after, Asked, step, steps}
+use Rattle.mx_office.specs.Step.{Deed, tell, refuse, unless, unless_told, on_found, idle, put_sent, is_kept, with_result, world_after, Asked, step, steps}
 use Rattle.mx_office.specs.Commands.{IsAsked}
 use Rattle.mx_office.specs.Reachable.{IsReachable}
 
@@ -38,6 +38,11 @@ by_named P name s (Some r) d refused done = refused (name r)
 pub by_found : {S X : Type 0} (P : Deed S → Type 0) (s : S) (r : Refusal) (o : Option X) (f : X → Deed S) → P (refuse s r) → ((x : X) → o ≡ Some x → P (f x)) → P (on_found s r o f)
 by_found P s r None f refused done = refused
 by_found P s r (Some x) f refused done = done x refl
+
+-- what changes something has a reference that is new
+pub new_reference : (o : Option ℕ) (amount : ℕ) (r : Reply) (refusal : Option Refusal) → idle o amount r refusal ≡ None → o ≡ None
+new_reference None amount r refusal e = refl
+new_reference (Some before) amount r refusal e = cc
 
 -- ---- what is sent
 

@@ -7,12 +7,10 @@ pub mod MoneyLemmas
 pub mod LawLemmas
 pub mod RuleLemmas
 pub mod MoveCaseLemmas
-pub mod RefuseLemmas
 pub mod StayLemmas
 pub mod OutcomeLemmas
 pub mod EntrySumLemmas
 pub mod BalanceLemmas
-pub mod BalanceAccountLemmas
 pub mod BalanceCommandLemmas
 pub mod ArchiveLemmas
 pub mod StepLemmas

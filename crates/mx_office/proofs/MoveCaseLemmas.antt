@@ -23,9 +23,8 @@ use Rattle.mx_office.specs.declared.values.Refusal.TheVariants.{NoSuchPurse}
 use Rattle.mx_office.specs.declared.values.Reply.{Reply}
 use Rattle.mx_office.specs.declared.values.Reply.TheVariants as reply
 use Rattle.mx_office.specs.Step.{Deed, Asks, tell, refuse, unless, idle, in_place, asks, own_holding, on_world, new_member_refusal, new_holder_refusal, new_purse_refusal, float_of, change_member, grant_refusal, loaded_row, new_load_refusal, idle_load_at, idle_load, loaded_world, collect_refusal, archive_refusal, may_clear, clear_refusal, base}
-use Rattle.mx_office.proofs.CaseLemmas.{by_told, by_refusal, by_found}
+use Rattle.mx_office.proofs.CaseLemmas.{by_told, by_refusal, by_found, new_reference}
 use Rattle.mx_office.proofs.OwnLemmas.{absent, present, none_refused, of_there, change_to, is_owned}
-use Rattle.mx_office.proofs.RuleLemmas.{new_reference}
 
 -- ---- a load
 
@@ -72,7 +71,7 @@ module _ (w : World) (m p : Name) (amount : ℕ) (reference : Name) where
   load_case (Some r) None at there e = cc
   load_case (Some r) (Some member) at there e = owned_case r member (is_of_member w m r) _ at there refl e
 
-  is_load : idle_load w m p amount reference ≡ None → IsLoad w m p amount reference
+  pub is_load : idle_load w m p amount reference ≡ None → IsLoad w m p amount reference
   unfolding idle_load
   is_load e = load_case (fmap.get w.rows p) (fmap.get w.members m) refl refl e
 

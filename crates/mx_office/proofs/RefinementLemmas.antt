@@ -31,7 +31,7 @@ use Rattle.mx_office.specs.Run.{IsRun, answered}
 use Rattle.mx_office.specs.Step.{Deed, Asks, Asked, unless, unless_told, on_found, in_place, idle, own_holding, on_world, asks, with_purse, money_line, new_member_refusal, new_holder_refusal, new_purse, new_purse_refusal, grant_refusal, loaded_holding, loaded_row, new_load_refusal, idle_load, idle_load_at, load_purse, collect, collect_refusal, archive_refusal, clear_refusal, base, put_sent, step, steps}
 use Rattle.mx_office.proofs.ActLemmas.{Simulated, map_same, get-abstract, act_leads, leads_to, still_load}
 use Rattle.mx_office.proofs.AlikeLemmas.{Alike, purse_of, alike_itself, alike_simulated, then_alike, put_alike, result_alike, member_alike, collected_alike}
-use Rattle.mx_office.proofs.BalanceCommandLemmas.{IsLoad, is_load}
+use Rattle.mx_office.proofs.MoveCaseLemmas.{IsLoad, is_load}
 use Rattle.mx_office.proofs.DeedLemmas.{not_some, with_holding}
 use Rattle.mx_office.proofs.FateLemmas.{value_moves, still_received, still_lost, never_received, never_lost}
 use Rattle.mx_office.proofs.FlowLemmas.{flowing, flow-same, neither}

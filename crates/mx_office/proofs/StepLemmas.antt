@@ -44,7 +44,7 @@ use Rattle.mx_office.specs.Step.{Deed, Asked, tell, unless, unless_told, on_foun
 use Rattle.mx_office.proofs.OwnLemmas.{absent, present, of_there, none_refused, is_owned}
 use Rattle.mx_office.proofs.ArchiveLemmas.{clear_means, read_decides}
 use Rattle.mx_office.proofs.AccountLemmas.{IsSent, is_own}
-use Rattle.mx_office.proofs.BalanceCommandLemmas.{is_load}
+use Rattle.mx_office.proofs.MoveCaseLemmas.{is_load}
 use Rattle.mx_office.proofs.CommandLemmas.{nothing, whole, purse_told, inbox_decides, statement_decides, no_message_decides, discard_decides, nothing_handled_decides, handle_decides, abort_decides, start_refused, start_decides, redeem_repeated, redeem_refuses, redeem_made}
 use Rattle.mx_office.proofs.MoneyLemmas.{float_there, grant_decides, collect_decides, load_made}
 
