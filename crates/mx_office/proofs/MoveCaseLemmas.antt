@@ -1,6 +1,7 @@
 -- Which move each command is: nothing changes, or it is one of nine moves, whose guards tell what stands before it.
 use Rattle.std.proofs.Common.{◌≡◌, ℕ, ◌+◌, ◌-◌, ◌≤◌, Bool, true, false, not, cond, List, [], ◌∷◌, refl, sym, ◌∙◌, ap, subst, Option, Some, None, IsSome, is_some, option_map, arith}
 use Rattle.std.specs.Prelude.{nat_lt, nat_le, length}
+use Rattle.std.proofs.lemmas.Bool.Decides.{nat_tests}
 use Rattle.std.specs.FinMap as fmap
 use Rattle.mx_pay.specs.Limits.{most_number}
 use Rattle.mx_pay.specs.Log.{Entries, log_len}
@@ -22,9 +23,13 @@ use Rattle.mx_office.specs.declared.values.Refusal.{Refusal}
 use Rattle.mx_office.specs.declared.values.Refusal.TheVariants.{NoSuchPurse}
 use Rattle.mx_office.specs.declared.values.Reply.{Reply}
 use Rattle.mx_office.specs.declared.values.Reply.TheVariants as reply
-use Rattle.mx_office.specs.Step.{Deed, Asks, tell, refuse, unless, idle, in_place, asks, own_holding, on_world, new_member_refusal, new_holder_refusal, new_purse_refusal, float_of, change_member, grant_refusal, loaded_row, new_load_refusal, idle_load_at, idle_load, loaded_world, collect_refusal, archive_refusal, may_clear, clear_refusal, base}
-use Rattle.mx_office.proofs.CaseLemmas.{by_told, by_refusal, by_found, new_reference}
+use Rattle.mx_office.specs.Step.{Deed, Asks, tell, refuse, unless, unless_told, idle, in_place, asks, own_holding, on_world, new_member_refusal, new_holder_refusal, new_purse_refusal, float_of, change_member, grant_refusal, loaded_row, new_load_refusal, idle_load_at, idle_load, loaded_world, load_purse, collect_refusal, archive_refusal, may_clear, clear_refusal, base}
+use Rattle.mx_office.proofs.CaseLemmas.{by_refusal, by_found, new_reference}
 use Rattle.mx_office.proofs.OwnLemmas.{absent, present, none_refused, of_there, change_to, is_owned}
+
+-- a World with this row of the member
+abbrev pub with_member : World → Name → MemberRow → World
+with_member w m row = record w { members = fmap.insert w.members m row }
 
 -- ---- a load
 
@@ -75,11 +80,18 @@ module _ (w : World) (m p : Name) (amount : ℕ) (reference : Name) where
   unfolding idle_load
   is_load e = load_case (fmap.get w.rows p) (fmap.get w.members m) refl refl e
 
--- ---- the moves
+  -- and what it does
+  pub load_is : (l : IsLoad w m p amount reference)
+      → load_purse w m p amount reference ≡ tell (with_member (set_row w p (loaded_row amount reference l.row)) m (record l.member { float = l.member.float - amount })) reply.Loaded
+  unfolding idle_load
+  load_is l =
+      let large : nat_lt l.member.float amount ≡ false = grind (arith, nat_tests, l.enough) in
+      let none : idle_load w m p amount reference ≡ None = rw (l.at, l.there, l.owned, l.fresh, large, l.free) refl in
+      let fall : MemberRow → MemberRow = λ x. record x { float = x.float - amount } in
+      ap (λ o. unless_told w o (tell (loaded_world w m p amount reference) reply.Loaded)) none
+      ∙ ap (λ v. tell v reply.Loaded) (ap (λ x. change_member x m fall) (change_there w p (loaded_row amount reference) l.row l.at) ∙ change_to (set_row w p (loaded_row amount reference l.row)) m fall l.member l.there)
 
--- a World with this row of the member
-abbrev pub with_member : World → Name → MemberRow → World
-with_member w m row = record w { members = fmap.insert w.members m row }
+-- ---- the moves
 
 -- what is told where nothing changes: a refusal, the names of purses, the sums, or a load that is idle
 pub data IsTold (w : World) : Caller → Command → Reply → Type 0 where
@@ -141,12 +153,12 @@ module _ (w : World) (P : Caller → Command → Deed World → Type 0) (moves :
       let holder = none_refused _ _ _ e in
       let free = none_refused _ _ _ holder.1 in
       moves.purse m p h (of_there m _ holder.0) (absent _ free.0) (none_refused _ _ _ free.1).0)
-  by_moves (Clerk m) (Load p amount reference) = by_told (P (Clerk m) (Load p amount reference)) w (idle_load w m p amount reference) (tell (loaded_world w m p amount reference) reply.Loaded) (λ x e. moves.told (Clerk m) (Load p amount reference) x (Idles m p amount reference x e)) (λ e.
-      let l = is_load w m p amount reference e in
-      let fall : MemberRow → MemberRow = λ x. record x { float = x.float - amount } in
-      subst (λ v. P (Clerk m) (Load p amount reference) (tell v reply.Loaded))
-      (sym (ap (λ x. change_member x m fall) (change_there w p (loaded_row amount reference) l.row l.at) ∙ change_to (set_row w p (loaded_row amount reference l.row)) m fall l.member l.there))
-      (moves.load m p amount reference l))
+  by_moves (Clerk m) (Load p amount reference) = by_idle (idle_load w m p amount reference) refl
+    where
+      by_idle : (o : Option Reply) → idle_load w m p amount reference ≡ o → P (Clerk m) (Load p amount reference) (load_purse w m p amount reference)
+      by_idle (Some x) e =
+          subst (λ o. P (Clerk m) (Load p amount reference) (unless_told w o (tell (loaded_world w m p amount reference) reply.Loaded))) (sym e) (moves.told (Clerk m) (Load p amount reference) x (Idles m p amount reference x e))
+      by_idle None e = let l = is_load w m p amount reference e in subst (P (Clerk m) (Load p amount reference)) (sym (load_is w m p amount reference l)) (moves.load m p amount reference l)
   by_moves (Clerk m) Collect = unless_done _ _ (collect_refusal w m) _ (λ e.
       let there = none_refused _ _ _ e in
       let row = present (fmap.get w.members m) there.0 in
