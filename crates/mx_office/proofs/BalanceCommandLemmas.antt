@@ -26,20 +26,16 @@ use Rattle.mx_office.specs.Reachable.{IsReachable}
 use Rattle.mx_office.specs.Step.{Deed, Asked, tell, unless, unless_told, idle, asks, new_member, new_member_refusal, new_holder, new_holder_refusal, new_purse, new_purse_refusal, change_member, grant, grant_refusal, archive_refusal, clear_refusal, put_sent, loaded_holding, loaded_row, loaded_world, new_load_refusal, idle_load_at, idle_load, collect, collect_refusal, base, step, steps}
 use Rattle.mx_office.proofs.OwnLemmas.{absent, present, none_refused, of_there, change_to}
 use Rattle.mx_office.proofs.BalanceLemmas.{Choice, IsAccounted, IsRow, left, right, left_row, account_accounted, counted, is_counted, none_counts, same_change, left_member, right_member, new_member_accounted, left_set, right_set, rows_stay, new_row_accounted, new_holder_accounted, opening_accounted, is_balanced}
-use Rattle.mx_office.proofs.CaseLemmas.{by_after, by_collected, by_reachable}
+use Rattle.mx_office.proofs.CaseLemmas.{by_cond, by_after, by_collected, by_reachable}
 use Rattle.mx_office.proofs.MoveCaseLemmas.{IsLoad, with_member, by_moves}
 use Rattle.mx_office.proofs.RuleLemmas.{Same, EachKeeps, each_keeps}
 use Rattle.mx_office.proofs.EntrySumLemmas.{sum_entries-same, sum_entries-add, sum_entries-empty, sum_values-empty, sum_values-zero, sum_values-remake, sum_values-new, values_are}
 
 -- ---- a load
 
-same_redemptions : (a b : Holding) (c : Bool) → b.redemptions ≡ a.redemptions → (cond c b a).redemptions ≡ a.redemptions
-same_redemptions a b true same = same
-same_redemptions a b false same = refl
-
 pub loaded_redemptions : (a : Holding) (amount : ℕ) (reference : Name) → (loaded_holding a amount reference).redemptions ≡ a.redemptions
 unfolding loaded_holding
-loaded_redemptions a amount reference = same_redemptions a _ (is_none (load_refusal a.purse amount)) refl
+loaded_redemptions a amount reference = by_cond (λ b. b.redemptions ≡ a.redemptions) (is_none (load_refusal a.purse amount)) _ a (λ _. refl) (λ _. refl)
 
 -- the left side has the load, and not the float
 load_change : (c : Bool) (l l1 l2 r r1 r2 x y a f g amount : ℕ) → l1 + cond c x 0 ≡ l + cond c y 0 → l2 + cond c f 0 ≡ l1 + cond c (f - amount) 0 → r1 + cond c a 0 ≡ r + cond c a 0 → r2 + cond c g 0 ≡ r1 + cond c g 0

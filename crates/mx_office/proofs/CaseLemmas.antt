@@ -17,6 +17,11 @@ use Rattle.mx_office.specs.Step.{Deed, tell, refuse, unless, unless_told, on_fou
 use Rattle.mx_office.specs.Commands.{IsAsked}
 use Rattle.mx_office.specs.Reachable.{IsReachable}
 
+-- what holds of either holds of what a test chooses
+pub by_cond : {A : Type 0} (P : A → Type 0) (b : Bool) (x y : A) → (b ≡ true → P x) → (b ≡ false → P y) → P (cond b x y)
+by_cond P true x y met failed = met refl
+by_cond P false x y met failed = failed refl
+
 -- ---- a deed
 
 -- what holds of what is told, and of what is done, holds of what is done unless something is told
@@ -30,9 +35,9 @@ by_refusal P s None d refused done = done refl
 by_refusal P s (Some r) d refused done = refused r
 
 -- of a purse's own refusal, as the office names it
-pub by_named : {S R : Type 0} (P : Deed S → Type 0) (name : R → Refusal) (s : S) (o : Option R) (d : Deed S) → ((r : Refusal) → P (refuse s r)) → (o ≡ None → P d) → P (unless s (option_map name o) d)
+pub by_named : {S R : Type 0} (P : Deed S → Type 0) (name : R → Refusal) (s : S) (o : Option R) (d : Deed S) → ((r : R) → P (refuse s (name r))) → (o ≡ None → P d) → P (unless s (option_map name o) d)
 by_named P name s None d refused done = done refl
-by_named P name s (Some r) d refused done = refused (name r)
+by_named P name s (Some r) d refused done = refused r
 
 -- and of what is done with what is found
 pub by_found : {S X : Type 0} (P : Deed S → Type 0) (s : S) (r : Refusal) (o : Option X) (f : X → Deed S) → P (refuse s r) → ((x : X) → o ≡ Some x → P (f x)) → P (on_found s r o f)
@@ -48,11 +53,7 @@ new_reference (Some before) amount r refusal e = cc
 
 -- a message that comes into an inbox, or finds no place
 pub by_room : (P : Holding → Type 0) (a : Holding) (m : Message) → P a → P (delivered a m) → P (with_message a m)
-by_room P a m old new = by_test (has_room a)
-  where
-    by_test : (b : Bool) → P (cond b (delivered a m) a)
-    by_test true = new
-    by_test false = old
+by_room P a m old new = by_cond P (has_room a) _ _ (λ _. new) (λ _. old)
 
 -- what holds of a World, and of it with the message in the inbox of the row that is there, holds where the message is put
 pub by_put : (P : World → Type 0) (w : World) (sent : Option (Name × Message)) → P w
@@ -71,11 +72,7 @@ by_put P w (Some m) old new = by_row (fmap.get w.rows m.0) refl
 -- what holds of a World, and of it with the result in the tray, holds where the result is sent
 pub by_tray : (P : World → Type 0) (w : World) (o : Option (Name × Details)) → P w → ((x : Name × Details) → o ≡ Some x → is_kept w x ≡ false → P (record w { tray = fmap.insert w.tray x tt })) → P (with_result w o)
 by_tray P w None old new = old
-by_tray P w (Some x) old new = by_test (is_kept w x) refl
-  where
-    by_test : (b : Bool) → is_kept w x ≡ b → P (cond b w (record w { tray = fmap.insert w.tray x tt }))
-    by_test true kept = old
-    by_test false kept = new x refl kept
+by_tray P w (Some x) old new = by_cond P (is_kept w x) _ _ (λ _. old) (λ kept. new x refl kept)
 
 -- so what a deed leaves, and what both keep, is what stands after it
 pub by_after : (P : World → Type 0) (d : Deed World) → P d.state
@@ -91,13 +88,9 @@ pub by_collected : (Rel : Option Row → Option Row → Type 0) (w : World) (m q
     → ((r : Row) → fmap.get w.rows q ≡ Some r → Rel (Some r) (Some r) × Rel (Some r) (Some (with_collected r))) → Rel (fmap.get w.rows q) (fmap.get (all_collected w m).rows q)
 by_collected Rel w m q none some = subst (Rel (fmap.get w.rows q)) (sym (get-remake name_cmp (λ p r. cond (is_of_member w m r) (with_collected r) r) names_exact w.rows q)) (by_row (fmap.get w.rows q) refl)
   where
-    by_test : (r : Row) (b : Bool) → fmap.get w.rows q ≡ Some r → Rel (Some r) (Some (cond b (with_collected r) r))
-    by_test r true at = (some r at).1
-    by_test r false at = (some r at).0
-
     by_row : (o : Option Row) → fmap.get w.rows q ≡ o → Rel o (option_map (λ r. cond (is_of_member w m r) (with_collected r) r) o)
     by_row None at = none
-    by_row (Some r) at = by_test r (is_of_member w m r) at
+    by_row (Some r) at = by_cond (λ y. Rel (Some r) (Some y)) (is_of_member w m r) _ _ (λ _. (some r at).1) (λ _. (some r at).0)
 
 -- what doesn't look at what is collected is the same
 pub collected_same : {X : Type 0} (f : Option Row → X) (w : World) (m q : Name) → ((r : Row) → f (Some (with_collected r)) ≡ f (Some r)) → f (fmap.get (all_collected w m).rows q) ≡ f (fmap.get w.rows q)
