@@ -1,23 +1,17 @@
 -- Worlds with the same purses are the same abstract world.
-use Rattle.std.proofs.Common.{◌≡◌, ◌+◌, Bool, true, false, cond, not, refl, sym, ◌∙◌, ap, Option, Some, None, option_map, ◌&&◌, ◌||◌}
+use Rattle.std.proofs.Common.{◌≡◌, ◌+◌, Bool, false, not, refl, sym, ◌∙◌, ap, Option, Some, None, option_map, ◌&&◌, ◌||◌}
 use Rattle.std.specs.FinMap as fmap
-use Rattle.std.specs.Option.{option_map_or}
-use Rattle.mx_pay.specs.Names.{name_cmp}
 use Rattle.mx_pay.specs.Details.{Details}
 use Rattle.mx_pay.specs.Log.{has_logged}
 use Rattle.mx_purse.specs.State.{State}
-use Rattle.mx_purse.specs.declared.message.Message.{Message}
 use Rattle.mx_purse.specs.Operations.{expects_val, expects_ack}
-use Rattle.mx_book.specs.declared.values.MemberRow.{MemberRow}
 use Rattle.mx_book.specs.Reads.{from_row, of_purse, is_archived}
 use Rattle.mx_book.specs.Totals.{maybe_lost, definitely_lost}
-use Rattle.mx_book.specs.World.{World, Row, Holding, Name, set_row, changed_row, has_room, delivered, with_message, is_of_member, with_collected, all_collected}
+use Rattle.mx_book.specs.World.{World, Row, Name, set_row}
 use Rattle.mx_book.proofs.NameLemmas.{names_total, names_exact}
-use Rattle.mx_book.proofs.UnderLemmas.{get-remake}
 use Rattle.mx_office.specs.declared.values.Command.{Command}
 use Rattle.mx_office.specs.declared.values.Reply.{Reply}
 use Rattle.mx_office.specs.Abstract.{AbstractPurse, Act, ChosenLost, IsAct, received_by, losses_of, abstract_purse, abstract_of}
-use Rattle.mx_office.specs.Step.{change_member, put_sent, is_kept, with_result}
 use Rattle.mx_office.proofs.ActLemmas.{Simulated, get-abstract}
 use Rattle.mx_office.proofs.FateLemmas.{received_same, lost_same}
 use Rattle.mx_office.proofs.SeenWorldLemmas.{over_row}

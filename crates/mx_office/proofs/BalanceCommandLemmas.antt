@@ -1,30 +1,22 @@
 -- Each command keeps the balance equation.
-use Rattle.std.proofs.Common.{◌≡◌, ℕ, ◌+◌, ◌-◌, ◌≤◌, Bool, true, false, cond, List, [], ◌∷◌, refl, sym, ◌∙◌, ap, subst, Option, Some, None, IsSome, is_some, option_and_then, option_map, arith}
-use Rattle.std.specs.Prelude.{nat_lt, is_none}
+use Rattle.std.proofs.Common.{◌≡◌, ℕ, ◌+◌, ◌-◌, ◌≤◌, Bool, true, false, cond, refl, sym, ◌∙◌, ap, subst, Option, Some, None, IsSome, is_some, option_and_then, arith}
+use Rattle.std.specs.Prelude.{is_none}
 use Rattle.std.specs.FinMap as fmap
 use Rattle.mx_pay.specs.Names.{name_cmp}
 use Rattle.mx_purse.specs.Operations.{load_refusal}
 use Rattle.mx_book.specs.declared.values.Caller.{Caller}
-use Rattle.mx_book.specs.declared.values.Caller.TheVariants.{Operator, Clerk, Holder}
 use Rattle.mx_book.specs.declared.values.MemberRow.{MemberRow}
 use Rattle.mx_book.specs.Sums.{sum_entries, sum_values}
 use Rattle.mx_book.specs.Reads.{uncollected_row, uncollected_of}
-use Rattle.mx_book.specs.World.{World, Row, Holding, delivered, Name, Token, is_of, is_of_member, with_collected, all_collected, set_row, new_row, opening}
+use Rattle.mx_book.specs.World.{World, Row, Holding, delivered, Name, is_of, is_of_member, with_collected, all_collected, set_row, new_row}
 use Rattle.mx_book.proofs.FoundLemmas.{inside}
 use Rattle.mx_book.proofs.MapLemmas.{get-pick}
-use Rattle.mx_book.proofs.NameLemmas.{names_total, names_exact, same_name}
-use Rattle.mx_book.proofs.PurseLemmas.{change_there}
-use Rattle.mx_book.proofs.UnderLemmas.{get-remake}
+use Rattle.mx_book.proofs.NameLemmas.{names_total, same_name}
 use Rattle.mx_office.specs.declared.values.Command.{Command}
-use Rattle.mx_office.specs.declared.values.Command.TheVariants.{NewMember, Grant, Archive, Clear, NewHolder, NewPurse, Load, Collect, Reconcile}
-use Rattle.mx_office.specs.declared.values.Refusal.{Refusal}
-use Rattle.mx_office.specs.declared.values.Reply.{Reply}
-use Rattle.mx_office.specs.declared.values.Reply.TheVariants as reply
 use Rattle.mx_book.specs.Totals.{issued_row, redeemed_row}
 use Rattle.mx_office.specs.Balance.{IsBalanced, is_chosen, of_purses}
 use Rattle.mx_office.specs.Reachable.{IsReachable}
-use Rattle.mx_office.specs.Step.{Deed, Asked, tell, unless, unless_told, idle, asks, new_member, new_member_refusal, new_holder, new_holder_refusal, new_purse, new_purse_refusal, change_member, grant, grant_refusal, archive_refusal, clear_refusal, put_sent, loaded_holding, loaded_row, loaded_world, new_load_refusal, idle_load_at, idle_load, collect, collect_refusal, base, step, steps}
-use Rattle.mx_office.proofs.OwnLemmas.{absent, present, none_refused, of_there, change_to}
+use Rattle.mx_office.specs.Step.{loaded_holding, loaded_row, base, step}
 use Rattle.mx_office.proofs.BalanceLemmas.{Choice, IsAccounted, IsRow, left, right, left_row, account_accounted, counted, is_counted, none_counts, same_change, left_member, right_member, new_member_accounted, left_set, right_set, rows_stay, new_row_accounted, new_holder_accounted, opening_accounted, is_balanced}
 use Rattle.mx_office.proofs.CaseLemmas.{by_cond, by_after, by_collected, by_reachable}
 use Rattle.mx_office.proofs.MoveCaseLemmas.{IsLoad, with_member, by_moves}

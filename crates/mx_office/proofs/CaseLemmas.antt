@@ -1,5 +1,5 @@
 -- The cases of what is done: what tells and what does, a message that is put, a result that lies in the tray, and rows whose redemptions are collected.
-use Rattle.std.proofs.Common.{◌≡◌, ℕ, Bool, true, false, cond, List, [], ◌∷◌, refl, sym, ◌∙◌, ap, subst, Option, Some, None, option_map}
+use Rattle.std.proofs.Common.{◌≡◌, ℕ, Bool, true, false, cond, List, [], ◌∷◌, refl, sym, ◌∙◌, subst, Option, Some, None, option_map}
 use Rattle.std.specs.FinMap as fmap
 use Rattle.mx_pay.specs.Names.{name_cmp}
 use Rattle.std.specs.List.{AllByRecursion}
@@ -12,7 +12,6 @@ use Rattle.mx_book.proofs.PurseLemmas.{put_leads, put_vanishes, put_nowhere, cha
 use Rattle.mx_book.proofs.UnderLemmas.{get-remake}
 use Rattle.mx_office.specs.declared.values.Refusal.{Refusal}
 use Rattle.mx_office.specs.declared.values.Reply.{Reply}
-use Rattle.mx_office.specs.declared.values.Reply.TheVariants as reply
 use Rattle.mx_office.specs.Step.{Deed, tell, refuse, unless, unless_told, on_found, idle, put_sent, is_kept, with_result, world_after, Asked, step, steps}
 use Rattle.mx_office.specs.Commands.{IsAsked}
 use Rattle.mx_office.specs.Reachable.{IsReachable}

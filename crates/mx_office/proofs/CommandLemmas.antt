@@ -138,8 +138,8 @@ message_logged p (Val e) d none there = by_cond (StaysLogged p d) (expects_val p
 message_logged p (Ack e) d none there = by_cond (StaysLogged p d) (expects_ack p.status e) (took.Ack e) took.Ignored (λ _. there) (λ _. there)
 message_logged p (Clear set) d none there = by_cond (StaysLogged p d) (expects_clear p set) took.Cleared took.Ignored
     (λ expected.
-        let same : set ≡ (aborted p).log = same_logs set (aborted p).log (second_so _ _ expected) in
-        absurd (none set refl (ap (λ log. has_logged log d) same ∙ logged_case p.log (pending p.status) d there)))
+    let same : set ≡ (aborted p).log = same_logs set (aborted p).log (second_so _ _ expected) in
+    absurd (none set refl (ap (λ log. has_logged log d) same ∙ logged_case p.log (pending p.status) d there)))
     (λ _. there)
 
 -- what is handled has the details of its message

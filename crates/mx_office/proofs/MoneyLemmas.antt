@@ -19,7 +19,7 @@ use Rattle.mx_book.specs.Conditions.{IsWorld, all_granted}
 use Rattle.mx_book.specs.Reads.{from_row, load_of, uncollected_of}
 use Rattle.mx_book.specs.Edits.{AllSuit, edited, all_edited}
 use Rattle.mx_book.proofs.FoundLemmas.{some_of}
-use Rattle.mx_book.proofs.PurseLemmas.{with_lines, line_edits, change_there, edits_append, suits_append}
+use Rattle.mx_book.proofs.PurseLemmas.{with_lines, line_edits, edits_append, suits_append}
 use Rattle.mx_book.proofs.MoneyLemmas.{with_load, set_member_stays, granted_after, loads_stay, load_leads, load_suits, collect_stays}
 use Rattle.mx_office.specs.declared.values.Decided.{Decided}
 use Rattle.mx_office.specs.declared.values.Reply.{Reply}
@@ -29,7 +29,7 @@ use Rattle.mx_office.specs.Step.{tell, unless, unless_told, idle, money_line, re
 use Rattle.mx_office.specs.Decides.{Decides, member_purse, load_edits}
 use Rattle.mx_office.proofs.DecideLemmas.{edits_decide, told_decides, edit_decides}
 use Rattle.mx_office.proofs.OwnLemmas.{first, next, none_left, change_to}
-use Rattle.mx_office.proofs.AccountLemmas.{IsFound, IsNext, Follows, in_tray, is_found, is_next}
+use Rattle.mx_office.proofs.AccountLemmas.{IsFound, IsNext, is_found, is_next}
 use Rattle.mx_office.proofs.MoveCaseLemmas.{IsLoad, load_is, with_member}
 use Rattle.mx_office.proofs.CommandLemmas.{nothing, is_refused, not_refused}
 

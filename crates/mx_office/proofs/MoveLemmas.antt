@@ -1,31 +1,19 @@
 -- What was issued and what was redeemed stays, but for loads and redemptions.
-use Rattle.std.proofs.Common.{◌≡◌, ℕ, ◌+◌, ◌≤◌, Bool, true, false, cond, refl, sym, ◌∙◌, ap, subst, Option, Some, None, option_map, arith}
-use Rattle.std.specs.Option.{option_map_or}
+use Rattle.std.proofs.Common.{◌≡◌, ℕ, ◌+◌, ◌≤◌, Bool, true, false, refl, sym, ◌∙◌, ap, subst, Some, None, arith}
 use Rattle.std.specs.FinMap as fmap
-use Rattle.mx_purse.specs.declared.message.Message.{Message}
-use Rattle.mx_purse.specs.Operations.{start_from_refusal, start_to_refusal}
-use Rattle.mx_pay.specs.Details.{Details}
 use Rattle.mx_book.specs.declared.values.Caller.{Caller}
-use Rattle.mx_book.specs.declared.values.Caller.TheVariants.{Operator, Clerk, Holder}
-use Rattle.mx_book.specs.declared.values.MemberRow.{MemberRow}
 use Rattle.mx_book.specs.Sums.{sum_values}
 use Rattle.mx_book.specs.Totals.{of_all, issued_row, redeemed_row}
-use Rattle.mx_book.specs.World.{World, Row, Holding, Name, set_row, new_row, changed_row, change_holding, has_room, delivered, with_message, all_collected}
+use Rattle.mx_book.specs.World.{World, Row, Holding, Name, set_row, new_row}
 use Rattle.mx_book.proofs.NameLemmas.{names_total}
-use Rattle.mx_book.proofs.PurseLemmas.{change_there}
 use Rattle.mx_book.proofs.SumLemmas.{value_of, sum_values-insert}
 use Rattle.mx_office.specs.declared.values.Command.{Command}
-use Rattle.mx_office.specs.declared.values.Command.TheVariants.{NewMember, Grant, Archive, Clear, NewHolder, NewPurse, Load, Collect, Reconcile, Show, StartFrom, StartTo, Handle, Discard, Abort, ReadLog, Redeem, Inbox, Statement}
-use Rattle.mx_office.specs.declared.values.Refusal.{Refusal}
-use Rattle.mx_office.specs.declared.values.Refusal.TheVariants.{NoSuchPurse}
-use Rattle.mx_office.specs.declared.values.Reply.{Reply}
 use Rattle.mx_office.specs.Conservation.{is_load as loads, is_redemption as redeems}
-use Rattle.mx_office.specs.Step.{Deed, Asks, unless, unless_told, on_found, in_place, own_holding, on_world, asks, show, start_from, start_to, handle, discard, abort, read_log, inbox, statement, new_member_refusal, new_holder_refusal, new_purse, new_purse_refusal, change_member, grant_refusal, loaded_row, idle_load, load_purse, collect, collect_refusal, archive_refusal, clear_refusal, base, put_sent, is_kept, with_result, step}
+use Rattle.mx_office.specs.Step.{loaded_row, base, step}
 use Rattle.mx_office.proofs.BalanceCommandLemmas.{loaded_redemptions}
 use Rattle.mx_office.proofs.CaseLemmas.{by_after}
 use Rattle.mx_office.proofs.MoveCaseLemmas.{by_moves}
 use Rattle.mx_office.proofs.EntrySumLemmas.{sum_values-new, sum_values-empty}
-use Rattle.mx_office.proofs.OwnLemmas.{absent, none_refused, is_owned}
 use Rattle.mx_office.proofs.RuleLemmas.{Redeems, Same, More, EachKeeps, each_keeps}
 use Rattle.mx_office.proofs.SaneLemmas.{Sane}
 use Rattle.mx_office.proofs.SaneMoneyLemmas.{same_sum}
@@ -89,7 +77,7 @@ base_moved w s = by_moves w (λ _ c d. IsMoved w d.state c) (record {
   purse = λ m p h there none few. stays_moved w _ _ (new_same w p h issued_row none (sum_values-empty (λ n. n))) (new_same w p h redeemed_row none (sum_values-empty (λ n. n)));
   load = λ m p amount reference l.
       let same : of_all (set_row w p (loaded_row amount reference l.row)) redeemed_row ≡ of_all w redeemed_row =
-          row_same w p l.row _ redeemed_row l.at (ap (sum_values (λ n. n)) (loaded_redemptions l.row.holding amount reference)) in
+      row_same w p l.row _ redeemed_row l.at (ap (sum_values (λ n. n)) (loaded_redemptions l.row.holding amount reference)) in
       record { issued = λ never. clash true refl never; redeemed = λ _. same; grows = no_less _ _ same };
   collect = λ m row there room. stays_moved w _ _ (same_sum w m s issued_row (λ r. refl)) (same_sum w m s redeemed_row (λ r. refl));
   archive = λ p. stays_moved w _ _ refl refl;

@@ -1,5 +1,5 @@
 -- Each command is an operation of the abstract world, and so are runs of commands.
-use Rattle.std.proofs.Common.{◌≡◌, ℕ, ◌+◌, ◌-◌, Bool, true, false, cond, List, [], ◌∷◌, refl, sym, ◌∙◌, ap, subst, Option, Some, None, option_map, option_and_then, ◌&&◌, arith, is_none, map}
+use Rattle.std.proofs.Common.{◌≡◌, ℕ, ◌+◌, Bool, true, false, cond, List, [], ◌∷◌, refl, sym, ◌∙◌, ap, subst, Option, Some, None, option_map, option_and_then, ◌&&◌, arith, is_none, map}
 use Rattle.std.specs.Prelude.{sum_by}
 use Rattle.std.specs.FinMap as fmap
 use Rattle.mx_pay.specs.Names.{name_cmp, is_name}
@@ -9,35 +9,31 @@ use Rattle.mx_purse.specs.declared.refusals.LoadRefusal.{LoadRefusal}
 use Rattle.mx_purse.specs.Operations.{expects_val, expects_ack, load_refusal, loaded}
 use Rattle.mx_book.specs.declared.contract.StoreFault.{StoreFault}
 use Rattle.mx_book.specs.declared.values.Caller.{Caller}
-use Rattle.mx_book.specs.declared.values.Caller.TheVariants.{Operator, Clerk, Holder}
 use Rattle.mx_book.specs.declared.values.LineKind.TheVariants as kind
 use Rattle.mx_book.specs.declared.values.MemberRow.{MemberRow}
 use Rattle.mx_book.specs.Reads.{from_row, is_archived, load_of}
 use Rattle.mx_book.specs.Totals.{occurring, value_where}
-use Rattle.mx_book.specs.World.{World, Row, Holding, Name, Token, set_row, change_holding, new_row, is_of_member, all_collected, with_archived, opening}
+use Rattle.mx_book.specs.World.{World, Row, Name, Token, set_row, new_row, is_of_member, with_archived, opening}
 use Rattle.mx_book.proofs.NameLemmas.{names_total, names_exact, same_name}
-use Rattle.mx_book.proofs.PurseLemmas.{change_there}
 use Rattle.mx_book.proofs.UnderLemmas.{entries_empty}
 use Rattle.mx_office.specs.declared.values.Command.{Command}
-use Rattle.mx_office.specs.declared.values.Command.TheVariants.{NewMember, Grant, Archive, Clear, NewHolder, NewPurse, Load, Collect, Reconcile}
+use Rattle.mx_office.specs.declared.values.Command.TheVariants.{Archive, NewPurse, Load}
 use Rattle.mx_office.specs.declared.values.Outcome.{Outcome}
-use Rattle.mx_office.specs.declared.values.Refusal.{Refusal}
 use Rattle.mx_office.specs.declared.values.Refusal.TheVariants.{NoSuchPurse}
 use Rattle.mx_office.specs.declared.values.Reply.{Reply}
 use Rattle.mx_office.specs.declared.values.Reply.TheVariants as reply
 use Rattle.mx_office.specs.Abstract.{AbstractPurse, AbstractRun, Act, ChosenLost, IsAct, Refines, RefinesFromNone, Simulates, perform_all, counts_lost, counts_received, received_by, losses_of, abstract_purse, abstract_of}
 use Rattle.mx_office.specs.Reachable.{IsReachable}
 use Rattle.mx_office.specs.Run.{IsRun, answered}
-use Rattle.mx_office.specs.Step.{Deed, Asks, Asked, unless, unless_told, on_found, in_place, idle, own_holding, on_world, asks, with_purse, money_line, new_member_refusal, new_holder_refusal, new_purse, new_purse_refusal, grant_refusal, loaded_holding, loaded_row, new_load_refusal, idle_load, idle_load_at, load_purse, collect, collect_refusal, archive_refusal, clear_refusal, base, put_sent, step, steps}
+use Rattle.mx_office.specs.Step.{Deed, Asked, idle, with_purse, money_line, loaded_holding, loaded_row, new_load_refusal, idle_load, idle_load_at, base, step, steps}
 use Rattle.mx_office.proofs.ActLemmas.{Simulated, map_same, get-abstract, act_leads, leads_to, still_load}
 use Rattle.mx_office.proofs.AlikeLemmas.{purse_of, alike_itself, alike_simulated, row_alike, then_alike, apart_alike}
 use Rattle.mx_office.proofs.CaseLemmas.{by_after, collected_same}
 use Rattle.mx_office.proofs.MoveCaseLemmas.{IsTold, Refuses, Names, Sums, Idles, by_moves}
-use Rattle.mx_office.proofs.DeedLemmas.{not_some, with_holding}
+use Rattle.mx_office.proofs.DeedLemmas.{not_some}
 use Rattle.mx_office.proofs.FateLemmas.{value_moves, still_received, still_lost, never_received, never_lost}
 use Rattle.mx_office.proofs.FlowLemmas.{flowing, flow-same, neither}
 use Rattle.mx_office.proofs.LawLemmas.{run_steps}
-use Rattle.mx_office.proofs.OwnLemmas.{is_owned, absent, none_refused}
 use Rattle.mx_office.proofs.RuleActLemmas.{EachActs, each_acts, idle_told}
 use Rattle.mx_office.proofs.SaneLemmas.{Sane, IsNextSane}
 use Rattle.mx_office.proofs.SaneCommandLemmas.{opening_sane, reachable_sane, step_sane}
@@ -58,7 +54,6 @@ load_known : (w : World) (p : Name) (r : Row) → fmap.get w.rows p ≡ Some r �
 load_known w p r at reference = ap (from_row None (λ (x : Row). fmap.get x.loads reference)) at
 
 module _ (w : World) (p : Name) (r : Row) (at : fmap.get w.rows p ≡ Some r) (s : Sane w) (m : Name) (amount : ℕ) (reference : Name) (c : ChosenLost) where
-
   abbrev by_guard : Option LoadRefusal → Row
   by_guard o = record r {
     holding = cond (is_none o) (with_purse r.holding (loaded r.holding.purse amount) (Some (money_line (loaded r.holding.purse amount) kind.Loaded amount reference))) r.holding;

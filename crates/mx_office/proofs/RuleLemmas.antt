@@ -1,20 +1,19 @@
 -- What each rule on a purse keeps, and that a refused command leaves the World.
-use Rattle.std.proofs.Common.{◌≡◌, subst, ℕ, Bool, true, false, refl, ap, Option, Some, None, option_map, sym, ◌∙◌}
+use Rattle.std.proofs.Common.{◌≡◌, subst, ℕ, Bool, true, false, refl, ap, None, option_map, ◌∙◌}
 use Rattle.std.specs.FinMap as fmap
 use Rattle.mx_purse.specs.Operations.{start_from_refusal, start_to_refusal, redeem_refusal}
-use Rattle.mx_book.specs.World.{Holding, Name, World, set_row, change_holding}
+use Rattle.mx_book.specs.World.{Holding, Name, World, set_row}
 use Rattle.mx_office.specs.declared.values.Command.{Command}
-use Rattle.mx_office.specs.declared.values.Command.TheVariants.{Show, StartFrom, StartTo, Handle, Discard, Abort, ReadLog, Redeem, Inbox, Statement, NewMember, Grant, Archive, Clear, NewHolder, NewPurse, Load, Collect, Reconcile}
+use Rattle.mx_office.specs.declared.values.Command.TheVariants.{Show, StartFrom, StartTo, Handle, Discard, Abort, ReadLog, Redeem, Inbox, Statement}
 use Rattle.mx_office.specs.declared.values.Refusal.{Refusal}
 use Rattle.mx_office.specs.declared.values.Reply.{Reply}
 use Rattle.mx_office.specs.declared.values.Reply.TheVariants as reply
-use Rattle.mx_office.specs.declared.values.Refusal.TheVariants.{NoSuchMessage, NoSuchPurse}
+use Rattle.mx_office.specs.declared.values.Refusal.TheVariants.{NoSuchMessage}
 use Rattle.mx_office.specs.Conservation.{is_redemption}
 use Rattle.mx_office.proofs.CaseLemmas.{by_told, by_named, by_found, new_reference}
-use Rattle.mx_office.specs.Step.{Deed, Asks, tell, idle, refusal_of_start, refusal_of_redeem, asks, show, start_from, start_to, handle, discard, abort, read_log, redeem, inbox, statement, unless, unless_told, new_member_refusal, new_holder_refusal, new_purse_refusal, grant_refusal, archive_refusal, clear_refusal, collect_refusal, idle_load, on_found, in_place, own_holding, on_world, base, put_sent, with_result, step}
+use Rattle.mx_office.specs.Step.{Deed, Asks, tell, idle, refusal_of_start, refusal_of_redeem, asks, show, start_from, start_to, handle, discard, abort, read_log, redeem, inbox, statement, base, put_sent, with_result, step}
 use Rattle.mx_book.specs.declared.values.Caller.{Caller}
-use Rattle.mx_book.specs.declared.values.Caller.TheVariants.{Operator, Clerk, Holder}
-use Rattle.mx_book.proofs.PurseLemmas.{change_there, set_same}
+use Rattle.mx_book.proofs.PurseLemmas.{set_same}
 use Rattle.mx_office.proofs.MoveCaseLemmas.{by_moves}
 
 -- where it is refused, nothing changes and nothing is sent

@@ -1,36 +1,30 @@
 -- Each command keeps the invariant and the scheme's equation.
-use Rattle.std.proofs.Common.{◌≡◌, ℕ, ◌+◌, ◌-◌, Bool, true, false, cond, List, [], ◌∷◌, refl, sym, ◌∙◌, ap, subst, None, not, ◌&&◌, is_some}
+use Rattle.std.proofs.Common.{◌≡◌, ◌+◌, Bool, true, false, cond, refl, sym, ◌∙◌, ap, subst, None, not, ◌&&◌, is_some}
 use Rattle.std.specs.FinMap as fmap
 use Rattle.mx_pay.specs.Names.{name_cmp}
 use Rattle.mx_pay.specs.Details.{Details, details_cmp}
-use Rattle.mx_pay.specs.Log.{Entries}
 use Rattle.mx_pay.proofs.LogLemmas.{details_total}
 use Rattle.mx_purse.specs.declared.message.Message.{Message}
 use Rattle.mx_purse.specs.declared.message.Message.TheVariants as message
 use Rattle.mx_purse.specs.Operations.{expects_ack}
 use Rattle.mx_book.specs.declared.values.Caller.{Caller}
-use Rattle.mx_book.specs.declared.values.Caller.TheVariants.{Operator, Clerk, Holder}
-use Rattle.mx_book.specs.declared.values.MemberRow.{MemberRow}
-use Rattle.mx_book.specs.Reads.{is_archived, uncollected_of}
+use Rattle.mx_book.specs.Reads.{is_archived}
 use Rattle.mx_book.specs.Totals.{balance_row, issued_row, redeemed_row}
-use Rattle.mx_book.specs.World.{World, Name, Token, result_cmp, all_collected, opening}
+use Rattle.mx_book.specs.World.{World, Name, Token, result_cmp, opening}
 use Rattle.mx_book.proofs.FoundLemmas.{inside}
-use Rattle.mx_book.proofs.PurseLemmas.{change_there}
 use Rattle.mx_office.specs.declared.values.Command.{Command}
-use Rattle.mx_office.specs.declared.values.Command.TheVariants.{NewMember, Grant, Archive, Clear, NewHolder, NewPurse, Load, Collect, Reconcile}
 use Rattle.mx_office.specs.Reachable.{IsReachable}
-use Rattle.mx_office.specs.Step.{Asked, asks, new_member, new_member_refusal, new_holder, new_holder_refusal, new_purse, new_purse_refusal, change_member, grant, grant_refusal, loaded_row, idle_load, load_purse, collect, collect_refusal, archive, archive_refusal, may_clear, clear, clear_refusal, base, step, steps}
+use Rattle.mx_office.specs.Step.{base, step}
 use Rattle.mx_office.proofs.ArchiveLemmas.{clear_means}
 use Rattle.mx_office.proofs.MoveCaseLemmas.{by_moves}
 use Rattle.mx_office.proofs.CaseLemmas.{by_reachable}
 use Rattle.mx_office.proofs.EntrySumLemmas.{sum_values-empty}
 use Rattle.mx_office.proofs.KeySumLemmas.{number, sum-empty}
-use Rattle.mx_office.proofs.OwnLemmas.{absent, none_refused}
 use Rattle.mx_office.proofs.SeenLemmas.{IsTimely, clash}
 use Rattle.mx_office.proofs.SeenWorldLemmas.{seen, side}
 use Rattle.mx_office.proofs.DeedLemmas.{not_some}
 use Rattle.mx_office.proofs.HandleLemmas.{EachKept, each_kept}
-use Rattle.mx_office.proofs.SaneLemmas.{Sane, StaysLost, IsSaneDeed, IsNextSane, told_sane, apart_sane, row_sane, after_sane}
+use Rattle.mx_office.proofs.SaneLemmas.{Sane, IsSaneDeed, IsNextSane, told_sane, apart_sane, row_sane, after_sane}
 use Rattle.mx_office.proofs.SaneRowLemmas.{new_sane, archive_sane}
 use Rattle.mx_office.proofs.SaneMoneyLemmas.{load_sane, collect_sane}
 

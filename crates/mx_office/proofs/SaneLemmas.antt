@@ -1,5 +1,5 @@
 -- The invariant and the scheme's equation, where a rule is done to the World, a message is put and a result is sent.
-use Rattle.std.proofs.Common.{◌≡◌, ℕ, ◌+◌, Bool, true, false, cond, refl, sym, ◌∙◌, ap, subst, Option, Some, None, ◌&&◌, ◌||◌, inl, inr, is_some}
+use Rattle.std.proofs.Common.{◌≡◌, Bool, true, false, cond, refl, sym, ◌∙◌, ap, subst, Option, Some, None, ◌&&◌, ◌||◌, inl, inr, is_some}
 use Rattle.std.specs.Cmp.{nat_cmp_total}
 use Rattle.std.specs.FinMap as fmap
 use Rattle.mx_pay.specs.Names.{name_cmp}
@@ -11,28 +11,21 @@ use Rattle.mx_purse.specs.Operations.{expects_val}
 use Rattle.mx_book.specs.declared.values.Caller.{Caller}
 use Rattle.mx_book.specs.declared.values.MemberRow.{MemberRow}
 use Rattle.mx_book.specs.Reads.{from_row, is_archived}
-use Rattle.mx_book.specs.Sums.{sum_values}
-use Rattle.mx_book.specs.Totals.{is_entry, issued_row}
-use Rattle.mx_book.specs.World.{World, Row, Holding, Name, set_row, changed_row, change_holding, has_room, delivered, with_message}
+use Rattle.mx_book.specs.Totals.{is_entry}
+use Rattle.mx_book.specs.World.{World, Row, Holding, Name, set_row, delivered}
 use Rattle.mx_book.proofs.FoundLemmas.{inside}
 use Rattle.mx_book.proofs.NameLemmas.{get-inserted}
-use Rattle.mx_book.proofs.PurseLemmas.{change_there}
 use Rattle.mx_book.proofs.ResultLemmas.{results_total, same_result}
-use Rattle.mx_office.specs.declared.values.Refusal.{Refusal}
-use Rattle.mx_office.specs.declared.values.Refusal.TheVariants.{NoSuchPurse}
 use Rattle.mx_office.specs.declared.values.Reply.{Reply}
-use Rattle.mx_office.specs.Step.{Deed, Asks, tell, unless, unless_told, on_found, in_place, own_holding, on_world, change_member, put_sent, is_kept, with_result, world_after}
-use Rattle.std.specs.Option.{option_map_or}
+use Rattle.mx_office.specs.Step.{Deed, tell, in_place, world_after}
 use Rattle.mx_office.proofs.AccountLemmas.{in_tray}
 use Rattle.mx_office.proofs.CaseLemmas.{by_after}
-use Rattle.mx_office.proofs.OwnLemmas.{is_owned}
 use Rattle.mx_office.proofs.SeenLemmas.{Seen, Step, IsTimely, clash}
 use Rattle.mx_office.proofs.SoundLemmas.{Quiet, either_true}
 use Rattle.mx_office.proofs.SeenWorldLemmas.{Invariant, seen, side, entry_of, or_cases, over_row, kept_with, quiet_step, same_gone, same_due}
 use Rattle.mx_office.proofs.FlowLemmas.{flow-same}
 use Rattle.mx_office.proofs.OutLemmas.{Books, books_keep}
 use Rattle.mx_office.proofs.DeedLemmas.{IsKept, with_holding, not_some, both_parts, still}
-use Rattle.mx_office.proofs.HandleLemmas.{EachKept}
 
 -- the invariant and the equation
 pub record Sane (w : World) : Type 0 where
@@ -186,9 +179,9 @@ record IsSaneAfter (w u v : World) : Type 0 where
 pub after_sane : (w : World) (d : Deed World) → IsSaneDeed w d → IsNextSane w (world_after d)
 after_sane w d s =
     let after : IsSaneAfter w d.state (world_after d) =
-        by_after (IsSaneAfter w d.state) d (record { next = record { sane = s.sane; lost = s.lost }; logged = λ x c t. t })
-        (λ m r e at.
-            let timely = s.sent m e in
-            record { next = record { sane = sane_put d.state m.0 m.1 s.sane timely r at; lost = λ c t. lost_put d.state m.0 m.1 s.sane timely r at c (s.lost c t) }; logged = logged_put d.state m.0 m.1 s.sane timely r at })
-        (λ v x y e f. record { next = record { sane = tray_sane v x.0 x.1 y.next.sane (or_neither _ _ f) (y.logged x.0 x.1 (s.read x e)); lost = y.next.lost }; logged = y.logged }) in
+    by_after (IsSaneAfter w d.state) d (record { next = record { sane = s.sane; lost = s.lost }; logged = λ x c t. t })
+    (λ m r e at.
+    let timely = s.sent m e in
+    record { next = record { sane = sane_put d.state m.0 m.1 s.sane timely r at; lost = λ c t. lost_put d.state m.0 m.1 s.sane timely r at c (s.lost c t) }; logged = logged_put d.state m.0 m.1 s.sane timely r at })
+    (λ v x y e f. record { next = record { sane = tray_sane v x.0 x.1 y.next.sane (or_neither _ _ f) (y.logged x.0 x.1 (s.read x e)); lost = y.next.lost }; logged = y.logged }) in
     after.next

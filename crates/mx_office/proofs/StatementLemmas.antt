@@ -1,5 +1,5 @@
 -- The lines of a purse tell how it came by its balance: each rule keeps that, and so does each event of a holder's view.
-use Rattle.std.proofs.Common.{◌≡◌, ℕ, ◌+◌, Bool, true, false, cond, List, [], ◌∷◌, ◌++◌, append_assoc, length, map, refl, sym, ◌∙◌, ap, Option, Some, None, option_and_then, option_map, arith}
+use Rattle.std.proofs.Common.{◌≡◌, ℕ, ◌+◌, true, List, [], ◌∷◌, ◌++◌, append_assoc, length, map, refl, sym, ◌∙◌, ap, Option, Some, None, option_and_then, option_map, arith}
 use Rattle.std.proofs.lemmas.List.{append-nil, length-append, length-map, map-append}
 use Rattle.std.specs.Prelude.{is_none}
 use Rattle.std.specs.Option.{option_map_or}
@@ -8,25 +8,22 @@ use Rattle.mx_pay.specs.Names.{name_cmp}
 use Rattle.mx_pay.specs.Details.{Details}
 use Rattle.mx_purse.specs.Operations.{pending, aborted, lines_with, start_from_refusal, start_to_refusal, handled, after_message, load_refusal, loaded, redeem_refusal, redeemed}
 use Rattle.mx_purse.specs.State.{State}
-use Rattle.mx_purse.specs.declared.message.Message.{Message}
 use Rattle.mx_purse.specs.declared.message.Handled.{Handled}
 use Rattle.mx_purse.specs.declared.message.Handled.TheVariants as took
 use Rattle.mx_book.specs.declared.values.Line.{Line}
 use Rattle.mx_book.specs.declared.values.LineKind.TheVariants as kind
-use Rattle.mx_book.specs.World.{World, Row, Holding, Name, Token, opening, new_holding, has_room, delivered, with_message}
+use Rattle.mx_book.specs.World.{World, Row, Holding, Name, Token, opening, new_holding, with_message}
 use Rattle.mx_book.proofs.FoundLemmas.{each_inserted, none_found}
 use Rattle.mx_book.proofs.MapLemmas.{get-pick}
 use Rattle.mx_book.proofs.NameLemmas.{names_total, names_exact, name_itself}
 use Rattle.mx_office.specs.declared.values.Command.{Command}
 use Rattle.mx_office.specs.declared.values.Command.TheVariants.{Show, StartFrom, StartTo, Handle, Discard, Abort, ReadLog, Redeem, Inbox, Statement}
-use Rattle.mx_office.specs.declared.values.Refusal.{Refusal}
 use Rattle.mx_office.specs.declared.values.Refusal.TheVariants.{NoSuchPurse, NoSuchMessage}
-use Rattle.mx_office.specs.declared.values.Reply.{Reply}
 use Rattle.mx_office.specs.declared.values.Reply.TheVariants as reply
 use Rattle.mx_office.specs.Isolation.{Event, Holdings, view, on_holdings, after_event, local, cut}
 use Rattle.mx_office.specs.Reachable.{IsReachable}
 use Rattle.mx_office.specs.Statement.{Item, item_of, balance_after, lines_from, balance_at_end, items_seen, statement_of, IsStated}
-use Rattle.mx_office.specs.Step.{Deed, Asks, Asked, unless, unless_told, idle, refusal_of_start, refusal_of_redeem, on_found, in_place, listed, abort_line, message_line, payment_line, money_line, with_purse, with_aborted, with_redemption, handle_message, asks, show, start_from, start_to, handle, discard, abort, read_log, redeem, inbox, statement, loaded_holding, holding_for, own_holding, steps}
+use Rattle.mx_office.specs.Step.{Deed, Asks, Asked, idle, refusal_of_start, refusal_of_redeem, in_place, listed, abort_line, message_line, payment_line, money_line, with_purse, with_aborted, with_redemption, handle_message, asks, show, start_from, start_to, handle, discard, abort, read_log, redeem, inbox, statement, loaded_holding, holding_for, own_holding, steps}
 use Rattle.mx_office.proofs.CaseLemmas.{by_cond, by_told, by_named, by_found, by_room}
 use Rattle.mx_office.proofs.LawLemmas.{run_law}
 use Rattle.mx_office.proofs.OwnLemmas.{own_at}

@@ -1,26 +1,16 @@
 -- What a command keeps: whose tokens are, each holder's member, and each purse's holder.
-use Rattle.std.proofs.Common.{◌≡◌, ◌≢◌, Bool, true, false, cond, List, [], ◌∷◌, Option, Some, None, refl, sym, ◌∙◌, ap, subst, option_map, is_some, is_none, IsSome, ◌&&◌}
-use Rattle.std.specs.Prelude.{nat_le, length}
+use Rattle.std.proofs.Common.{◌≡◌, Bool, true, false, cond, List, [], ◌∷◌, Option, Some, None, refl, sym, ◌∙◌, ap, subst, option_map}
 use Rattle.std.specs.FinMap as fmap
-use Rattle.mx_pay.specs.Names.{name_cmp, is_name}
+use Rattle.mx_pay.specs.Names.{is_name}
 use Rattle.mx_pay.specs.Tokens.{is_token}
-use Rattle.mx_pay.specs.Details.{Details}
-use Rattle.mx_purse.specs.declared.message.Message.{Message}
 use Rattle.mx_book.specs.declared.values.Caller.{Caller}
 use Rattle.mx_book.specs.declared.values.Caller.TheVariants.{Operator, Clerk, Holder}
-use Rattle.mx_book.specs.declared.values.MemberRow.{MemberRow}
-use Rattle.mx_book.specs.Reads.{who_of, purses_of}
-use Rattle.mx_book.specs.World.{World, Row, Holding, Name, Token, is_of, is_of_member, set_row, changed_row, change_row, change_holding, all_collected, with_collected, new_row, put, with_message, with_archived}
+use Rattle.mx_book.specs.Reads.{who_of}
+use Rattle.mx_book.specs.World.{World, Row, Name, Token, set_row, new_row}
 use Rattle.mx_book.proofs.FoundLemmas.{kept_value}
-use Rattle.mx_book.proofs.NameLemmas.{names_total, names_exact, same_name}
-use Rattle.mx_book.proofs.UnderLemmas.{get-remake}
+use Rattle.mx_book.proofs.NameLemmas.{names_total, same_name}
 use Rattle.mx_office.specs.declared.values.Command.{Command}
-use Rattle.mx_office.specs.declared.values.Command.TheVariants.{NewMember, Grant, Archive, NewHolder, NewPurse, Load, Collect, Purses, Show, StartFrom, StartTo, Handle, Discard, Abort, ReadLog, Redeem, Inbox, Statement, Reconcile}
-use Rattle.mx_office.specs.declared.values.Command.TheVariants as command
-use Rattle.mx_office.specs.declared.values.Refusal.{Refusal}
-use Rattle.mx_office.specs.declared.values.Refusal.TheVariants.{NoSuchPurse}
-use Rattle.mx_office.specs.declared.values.Reply.{Reply}
-use Rattle.mx_office.specs.Step.{Asked, Asks, Deed, asks, base, change_member, clear, clear_refusal, archive, archive_refusal, collect, collect_refusal, grant, grant_refusal, idle_load, in_place, is_kept, load_purse, loaded_row, new_holder, new_holder_refusal, new_member, new_member_refusal, new_purse, new_purse_refusal, on_found, on_own, on_world, own_holding, put_sent, step, steps, unless, unless_told, with_result, world_after}
+use Rattle.mx_office.specs.Step.{Asked, base, loaded_row, step, steps}
 use Rattle.mx_office.proofs.CaseLemmas.{by_after, collected_same}
 use Rattle.mx_office.proofs.MoveCaseLemmas.{by_moves}
 

@@ -1,14 +1,10 @@
 -- A command that is a value keeps the conditions of a World.
-use Rattle.std.proofs.Common.{◌≡◌, ℕ, ◌+◌, ◌^◌, ◌-◌, ◌≤◌, cond, List, [], ◌∷◌, Option, Some, None, refl, sym, ◌∙◌, ap, subst, arith, is_some, option_map}
-use Rattle.std.specs.Prelude.{◌==◌, min, IfSome}
+use Rattle.std.proofs.Common.{◌≡◌, ℕ, ◌≤◌, cond, [], ◌∷◌, Option, Some, None, refl, sym, ◌∙◌, ap, subst, arith, is_some, option_map}
+use Rattle.std.specs.Prelude.{◌==◌, IfSome}
 use Rattle.std.proofs.lemmas.Bool.Decides.{nat_tests}
-use Rattle.std.specs.FinMap as fmap
-use Rattle.std.specs.List.{AllByRecursion}
 use Rattle.mx_pay.specs.Limits.{most_amount, most_number}
 use Rattle.mx_pay.specs.Names.{is_name}
-use Rattle.mx_pay.specs.Tokens.{IsToken}
 use Rattle.mx_pay.specs.Details.{Details, IsDetails}
-use Rattle.mx_pay.specs.Log.{Entries, IsLogValue}
 use Rattle.mx_purse.specs.State.{State, IsPurse, details_of}
 use Rattle.mx_purse.specs.declared.status.Status.{Status}
 use Rattle.mx_purse.specs.declared.status.Status.TheVariants.{Epr, Epv}
@@ -17,31 +13,27 @@ use Rattle.mx_purse.specs.declared.message.Message.TheVariants.{Req, Clear}
 use Rattle.mx_purse.specs.declared.refusals.StartRefusal.{StartRefusal}
 use Rattle.mx_purse.specs.declared.refusals.StartRefusal.TheVariants.{SamePurse}
 use Rattle.mx_purse.specs.declared.refusals.RedeemRefusal.{RedeemRefusal}
-use Rattle.mx_purse.specs.Operations.{or_refused, unless_refused, pending, aborted, start_from_refusal, start_to_refusal, from_details, to_details, started, handled, after_message, sent_for, read_entry, loaded, redeem_refusal, redeemed}
+use Rattle.mx_purse.specs.Operations.{or_refused, unless_refused, pending, aborted, start_from_refusal, start_to_refusal, from_details, to_details, started, handled, after_message, sent_for, read_entry, redeem_refusal, redeemed}
 use Rattle.mx_purse.proofs.OperationLemmas.{started_from_is, started_to_is, from_same, to_same}
-use Rattle.mx_book.specs.declared.edits.Edit.TheVariants.{SetMember, DropMessage, Collect as CollectAll}
+use Rattle.mx_book.specs.declared.edits.Edit.TheVariants.{DropMessage}
 use Rattle.mx_book.specs.declared.values.Caller.{Caller}
-use Rattle.mx_book.specs.declared.values.Caller.TheVariants.{Operator, Clerk, Holder}
-use Rattle.mx_book.specs.World.{World, Row, Holding, Name, Token, is_of_member, change_holding, opening}
-use Rattle.mx_book.specs.Conditions.{IsWorld, all_granted}
+use Rattle.mx_book.specs.World.{World, Row, Holding, Name}
+use Rattle.mx_book.specs.Conditions.{IsWorld}
 use Rattle.mx_book.specs.Limits.{most_lines}
-use Rattle.mx_book.specs.Reads.{from_row, own_purse, uncollected_of, inbox_of, lines_of, message_of, redemption_of}
+use Rattle.mx_book.specs.Reads.{from_row, own_purse, inbox_of, lines_of, message_of, redemption_of}
 use Rattle.mx_book.proofs.Opening.{opening_is}
 use Rattle.mx_book.proofs.KeepLemmas.{member_stays, holder_stays, new_purse_stays}
 use Rattle.mx_book.proofs.PurseLemmas.{put_stays}
 use Rattle.mx_book.proofs.ResultLemmas.{archived_stays}
 use Rattle.mx_office.specs.declared.values.Command.{Command}
-use Rattle.mx_office.specs.declared.values.Command.TheVariants.{NewMember, Grant, Archive, Clear as ClearLog, NewHolder, NewPurse, Load, Collect, Show, StartFrom, StartTo, Handle, Discard, Abort, ReadLog, Redeem, Inbox, Statement, Reconcile}
+use Rattle.mx_office.specs.declared.values.Command.TheVariants.{Show, StartFrom, StartTo, Handle, Discard, Abort, ReadLog, Redeem, Inbox, Statement}
 use Rattle.mx_office.specs.declared.values.Decided.{Decided}
-use Rattle.mx_office.specs.declared.values.Refusal.{Refusal}
-use Rattle.mx_office.specs.declared.values.Refusal.TheVariants.{NoSuchPurse, NoSuchMessage, RefReused}
-use Rattle.mx_office.specs.declared.values.Reply.{Reply}
+use Rattle.mx_office.specs.declared.values.Refusal.TheVariants.{NoSuchMessage, RefReused}
 use Rattle.mx_office.specs.declared.values.Reply.TheVariants as reply
-use Rattle.mx_office.specs.Commands.{IsNamed, IsCommand, IsAsked}
-use Rattle.mx_office.specs.Decides.{Decides, placed, purse_edits, not_kept, read_edits, load_edits, redeem_edits}
+use Rattle.mx_office.specs.Commands.{IsNamed, IsCommand}
+use Rattle.mx_office.specs.Decides.{Decides, placed, purse_edits, not_kept, read_edits, redeem_edits}
 use Rattle.mx_office.specs.Reachable.{IsReachable}
-use Rattle.mx_office.specs.Step.{Deed, Asks, tell, unless, unless_told, on_found, in_place, refusal_of_start, refusal_of_redeem, abort_line, message_line, with_aborted, show, start_from, start_to, handle, discard, abort, read_log, redeem, inbox, statement, asks, own_holding, on_own, on_world, new_member, new_member_refusal, new_holder, new_holder_refusal, new_purse, new_purse_refusal, grant, grant_refusal, idle_load, load_purse, collect, collect_refusal, archive, archive_refusal, clear, clear_refusal, base, world_after, step, steps}
-use Rattle.mx_office.proofs.OwnLemmas.{absent, present, of_there, none_refused, is_owned}
+use Rattle.mx_office.specs.Step.{Deed, Asks, tell, unless, refusal_of_start, refusal_of_redeem, abort_line, message_line, with_aborted, show, start_from, start_to, handle, discard, abort, read_log, redeem, inbox, statement, asks, on_own, world_after, step}
 use Rattle.mx_office.proofs.ArchiveLemmas.{clear_means, read_decides}
 use Rattle.mx_office.proofs.AccountLemmas.{IsOwn, IsSent, is_own, own_there}
 use Rattle.mx_office.proofs.CaseLemmas.{by_reachable}
@@ -157,7 +149,7 @@ step_world w caller c value is = by_moves w (λ _ c d. IsCommand c → LeavesWor
   own = λ h c p f r e at owned valid.
       let own : IsOwn w h p r.holding.purse = record { row = r; at = at; passes = owned; purse = refl } in
       let there : own_purse w h p ≡ Some r.holding.purse =
-          ap (from_row None (λ (x : Row). cond (is_name h x.holder) (Some x.holding.purse) None)) at ∙ ap (λ b. cond b (Some r.holding.purse) None) owned in
+      ap (from_row None (λ (x : Row). cond (is_name h x.holder) (Some x.holding.purse) None)) at ∙ ap (λ b. cond b (Some r.holding.purse) None) owned in
       subst LeavesWorld (own_there w h p r.holding.purse own f) (subst (EachWorld w h) e (each_world w h c valid is) r.holding.purse there);
 }) caller c value
 
