@@ -1,23 +1,17 @@
 -- Worlds with the same purses are the same abstract world.
-use Rattle.std.proofs.Common.{◌≡◌, ◌+◌, Bool, true, false, cond, not, refl, sym, ◌∙◌, ap, Option, Some, None, option_map, ◌&&◌, ◌||◌}
+use Rattle.std.proofs.Common.{◌≡◌, ◌+◌, Bool, false, not, refl, sym, ◌∙◌, ap, Option, Some, None, option_map, ◌&&◌, ◌||◌}
 use Rattle.std.specs.FinMap as fmap
-use Rattle.std.specs.Option.{option_map_or}
-use Rattle.mx_pay.specs.Names.{name_cmp}
 use Rattle.mx_pay.specs.Details.{Details}
 use Rattle.mx_pay.specs.Log.{has_logged}
 use Rattle.mx_purse.specs.State.{State}
-use Rattle.mx_purse.specs.declared.message.Message.{Message}
 use Rattle.mx_purse.specs.Operations.{expects_val, expects_ack}
-use Rattle.mx_book.specs.declared.values.MemberRow.{MemberRow}
 use Rattle.mx_book.specs.Reads.{from_row, of_purse, is_archived}
 use Rattle.mx_book.specs.Totals.{maybe_lost, definitely_lost}
-use Rattle.mx_book.specs.World.{World, Row, Holding, Name, set_row, changed_row, has_room, delivered, with_message, is_of_member, with_collected, all_collected}
+use Rattle.mx_book.specs.World.{World, Row, Name, set_row}
 use Rattle.mx_book.proofs.NameLemmas.{names_total, names_exact}
-use Rattle.mx_book.proofs.UnderLemmas.{get-remake}
 use Rattle.mx_office.specs.declared.values.Command.{Command}
 use Rattle.mx_office.specs.declared.values.Reply.{Reply}
 use Rattle.mx_office.specs.Abstract.{AbstractPurse, Act, ChosenLost, IsAct, received_by, losses_of, abstract_purse, abstract_of}
-use Rattle.mx_office.specs.Step.{change_member, put_sent, is_kept, with_result}
 use Rattle.mx_office.proofs.ActLemmas.{Simulated, get-abstract}
 use Rattle.mx_office.proofs.FateLemmas.{received_same, lost_same}
 use Rattle.mx_office.proofs.SeenWorldLemmas.{over_row}
@@ -89,46 +83,6 @@ then_alike w v u asked x c s a = record { before = s.before; act = s.act; is = s
 pub row_alike : (w : World) (p : Name) (r s : Row) → fmap.get w.rows p ≡ Some r → s.holding.purse ≡ r.holding.purse → Alike w (set_row w p s)
 row_alike w p r s at same = record { purses = λ q. over_row w p r s at (λ a b. purse_of b ≡ purse_of a) q (λ o. refl) (λ _. ap Some same); archive = refl }
 
-room_purse : (a : Holding) (m : Message) (b : Bool) → (cond b (delivered a m) a).purse ≡ a.purse
-room_purse a m true = refl
-room_purse a m false = refl
-
-put_case : (w : World) (p : Name) (m : Message) (o : Option Row) → fmap.get w.rows p ≡ o → Alike w (changed_row w p (λ r. record r { holding = with_message r.holding m }) o)
-put_case w p m None at = alike_itself w
-put_case w p m (Some r) at = row_alike w p r (record r { holding = with_message r.holding m }) at (room_purse r.holding m (has_room r.holding))
-
-pub put_alike : (w : World) (sent : Option (Name × Message)) → Alike w (put_sent w sent)
-put_alike w None = alike_itself w
-put_alike w (Some m) = put_case w m.0 m.1 (fmap.get w.rows m.0) refl
-
-kept_case : (w : World) (result : Name × Details) (b : Bool) → Alike w (cond b w (record w { tray = fmap.insert w.tray result tt }))
-kept_case w result true = alike_itself w
-kept_case w result false = record { purses = λ q. refl; archive = refl }
-
-pub result_alike : (w : World) (o : Option (Name × Details)) → Alike w (with_result w o)
-result_alike w None = alike_itself w
-result_alike w (Some result) = kept_case w result (is_kept w result)
-
--- ---- members, and what is collected
-
-member_case : (w v : World) (m : Name) (f : MemberRow → MemberRow) → Alike w v → (o : Option MemberRow) → Alike w (option_map_or (λ row. let u : World = record v { members = fmap.insert v.members m (f row) } in u) o v)
-member_case w v m f a None = a
-member_case w v m f a (Some row) = record { purses = a.purses; archive = a.archive }
-
-pub member_alike : (w v : World) (m : Name) (f : MemberRow → MemberRow) → Alike w v → Alike w (change_member v m f)
-member_alike w v m f a = member_case w v m f a (fmap.get v.members m)
-
-module _ (w : World) (m : Name) where
-  abbrev taken : Name → Row → Row
-  taken p r = cond (is_of_member w m r) (with_collected r) r
-
-  taken_purse : (r : Row) (b : Bool) → (cond b (with_collected r) r).holding.purse ≡ r.holding.purse
-  taken_purse r true = refl
-  taken_purse r false = refl
-
-  taken_case : (q : Name) (o : Option Row) → purse_of (option_map (taken q) o) ≡ purse_of o
-  taken_case q None = refl
-  taken_case q (Some r) = ap Some (taken_purse r (is_of_member w m r))
-
-  pub collected_alike : Alike w (all_collected w m)
-  collected_alike = record { purses = λ q. ap purse_of (get-remake name_cmp taken names_exact w.rows q) ∙ taken_case q (fmap.get w.rows q); archive = refl }
+-- rows and archive stay
+pub apart_alike : (w v : World) → v.rows ≡ w.rows → v.archive ≡ w.archive → Alike w v
+apart_alike w v rows archive = record { purses = λ q. ap (λ m. purse_of (fmap.get m q)) rows; archive = archive }

@@ -1,134 +1,33 @@
 -- Each command keeps the balance equation.
-use Rattle.std.proofs.Common.{◌≡◌, ℕ, ◌+◌, ◌-◌, ◌≤◌, Bool, true, false, cond, List, [], ◌∷◌, refl, sym, ◌∙◌, ap, subst, Option, Some, None, IsSome, is_some, option_and_then, option_map, arith}
-use Rattle.std.specs.Prelude.{nat_lt, is_none}
+use Rattle.std.proofs.Common.{◌≡◌, ℕ, ◌+◌, ◌-◌, ◌≤◌, Bool, true, false, cond, refl, sym, ◌∙◌, ap, subst, Option, Some, None, IsSome, is_some, option_and_then, arith}
+use Rattle.std.specs.Prelude.{is_none}
 use Rattle.std.specs.FinMap as fmap
 use Rattle.mx_pay.specs.Names.{name_cmp}
 use Rattle.mx_purse.specs.Operations.{load_refusal}
 use Rattle.mx_book.specs.declared.values.Caller.{Caller}
-use Rattle.mx_book.specs.declared.values.Caller.TheVariants.{Operator, Clerk, Holder}
 use Rattle.mx_book.specs.declared.values.MemberRow.{MemberRow}
 use Rattle.mx_book.specs.Sums.{sum_entries, sum_values}
 use Rattle.mx_book.specs.Reads.{uncollected_row, uncollected_of}
-use Rattle.mx_book.specs.World.{World, Row, Holding, Name, Token, is_of, is_of_member, with_collected, all_collected, set_row, new_row, opening}
+use Rattle.mx_book.specs.World.{World, Row, Holding, delivered, Name, is_of, is_of_member, with_collected, all_collected, set_row, new_row}
 use Rattle.mx_book.proofs.FoundLemmas.{inside}
 use Rattle.mx_book.proofs.MapLemmas.{get-pick}
-use Rattle.mx_book.proofs.NameLemmas.{names_total, names_exact, same_name}
-use Rattle.mx_book.proofs.PurseLemmas.{change_there}
-use Rattle.mx_book.proofs.UnderLemmas.{get-remake}
+use Rattle.mx_book.proofs.NameLemmas.{names_total, same_name}
 use Rattle.mx_office.specs.declared.values.Command.{Command}
-use Rattle.mx_office.specs.declared.values.Command.TheVariants.{NewMember, Grant, Archive, Clear, NewHolder, NewPurse, Load, Collect, Reconcile}
-use Rattle.mx_office.specs.declared.values.Refusal.{Refusal}
-use Rattle.mx_office.specs.declared.values.Reply.{Reply}
-use Rattle.mx_office.specs.declared.values.Reply.TheVariants as reply
 use Rattle.mx_book.specs.Totals.{issued_row, redeemed_row}
 use Rattle.mx_office.specs.Balance.{IsBalanced, is_chosen, of_purses}
 use Rattle.mx_office.specs.Reachable.{IsReachable}
-use Rattle.mx_office.specs.Step.{Deed, Asked, tell, unless, unless_told, idle, asks, new_member, new_member_refusal, new_holder, new_holder_refusal, new_purse, new_purse_refusal, change_member, grant, grant_refusal, archive_refusal, clear_refusal, put_sent, loaded_holding, loaded_row, loaded_world, new_load_refusal, idle_load_at, idle_load, collect, collect_refusal, base, step, steps}
-use Rattle.mx_office.proofs.OwnLemmas.{absent, present, none_refused, of_there, change_to}
-use Rattle.mx_office.proofs.BalanceLemmas.{Choice, IsAccounted, IsRow, left, right, left_row, counted, is_counted, none_counts, same_change, with_member, left_member, right_member, new_member_accounted, left_set, right_set, rows_stay, new_row_accounted, new_holder_accounted, opening_accounted, is_balanced}
-use Rattle.mx_office.proofs.BalanceAccountLemmas.{asks_accounted, sent_accounted, result_accounted}
-use Rattle.mx_office.proofs.RuleLemmas.{new_reference, each_rule}
+use Rattle.mx_office.specs.Step.{loaded_holding, loaded_row, base, step}
+use Rattle.mx_office.proofs.BalanceLemmas.{Choice, IsAccounted, IsRow, left, right, left_row, account_accounted, counted, is_counted, none_counts, same_change, left_member, right_member, new_member_accounted, left_set, right_set, rows_stay, new_row_accounted, new_holder_accounted, opening_accounted, is_balanced}
+use Rattle.mx_office.proofs.CaseLemmas.{by_cond, by_after, by_collected, by_reachable}
+use Rattle.mx_office.proofs.MoveCaseLemmas.{IsLoad, with_member, by_moves}
+use Rattle.mx_office.proofs.RuleLemmas.{Same, EachKeeps, each_keeps}
 use Rattle.mx_office.proofs.EntrySumLemmas.{sum_entries-same, sum_entries-add, sum_entries-empty, sum_values-empty, sum_values-zero, sum_values-remake, sum_values-new, values_are}
-
--- ---- refusals
-
--- a refusal leaves the World
-unless_accounted : (w : World) (o : Option Refusal) (d : Deed World) → IsAccounted w → (o ≡ None → IsAccounted d.state) → IsAccounted (unless w o d).state
-unless_accounted w (Some r) d is rest = is
-unless_accounted w None d is rest = rest refl
-
--- ---- what is new
-
-member_accounted : (w : World) (m : Name) (t : Token) → IsAccounted w → IsAccounted (new_member w m t).state
-member_accounted w m t is = unless_accounted w (new_member_refusal w m t) _ is (λ e.
-    let new : IsAccounted (with_member w m (record { granted = 0; float = 0 })) = new_member_accounted w m (record { granted = 0; float = 0 }) (absent _ (none_refused _ _ _ e).0) refl refl is in
-    record { equal = new.equal; rows = new.rows })
-
-holder_accounted : (w : World) (m h : Name) (t : Token) → IsAccounted w → IsAccounted (new_holder w m h t).state
-holder_accounted w m h t is = unless_accounted w (new_holder_refusal w m h t) _ is (λ e.
-    let new = new_holder_accounted w h m (absent _ (none_refused _ _ _ (none_refused _ _ _ e).1).0) is in
-    record { equal = new.equal; rows = new.rows })
-
-purse_accounted : (w : World) (m p h : Name) → IsAccounted w → IsAccounted (new_purse w m p h).state
-purse_accounted w m p h is = unless_accounted w (new_purse_refusal w m p h) _ is (λ e.
-    new_row_accounted w p (new_row h p) (absent _ (none_refused _ _ _ (none_refused _ _ _ e).1).0)
-    (sum_entries-empty (λ k n. cond (fmap.contains_key fmap.empty k) 0 n)) (sum_values-empty (λ n. n)) (sum_values-empty (λ n. n))
-    (record { holder = of_there m _ (none_refused _ _ _ e).0; collected = λ k t. absurd (let f : true ≡ false = sym t ∙ ap is_some (fmap.get-empty name_cmp k) in cc) })
-    is)
-
--- ---- a grant
-
-granted_accounted : (w : World) (m : Name) (amount : ℕ) (row : MemberRow) → fmap.get w.members m ≡ Some row → IsAccounted w
-    → IsAccounted (change_member w m (λ x. record { granted = x.granted + amount; float = x.float + amount }))
-granted_accounted w m amount row at is =
-    let new : MemberRow = record { granted = row.granted + amount; float = row.float + amount } in
-    subst IsAccounted (sym (change_to w m (λ x. record { granted = x.granted + amount; float = x.float + amount }) row at))
-    (record {
-      equal = λ chosen. same_change (chosen m) _ _ _ _ row.float new.float row.granted new.granted (left_member w m new row at chosen) (right_member w m new row at chosen) (omega arith) (is.equal chosen);
-      rows = is.rows;
-    })
-
-grant_accounted : (w : World) (m : Name) (amount : ℕ) → IsAccounted w → IsAccounted (grant w m amount).state
-grant_accounted w m amount is = unless_accounted w (grant_refusal w m amount) _ is (λ e.
-    let row = present (fmap.get w.members m) (none_refused _ _ _ e).0 in
-    granted_accounted w m amount row.0 row.1 is)
 
 -- ---- a load
 
--- what a load that isn't idle is of
-pub record IsLoad (w : World) (m p : Name) (amount : ℕ) (reference : Name) : Type 0 where
-  pub row : Row
-  pub at : fmap.get w.rows p ≡ Some row
-  pub member : MemberRow
-  pub there : fmap.get w.members m ≡ Some member
-  pub owned : is_of_member w m row ≡ true
-  pub fresh : fmap.get row.loads reference ≡ None
-  pub enough : amount ≤ member.float
-  pub free : load_refusal row.holding.purse amount ≡ None
-
-enough_case : (amount float : ℕ) (before : Option ℕ) (x : Refusal) (o : Option Refusal) (r : Reply) (b : Bool) → nat_lt float amount ≡ b → idle before amount r (cond b (Some x) o) ≡ None → amount ≤ float
-enough_case amount float None x o r true t e = cc
-enough_case amount float (Some n) x o r true t e = cc
-enough_case amount float before x o r false t e = grind arith
-
-free_case : {R : Type 0} (before : Option ℕ) (amount : ℕ) (b : Bool) (x : Refusal) (name : R → Refusal) (o : Option R) (r : Reply) → idle before amount r (cond b (Some x) (option_map name o)) ≡ None → o ≡ None
-free_case before amount b x name None r e = refl
-free_case None amount false x name (Some y) r e = cc
-free_case None amount true x name (Some y) r e = cc
-free_case (Some n) amount b x name (Some y) r e = cc
-
-module _ (w : World) (m p : Name) (amount : ℕ) (reference : Name) where
-  owned_case : (r : Row) (member : MemberRow) (b : Bool) (x : Reply) → fmap.get w.rows p ≡ Some r → fmap.get w.members m ≡ Some member → is_of_member w m r ≡ b
-      → cond b (idle (fmap.get r.loads reference) amount reply.Loaded (new_load_refusal member r amount)) (Some x) ≡ None → IsLoad w m p amount reference
-  owned_case r member false x at there t e = cc
-  owned_case r member true x at there t e = record {
-    row = r;
-    at = at;
-    member = member;
-    there = there;
-    owned = t;
-    fresh = new_reference _ _ _ _ e;
-    enough = enough_case amount member.float _ _ _ _ (nat_lt member.float amount) refl e;
-    free = free_case _ amount (nat_lt member.float amount) _ _ _ _ e;
-  }
-
-  load_case : (o : Option Row) (u : Option MemberRow) → fmap.get w.rows p ≡ o → fmap.get w.members m ≡ u → idle_load_at w m amount reference o u ≡ None → IsLoad w m p amount reference
-  load_case None None at there e = cc
-  load_case None (Some member) at there e = cc
-  load_case (Some r) None at there e = cc
-  load_case (Some r) (Some member) at there e = owned_case r member (is_of_member w m r) _ at there refl e
-
-  pub is_load : idle_load w m p amount reference ≡ None → IsLoad w m p amount reference
-  unfolding idle_load
-  is_load e = load_case (fmap.get w.rows p) (fmap.get w.members m) refl refl e
-
-same_redemptions : (a b : Holding) (c : Bool) → b.redemptions ≡ a.redemptions → (cond c b a).redemptions ≡ a.redemptions
-same_redemptions a b true same = same
-same_redemptions a b false same = refl
-
 pub loaded_redemptions : (a : Holding) (amount : ℕ) (reference : Name) → (loaded_holding a amount reference).redemptions ≡ a.redemptions
 unfolding loaded_holding
-loaded_redemptions a amount reference = same_redemptions a _ (is_none (load_refusal a.purse amount)) refl
+loaded_redemptions a amount reference = by_cond (λ b. b.redemptions ≡ a.redemptions) (is_none (load_refusal a.purse amount)) _ a (λ _. refl) (λ _. refl)
 
 -- the left side has the load, and not the float
 load_change : (c : Bool) (l l1 l2 r r1 r2 x y a f g amount : ℕ) → l1 + cond c x 0 ≡ l + cond c y 0 → l2 + cond c f 0 ≡ l1 + cond c (f - amount) 0 → r1 + cond c a 0 ≡ r + cond c a 0 → r2 + cond c g 0 ≡ r1 + cond c g 0
@@ -179,16 +78,8 @@ module _ (w : World) (m p : Name) (amount : ℕ) (reference : Name) (load : IsLo
   new_is_row : IsRow w.holders new
   new_is_row = record { holder = (is.rows p load.row load.at).holder; collected = λ k t. subst (λ x. IsSome (fmap.get x k)) (sym redemptions) ((is.rows p load.row load.at).collected k t) }
 
-  loaded_accounted : IsAccounted (loaded_world w m p amount reference)
-  loaded_accounted = subst IsAccounted
-      (sym (ap (λ x. change_member x m (λ y. record y { float = y.float - amount })) (change_there w p (loaded_row amount reference) load.row load.at)
-      ∙ change_to (set_row w p new) m (λ x. record x { float = x.float - amount }) load.member load.there))
-      (record { equal = loaded_equal; rows = rows_stay w p new new_is_row is })
-
-load_accounted : (w : World) (m p : Name) (amount : ℕ) (reference : Name) → IsAccounted w → (o : Option Reply) → idle_load w m p amount reference ≡ o
-    → IsAccounted (unless_told w o (tell (loaded_world w m p amount reference) reply.Loaded)).state
-load_accounted w m p amount reference is (Some x) e = is
-load_accounted w m p amount reference is None e = loaded_accounted w m p amount reference (is_load w m p amount reference e) is
+  loaded_accounted : IsAccounted after_load
+  loaded_accounted = record { equal = loaded_equal; rows = rows_stay w p new new_is_row is }
 
 -- ---- a collect
 
@@ -266,62 +157,52 @@ module _ (w : World) (m : Name) where
         let e1 : of_purses (all_collected w m) chosen redeemed_row ≡ of_purses w chosen redeemed_row = same_sum redeemed_row (λ r. refl) in
         omega (arith, e1)
 
-  taken_case : (r : Row) (b : Bool) → IsRow w.holders r → IsRow w.holders (cond b (with_collected r) r)
-  taken_case r true is = record { holder = is.holder; collected = λ k t. mark_found (fmap.get r.holding.redemptions k) (sym (ap is_some (get-pick names_total mark r.holding.redemptions k)) ∙ t) }
-  taken_case r false is = is
-
-  taken_found : (p : Name) (y : Row) (o : Option Row) → fmap.get w.rows p ≡ o → option_map (taken p) o ≡ Some y → IsAccounted w → IsRow w.holders y
-  taken_found p y None at e is = cc
-  taken_found p y (Some r) at e is = subst (IsRow w.holders) (inside _ y e) (taken_case r (is_of_member w m r) (is.rows p r at))
-
   collected_rows : IsAccounted w → (p : Name) (y : Row) → fmap.get (all_collected w m).rows p ≡ Some y → IsRow w.holders y
-  collected_rows is p y e = taken_found p y (fmap.get w.rows p) refl (sym (get-remake name_cmp taken names_exact w.rows p) ∙ e) is
+  collected_rows is p = by_collected (λ a b. (y : Row) → b ≡ Some y → IsRow w.holders y) w m p (λ y e. cc) (λ r at.
+      let old = is.rows p r at in
+      let new : IsRow w.holders (with_collected r) = record { holder = old.holder; collected = λ k t. mark_found (fmap.get r.holding.redemptions k) (sym (ap is_some (get-pick names_total mark r.holding.redemptions k)) ∙ t) } in
+      (λ y e. subst (IsRow w.holders) (inside r y e) old, λ y e. subst (IsRow w.holders) (inside (with_collected r) y e) new))
 
-  collected_accounted : (row : MemberRow) → fmap.get w.members m ≡ Some row → IsAccounted w → IsAccounted (change_member (all_collected w m) m (λ x. record x { float = x.float + uncollected_of w m }))
+  collected_accounted : (row : MemberRow) → fmap.get w.members m ≡ Some row → IsAccounted w → IsAccounted (with_member (all_collected w m) m (record row { float = row.float + uncollected_of w m }))
   collected_accounted row at is =
       let new : MemberRow = record row { float = row.float + uncollected_of w m } in
-      subst IsAccounted (sym (change_to (all_collected w m) m (λ x. record x { float = x.float + uncollected_of w m }) row at))
-      (record {
+      record {
         equal = λ chosen. collect_change (chosen m) _ _ _ _ _ _ row.float row.granted (uncollected_of w m) (collected_left_side chosen) (left_member (all_collected w m) m new row at chosen)
             (collected_right_side chosen) (right_member (all_collected w m) m new row at chosen) (is.equal chosen);
         rows = collected_rows is;
-      })
-
-collect_accounted : (w : World) (m : Name) → IsAccounted w → IsAccounted (collect w m).state
-collect_accounted w m is = unless_accounted w (collect_refusal w m) _ is (λ e.
-    let row = present (fmap.get w.members m) (none_refused _ _ _ e).0 in
-    collected_accounted w m row.0 row.1 is)
+      }
 
 -- ---- each command
 
 base_accounted : (w : World) → IsAccounted w → (caller : Caller) (c : Command) → IsAccounted (base w caller c).state
-base_accounted w is Operator (NewMember m t) = member_accounted w m t is
-base_accounted w is Operator (Grant m amount) = grant_accounted w m amount is
-base_accounted w is Operator (Archive p) = unless_accounted w (archive_refusal w p) _ is (λ e. record { equal = is.equal; rows = is.rows })
-base_accounted w is Operator (Clear p set) = unless_accounted w (clear_refusal w p set) _ is (λ e. is)
-base_accounted w is Operator Reconcile = is
-base_accounted w is (Clerk m) (NewHolder h t) = holder_accounted w m h t is
-base_accounted w is (Clerk m) (NewPurse p h) = purse_accounted w m p h is
-base_accounted w is (Clerk m) (Load p amount reference) = load_accounted w m p amount reference is (idle_load w m p amount reference) refl
-base_accounted w is (Clerk m) Collect = collect_accounted w m is
-base_accounted w is (Holder h) c = asks_accounted w h (asks c) is (each_rule c)
-base_accounted w is Operator c = is
-base_accounted w is (Clerk m) c = is
+base_accounted w is = by_moves w (λ _ _ d. IsAccounted d.state) (record {
+  told = λ caller c x told. is;
+  member = λ m t none free. let new = new_member_accounted w m (record { granted = 0; float = 0 }) none refl refl is in record { equal = new.equal; rows = new.rows };
+  grant = λ m amount row at small room.
+      let new : MemberRow = record { granted = row.granted + amount; float = row.float + amount } in
+      record { equal = λ chosen. same_change (chosen m) _ _ _ _ row.float new.float row.granted new.granted (left_member w m new row at chosen) (right_member w m new row at chosen) (omega arith) (is.equal chosen); rows = is.rows };
+  holder = λ m h t row there none free. let new = new_holder_accounted w h m none is in record { equal = new.equal; rows = new.rows };
+  purse = λ m p h there none few.
+      new_row_accounted w p (new_row h p) none (sum_entries-empty (λ k n. cond (fmap.contains_key fmap.empty k) 0 n)) (sum_values-empty (λ n. n)) (sum_values-empty (λ n. n))
+      (record { holder = there; collected = λ k t. absurd (let f : true ≡ false = sym t ∙ ap is_some (fmap.get-empty name_cmp k) in cc) }) is;
+  load = λ m p amount reference l. loaded_accounted w m p amount reference l is;
+  collect = λ m row at room. collected_accounted w m row at is;
+  archive = λ p. record { equal = is.equal; rows = is.rows };
+  clear = λ p set may. is;
+  own = λ h c p f r e at owned. account_accounted w p r (f r.holding).state at is (subst (EachKeeps c) e (each_keeps c) r.holding).redeems;
+})
 
 step_accounted : (w : World) → IsAccounted w → (caller : Caller) (c : Command) → IsAccounted (step w caller c).world
 unfolding step
 step_accounted w is caller c =
     let d = base w caller c in
-    result_accounted (put_sent d.state d.sent) (sent_accounted d.state (base_accounted w is caller c) d.sent) d.result
-
-run_accounted : (w : World) (cs : List Asked) → IsAccounted w → IsAccounted (steps w cs).end
-run_accounted w [] is = is
-run_accounted w (c ∷ cs) is = run_accounted (step w c.0 c.1).world cs (step_accounted w is c.0 c.1)
+    let left = base_accounted w is caller c in
+    by_after IsAccounted d left (λ m r e at. account_accounted d.state m.0 r (delivered r.holding m.1) at left {may = false} (Same refl)) (λ v x now e f. record { equal = now.equal; rows = now.rows })
 
 -- ---- Worlds that commands lead to
 
 pub reachable_accounted : (w : World) → IsReachable w → IsAccounted w
-reachable_accounted w r = subst IsAccounted r.leads (run_accounted (opening r.operator) r.commands (opening_accounted r.operator))
+reachable_accounted = by_reachable IsAccounted (λ t bytes. opening_accounted t) (λ w c asked is. step_accounted w is c.0 c.1)
 
 pub reachable_balanced : (w : World) → IsReachable w → IsBalanced w
 reachable_balanced w r = is_balanced w (reachable_accounted w r)

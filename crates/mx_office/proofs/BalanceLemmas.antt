@@ -3,14 +3,16 @@ use Rattle.std.proofs.Common.{◌≡◌, ℕ, ◌+◌, Bool, true, false, cond, 
 use Rattle.std.specs.FinMap as fmap
 use Rattle.mx_pay.specs.Names.{name_cmp, is_name}
 use Rattle.mx_book.specs.declared.values.MemberRow.{MemberRow}
-use Rattle.mx_book.specs.Sums.{sum_values}
+use Rattle.mx_book.specs.Sums.{sum_entries, sum_values}
 use Rattle.mx_book.specs.Reads.{uncollected_row}
-use Rattle.mx_book.specs.World.{World, Row, Name, Token, is_of, is_of_member, set_row, opening}
-use Rattle.mx_book.proofs.FoundLemmas.{value_found, none_found, kept_value, each_inserted, still_some}
+use Rattle.mx_book.specs.World.{World, Row, Holding, Name, Token, is_of, is_of_member, set_row, opening}
+use Rattle.mx_book.proofs.FoundLemmas.{value_found, none_found, none_some, kept_value, each_inserted, still_some}
 use Rattle.mx_book.proofs.NameLemmas.{names_total}
 use Rattle.mx_book.proofs.SumLemmas.{value_of, sum_values-insert}
 use Rattle.mx_book.specs.Totals.{issued_row, redeemed_row}
 use Rattle.mx_office.specs.Balance.{IsBalanced, IsMemberBalanced, is_chosen, of_members, of_purses}
+use Rattle.mx_office.proofs.MoveCaseLemmas.{with_member}
+use Rattle.mx_office.proofs.RuleLemmas.{Redeems, Same, More}
 use Rattle.mx_office.proofs.EntrySumLemmas.{sum_entries-insert, sum_entries-new, sum_values-new, sum_entries-one, sum_entries-empty, sum_values-same, sum_values-empty}
 
 -- a choice of members
@@ -64,36 +66,32 @@ same_change false l l1 r r1 a a1 b b1 lefts rights change equal = omega arith
 -- ---- a member is written
 
 module _ (w : World) (m : Name) (row : MemberRow) where
-  -- the World with this row of the member
-  abbrev pub with_member : World
-  with_member = record w { members = fmap.insert w.members m row }
-
-  members_set : (chosen : Choice) (f : MemberRow → ℕ) → of_members with_member chosen f + value_of (λ x. cond (chosen m) (f x) 0) (fmap.get w.members m) ≡ of_members w chosen f + cond (chosen m) (f row) 0
+  members_set : (chosen : Choice) (f : MemberRow → ℕ) → of_members (with_member w m row) chosen f + value_of (λ x. cond (chosen m) (f x) 0) (fmap.get w.members m) ≡ of_members w chosen f + cond (chosen m) (f row) 0
   members_set chosen f = sum_entries-insert (λ k x. cond (chosen k) (f x) 0) w.members m row
 
   module _ (old : MemberRow) (at : fmap.get w.members m ≡ Some old) (chosen : Choice) where
-    member_set : (f : MemberRow → ℕ) → of_members with_member chosen f + cond (chosen m) (f old) 0 ≡ of_members w chosen f + cond (chosen m) (f row) 0
-    member_set f = subst (λ o. of_members with_member chosen f + value_of (λ x. cond (chosen m) (f x) 0) o ≡ of_members w chosen f + cond (chosen m) (f row) 0) at (members_set chosen f)
+    member_set : (f : MemberRow → ℕ) → of_members (with_member w m row) chosen f + cond (chosen m) (f old) 0 ≡ of_members w chosen f + cond (chosen m) (f row) 0
+    member_set f = subst (λ o. of_members (with_member w m row) chosen f + value_of (λ x. cond (chosen m) (f x) 0) o ≡ of_members w chosen f + cond (chosen m) (f row) 0) at (members_set chosen f)
 
-    pub left_member : left with_member chosen + cond (chosen m) old.float 0 ≡ left w chosen + cond (chosen m) row.float 0
+    pub left_member : left (with_member w m row) chosen + cond (chosen m) old.float 0 ≡ left w chosen + cond (chosen m) row.float 0
     left_member =
-        let floats : of_members with_member chosen (λ x. x.float) + cond (chosen m) old.float 0 ≡ of_members w chosen (λ x. x.float) + cond (chosen m) row.float 0 = member_set (λ x. x.float) in
+        let floats : of_members (with_member w m row) chosen (λ x. x.float) + cond (chosen m) old.float 0 ≡ of_members w chosen (λ x. x.float) + cond (chosen m) row.float 0 = member_set (λ x. x.float) in
         omega (arith, floats)
 
-    pub right_member : right with_member chosen + cond (chosen m) old.granted 0 ≡ right w chosen + cond (chosen m) row.granted 0
+    pub right_member : right (with_member w m row) chosen + cond (chosen m) old.granted 0 ≡ right w chosen + cond (chosen m) row.granted 0
     right_member =
-        let grants : of_members with_member chosen (λ x. x.granted) + cond (chosen m) old.granted 0 ≡ of_members w chosen (λ x. x.granted) + cond (chosen m) row.granted 0 = member_set (λ x. x.granted) in
+        let grants : of_members (with_member w m row) chosen (λ x. x.granted) + cond (chosen m) old.granted 0 ≡ of_members w chosen (λ x. x.granted) + cond (chosen m) row.granted 0 = member_set (λ x. x.granted) in
         omega (arith, grants)
 
   -- a new member without money
   module _ (gone : fmap.get w.members m ≡ None) where
-    member_new : (chosen : Choice) (f : MemberRow → ℕ) → f row ≡ 0 → of_members with_member chosen f ≡ of_members w chosen f
+    member_new : (chosen : Choice) (f : MemberRow → ℕ) → f row ≡ 0 → of_members (with_member w m row) chosen f ≡ of_members w chosen f
     member_new chosen f zero =
-        let set : of_members with_member chosen f ≡ of_members w chosen f + cond (chosen m) (f row) 0 = sum_entries-new (λ k x. cond (chosen k) (f x) 0) w.members m row gone in
+        let set : of_members (with_member w m row) chosen f ≡ of_members w chosen f + cond (chosen m) (f row) 0 = sum_entries-new (λ k x. cond (chosen k) (f x) 0) w.members m row gone in
         let new : cond (chosen m) (f row) 0 ≡ 0 = ap (λ n. cond (chosen m) n 0) zero ∙ none_counts (chosen m) in
         omega (arith, set, new)
 
-    pub new_member_accounted : row.float ≡ 0 → row.granted ≡ 0 → IsAccounted w → IsAccounted with_member
+    pub new_member_accounted : row.float ≡ 0 → row.granted ≡ 0 → IsAccounted w → IsAccounted (with_member w m row)
     new_member_accounted float granted h = record {
       equal = λ chosen.
           ap (λ n. (n + of_purses w chosen uncollected_row) + of_purses w chosen issued_row) (member_new chosen (λ x. x.float) float)
@@ -152,6 +150,38 @@ module _ (w : World) (p : Name) (s : Row) where
           ∙ ap (λ n. of_members w chosen (λ x. x.granted) + n) (sym (row_new chosen redeemed_row redeemed));
       rows = rows_stay new h;
     }
+
+-- ---- an account that changes
+
+module _ (w : World) (p : Name) (r : Row) (b : Holding) (at : fmap.get w.rows p ≡ Some r) (h : IsAccounted w) where
+  abbrev changed : Row
+  changed = record r { holding = b }
+
+  stays_row : b.redemptions ≡ r.holding.redemptions → IsRow w.holders changed
+  stays_row same = record { holder = (h.rows p r at).holder; collected = λ k t. subst (λ m. IsSome (fmap.get m k)) (sym same) ((h.rows p r at).collected k t) }
+
+  same_money : b.redemptions ≡ r.holding.redemptions → left_row changed + redeemed_row r ≡ left_row r + redeemed_row changed
+  same_money same = λ i. (sum_entries (λ k n. cond (fmap.contains_key r.collected k) 0 n) (same i) + issued_row r) + sum_values (λ n. n) (sym same i)
+
+  -- a reference that has no redemption isn't collected
+  not_collected : (reference : Name) → fmap.get r.holding.redemptions reference ≡ None → (c : Bool) → fmap.contains_key r.collected reference ≡ c → c ≡ false
+  not_collected reference gone true t = none_some _ gone ((h.rows p r at).collected reference t)
+  not_collected reference gone false t = refl
+
+  more_money : (reference : Name) (amount : ℕ) → fmap.get r.holding.redemptions reference ≡ None → b.redemptions ≡ fmap.insert r.holding.redemptions reference amount → left_row changed + redeemed_row r ≡ left_row r + redeemed_row changed
+  more_money reference amount gone is =
+      let open_amount : Name → ℕ → ℕ = λ k n. cond (fmap.contains_key r.collected k) 0 n in
+      let e1 : uncollected_row changed ≡ uncollected_row r + cond (fmap.contains_key r.collected reference) 0 amount = ap (sum_entries open_amount) is ∙ sum_entries-new open_amount r.holding.redemptions reference amount gone in
+      let e2 : cond (fmap.contains_key r.collected reference) 0 amount ≡ amount = ap (λ c. cond c 0 amount) (not_collected reference gone (fmap.contains_key r.collected reference) refl) in
+      let e3 : redeemed_row changed ≡ redeemed_row r + amount = ap (sum_values (λ n. n)) is ∙ sum_values-new (λ n. n) r.holding.redemptions reference amount gone in
+      omega (arith, e1, e2, e3)
+
+  pub account_accounted : {may : Bool} → Redeems may r.holding b → IsAccounted (set_row w p changed)
+  account_accounted (Same same) = set_accounted w p changed r at refl (same_money same) (stays_row same) h
+  account_accounted (More may reference amount gone is) =
+      set_accounted w p changed r at refl (more_money reference amount gone is)
+      (record { holder = (h.rows p r at).holder; collected = λ k t. subst (λ m. IsSome (fmap.get m k)) (sym is) (still_some r.holding.redemptions reference amount k ((h.rows p r at).collected k t)) })
+      h
 
 -- ---- a holder is written
 

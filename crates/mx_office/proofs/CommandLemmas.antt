@@ -1,6 +1,6 @@
 -- Each command of a holder on a purse: its decision is the step's.
 use Rattle.std.proofs.Common.{Bool, ◌≡◌, ℕ, ◌+◌, true, false, cond, List, [], ◌∷◌, ◌++◌, Option, Some, None, Ok, Err, refl, sym, ◌∙◌, ap, subst, arith, length, length-append, is_some, option_map, IsTrue, ◌≤◌}
-use Rattle.std.specs.Prelude.{◌==◌}
+use Rattle.std.specs.Prelude.{◌==◌, ◌&&◌, nat_le}
 use Rattle.std.proofs.lemmas.Bool.{or_right}
 use Rattle.std.specs.FinMap as fmap
 use Rattle.mx_pay.specs.Names.{is_name, is_name_text}
@@ -16,7 +16,7 @@ use Rattle.mx_purse.specs.declared.message.Handled.{Handled}
 use Rattle.mx_purse.specs.declared.message.Handled.TheVariants as took
 use Rattle.mx_purse.specs.declared.refusals.StartRefusal.{StartRefusal}
 use Rattle.mx_purse.specs.declared.refusals.RedeemRefusal.{RedeemRefusal}
-use Rattle.mx_purse.specs.Operations.{or_refused, unless_refused, pending, with_pending, lines_with, aborted, started, expects_req, expects_ack, expects_clear, handled, after_message, sent_for, redeem_refusal, redeemed}
+use Rattle.mx_purse.specs.Operations.{or_refused, unless_refused, pending, with_pending, lines_with, aborted, started, expects_req, expects_val, expects_ack, expects_clear, handled, after_message, sent_for, redeem_refusal, redeemed}
 use Rattle.mx_purse.proofs.OperationLemmas.{aborted_is, after_message_is, after_message_name, redeemed_is}
 use Rattle.mx_book.specs.declared.edits.Edit.TheVariants.{SetPurse, DropMessage, AddRedemption}
 use Rattle.mx_book.specs.declared.values.Line.{Line}
@@ -42,6 +42,7 @@ use Rattle.mx_office.specs.declared.values.Reply.TheVariants as reply
 use Rattle.mx_office.specs.declared.values.Refusal.TheVariants.{NoSuchMessage, RefReused}
 use Rattle.mx_office.specs.Step.{Deed, tell, unless, on_found, in_place, refusal_of_start, refusal_of_redeem, abort_line, payment_line, message_line, money_line, listed, with_aborted, inbox, statement, discard, abort, handle, handle_message, redeem, on_own}
 use Rattle.mx_office.specs.Decides.{Decides, placed, purse_edits, redeem_edits}
+use Rattle.mx_office.proofs.CaseLemmas.{by_cond}
 use Rattle.mx_office.proofs.DecideLemmas.{edits_decide, edit_decides}
 use Rattle.mx_office.proofs.AccountLemmas.{IsOwn, IsSent, Follows, in_tray, is_own, own_there, own_told, numbered_after, is_next, changed_decides}
 use Rattle.mx_office.proofs.OwnLemmas.{absent}
@@ -127,23 +128,19 @@ message_numbered p (took.Ack d) = (tt, omega arith)
 message_numbered p took.Cleared = abort_numbered p (after_message p took.Cleared) (pending p.status) refl
 message_numbered p took.Ignored = (tt, omega arith)
 
--- what is logged stays so after a message that leaves the log, where it's accepted
-kept_case : (p : State) (b : Bool) (x : Handled) → (after_message p x).log ≡ p.log → (d : Details) → has_logged p.log d ≡ true → has_logged (after_message p (cond b x took.Ignored)).log d ≡ true
-kept_case p true x same d there = ap (λ log. has_logged log d) same ∙ there
-kept_case p false x same d there = there
+-- what is logged stays so after a message, but for a clear of a set that has it
+abbrev StaysLogged : State → Details → Handled → Type 0
+StaysLogged p d x = has_logged (after_message p x).log d ≡ true
 
--- and after a clear of a set that has none of it
-cleared_case : (p : State) (set : Entries) (b : Bool) → expects_clear p set ≡ b → (d : Details) → (has_logged set d ≡ true → ⊥) → has_logged p.log d ≡ true → has_logged (after_message p (cond b took.Cleared took.Ignored)).log d ≡ true
-cleared_case p set true expected d none there =
+message_logged : (p : State) (m : Message) (d : Details) → ((set : Entries) → m ≡ Clear set → has_logged set d ≡ true → ⊥) → has_logged p.log d ≡ true → StaysLogged p d (handled p m)
+message_logged p (Req e) d none there = by_cond (StaysLogged p d) (expects_req p.status e) (took.Req e) took.Ignored (λ _. there) (λ _. there)
+message_logged p (Val e) d none there = by_cond (StaysLogged p d) (expects_val p.status e && nat_le (p.balance + e.value) most_number) (took.Val e) took.Ignored (λ _. there) (λ _. there)
+message_logged p (Ack e) d none there = by_cond (StaysLogged p d) (expects_ack p.status e) (took.Ack e) took.Ignored (λ _. there) (λ _. there)
+message_logged p (Clear set) d none there = by_cond (StaysLogged p d) (expects_clear p set) took.Cleared took.Ignored
+    (λ expected.
     let same : set ≡ (aborted p).log = same_logs set (aborted p).log (second_so _ _ expected) in
-    absurd (none (ap (λ log. has_logged log d) same ∙ logged_case p.log (pending p.status) d there))
-cleared_case p set false expected d none there = there
-
-message_logged : (p : State) (m : Message) (d : Details) → ((set : Entries) → m ≡ Clear set → has_logged set d ≡ true → ⊥) → has_logged p.log d ≡ true → has_logged (after_message p (handled p m)).log d ≡ true
-message_logged p (Req e) d none there = kept_case p (expects_req p.status e) (took.Req e) refl d there
-message_logged p (Val e) d none there = kept_case p _ (took.Val e) refl d there
-message_logged p (Ack e) d none there = kept_case p (expects_ack p.status e) (took.Ack e) refl d there
-message_logged p (Clear set) d none there = cleared_case p set (expects_clear p set) refl d (none set refl) there
+    absurd (none set refl (ap (λ log. has_logged log d) same ∙ logged_case p.log (pending p.status) d there)))
+    (λ _. there)
 
 -- what is handled has the details of its message
 abbrev IsTaken : Handled → Type 0
@@ -153,15 +150,11 @@ IsTaken (took.Ack d) = IsDetails d
 IsTaken took.Cleared = Unit {0}
 IsTaken took.Ignored = Unit {0}
 
-taken_case : (b : Bool) (x : Handled) → IsTaken x → IsTaken (cond b x took.Ignored)
-taken_case true x valid = valid
-taken_case false x valid = tt
-
 taken_valid : (p : State) (m : Message) → IsMessage m → IsTaken (handled p m)
-taken_valid p (Req d) valid = taken_case (expects_req p.status d) (took.Req d) valid
-taken_valid p (Val d) valid = taken_case _ (took.Val d) valid
-taken_valid p (Ack d) valid = taken_case (expects_ack p.status d) (took.Ack d) valid
-taken_valid p (Clear set) valid = taken_case (expects_clear p set) took.Cleared tt
+taken_valid p (Req d) valid = by_cond IsTaken (expects_req p.status d) (took.Req d) took.Ignored (λ _. valid) (λ _. tt)
+taken_valid p (Val d) valid = by_cond IsTaken (expects_val p.status d && nat_le (p.balance + d.value) most_number) (took.Val d) took.Ignored (λ _. valid) (λ _. tt)
+taken_valid p (Ack d) valid = by_cond IsTaken (expects_ack p.status d) (took.Ack d) took.Ignored (λ _. valid) (λ _. tt)
+taken_valid p (Clear set) valid = by_cond IsTaken (expects_clear p set) took.Cleared took.Ignored (λ _. tt) (λ _. tt)
 
 message_line_valid : (q : State) (o : Option Details) (x : Handled) → q.balance ≤ most_number → IfSome o IsDetails → IsTaken x → AllByRecursion IsLine (listed (message_line q o x))
 message_line_valid q o (took.Req d) balance logged valid = (payment_valid q _ d balance valid, tt)

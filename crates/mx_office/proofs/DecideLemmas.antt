@@ -1,8 +1,7 @@
 -- A decision is the step's: its reply, and edits that fit and lead to its World.
-use Rattle.std.proofs.Common.{◌≡◌, ℕ, ◌<◌, ◌≤◌, Bool, true, false, cond, List, [], ◌∷◌, Option, Some, None, refl, sym, ◌∙◌, ap, subst, arith, length, IsSome, IsTrue, is_some, is_none, not, option_map, option_and_then}
-use Rattle.mx_pay.specs.Limits.{most_number}
-use Rattle.mx_book.specs.Limits.{most_purses, most_messages}
-use Rattle.std.specs.Prelude.{nat_le, nat_lt, ◌&&◌}
+use Rattle.std.proofs.Common.{◌≡◌, ℕ, ◌<◌, Bool, true, false, cond, List, [], ◌∷◌, Option, Some, None, refl, sym, ◌∙◌, ap, subst, arith, length, IsSome, IsTrue, is_some, is_none, not, option_map, option_and_then}
+use Rattle.mx_book.specs.Limits.{most_purses}
+use Rattle.std.specs.Prelude.{nat_le}
 use Rattle.std.proofs.lemmas.Bool.Decides.{nat_tests}
 use Rattle.std.proofs.lemmas.Option.{cond_some}
 use Rattle.std.specs.FinMap as fmap
@@ -11,12 +10,10 @@ use Rattle.mx_pay.specs.Names.{is_name_text}
 use Rattle.mx_book.specs.declared.edits.Edit.{Edit}
 use Rattle.mx_book.specs.declared.edits.Edit.TheVariants.{NewMember, NewHolder, NewPurse}
 use Rattle.mx_book.specs.declared.values.HolderRow.{HolderRow}
-use Rattle.mx_book.specs.declared.values.Account as given
-use Rattle.mx_book.specs.World.{World, Row, Name, Token, is_of, has_room}
+use Rattle.mx_book.specs.World.{World, Row, Name, Token, is_of}
 use Rattle.mx_book.specs.Conditions.{IsWorld}
-use Rattle.mx_book.specs.Reads.{from_row, who_of, purses_of, holder_of, account_of, account_with}
+use Rattle.mx_book.specs.Reads.{who_of, purses_of, holder_of, account_of, account_with}
 use Rattle.mx_book.specs.Edits.{Fits, Suits, AllSuit, edited, all_edited}
-use Rattle.mx_book.proofs.FoundLemmas.{inside}
 use Rattle.mx_book.proofs.KeepLemmas.{member_stays, holder_stays, new_purse_stays}
 use Rattle.mx_office.specs.declared.values.Decided.{Decided}
 use Rattle.mx_office.specs.declared.values.Refusal.{Refusal}

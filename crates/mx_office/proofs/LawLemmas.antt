@@ -1,5 +1,5 @@
 -- The law of isolation: each command's change of the World, cut to one holder, is what the holder's view alone gives.
-use Rattle.std.proofs.Common.{◌≡◌, Bool, true, false, cond, List, [], ◌∷◌, ◌++◌, append_assoc, refl, sym, ◌∙◌, ap, Option, Some, None, ◌&&◌, option_and_then, option_map, ℕ}
+use Rattle.std.proofs.Common.{◌≡◌, Bool, true, false, cond, List, [], ◌∷◌, ◌++◌, append_assoc, refl, sym, ◌∙◌, ap, Option, Some, None, ◌&&◌, option_and_then, ℕ}
 use Rattle.std.proofs.lemmas.List.{append-nil}
 use Rattle.std.specs.Option.{option_map_or}
 use Rattle.std.specs.Prelude.{map, filter, is_none, is_some}
@@ -11,11 +11,10 @@ use Rattle.mx_book.specs.declared.values.Caller.{Caller}
 use Rattle.mx_book.specs.declared.values.Caller.TheVariants.{Operator, Clerk, Holder}
 use Rattle.mx_book.specs.declared.values.MemberRow.{MemberRow}
 use Rattle.mx_book.specs.Maps.{picked, with_picked}
-use Rattle.mx_book.specs.World.{World, Row, Holding, Name, is_of_member, with_collected, all_collected, set_row, change_row, changed_row, change_holding, has_room, delivered, with_message, new_row}
+use Rattle.mx_book.specs.World.{World, Row, Holding, Name, all_collected, set_row, change_row, changed_row, change_holding, has_room, delivered, with_message, new_row}
 use Rattle.mx_book.specs.Reads.{purses_of}
 use Rattle.mx_book.proofs.MapLemmas.{get-pick, entries-pick, pick-insert, pick-skip}
 use Rattle.mx_book.proofs.NameLemmas.{names_total, names_exact, same_name}
-use Rattle.mx_book.proofs.UnderLemmas.{get-remake}
 use Rattle.mx_office.specs.declared.values.Command.{Command}
 use Rattle.mx_office.specs.declared.values.Command.TheVariants.{NewMember, Grant, Archive, Clear, NewHolder, NewPurse, Load, Collect, Reconcile}
 use Rattle.mx_book.specs.declared.contract.StoreFault.{StoreFault}
@@ -25,7 +24,8 @@ use Rattle.mx_office.specs.declared.values.Refusal.{Refusal}
 use Rattle.mx_office.specs.declared.values.Refusal.TheVariants.{NoSuchPurse}
 use Rattle.mx_office.specs.declared.values.Reply.{Reply}
 use Rattle.mx_office.specs.declared.values.Reply.TheVariants as reply
-use Rattle.mx_office.specs.Step.{Deed, Asks, Asked, Course, ends, tell, unless, unless_told, on_found, in_place, asks, holding_for, own_holding, on_world, loaded_holding, loaded_row, loaded_world, idle_load, change_member, new_purse_refusal, base, put_sent, is_kept, with_result, step, steps, course}
+use Rattle.mx_office.specs.Step.{Deed, Asks, Asked, Course, ends, tell, unless, unless_told, on_found, in_place, asks, holding_for, own_holding, on_world, loaded_holding, loaded_row, loaded_world, idle_load, change_member, new_purse_refusal, base, put_sent, with_result, step, steps, course}
+use Rattle.mx_office.proofs.CaseLemmas.{by_told, by_tray, collected_same}
 use Rattle.mx_office.proofs.OwnLemmas.{absent, none_refused, own_at, is_owned}
 use Rattle.mx_office.specs.Run.{IsRun, answered, replies}
 use Rattle.mx_office.specs.Isolation.{Event, Holdings, only_if, for_holder, issued_event, put_event, view_of, view, on_holdings, with_changed, after_event, local, cut, told_to}
@@ -43,13 +43,13 @@ cut-other : (w : World) (h p : Name) (r : Row) → own_holding w h p ≡ None �
 cut-other w h p r none f = pick-skip names_total (holding_for h) names_exact w.rows p r (ap (λ b. cond b (Some r.holding) None) f) none
 
 -- a write of what is there
-insert_case : {X : Type 0} (b : Bool) (x : X) (o : Option X) → (b ≡ true → o ≡ Some x) → cond b (Some x) o ≡ o
-insert_case true x o h = sym (h refl)
-insert_case false x o h = refl
+chosen_same : {X : Type 0} (b : Bool) (x : X) (o : Option X) → (b ≡ true → o ≡ Some x) → cond b (Some x) o ≡ o
+chosen_same true x o h = sym (h refl)
+chosen_same false x o h = refl
 
 insert-same : {X : Type 0} (m : fmap.FinMap name_cmp X) (p : Name) (x : X) → fmap.get m p ≡ Some x → fmap.insert m p x ≡ m
 insert-same m p x at = fmap.same_map names_total names_exact _ _ (λ q.
-    fmap.get-insert names_total m p x q ∙ insert_case _ x (fmap.get m q) (λ t. ap (fmap.get m) (same_name q p t) ∙ at))
+    fmap.get-insert names_total m p x q ∙ chosen_same _ x (fmap.get m q) (λ t. ap (fmap.get m) (same_name q p t) ∙ at))
 
 -- ---- a holding that is changed
 
@@ -181,36 +181,18 @@ load_law w h m p amount reference None =
     ∙ cut-change w h p (loaded_row amount reference) (λ a. loaded_holding a amount reference) (λ r. refl) (λ r. refl)))
 
 -- collected redemptions are none of what is cut out
-collected_case : (h : Name) (r : Row) (b : Bool) → holding_for h (cond b (with_collected r) r) ≡ holding_for h r
-collected_case h r true = refl
-collected_case h r false = refl
-
-each_case : (w : World) (h m : Name) (o : Option Row) → option_and_then (holding_for h) (option_map (λ r. cond (is_of_member w m r) (with_collected r) r) o) ≡ option_and_then (holding_for h) o
-each_case w h m None = refl
-each_case w h m (Some r) = collected_case h r (is_of_member w m r)
-
 cut-collected : (w : World) (h m : Name) → cut (all_collected w m) h ≡ cut w h
-cut-collected w h m = fmap.same_map names_total names_exact _ _ (λ q.
-    get-cut (all_collected w m) h q
-    ∙ ap (option_and_then (holding_for h)) (get-remake name_cmp (λ p r. cond (is_of_member w m r) (with_collected r) r) names_exact w.rows q)
-    ∙ each_case w h m (fmap.get w.rows q)
-    ∙ sym (get-cut w h q))
+cut-collected w h m = fmap.same_map names_total names_exact _ _ (λ q. get-cut (all_collected w m) h q ∙ collected_same (option_and_then (holding_for h)) w m q (λ r. refl) ∙ sym (get-cut w h q))
 
--- results of read log are none of what is cut out
-kept_case : (w : World) (h : Name) (result : Name × Details) (b : Bool) → cut (cond b w (record w { tray = fmap.insert w.tray result tt })) h ≡ cut w h
-kept_case w h result true = refl
-kept_case w h result false = refl
-
+-- results of read log are none of it
 cut-result : (w : World) (h : Name) (result : Option (Name × Details)) → cut (with_result w result) h ≡ cut w h
-cut-result w h None = refl
-cut-result w h (Some result) = kept_case w h result (is_kept w result)
+cut-result w h result = by_tray (λ v. cut v h ≡ cut w h) w result refl (λ x e kept. refl)
 
 -- ---- each command
 
 -- a command leaves what is cut out for h
 quiet : (w : World) (h : Name) (o : Option Reply) (d : Deed World) → cut d.state h ≡ cut w h → silent (cut w h) ≡ silent (cut (unless_told w o d).state h)
-quiet w h (Some r) d same = refl
-quiet w h None d same = ap silent (sym same)
+quiet w h o d same = by_told (λ x. silent (cut w h) ≡ silent (cut x.state h)) w o d (λ x e. refl) (λ e. ap silent (sym same))
 
 -- before a message that it sends is put
 base_law : (w : World) (h : Name) (caller : Caller) (c : Command) → local (cut w h) (for_holder h caller (Event.Own c) ++ issued_event w h caller c) ≡ cut_course h caller (base w caller c)

@@ -19,7 +19,7 @@ use Rattle.mx_book.specs.Conditions.{IsWorld, all_granted}
 use Rattle.mx_book.specs.Reads.{from_row, load_of, uncollected_of}
 use Rattle.mx_book.specs.Edits.{AllSuit, edited, all_edited}
 use Rattle.mx_book.proofs.FoundLemmas.{some_of}
-use Rattle.mx_book.proofs.PurseLemmas.{with_lines, line_edits, change_there, edits_append, suits_append}
+use Rattle.mx_book.proofs.PurseLemmas.{with_lines, line_edits, edits_append, suits_append}
 use Rattle.mx_book.proofs.MoneyLemmas.{with_load, set_member_stays, granted_after, loads_stay, load_leads, load_suits, collect_stays}
 use Rattle.mx_office.specs.declared.values.Decided.{Decided}
 use Rattle.mx_office.specs.declared.values.Reply.{Reply}
@@ -29,13 +29,27 @@ use Rattle.mx_office.specs.Step.{tell, unless, unless_told, idle, money_line, re
 use Rattle.mx_office.specs.Decides.{Decides, member_purse, load_edits}
 use Rattle.mx_office.proofs.DecideLemmas.{edits_decide, told_decides, edit_decides}
 use Rattle.mx_office.proofs.OwnLemmas.{first, next, none_left, change_to}
-use Rattle.mx_office.proofs.AccountLemmas.{IsFound, Follows, in_tray, is_found, is_next}
+use Rattle.mx_office.proofs.AccountLemmas.{IsFound, IsNext, is_found, is_next}
+use Rattle.mx_office.proofs.MoveCaseLemmas.{IsLoad, load_is, with_member}
 use Rattle.mx_office.proofs.CommandLemmas.{nothing, is_refused, not_refused}
 
 -- ---- a member's row
 
 pub float_there : (w : World) (m : Name) (row : MemberRow) → fmap.get w.members m ≡ Some row → float_of w m ≡ row.float
 float_there w m row at = ap (λ o. unwrap_or (option_map (λ (x : MemberRow). x.float) o) 0) at
+
+pub granted_stays : (w : World) (m : Name) (amount : ℕ) (row : MemberRow) → fmap.get w.members m ≡ Some row → all_granted w + amount ≤ most_number → row.float + amount ≤ most_number → IsWorld w
+    → IsWorld (with_member w m (record { granted = row.granted + amount; float = row.float + amount }))
+granted_stays w m amount row at most room is =
+    let sums = granted_after w m (row.granted + amount) (row.float + amount) row at in
+    set_member_stays w m (row.granted + amount) (row.float + amount) (some_of _ row at) room (omega (arith, sums, most)) is
+
+pub collected_stays : (w : World) (m : Name) (row : MemberRow) → fmap.get w.members m ≡ Some row → row.float + uncollected_of w m ≤ most_number → IsWorld w
+    → IsWorld (with_member (all_collected w m) m (record row { float = row.float + uncollected_of w m }))
+collected_stays w m row at room is =
+    let sums = granted_after (all_collected w m) m row.granted (row.float + uncollected_of w m) row at in
+    let most = is.members.granted in
+    set_member_stays (all_collected w m) m row.granted (row.float + uncollected_of w m) (some_of _ row at) room (omega (arith, sums, most)) (collect_stays w m is)
 
 -- ---- a grant, by the sum that a number can hold
 
@@ -58,14 +72,12 @@ module _ (w : World) (m : Name) (amount : ℕ) (row : MemberRow) (all sum : ℕ)
   grant_decides granted d is le room granted_is reply_is edits_is =
       let rise : MemberRow → MemberRow = λ x. record { granted = x.granted + amount; float = x.float + amount } in
       let free : grant_refusal w m amount ≡ None = next _ _ _ _ (ap is_none at) (next _ _ _ _ (not_large le) (next _ _ _ _ (float_test false (grind (arith, nat_tests, room))) none_left)) in
-      let there : IsSome (fmap.get w.members m) = some_of _ row at in
-      let sums = granted_after w m (row.granted + amount) (row.float + amount) row at in
       let others = granted_after w m 0 row.float row at in
       let most : all_granted w + amount ≤ most_number = omega (arith, all_is, sum_is, le) in
       let all_of_it : granted ≡ row.granted + amount = omega (arith, granted_is, others, most) in
       edit_decides w (grant w m amount) (SetMember m (row.granted + amount) (row.float + amount)) reply.Granted d
       (ap (λ o. unless w o (tell (change_member w m rise) reply.Granted)) free ∙ ap (λ x. tell x reply.Granted) (change_to w m rise row at))
-      there (set_member_stays w m (row.granted + amount) (row.float + amount) there room (omega (arith, sums, most)) is)
+      (some_of _ row at) (granted_stays w m amount row at most room is)
       reply_is (edits_is ∙ ap (λ n. SetMember m n (row.float + amount) ∷ []) all_of_it)
 
 -- ---- a collect, by the sum that a number can hold
@@ -84,15 +96,60 @@ module _ (w : World) (m : Name) (row : MemberRow) (u sum : ℕ) (at : fmap.get w
       let rise : MemberRow → MemberRow = λ x. record x { float = x.float + uncollected_of w m } in
       let free : collect_refusal w m ≡ None = next _ _ _ _ (ap is_none at) (next _ _ _ _ (uncollected_test false (grind (arith, nat_tests, u_is, sum_is, le))) none_left) in
       let there : IsSome (fmap.get w.members m) = some_of _ row at in
-      let sums = granted_after v m row.granted float row at in
-      let most = is.members.granted in
       let same : sum ≡ row.float + uncollected_of w m = omega (arith, u_is, sum_is, le) in
       edits_decide w (collect w m) (tell (edited v (SetMember m row.granted float)) (reply.Collected (uncollected_of w m))) (Collect m ∷ SetMember m row.granted float ∷ []) d
       (ap (λ o. unless w o (tell (change_member v m rise) (reply.Collected (uncollected_of w m)))) free ∙ ap (λ x. tell x (reply.Collected (uncollected_of w m))) (change_to v m rise row at))
-      (there, (there, tt)) refl (set_member_stays v m row.granted float there (omega (arith, same, le)) (omega (arith, sums, most)) (collect_stays w m is))
+      (there, (there, tt)) refl (collected_stays w m row at (omega (arith, same, le)) is)
       (reply_is ∙ ap reply.Collected u_is) (edits_is ∙ ap (λ n. Collect m ∷ SetMember m row.granted n ∷ []) same)
 
 -- ---- a load
+
+-- a load that isn't idle
+module _ (w : World) (m p : Name) (amount : ℕ) (reference : Name) (l : IsLoad w m p amount reference) (is : IsWorld w) (text : IsTrue (is_name_text reference)) (small : amount ≤ most_amount) where
+  abbrev now : State
+  now = loaded l.row.holding.purse amount
+
+  abbrev ls : List Line
+  ls = money_line now kind.Loaded amount reference ∷ []
+
+  -- the World with the row after it
+  abbrev with_loaded : World
+  with_loaded = set_row w p (with_load (with_lines l.row now ls) reference amount)
+
+  abbrev last : Edit
+  last = SetMember m l.member.granted (l.member.float - amount)
+
+  whole : IsPurse now
+  whole = loaded_is l.row.holding.purse amount (is.purses.each p l.row l.at).purse l.free
+
+  next_row : IsNext w p l.row now ls
+  next_row = is_next w p (is_of_member w m) l.row.holding.purse (record { row = l.row; at = l.at; passes = l.owned; purse = refl }) now ls is
+      (record { name = refl; whole = whole; numbered = (refl, tt); counted = omega arith; valid = (record { amount = small; balance = whole.balance; note = text }, tt); logged = λ x kept there. there })
+
+  row_is : loaded_row amount reference l.row ≡ with_load (with_lines l.row now ls) reference amount
+  unfolding loaded_holding
+  row_is = rw l.free refl
+
+  stays : IsWorld (edited with_loaded last)
+  stays =
+      let sums = granted_after with_loaded m l.member.granted (l.member.float - amount) l.member l.there in
+      let most = is.members.granted in
+      let float_most : l.member.float ≤ most_number = is.members.floats m l.member l.there in
+      set_member_stays with_loaded m l.member.granted (l.member.float - amount) (some_of _ l.member l.there) (omega (arith, float_most)) (omega (arith, sums, most))
+      (loads_stay w p l.row now ls reference amount l.at next_row.named whole next_row.numbered next_row.counted (record { amount = small; balance = whole.balance; note = text }, tt) next_row.logged text small is)
+
+  pub load_stays : IsWorld (with_member (set_row w p (loaded_row amount reference l.row)) m (record l.member { float = l.member.float - amount }))
+  load_stays = rw row_is stays
+
+  load_decides : (d : Decided) → d.reply ≡ reply.Loaded → d.edits ≡ load_edits now amount reference m l.member → Decides w (load_purse w m p amount reference) d
+  load_decides d reply_is edits_is =
+      let firsts : List Edit = (SetPurse now ∷ line_edits p ls) ++ AddLoad p reference amount ∷ [] in
+      let lead : all_edited w firsts ≡ with_loaded = load_leads w p l.row now ls reference amount l.at next_row.named in
+      edits_decide w (load_purse w m p amount reference) (tell (edited with_loaded last) reply.Loaded) (firsts ++ last ∷ []) d
+      (load_is w m p amount reference l ∙ ap (λ x. tell (with_member (set_row w p x) m (record l.member { float = l.member.float - amount })) reply.Loaded) row_is)
+      (suits_append w firsts (last ∷ []) (load_suits w p l.row now ls reference amount l.at next_row.named next_row.numbered l.fresh) (subst (λ z. AllSuit z (last ∷ [])) (sym lead) (some_of _ l.member l.there, tt)))
+      (edits_append w firsts (last ∷ []) ∙ ap (λ z. edited z last) lead)
+      stays reply_is (edits_is ∙ (λ i. next_row.edits i ++ AddLoad (next_row.named i) reference amount ∷ last ∷ []))
 
 -- a load that is idle is told why
 pub load_told : (w : World) (m p : Name) (amount : ℕ) (reference : Name) (x : Reply) (d : Decided) → IsWorld w → idle_load w m p amount reference ≡ Some x → d.reply ≡ x → d.edits ≡ [] → Decides w (load_purse w m p amount reference) d
@@ -143,37 +200,17 @@ module _ (w : World) (m p : Name) (amount : ℕ) (reference : Name) (q : State) 
     pub load_made : (after : State) (d : Decided) → IsWorld w → load_of w p reference ≡ None → amount ≤ member.float → IsTrue (is_name_text reference) → amount ≤ most_amount
         → or_refused (load_refusal q amount) nothing ≡ Ok nothing → after ≡ unless_refused (load_refusal q amount) q (loaded q amount)
         → d.reply ≡ reply.Loaded → d.edits ≡ load_edits after amount reference m member → Decides w (load_purse w m p amount reference) d
-    unfolding loaded_holding
     load_made after d is new enough text small accepted after_is reply_is edits_is =
-        let r = own.row in
         let free : load_refusal q amount ≡ None = not_refused _ _ nothing accepted in
-        let large : nat_lt member.float amount ≡ false = grind (arith, nat_tests, enough) in
-        let now : State = loaded q amount in
-        let now_is : after ≡ now = after_is ∙ ap (λ o. unless_refused o q now) free in
-        let ls : List Line = money_line now kind.Loaded amount reference ∷ [] in
-        let whole = subst IsPurse own.purse (is.purses.each p r own.at).purse in
-        let next = loaded_is q amount whole free in
-        let follows : Follows (in_tray w p) q now ls = record { name = refl; whole = next; numbered = (refl, tt); counted = omega arith; valid = (record { amount = small; balance = next.balance; note = text }, tt); logged = λ x kept there. there } in
-        let next_row = is_next w p (is_of_member w m) q own now ls is follows in
-        let s : Row = with_load (with_lines r now ls) reference amount in
-        let v : World = set_row w p s in
-        let last : Edit = SetMember m member.granted (member.float - amount) in
-        let firsts : List Edit = (SetPurse now ∷ line_edits p ls) ++ AddLoad p reference amount ∷ [] in
-        let lead : all_edited w firsts ≡ v = load_leads w p r now ls reference amount own.at next_row.named in
-        let there : IsSome (fmap.get w.members m) = some_of _ member here in
-        let lower : MemberRow → MemberRow = λ x. record x { float = x.float - amount } in
-        let row_is : loaded_row amount reference r ≡ s = rw (own.purse, free) refl in
-        let none : idle_load w m p amount reference ≡ None = idle_is None new ∙ rw (large, own.purse, free) refl in
-        let loads : fmap.get r.loads reference ≡ None = sym (ap (from_row None (λ (x : Row). fmap.get x.loads reference)) own.at) ∙ new in
-        let sums = granted_after v m member.granted (member.float - amount) member here in
-        let most = is.members.granted in
-        let float_most : member.float ≤ most_number = is.members.floats m member here in
-        edits_decide w (load_purse w m p amount reference) (tell (edited v last) reply.Loaded) (firsts ++ last ∷ []) d
-        (ap (λ o. unless_told w o (tell (loaded_world w m p amount reference) reply.Loaded)) none ∙ ap (λ x. tell (change_member x m lower) reply.Loaded) (change_there w p (loaded_row amount reference) r own.at ∙ ap (set_row w p) row_is) ∙ ap (λ x. tell x reply.Loaded) (change_to v m lower member here))
-        (suits_append w firsts (last ∷ []) (load_suits w p r now ls reference amount own.at next_row.named next_row.numbered loads) (subst (λ z. AllSuit z (last ∷ [])) (sym lead) (there, tt)))
-        (edits_append w firsts (last ∷ []) ∙ ap (λ z. edited z last) lead)
-        (set_member_stays v m member.granted (member.float - amount) there (omega (arith, float_most)) (omega (arith, sums, most))
-        (loads_stay w p r now ls reference amount own.at next_row.named follows.whole next_row.numbered next_row.counted follows.valid next_row.logged text small is))
-        reply_is
-        (edits_is ∙ ap (λ x. load_edits x amount reference m member) now_is
-        ∙ (λ i. next_row.edits i ++ AddLoad (next_row.named i) reference amount ∷ last ∷ []))
+        let l : IsLoad w m p amount reference = record {
+          row = own.row;
+          at = own.at;
+          member = member;
+          there = here;
+          owned = own.passes;
+          fresh = sym (ap (from_row None (λ (x : Row). fmap.get x.loads reference)) own.at) ∙ new;
+          enough = enough;
+          free = ap (λ x. load_refusal x amount) own.purse ∙ free;
+        } in
+        let now_is : after ≡ loaded own.row.holding.purse amount = after_is ∙ ap (λ o. unless_refused o q (loaded q amount)) free ∙ ap (λ x. loaded x amount) (sym own.purse) in
+        load_decides w m p amount reference l is text small d reply_is (edits_is ∙ ap (λ x. load_edits x amount reference m member) now_is)

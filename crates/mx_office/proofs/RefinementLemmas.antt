@@ -1,5 +1,5 @@
 -- Each command is an operation of the abstract world, and so are runs of commands.
-use Rattle.std.proofs.Common.{◌≡◌, ℕ, ◌+◌, ◌-◌, Bool, true, false, cond, List, [], ◌∷◌, refl, sym, ◌∙◌, ap, subst, Option, Some, None, option_map, option_and_then, ◌&&◌, arith, is_none, map}
+use Rattle.std.proofs.Common.{◌≡◌, ℕ, ◌+◌, Bool, true, false, cond, List, [], ◌∷◌, refl, sym, ◌∙◌, ap, subst, Option, Some, None, option_map, option_and_then, ◌&&◌, arith, is_none, map}
 use Rattle.std.specs.Prelude.{sum_by}
 use Rattle.std.specs.FinMap as fmap
 use Rattle.mx_pay.specs.Names.{name_cmp, is_name}
@@ -9,33 +9,30 @@ use Rattle.mx_purse.specs.declared.refusals.LoadRefusal.{LoadRefusal}
 use Rattle.mx_purse.specs.Operations.{expects_val, expects_ack, load_refusal, loaded}
 use Rattle.mx_book.specs.declared.contract.StoreFault.{StoreFault}
 use Rattle.mx_book.specs.declared.values.Caller.{Caller}
-use Rattle.mx_book.specs.declared.values.Caller.TheVariants.{Operator, Clerk, Holder}
 use Rattle.mx_book.specs.declared.values.LineKind.TheVariants as kind
 use Rattle.mx_book.specs.declared.values.MemberRow.{MemberRow}
 use Rattle.mx_book.specs.Reads.{from_row, is_archived, load_of}
 use Rattle.mx_book.specs.Totals.{occurring, value_where}
-use Rattle.mx_book.specs.World.{World, Row, Holding, Name, Token, set_row, change_holding, new_row, is_of_member, all_collected, with_archived, opening}
+use Rattle.mx_book.specs.World.{World, Row, Name, Token, set_row, new_row, is_of_member, with_archived, opening}
 use Rattle.mx_book.proofs.NameLemmas.{names_total, names_exact, same_name}
-use Rattle.mx_book.proofs.PurseLemmas.{change_there}
 use Rattle.mx_book.proofs.UnderLemmas.{entries_empty}
 use Rattle.mx_office.specs.declared.values.Command.{Command}
-use Rattle.mx_office.specs.declared.values.Command.TheVariants.{NewMember, Grant, Archive, Clear, NewHolder, NewPurse, Load, Collect, Reconcile}
+use Rattle.mx_office.specs.declared.values.Command.TheVariants.{Archive, NewPurse, Load}
 use Rattle.mx_office.specs.declared.values.Outcome.{Outcome}
-use Rattle.mx_office.specs.declared.values.Refusal.{Refusal}
 use Rattle.mx_office.specs.declared.values.Refusal.TheVariants.{NoSuchPurse}
 use Rattle.mx_office.specs.declared.values.Reply.{Reply}
 use Rattle.mx_office.specs.declared.values.Reply.TheVariants as reply
 use Rattle.mx_office.specs.Abstract.{AbstractPurse, AbstractRun, Act, ChosenLost, IsAct, Refines, RefinesFromNone, Simulates, perform_all, counts_lost, counts_received, received_by, losses_of, abstract_purse, abstract_of}
 use Rattle.mx_office.specs.Reachable.{IsReachable}
 use Rattle.mx_office.specs.Run.{IsRun, answered}
-use Rattle.mx_office.specs.Step.{Deed, Asks, Asked, unless, unless_told, on_found, in_place, idle, own_holding, on_world, asks, with_purse, money_line, new_member_refusal, new_holder_refusal, new_purse, new_purse_refusal, grant_refusal, loaded_holding, loaded_row, new_load_refusal, idle_load, idle_load_at, load_purse, collect, collect_refusal, archive_refusal, clear_refusal, base, put_sent, step, steps}
+use Rattle.mx_office.specs.Step.{Deed, Asked, idle, with_purse, money_line, loaded_holding, loaded_row, new_load_refusal, idle_load, idle_load_at, base, step, steps}
 use Rattle.mx_office.proofs.ActLemmas.{Simulated, map_same, get-abstract, act_leads, leads_to, still_load}
-use Rattle.mx_office.proofs.AlikeLemmas.{Alike, purse_of, alike_itself, alike_simulated, then_alike, put_alike, result_alike, member_alike, collected_alike}
-use Rattle.mx_office.proofs.BalanceCommandLemmas.{IsLoad, is_load}
+use Rattle.mx_office.proofs.AlikeLemmas.{purse_of, alike_itself, alike_simulated, row_alike, then_alike, apart_alike}
+use Rattle.mx_office.proofs.CaseLemmas.{by_after, collected_same}
+use Rattle.mx_office.proofs.MoveCaseLemmas.{IsTold, Refuses, Names, Sums, Idles, by_moves}
 use Rattle.mx_office.proofs.DeedLemmas.{not_some, with_holding, idle_told}
 use Rattle.mx_office.proofs.FateLemmas.{value_moves, still_received, still_lost, never_received, never_lost}
 use Rattle.mx_office.proofs.LawLemmas.{run_steps}
-use Rattle.mx_office.proofs.OwnLemmas.{is_owned, absent, none_refused}
 use Rattle.mx_office.proofs.RuleActLemmas.{EachActs, each_acts}
 use Rattle.mx_office.proofs.SaneLemmas.{Sane, IsNextSane}
 use Rattle.mx_office.proofs.SaneCommandLemmas.{opening_sane, reachable_sane, step_sane}
@@ -50,85 +47,60 @@ use Rattle.mx_office.proofs.SoundLemmas.{Turns, none_moves, still}
 told_act : (w : World) (asked : Command) (x : Reply) (c : ChosenLost) → IsAct w asked x Act.Ignore → Simulated w asked w x c
 told_act w asked x c is = alike_simulated w w asked x c (alike_itself w) is
 
-unless_act : (w : World) (asked : Command) (c : ChosenLost) (o : Option Refusal) (d : Deed World) → (o ≡ None → Simulated w asked d.state d.reply c) → Simulated w asked (unless w o d).state (unless w o d).reply c
-unless_act w asked c None d acts = acts refl
-unless_act w asked c (Some r) d acts = told_act w asked (reply.Refused r) c refl
-
-idle_act : (w : World) (asked : Command) (c : ChosenLost) (o : Option Reply) (d : Deed World) → ((x : Reply) → o ≡ Some x → IsAct w asked x Act.Ignore) → (o ≡ None → Simulated w asked d.state d.reply c)
-    → Simulated w asked (unless_told w o d).state (unless_told w o d).reply c
-idle_act w asked c None d is acts = acts refl
-idle_act w asked c (Some x) d is acts = told_act w asked x c (is x refl)
-
--- ---- a rule on a purse
-
-rule_act : (w : World) (h p : Name) (f : Holding → Deed Holding) (asked : Command) (c : ChosenLost) (o : Option Holding) → own_holding w h p ≡ o
-    → ((r : Row) → fmap.get w.rows p ≡ Some r → Simulated w asked (set_row w p (with_holding r (f r.holding).state)) (f r.holding).reply c)
-    → (let d : Deed World = on_found w NoSuchPurse o (λ a. in_place (λ b. change_holding w p (λ _. b)) (f a)) in Simulated w asked d.state d.reply c)
-rule_act w h p f asked c None own each = told_act w asked (reply.Refused NoSuchPurse) c refl
-rule_act w h p f asked c (Some a) own each =
-    let r = is_owned w h p a own in
-    subst (λ v. Simulated w asked v (f a).reply c) (sym (change_there w p (λ x. with_holding x (f a).state) r.row r.at))
-    (subst (λ x. Simulated w asked (set_row w p (with_holding r.row (f x).state)) (f x).reply c) r.holding (each r.row r.at))
-
-asks_act : (w : World) (h : Name) (asked : Command) (c : ChosenLost) (x : Asks) → EachActs w c asked x → IsAct w asked (on_world w h Asks.Names).reply Act.Ignore → Simulated w asked (on_world w h x).state (on_world w h x).reply c
-asks_act w h asked c Asks.Names each is = told_act w asked _ c is
-asks_act w h asked c (Asks.OnPurse p f) each is = rule_act w h p f asked c (own_holding w h p) refl each
-asks_act w h asked c Asks.NotAHolders each is = told_act w asked _ c refl
-
 -- ---- a load
 
-module _ (w : World) (p : Name) (r : Row) (at : fmap.get w.rows p ≡ Some r) (s : Sane w) (m : Name) (amount : ℕ) (reference : Name) (c : ChosenLost) where
-  known_is : load_of w p reference ≡ fmap.get r.loads reference
-  known_is = ap (from_row None (λ (x : Row). fmap.get x.loads reference)) at
+load_known : (w : World) (p : Name) (r : Row) → fmap.get w.rows p ≡ Some r → (reference : Name) → load_of w p reference ≡ fmap.get r.loads reference
+load_known w p r at reference = ap (from_row None (λ (x : Row). fmap.get x.loads reference)) at
 
+module _ (w : World) (p : Name) (r : Row) (at : fmap.get w.rows p ≡ Some r) (s : Sane w) (m : Name) (amount : ℕ) (reference : Name) (c : ChosenLost) where
   abbrev by_guard : Option LoadRefusal → Row
   by_guard o = record r {
     holding = cond (is_none o) (with_purse r.holding (loaded r.holding.purse amount) (Some (money_line (loaded r.holding.purse amount) kind.Loaded amount reference))) r.holding;
     loads = fmap.insert r.loads reference amount;
   }
 
-  load_case : (o : Option LoadRefusal) → o ≡ None → fmap.get r.loads reference ≡ None → IsNextSane w (set_row w p (by_guard o)) → Simulated w (Load p amount reference) (set_row w p (by_guard o)) reply.Loaded c
-  load_case (Some x) e new next = not_some x (sym e)
-  load_case None e new next =
+  guard_act : (o : Option LoadRefusal) → o ≡ None → fmap.get r.loads reference ≡ None → IsNextSane w (set_row w p (by_guard o)) → Simulated w (Load p amount reference) (set_row w p (by_guard o)) reply.Loaded c
+  guard_act (Some x) e new next = not_some x (sym e)
+  guard_act None e new next =
       let i : Invariant w = s.invariant in
       let t : Row = by_guard None in
       let q : Turns (seen w) (is_archived w p) none_moves r.holding.purse t.holding.purse = still (seen w) (is_archived w p) r.holding.purse (r.holding.purse.balance + amount) (r.holding.purse.lines + 1) (omega arith) (i.sound p r at) in
       still_load w p r t at i next.sane.invariant (turn_step w p r t at i none_moves q) c (Load p amount reference) reply.Loaded (λ d. turn_flow w p r t at i none_moves q d refl) amount
-      refl (ap (λ y. cond (is_none y) (Act.Load p amount) Act.Ignore) (sym (known_is ∙ new)))
+      refl (ap (λ y. cond (is_none y) (Act.Load p amount) Act.Ignore) (sym (load_known w p r at reference ∙ new)))
 
   row_act : load_refusal r.holding.purse amount ≡ None → fmap.get r.loads reference ≡ None → IsNextSane w (set_row w p (loaded_row amount reference r)) → Simulated w (Load p amount reference) (set_row w p (loaded_row amount reference r)) reply.Loaded c
   unfolding loaded_holding
-  row_act free new next = load_case (load_refusal r.holding.purse amount) free new next
+  row_act free new next = guard_act (load_refusal r.holding.purse amount) free new next
 
-  abbrev Stays : Reply → Type 0
-  Stays x = IsAct w (Load p amount reference) x Act.Ignore
+-- a load that is idle is nothing in the abstract world
+module _ (w : World) (m p : Name) (amount : ℕ) (reference : Name) where
+  abbrev IsIgnored : Reply → Type 0
+  IsIgnored x = IsAct w (Load p amount reference) x Act.Ignore
 
-  owned_idle : (member : MemberRow) (b : Bool) (x : Reply) → cond b (idle (fmap.get r.loads reference) amount reply.Loaded (new_load_refusal member r amount)) (Some (reply.Refused NoSuchPurse)) ≡ Some x → Stays x
-  owned_idle member true x e = idle_told Stays (fmap.get r.loads reference) amount reply.Loaded (new_load_refusal member r amount) x e (λ known. ap (λ b. cond b (Act.Load p amount) Act.Ignore) (sym (ap is_none known_is ∙ known))) (λ y. refl)
-  owned_idle member false x e = idle_told Stays None amount reply.Loaded (Some NoSuchPurse) x e (λ known. clash true refl known) (λ y. refl)
+  none_ignored : (x : Reply) → Some (reply.Refused NoSuchPurse) ≡ Some x → IsIgnored x
+  none_ignored x e = idle_told IsIgnored None amount reply.Loaded (Some NoSuchPurse) x e (λ known. clash true refl known) (λ y. refl)
 
-idle_stays : (w : World) (m p : Name) (amount : ℕ) (reference : Name) → Sane w → (x : Reply) → idle_load w m p amount reference ≡ Some x → IsAct w (Load p amount reference) x Act.Ignore
-unfolding idle_load
-idle_stays w m p amount reference s x e = found (fmap.get w.rows p) (fmap.get w.members m) refl e
-  where
-    none : Some (reply.Refused NoSuchPurse) ≡ Some x → IsAct w (Load p amount reference) x Act.Ignore
-    none t = idle_told (λ y. IsAct w (Load p amount reference) y Act.Ignore) None amount reply.Loaded (Some NoSuchPurse) x t (λ known. clash true refl known) (λ y. refl)
+  owned_ignored : (r : Row) (member : MemberRow) (b : Bool) (x : Reply) → fmap.get w.rows p ≡ Some r
+      → cond b (idle (fmap.get r.loads reference) amount reply.Loaded (new_load_refusal member r amount)) (Some (reply.Refused NoSuchPurse)) ≡ Some x → IsIgnored x
+  owned_ignored r member true x at e = idle_told IsIgnored (fmap.get r.loads reference) amount reply.Loaded (new_load_refusal member r amount) x e
+      (λ known. ap (λ b. cond b (Act.Load p amount) Act.Ignore) (sym (ap is_none (load_known w p r at reference) ∙ known))) (λ y. refl)
+  owned_ignored r member false x at e = none_ignored x e
 
-    found : (o : Option Row) (u : Option MemberRow) → fmap.get w.rows p ≡ o → idle_load_at w m amount reference o u ≡ Some x → IsAct w (Load p amount reference) x Act.Ignore
-    found None None at t = none t
-    found None (Some member) at t = none t
-    found (Some r) None at t = none t
-    found (Some r) (Some member) at t = owned_idle w p r at s m amount reference (λ d. false) member (is_of_member w m r) x t
+  found_ignored : (x : Reply) (o : Option Row) (u : Option MemberRow) → fmap.get w.rows p ≡ o → idle_load_at w m amount reference o u ≡ Some x → IsIgnored x
+  found_ignored x None None at e = none_ignored x e
+  found_ignored x None (Some member) at e = none_ignored x e
+  found_ignored x (Some r) None at e = none_ignored x e
+  found_ignored x (Some r) (Some member) at e = owned_ignored r member (is_of_member w m r) x at e
 
-load_act : (w : World) (m p : Name) (amount : ℕ) (reference : Name) (c : ChosenLost) → Sane w → Simulated w (Load p amount reference) (load_purse w m p amount reference).state (load_purse w m p amount reference).reply c
-load_act w m p amount reference c s = idle_act w (Load p amount reference) c (idle_load w m p amount reference) _ (idle_stays w m p amount reference s) (λ e.
-    let load : IsLoad w m p amount reference = is_load w m p amount reference e in
-    let v : World = set_row w p (loaded_row amount reference load.row) in
-    let fall : MemberRow → MemberRow = λ row. record row { float = row.float - amount } in
-    let next : IsNextSane w v = load_sane w p load.row load.at s amount reference load.fresh load.free in
-    then_alike w _ _ (Load p amount reference) reply.Loaded c
-    (subst (λ u. Simulated w (Load p amount reference) u reply.Loaded c) (sym (change_there w p (loaded_row amount reference) load.row load.at)) (row_act w p load.row load.at s m amount reference c load.free load.fresh next))
-    (member_alike _ _ m fall (alike_itself _)))
+  idle_ignored : (x : Reply) → idle_load w m p amount reference ≡ Some x → IsIgnored x
+  unfolding idle_load
+  idle_ignored x e = found_ignored x (fmap.get w.rows p) (fmap.get w.members m) refl e
+
+told_ignored : (w : World) (caller : Caller) (asked : Command) (x : Reply) → IsTold w caller asked x → IsAct w asked x Act.Ignore
+told_ignored w caller asked x (Refuses g c r) = refl
+told_ignored w caller asked x (Names g c names) = refl
+told_ignored w caller asked x (Sums g c sums) = refl
+told_ignored w caller asked x (Idles m p amount reference y e) = idle_ignored w m p amount reference y e
 
 -- ---- a new purse
 
@@ -214,34 +186,28 @@ archive_act w p c x s is =
 
 -- ---- each command
 
-collect_act : (w : World) (m : Name) (c : ChosenLost) → Simulated w Collect (collect w m).state (collect w m).reply c
-collect_act w m c = unless_act w Collect c (collect_refusal w m) _ (λ e. alike_simulated w _ Collect _ c (member_alike w (all_collected w m) m _ (collected_alike w m)) refl)
-
-purse_act : (w : World) (m p h : Name) (c : ChosenLost) → Sane w → Simulated w (NewPurse p h) (new_purse w m p h).state (new_purse w m p h).reply c
-purse_act w m p h c s = unless_act w (NewPurse p h) c (new_purse_refusal w m p h) _ (λ e. new_act w p h (absent _ (none_refused _ _ _ (none_refused _ _ _ e).1).0) s c)
-
-apart_alike : (w v : World) → v.rows ≡ w.rows → v.archive ≡ w.archive → Alike w v
-apart_alike w v rows archive = record { purses = λ q. ap (λ m. purse_of (fmap.get m q)) rows; archive = archive }
-
-base_act : (w : World) → Sane w → (caller : Caller) (asked : Command) (c : ChosenLost) → Simulated w asked (base w caller asked).state (base w caller asked).reply c
-base_act w s Operator (NewMember m t) c = unless_act w _ c (new_member_refusal w m t) _ (λ e. alike_simulated w _ _ _ c (apart_alike w _ refl refl) refl)
-base_act w s Operator (Grant m amount) c = unless_act w _ c (grant_refusal w m amount) _ (λ e. alike_simulated w _ _ _ c (member_alike w w m _ (alike_itself w)) refl)
-base_act w s Operator (Archive p) c = unless_act w _ c (archive_refusal w p) _ (λ e. archive_act w p c _ s refl)
-base_act w s Operator (Clear p set) c = unless_act w _ c (clear_refusal w p set) _ (λ e. told_act w _ _ c refl)
-base_act w s Operator Reconcile c = told_act w _ _ c refl
-base_act w s (Clerk m) (NewHolder h t) c = unless_act w _ c (new_holder_refusal w m h t) _ (λ e. alike_simulated w _ _ _ c (apart_alike w _ refl refl) refl)
-base_act w s (Clerk m) (NewPurse p h) c = purse_act w m p h c s
-base_act w s (Clerk m) (Load p amount reference) c = load_act w m p amount reference c s
-base_act w s (Clerk m) Collect c = collect_act w m c
-base_act w s (Holder h) asked c = asks_act w h asked c (asks asked) (each_acts w s c asked) refl
-base_act w s Operator asked c = told_act w _ _ c refl
-base_act w s (Clerk m) asked c = told_act w _ _ c refl
+base_act : (w : World) → Sane w → (c : ChosenLost) (caller : Caller) (asked : Command) → Simulated w asked (base w caller asked).state (base w caller asked).reply c
+base_act w s c = by_moves w (λ _ asked d. Simulated w asked d.state d.reply c) (record {
+  told = λ caller asked x is. told_act w asked x c (told_ignored w caller asked x is);
+  member = λ m t none free. alike_simulated w _ _ _ c (apart_alike w _ refl refl) refl;
+  grant = λ m amount row there small room. alike_simulated w _ _ _ c (apart_alike w _ refl refl) refl;
+  holder = λ m h t row there none free. alike_simulated w _ _ _ c (apart_alike w _ refl refl) refl;
+  purse = λ m p h there none few. new_act w p h none s c;
+  load = λ m p amount reference l.
+      let next = load_sane w p l.row l.at s amount reference l.fresh l.free in
+      then_alike w (set_row w p (loaded_row amount reference l.row)) _ _ _ c (row_act w p l.row l.at s m amount reference c l.free l.fresh next) (apart_alike _ _ refl refl);
+  collect = λ m row there room. alike_simulated w _ _ _ c (record { purses = λ q. collected_same purse_of w m q (λ r. refl); archive = refl }) refl;
+  archive = λ p. archive_act w p c _ s refl;
+  clear = λ p set may. told_act w _ _ c refl;
+  own = λ h asked p f r e at owned. subst (EachActs w c asked) e (each_acts w s c asked) r at;
+})
 
 step_act : (w : World) → Sane w → (caller : Caller) (asked : Command) (c : ChosenLost) → Simulates w caller asked c
 unfolding step
 step_act w s caller asked c =
     let d : Deed World = base w caller asked in
-    let x = then_alike w (put_sent d.state d.sent) _ asked d.reply c (then_alike w d.state _ asked d.reply c (base_act w s caller asked c) (put_alike d.state d.sent)) (result_alike (put_sent d.state d.sent) d.result) in
+    let left = base_act w s c caller asked in
+    let x = by_after (λ v. Simulated w asked v d.reply c) d left (λ m r e at. then_alike w d.state _ asked d.reply c left (row_alike d.state m.0 r _ at refl)) (λ v x now e f. then_alike w v _ asked d.reply c now (apart_alike v _ refl refl)) in
     record { before = x.before; act = x.act; is = x.is; leads = x.leads }
 
 pub step_simulates : (w : World) (caller : Caller) (asked : Command) (c : ChosenLost) → IsReachable w → Simulates w caller asked c

@@ -1,14 +1,20 @@
--- What each rule on a purse keeps.
-use Rattle.std.proofs.Common.{◌≡◌, ℕ, Bool, true, false, refl, ap, Option, Some, None, option_map}
+-- What each rule on a purse keeps, and that a refused command leaves the World.
+use Rattle.std.proofs.Common.{◌≡◌, subst, ℕ, Bool, true, false, refl, ap, None, option_map, ◌∙◌}
 use Rattle.std.specs.FinMap as fmap
 use Rattle.mx_purse.specs.Operations.{start_from_refusal, start_to_refusal, redeem_refusal}
-use Rattle.mx_book.specs.World.{Holding, Name}
+use Rattle.mx_book.specs.World.{Holding, Name, World, set_row}
 use Rattle.mx_office.specs.declared.values.Command.{Command}
 use Rattle.mx_office.specs.declared.values.Command.TheVariants.{Show, StartFrom, StartTo, Handle, Discard, Abort, ReadLog, Redeem, Inbox, Statement}
 use Rattle.mx_office.specs.declared.values.Refusal.{Refusal}
 use Rattle.mx_office.specs.declared.values.Reply.{Reply}
 use Rattle.mx_office.specs.declared.values.Reply.TheVariants as reply
-use Rattle.mx_office.specs.Step.{Deed, Asks, tell, unless, unless_told, on_found, idle, refusal_of_start, refusal_of_redeem, asks, show, start_from, start_to, handle, discard, abort, read_log, redeem, inbox, statement}
+use Rattle.mx_office.specs.declared.values.Refusal.TheVariants.{NoSuchMessage}
+use Rattle.mx_office.specs.Conservation.{is_redemption}
+use Rattle.mx_office.proofs.CaseLemmas.{by_told, by_named, by_found, new_reference}
+use Rattle.mx_office.specs.Step.{Deed, Asks, tell, idle, refusal_of_start, refusal_of_redeem, asks, show, start_from, start_to, handle, discard, abort, read_log, redeem, inbox, statement, base, put_sent, with_result, step}
+use Rattle.mx_book.specs.declared.values.Caller.{Caller}
+use Rattle.mx_book.proofs.PurseLemmas.{set_same}
+use Rattle.mx_office.proofs.MoveCaseLemmas.{by_moves}
 
 -- where it is refused, nothing changes and nothing is sent
 abbrev pub Leaves : {S : Type 0} → S → Deed S → Type 0
@@ -22,58 +28,63 @@ is_refusal r = false
 pub accepted_leaves : {S : Type 0} (s : S) (d : Deed S) → is_refusal d.reply ≡ false → Leaves s d
 accepted_leaves s d accepted r e = let refused = ap is_refusal e in cc
 
--- the redemptions stay, or one more has a reference that none had
-pub data Redeems (a b : Holding) : Type 0 where
-  Same : b.redemptions ≡ a.redemptions → Redeems a b
-  More : (reference : Name) (amount : ℕ) → fmap.get a.redemptions reference ≡ None → b.redemptions ≡ fmap.insert a.redemptions reference amount → Redeems a b
+-- the redemptions stay, or one more, where one may be, has a reference that none had
+pub data Redeems (may : Bool) (a b : Holding) : Type 0 where
+  Same : b.redemptions ≡ a.redemptions → Redeems may a b
+  More : may ≡ true → (reference : Name) (amount : ℕ) → fmap.get a.redemptions reference ≡ None → b.redemptions ≡ fmap.insert a.redemptions reference amount → Redeems may a b
 
-pub record Keeps (a : Holding) (d : Deed Holding) : Type 0 where
+pub record Keeps (may : Bool) (a : Holding) (d : Deed Holding) : Type 0 where
   pub leaves : Leaves a d
-  pub redeems : Redeems a d.state
+  pub redeems : Redeems may a d.state
 
--- ---- the forms of rules
-
-told : (a : Holding) (r : Reply) → Keeps a (tell a r)
+told : {may : Bool} (a : Holding) (r : Reply) → Keeps may a (tell a r)
 told a r = record { leaves = λ x e. (refl, refl, refl); redeems = Same refl }
 
-done : (a : Holding) (d : Deed Holding) → is_refusal d.reply ≡ false → Redeems a d.state → Keeps a d
+done : {may : Bool} (a : Holding) (d : Deed Holding) → is_refusal d.reply ≡ false → Redeems may a d.state → Keeps may a d
 done a d accepted redeems = record { leaves = accepted_leaves a d accepted; redeems = redeems }
-
-refused_case : {R : Type 0} (a : Holding) (d : Deed Holding) (name : R → Refusal) (o : Option R) → Keeps a d → Keeps a (unless a (option_map name o) d)
-refused_case a d name None keeps = keeps
-refused_case a d name (Some r) keeps = told a (reply.Refused (name r))
-
-found_case : {X : Type 0} (a : Holding) (r : Refusal) (f : X → Deed Holding) (o : Option X) → ((x : X) → Keeps a (f x)) → Keeps a (on_found a r o f)
-found_case a r f None each = told a (reply.Refused r)
-found_case a r f (Some x) each = each x
-
--- what changes something has a reference that is new
-pub new_reference : (o : Option ℕ) (amount : ℕ) (r : Reply) (refusal : Option Refusal) → idle o amount r refusal ≡ None → o ≡ None
-new_reference None amount r refusal e = refl
-new_reference (Some before) amount r refusal e = cc
-
-idle_case : (a : Holding) (d : Deed Holding) (before : Option ℕ) (amount : ℕ) (r : Reply) (refusal : Option Refusal) (o : Option Reply) → idle before amount r refusal ≡ o → (before ≡ None → Keeps a d) → Keeps a (unless_told a o d)
-idle_case a d before amount r refusal None is keeps = keeps (new_reference before amount r refusal is)
-idle_case a d before amount r refusal (Some x) is keeps = told a x
 
 -- ---- each rule
 
--- a rule that is asked of a purse
-abbrev pub EachKeeps : Asks → Type 0
-EachKeeps (Asks.OnPurse p f) = (a : Holding) → Keeps a (f a)
-EachKeeps x = Unit {0}
+-- a rule that is asked of a purse; none but a redemption has one more
+abbrev pub EachKeeps : Command → Asks → Type 0
+EachKeeps c (Asks.OnPurse p f) = (a : Holding) → Keeps (is_redemption c) a (f a)
+EachKeeps c x = Unit {0}
 
-pub each_rule : (c : Command) → EachKeeps (asks c)
+pub each_keeps : (c : Command) → EachKeeps c (asks c)
 unfolding show start_from start_to handle discard abort read_log redeem inbox statement
-each_rule (Show p) = λ a. told a _
-each_rule (StartFrom p peer value seq) = λ a. refused_case a _ refusal_of_start (start_from_refusal a.purse peer value) (done a _ refl (Same refl))
-each_rule (StartTo p peer value seq) = λ a. refused_case a _ refusal_of_start (start_to_refusal a.purse peer) (done a _ refl (Same refl))
-each_rule (Handle p number) = λ a. found_case a _ _ (fmap.get a.inbox number) (λ m. done a _ refl (Same refl))
-each_rule (Discard p number) = λ a. found_case a _ _ (fmap.get a.inbox number) (λ m. done a _ refl (Same refl))
-each_rule (Abort p) = λ a. done a _ refl (Same refl)
-each_rule (ReadLog p place) = λ a. done a _ refl (Same refl)
-each_rule (Redeem p amount reference) = λ a.
-    idle_case a _ (fmap.get a.redemptions reference) amount reply.Redeemed (option_map refusal_of_redeem (redeem_refusal a.purse amount)) _ refl (λ new. done a _ refl (More reference amount new refl))
-each_rule (Inbox p) = λ a. told a _
-each_rule (Statement p after) = λ a. told a _
-each_rule c = tt
+each_keeps (Show p) = λ a. told a _
+each_keeps (StartFrom p peer value seq) = λ a. by_named (Keeps false a) refusal_of_start a (start_from_refusal a.purse peer value) _ (λ r. told a _) (λ e. done a _ refl (Same refl))
+each_keeps (StartTo p peer value seq) = λ a. by_named (Keeps false a) refusal_of_start a (start_to_refusal a.purse peer) _ (λ r. told a _) (λ e. done a _ refl (Same refl))
+each_keeps (Handle p number) = λ a. by_found (Keeps false a) a NoSuchMessage (fmap.get a.inbox number) _ (told a _) (λ m e. done a _ refl (Same refl))
+each_keeps (Discard p number) = λ a. by_found (Keeps false a) a NoSuchMessage (fmap.get a.inbox number) _ (told a _) (λ m e. done a _ refl (Same refl))
+each_keeps (Abort p) = λ a. done a _ refl (Same refl)
+each_keeps (ReadLog p place) = λ a. done a _ refl (Same refl)
+each_keeps (Redeem p amount reference) = λ a.
+    by_told (Keeps true a) a (idle (fmap.get a.redemptions reference) amount reply.Redeemed (option_map refusal_of_redeem (redeem_refusal a.purse amount))) _ (λ x e. told a x)
+    (λ e. done a _ refl (More refl reference amount (new_reference _ _ _ _ e) refl))
+each_keeps (Inbox p) = λ a. told a _
+each_keeps (Statement p after) = λ a. told a _
+each_keeps c = tt
+
+-- ---- each command
+
+base_leaves : (w : World) (caller : Caller) (c : Command) → Leaves w (base w caller c)
+base_leaves w = by_moves w (λ _ _ d. Leaves w d) (record {
+  told = λ caller c x is. λ r e. (refl, refl, refl);
+  member = λ m t none free. accepted_leaves w _ refl;
+  grant = λ m amount row there small room. accepted_leaves w _ refl;
+  holder = λ m h t row there none free. accepted_leaves w _ refl;
+  purse = λ m p h there none few. accepted_leaves w _ refl;
+  load = λ m p amount reference l. accepted_leaves w _ refl;
+  collect = λ m row there room. accepted_leaves w _ refl;
+  archive = λ p. accepted_leaves w _ refl;
+  clear = λ p set may. accepted_leaves w _ refl;
+  own = λ h c p f r e at owned x is.
+      let same = (subst (EachKeeps c) e (each_keeps c) r.holding).leaves x is in
+      (ap (λ b. set_row w p (record r { holding = b })) same.0 ∙ set_same w p r at, same.1, same.2);
+})
+
+-- a refused command leaves the World
+pub refused_stays : (w : World) (caller : Caller) (c : Command) (r : Refusal) → (base w caller c).reply ≡ reply.Refused r → (step w caller c).world ≡ w
+unfolding step
+refused_stays w caller c r e = let same = base_leaves w caller c r e in (λ i. with_result (put_sent (same.0 i) (same.1 i)) (same.2 i))

@@ -11,27 +11,21 @@ use Rattle.mx_purse.specs.Operations.{expects_val}
 use Rattle.mx_book.specs.declared.values.Caller.{Caller}
 use Rattle.mx_book.specs.declared.values.MemberRow.{MemberRow}
 use Rattle.mx_book.specs.Reads.{from_row, is_archived}
-use Rattle.mx_book.specs.Sums.{sum_values}
-use Rattle.mx_book.specs.Totals.{is_entry, issued_row}
-use Rattle.mx_book.specs.World.{World, Row, Holding, Name, set_row, changed_row, change_holding, has_room, delivered, with_message}
+use Rattle.mx_book.specs.Totals.{is_entry}
+use Rattle.mx_book.specs.World.{World, Row, Holding, Name, set_row, delivered}
 use Rattle.mx_book.proofs.FoundLemmas.{inside}
 use Rattle.mx_book.proofs.NameLemmas.{get-inserted}
-use Rattle.mx_book.proofs.PurseLemmas.{change_there}
 use Rattle.mx_book.proofs.ResultLemmas.{results_total, same_result}
 use Rattle.mx_office.specs.declared.values.Command.{Command}
-use Rattle.mx_office.specs.declared.values.Refusal.{Refusal}
-use Rattle.mx_office.specs.declared.values.Refusal.TheVariants.{NoSuchPurse}
 use Rattle.mx_office.specs.declared.values.Reply.{Reply}
-use Rattle.mx_office.specs.Step.{Deed, Asks, tell, unless, unless_told, on_found, in_place, own_holding, on_world, change_member, put_sent, is_kept, with_result, world_after}
-use Rattle.std.specs.Option.{option_map_or}
+use Rattle.mx_office.specs.Step.{Deed, tell, in_place, world_after}
 use Rattle.mx_office.proofs.AccountLemmas.{in_tray}
-use Rattle.mx_office.proofs.OwnLemmas.{is_owned}
+use Rattle.mx_office.proofs.CaseLemmas.{by_after}
 use Rattle.mx_office.proofs.SeenLemmas.{Seen, Step, IsTimely, clash, either_true, both_parts, or_cases}
 use Rattle.mx_office.proofs.SoundLemmas.{Turns, none_moves, still}
 use Rattle.mx_office.proofs.SeenWorldLemmas.{Invariant, seen, side, entry_of, over_row, turn_step, turn_flow, turn_keeps}
 use Rattle.mx_office.proofs.OutLemmas.{Books, books_keep}
 use Rattle.mx_office.proofs.DeedLemmas.{IsKept, with_holding, not_some, done_books}
-use Rattle.mx_office.proofs.HandleLemmas.{EachKept}
 
 -- the invariant and the equation
 pub record Sane (w : World) : Type 0 where
@@ -75,15 +69,6 @@ pub record IsSaneDeed (w : World) (d : Deed World) : Type 0 where
 pub told_sane : (w v : World) (x : Reply) → Sane v → StaysLost w v → IsSaneDeed w (tell v x)
 told_sane w v x s lost = record { sane = s; lost = lost; sent = λ m e. not_some m e; read = λ result e. not_some result e }
 
--- what is refused changes nothing
-pub unless_sane : (w : World) (o : Option Refusal) (d : Deed World) → Sane w → (o ≡ None → IsSaneDeed w d) → IsSaneDeed w (unless w o d)
-unless_sane w (Some r) d s rest = told_sane w w _ s (λ d t. t)
-unless_sane w None d s rest = rest refl
-
-pub idle_sane : (w : World) (o : Option Reply) (d : Deed World) → Sane w → (o ≡ None → IsSaneDeed w d) → IsSaneDeed w (unless_told w o d)
-idle_sane w (Some r) d s rest = told_sane w w r s (λ d t. t)
-idle_sane w None d s rest = rest refl
-
 -- ---- what isn't of a purse
 
 -- tokens, members and holders are nothing to the invariant and the equation
@@ -96,95 +81,52 @@ apart_sane w tokens members holders s =
       books = record { out = b.out; covers = b.covers; equal = b.equal };
     }
 
-member_case : (w : World) (m : Name) (f : MemberRow → MemberRow) (o : Option MemberRow) → Sane w → Sane (option_map_or (λ row. let v : World = record w { members = fmap.insert w.members m (f row) } in v) o w)
-member_case w m f None s = s
-member_case w m f (Some row) s = apart_sane w w.tokens (fmap.insert w.members m (f row)) w.holders s
-
-pub member_sane : (w : World) (m : Name) (f : MemberRow → MemberRow) → Sane w → Sane (change_member w m f)
-member_sane w m f s = member_case w m f (fmap.get w.members m) s
-
-member_lost_case : (w v : World) (m : Name) (f : MemberRow → MemberRow) (o : Option MemberRow) → StaysLost w v → StaysLost w (option_map_or (λ row. let u : World = record v { members = fmap.insert v.members m (f row) } in u) o v)
-member_lost_case w v m f None lost = lost
-member_lost_case w v m f (Some row) lost = lost
-
-pub member_lost : (w v : World) (m : Name) (f : MemberRow → MemberRow) → StaysLost w v → StaysLost w (change_member v m f)
-member_lost w v m f lost = member_lost_case w v m f (fmap.get v.members m) lost
-
 -- ---- a rule on a purse
 
-row_sane : (w : World) (p : Name) (r : Row) (asked : Command) (d : Deed Holding) → fmap.get w.rows p ≡ Some r → Sane w → IsKept w p r asked d → IsSaneDeed w (in_place (λ b. change_holding w p (λ _. b)) d)
+pub row_sane : (w : World) (p : Name) (r : Row) (asked : Command) (d : Deed Holding) → fmap.get w.rows p ≡ Some r → Sane w → IsKept w p r asked d → IsSaneDeed w (in_place (λ b. set_row w p (with_holding r b)) d)
 row_sane w p r asked d at sane k =
     let s : Row = with_holding r d.state in
-    subst (λ v. IsSaneDeed w (record { state = v; reply = d.reply; sent = d.sent; result = d.result })) (sym (change_there w p (λ x. with_holding x d.state) r at))
-    (record {
+    record {
       sane = record { invariant = k.invariant; books = done_books w p r d.state asked d.reply at sane.books k.done };
       lost = stays_lost w (set_row w p s) k.step;
       sent = k.sent;
       read = λ result e.
           let x = k.read result e in
           ap (λ y. logs (fmap.get (set_row w p s).rows y) result.1) x.0 ∙ ap (λ o. logs o result.1) (get-inserted w.rows p s) ∙ x.1;
-    })
-
-rule_sane : (w : World) (h p : Name) (asked : Command) (f : Holding → Deed Holding) (o : Option Holding) → own_holding w h p ≡ o → Sane w → ((r : Row) → fmap.get w.rows p ≡ Some r → IsKept w p r asked (f r.holding))
-    → IsSaneDeed w (on_found w NoSuchPurse o (λ a. in_place (λ b. change_holding w p (λ _. b)) (f a)))
-rule_sane w h p asked f None own s each = told_sane w w _ s (λ d t. t)
-rule_sane w h p asked f (Some a) own s each =
-    let r = is_owned w h p a own in
-    row_sane w p r.row asked (f a) r.at s (subst (λ x. IsKept w p r.row asked (f x)) r.holding (each r.row r.at))
-
-pub asks_sane : (w : World) (h : Name) {asked : Command} (x : Asks) → Sane w → EachKept w asked x → IsSaneDeed w (on_world w h x)
-asks_sane w h Asks.Names s each = told_sane w w _ s (λ d t. t)
-asks_sane w h {asked} (Asks.OnPurse p f) s each = rule_sane w h p asked f (own_holding w h p) refl s each.each
-asks_sane w h Asks.NotAHolders s each = told_sane w w _ s (λ d t. t)
+    }
 
 -- ---- a message that is put
-
--- what is put leaves a sane World, in which what is lost and what is logged stays
-pub record IsPut (w v : World) : Type 0 where
-  pub sane : Sane v
-  pub lost : StaysLost w v
-  pub logged : (x : Name) (d : Details) → logs (fmap.get w.rows x) d ≡ true → logs (fmap.get v.rows x) d ≡ true
 
 inbox_case : (x : Bool) (m n : Message) (o : Option Message) (A : Message → Type 0) → A m → (o ≡ Some n → A n) → cond x (Some m) o ≡ Some n → A n
 inbox_case true m n o A new old e = subst A (inside m n e) new
 inbox_case false m n o A new old e = old e
 
 module _ (w : World) (p : Name) (m : Message) (s : Sane w) (timely : IsTimely (seen w) p m) (r : Row) (at : fmap.get w.rows p ≡ Some r) where
-  i : Invariant w
-  i = s.invariant
+  -- the row with the message in its inbox
+  abbrev with_it : Row
+  with_it = with_holding r (delivered r.holding m)
 
-  same : Turns (seen w) (is_archived w p) none_moves r.holding.purse r.holding.purse
-  same = still (seen w) (is_archived w p) r.holding.purse r.holding.purse.balance r.holding.purse.lines (omega arith) (i.sound p r at)
+  still_put : Turns (seen w) (is_archived w p) none_moves r.holding.purse r.holding.purse
+  still_put = still (seen w) (is_archived w p) r.holding.purse r.holding.purse.balance r.holding.purse.lines (omega arith) (s.invariant.sound p r at)
 
-  room_put : (a : Holding) → a.purse ≡ r.holding.purse → a.redemptions ≡ r.holding.redemptions → ((k : ℕ) (n : Message) → fmap.get a.inbox k ≡ Some n → IsTimely (seen w) p n) → IsPut w (set_row w p (with_holding r a))
-  room_put a purse redemptions inbox =
-      let y : Row = with_holding r a in
-      let q : Turns (seen w) (is_archived w p) none_moves r.holding.purse a.purse = subst (Turns (seen w) (is_archived w p) none_moves r.holding.purse) (sym purse) same in
-      let step : Step (seen w) (seen (set_row w p y)) = turn_step w p r y at i none_moves q in
+  step_put : Step (seen w) (seen (set_row w p with_it))
+  step_put = turn_step w p r with_it at s.invariant none_moves still_put
+
+  sane_put : Sane (set_row w p with_it)
+  sane_put =
+      let i : Invariant w = s.invariant in
       record {
-        sane = record {
-          invariant = turn_keeps w p r y at i none_moves q inbox (λ d h. ap (λ x. has_logged x.log d) purse ∙ i.tray p d h r at);
-          books = books_keep w p (Some r) y at s.books (λ d. turn_flow w p r y at i none_moves q d refl) (λ k. ((purse k).balance + sum_values (λ n. n) (redemptions k)) + issued_row r);
-        };
-        lost = stays_lost w (set_row w p y) step;
-        logged = λ x d. over_row w p r y at (λ a b. logs a d ≡ true → logs b d ≡ true) x (λ o t. t) (λ _ t. ap (λ z. has_logged z.log d) purse ∙ t);
+        invariant = turn_keeps w p r with_it at i none_moves still_put
+            (λ k n e. inbox_case _ m n (fmap.get r.holding.inbox k) (IsTimely (seen w) p) timely (i.timely p r at k n) (sym (fmap.get-insert nat_cmp_total r.holding.inbox r.holding.next_message m k) ∙ e))
+            (λ d h. i.tray p d h r at);
+        books = books_keep w p (Some r) with_it at s.books (λ d. turn_flow w p r with_it at i none_moves still_put d refl) refl;
       }
 
-  room_case : (x : Bool) → IsPut w (set_row w p (with_holding r (cond x (delivered r.holding m) r.holding)))
-  room_case true = room_put (delivered r.holding m) refl refl
-      (λ k n e. inbox_case _ m n (fmap.get r.holding.inbox k) (IsTimely (seen w) p) timely (λ old. i.timely p r at k n old) (sym (fmap.get-insert nat_cmp_total r.holding.inbox r.holding.next_message m k) ∙ e))
-  room_case false = room_put r.holding refl refl (λ k n e. i.timely p r at k n e)
+  lost_put : StaysLost w (set_row w p with_it)
+  lost_put = stays_lost w (set_row w p with_it) step_put
 
-same_put : (w : World) → Sane w → IsPut w w
-same_put w s = record { sane = s; lost = λ d t. t; logged = λ x d t. t }
-
-put_case : (w : World) (p : Name) (m : Message) → Sane w → IsTimely (seen w) p m → (o : Option Row) → fmap.get w.rows p ≡ o → IsPut w (changed_row w p (λ r. with_holding r (with_message r.holding m)) o)
-put_case w p m s timely None at = same_put w s
-put_case w p m s timely (Some r) at = room_case w p m s timely r at (has_room r.holding)
-
-sent_put : (w : World) → Sane w → (sent : Option (Name × Message)) → ((m : Name × Message) → sent ≡ Some m → IsTimely (seen w) m.0 m.1) → IsPut w (put_sent w sent)
-sent_put w s None timely = same_put w s
-sent_put w s (Some m) timely = put_case w m.0 m.1 s (timely m refl) (fmap.get w.rows m.0) refl
+  logged_put : (x : Name) (d : Details) → logs (fmap.get w.rows x) d ≡ true → logs (fmap.get (set_row w p with_it).rows x) d ≡ true
+  logged_put x d = over_row w p r with_it at (λ a b. logs a d ≡ true → logs b d ≡ true) x (λ o t. t) (λ _ t. t)
 
 -- ---- a result that is sent
 
@@ -228,16 +170,18 @@ pub record IsNextSane (w v : World) : Type 0 where
   pub sane : Sane v
   pub lost : StaysLost w v
 
-kept_case : (w v : World) (result : Name × Details) → IsNextSane w v → logs (fmap.get v.rows result.0) result.1 ≡ true → (b : Bool) → is_kept v result ≡ b → IsNextSane w (cond b v (record v { tray = fmap.insert v.tray result tt }))
-kept_case w v result s logged true t = s
-kept_case w v result s logged false t = record { sane = tray_sane v result.0 result.1 s.sane (or_neither _ _ t) logged; lost = s.lost }
-
-result_sane : (w v : World) (o : Option (Name × Details)) → IsNextSane w v → ((result : Name × Details) → o ≡ Some result → logs (fmap.get v.rows result.0) result.1 ≡ true) → IsNextSane w (with_result v o)
-result_sane w v None s read = s
-result_sane w v (Some result) s read = kept_case w v result s (read result refl) (is_kept v result) refl
+-- and in which what is logged in u is logged
+record IsSaneAfter (w u v : World) : Type 0 where
+  next : IsNextSane w v
+  logged : (x : Name) (d : Details) → logs (fmap.get u.rows x) d ≡ true → logs (fmap.get v.rows x) d ≡ true
 
 -- what stands after a command
 pub after_sane : (w : World) (d : Deed World) → IsSaneDeed w d → IsNextSane w (world_after d)
 after_sane w d s =
-    let put : IsPut d.state (put_sent d.state d.sent) = sent_put d.state s.sane d.sent s.sent in
-    result_sane w (put_sent d.state d.sent) d.result (record { sane = put.sane; lost = λ c t. put.lost c (s.lost c t) }) (λ result e. put.logged result.0 result.1 (s.read result e))
+    let after : IsSaneAfter w d.state (world_after d) =
+    by_after (IsSaneAfter w d.state) d (record { next = record { sane = s.sane; lost = s.lost }; logged = λ x c t. t })
+    (λ m r e at.
+    let timely = s.sent m e in
+    record { next = record { sane = sane_put d.state m.0 m.1 s.sane timely r at; lost = λ c t. lost_put d.state m.0 m.1 s.sane timely r at c (s.lost c t) }; logged = logged_put d.state m.0 m.1 s.sane timely r at })
+    (λ v x y e f. record { next = record { sane = tray_sane v x.0 x.1 y.next.sane (or_neither _ _ f) (y.logged x.0 x.1 (s.read x e)); lost = y.next.lost }; logged = y.logged }) in
+    after.next

@@ -1,5 +1,5 @@
 -- The lines of a purse tell how it came by its balance: each rule keeps that, and so does each event of a holder's view.
-use Rattle.std.proofs.Common.{◌≡◌, ℕ, ◌+◌, Bool, true, false, cond, List, [], ◌∷◌, ◌++◌, append_assoc, length, map, refl, sym, ◌∙◌, ap, Option, Some, None, option_and_then, option_map, arith}
+use Rattle.std.proofs.Common.{◌≡◌, ℕ, ◌+◌, true, List, [], ◌∷◌, ◌++◌, append_assoc, length, map, refl, sym, ◌∙◌, ap, Option, Some, None, option_and_then, option_map, arith}
 use Rattle.std.proofs.lemmas.List.{append-nil, length-append, length-map, map-append}
 use Rattle.std.specs.Prelude.{is_none}
 use Rattle.std.specs.Option.{option_map_or}
@@ -8,25 +8,23 @@ use Rattle.mx_pay.specs.Names.{name_cmp}
 use Rattle.mx_pay.specs.Details.{Details}
 use Rattle.mx_purse.specs.Operations.{pending, aborted, lines_with, start_from_refusal, start_to_refusal, handled, after_message, load_refusal, loaded, redeem_refusal, redeemed}
 use Rattle.mx_purse.specs.State.{State}
-use Rattle.mx_purse.specs.declared.message.Message.{Message}
 use Rattle.mx_purse.specs.declared.message.Handled.{Handled}
 use Rattle.mx_purse.specs.declared.message.Handled.TheVariants as took
 use Rattle.mx_book.specs.declared.values.Line.{Line}
 use Rattle.mx_book.specs.declared.values.LineKind.TheVariants as kind
-use Rattle.mx_book.specs.World.{World, Row, Holding, Name, Token, opening, new_holding, has_room, delivered, with_message}
+use Rattle.mx_book.specs.World.{World, Row, Holding, Name, Token, opening, new_holding, with_message}
 use Rattle.mx_book.proofs.FoundLemmas.{each_inserted, none_found}
 use Rattle.mx_book.proofs.MapLemmas.{get-pick}
 use Rattle.mx_book.proofs.NameLemmas.{names_total, names_exact, name_itself}
 use Rattle.mx_office.specs.declared.values.Command.{Command}
 use Rattle.mx_office.specs.declared.values.Command.TheVariants.{Show, StartFrom, StartTo, Handle, Discard, Abort, ReadLog, Redeem, Inbox, Statement}
-use Rattle.mx_office.specs.declared.values.Refusal.{Refusal}
 use Rattle.mx_office.specs.declared.values.Refusal.TheVariants.{NoSuchPurse, NoSuchMessage}
-use Rattle.mx_office.specs.declared.values.Reply.{Reply}
 use Rattle.mx_office.specs.declared.values.Reply.TheVariants as reply
 use Rattle.mx_office.specs.Isolation.{Event, Holdings, view, on_holdings, after_event, local, cut}
 use Rattle.mx_office.specs.Reachable.{IsReachable}
 use Rattle.mx_office.specs.Statement.{Item, item_of, balance_after, lines_from, balance_at_end, items_seen, statement_of, IsStated}
-use Rattle.mx_office.specs.Step.{Deed, Asks, Asked, unless, unless_told, idle, refusal_of_start, refusal_of_redeem, on_found, in_place, listed, abort_line, message_line, payment_line, money_line, with_purse, with_aborted, with_redemption, handle_message, asks, show, start_from, start_to, handle, discard, abort, read_log, redeem, inbox, statement, loaded_holding, holding_for, own_holding, steps}
+use Rattle.mx_office.specs.Step.{Deed, Asks, Asked, idle, refusal_of_start, refusal_of_redeem, in_place, listed, abort_line, message_line, payment_line, money_line, with_purse, with_aborted, with_redemption, handle_message, asks, show, start_from, start_to, handle, discard, abort, read_log, redeem, inbox, statement, loaded_holding, holding_for, own_holding, steps}
+use Rattle.mx_office.proofs.CaseLemmas.{by_cond, by_told, by_named, by_found, by_room}
 use Rattle.mx_office.proofs.LawLemmas.{run_law}
 use Rattle.mx_office.proofs.OwnLemmas.{own_at}
 
@@ -102,59 +100,32 @@ redeem_lined a amount reference h =
     let line : Line = money_line (redeemed a.purse amount) kind.Redeemed amount reference in
     one_line rested _ line (sym (append_assoc a.lines (listed (abort_line (aborted a.purse) (pending a.purse.status))) (line ∷ []))) refl refl refl refl (rested_lined a (aborted a.purse) refl refl h)
 
--- a deed leaves lines that are a statement
-record LeavesLined (d : Deed Holding) : Type 0 where
-  pub lined : IsLined d.state
-
-done : (d : Deed Holding) → IsLined d.state → LeavesLined d
-done d h = record { lined = h }
-
--- a reply that changes nothing, and a message that isn't there
-refused_case : {R : Type 0} (a : Holding) (d : Deed Holding) (name : R → Refusal) (o : Option R) → IsLined a → IsLined d.state → LeavesLined (unless a (option_map name o) d)
-refused_case a d name None h new = done d new
-refused_case a d name (Some r) h new = record { lined = h }
-
-told_case : (a : Holding) (d : Deed Holding) (o : Option Reply) → IsLined a → IsLined d.state → LeavesLined (unless_told a o d)
-told_case a d None h new = done d new
-told_case a d (Some r) h new = record { lined = h }
-
-found_case : (a : Holding) (f : Message → Deed Holding) (o : Option Message) → IsLined a → ((m : Message) → IsLined (f m).state) → LeavesLined (on_found a NoSuchMessage o f)
-found_case a f None h new = record { lined = h }
-found_case a f (Some m) h new = done (f m) (new m)
-
 -- a rule that is asked of a purse
 abbrev EachLined : Asks → Type 0
-EachLined (Asks.OnPurse p f) = (a : Holding) → IsLined a → LeavesLined (f a)
+EachLined (Asks.OnPurse p f) = (a : Holding) → IsLined a → IsLined (f a).state
 EachLined x = Unit {0}
 
-each_rule : (c : Command) → EachLined (asks c)
-unfolding show start_from start_to handle discard abort read_log redeem inbox statement
-each_rule (Show p) = λ a h. done _ h
-each_rule (StartFrom p peer value seq) = λ a h. refused_case a _ refusal_of_start (start_from_refusal a.purse peer value) h (rested_lined a _ refl refl h)
-each_rule (StartTo p peer value seq) = λ a h. refused_case a _ refusal_of_start (start_to_refusal a.purse peer) h (rested_lined a _ refl refl h)
-each_rule (Handle p number) = λ a h. found_case a (handle_message a) (fmap.get a.inbox number) h (λ m. message_lined a (handled a.purse m) h)
-each_rule (Discard p number) = λ a h. found_case a _ (fmap.get a.inbox number) h (λ m. same_lines a (record a { inbox = fmap.remove a.inbox number }) refl refl refl h)
-each_rule (Abort p) = λ a h. done _ (rested_lined a _ refl refl h)
-each_rule (ReadLog p place) = λ a h. done _ (rested_lined a _ refl refl h)
-each_rule (Redeem p amount reference) = λ a h. told_case a _ (idle (fmap.get a.redemptions reference) amount reply.Redeemed (option_map refusal_of_redeem (redeem_refusal a.purse amount))) h (redeem_lined a amount reference h)
-each_rule (Inbox p) = λ a h. done _ h
-each_rule (Statement p after) = λ a h. done _ h
-each_rule c = tt
+-- what a deed leaves
+abbrev Lined : Deed Holding → Type 0
+Lined d = IsLined d.state
 
-load_case : (a : Holding) (amount : ℕ) (reference : Name) (b : Bool) → IsLined a → IsLined (let q = loaded a.purse amount in cond b (with_purse a q (Some (money_line q kind.Loaded amount reference))) a)
-load_case a amount reference true h = one_line a _ (money_line (loaded a.purse amount) kind.Loaded amount reference) refl refl refl refl refl h
-load_case a amount reference false h = h
+each_lined : (c : Command) → EachLined (asks c)
+unfolding show start_from start_to handle discard abort read_log redeem inbox statement
+each_lined (Show p) = λ a h. h
+each_lined (StartFrom p peer value seq) = λ a h. by_named Lined refusal_of_start a (start_from_refusal a.purse peer value) _ (λ r. h) (λ e. rested_lined a _ refl refl h)
+each_lined (StartTo p peer value seq) = λ a h. by_named Lined refusal_of_start a (start_to_refusal a.purse peer) _ (λ r. h) (λ e. rested_lined a _ refl refl h)
+each_lined (Handle p number) = λ a h. by_found Lined a NoSuchMessage (fmap.get a.inbox number) (handle_message a) h (λ m at. message_lined a (handled a.purse m) h)
+each_lined (Discard p number) = λ a h. by_found Lined a NoSuchMessage (fmap.get a.inbox number) _ h (λ m at. same_lines a _ refl refl refl h)
+each_lined (Abort p) = λ a h. rested_lined a _ refl refl h
+each_lined (ReadLog p place) = λ a h. rested_lined a _ refl refl h
+each_lined (Redeem p amount reference) = λ a h. by_told Lined a (idle (fmap.get a.redemptions reference) amount reply.Redeemed (option_map refusal_of_redeem (redeem_refusal a.purse amount))) _ (λ x e. h) (λ e. redeem_lined a amount reference h)
+each_lined (Inbox p) = λ a h. h
+each_lined (Statement p after) = λ a h. h
+each_lined c = tt
 
 load_lined : (amount : ℕ) (reference : Name) (a : Holding) → IsLined a → IsLined (loaded_holding a amount reference)
 unfolding loaded_holding
-load_lined amount reference a h = load_case a amount reference (is_none (load_refusal a.purse amount)) h
-
-put_case : (a : Holding) (m : Message) (b : Bool) → IsLined a → IsLined (cond b (delivered a m) a)
-put_case a m true h = same_lines a _ refl refl refl h
-put_case a m false h = h
-
-put_lined : (m : Message) (a : Holding) → IsLined a → IsLined (with_message a m)
-put_lined m a h = put_case a m (has_room a) h
+load_lined amount reference a h = by_cond IsLined (is_none (load_refusal a.purse amount)) _ a (λ _. one_line a _ (money_line (loaded a.purse amount) kind.Loaded amount reference) refl refl refl refl refl h) (λ _. h)
 
 new_lined : (p : Name) → IsLined (new_holding p)
 new_lined p = record { stated = record { lines = refl; balance = refl }; counted = refl }
@@ -170,25 +141,20 @@ insert_lined m p a h new = record { each = each_inserted m p a (λ q x. IsLined 
 none_lined : AllLined fmap.empty
 none_lined = record { each = λ p a at. none_found _ a (fmap.get-empty name_cmp p) at }
 
-own_lined : (m : Holdings) (p : Name) (f : Holding → Deed Holding) (o : Option Holding) → fmap.get m p ≡ o → AllLined m → ((a : Holding) → IsLined a → LeavesLined (f a))
-    → AllLined (on_found m NoSuchPurse o (λ a. in_place (fmap.insert m p) (f a))).state
-own_lined m p f None at h each = h
-own_lined m p f (Some a) at h each = insert_lined m p (f a).state h (each a (h.each p a at)).lined
-
-asks_lined : (m : Holdings) (x : Asks) → AllLined m → EachLined x → AllLined (on_holdings m x).state
-asks_lined m Asks.Names h each = h
-asks_lined m (Asks.OnPurse p f) h each = own_lined m p f (fmap.get m p) refl h each
-asks_lined m Asks.NotAHolders h each = h
-
 changed_lined : (m : Holdings) (p : Name) (f : Holding → Holding) (o : Option Holding) → fmap.get m p ≡ o → AllLined m → ((a : Holding) → IsLined a → IsLined (f a)) → AllLined (option_map_or (λ a. fmap.insert m p (f a)) o m)
 changed_lined m p f None at h each = h
 changed_lined m p f (Some a) at h each = insert_lined m p (f a) h (each a (h.each p a at))
 
+asks_lined : (m : Holdings) (x : Asks) → AllLined m → EachLined x → AllLined (on_holdings m x).state
+asks_lined m Asks.Names h each = h
+asks_lined m (Asks.OnPurse p f) h each = by_found (λ d. AllLined d.state) m NoSuchPurse (fmap.get m p) (λ a. in_place (fmap.insert m p) (f a)) h (λ a at. insert_lined m p (f a).state h (each a (h.each p a at)))
+asks_lined m Asks.NotAHolders h each = h
+
 event_lined : (m : Holdings) (e : Event) → AllLined m → AllLined (after_event m e).end
-event_lined m (Event.Own c) h = asks_lined m (asks c) h (each_rule c)
+event_lined m (Event.Own c) h = asks_lined m (asks c) h (each_lined c)
 event_lined m (Event.Issued p) h = insert_lined m p (new_holding p) h (new_lined p)
 event_lined m (Event.Loaded p reference amount) h = changed_lined m p (λ a. loaded_holding a amount reference) (fmap.get m p) refl h (load_lined amount reference)
-event_lined m (Event.Put p message) h = changed_lined m p (λ a. with_message a message) (fmap.get m p) refl h (put_lined message)
+event_lined m (Event.Put p message) h = changed_lined m p (λ a. with_message a message) (fmap.get m p) refl h (λ a h. by_room IsLined a message h (same_lines a _ refl refl refl h))
 
 local_lined : (m : Holdings) (es : List Event) → AllLined m → AllLined (local m es).end
 local_lined m [] h = h

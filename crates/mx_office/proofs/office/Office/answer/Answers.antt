@@ -2,7 +2,7 @@ use Rattle.std.proofs.Common.{◌≡◌, rules, sym, ◌∙◌, subst}
 use Rattle.std.proofs.lemmas.Result.{err_from_is_err_and}
 use Rattle.mx_office.proofs.FaultLemmas.{writes, memory_fails}
 use Rattle.mx_office.proofs.LawLemmas.{accounts_after, told_after}
-use Rattle.mx_office.proofs.RefuseLemmas.{refused_stays}
+use Rattle.mx_office.proofs.RuleLemmas.{refused_stays}
 use Rattle.mx_office.specs.Step.{step}
 use Rattle.mx_office.proofs.office.Office.answer.Goals as goal
 
