@@ -4,9 +4,8 @@ use Rattle.std.specs.Prelude.{is_some, option_map, flat_map}
 use Rattle.std.specs.List.{list_any}
 use Rattle.std.proofs.lemmas.Bool.{or_left, or_right}
 use Rattle.std.proofs.lemmas.List.Folds.{list_any-append}
-use Rattle.std.specs.declared.cmp.Ordering.{Ordering}
-use Rattle.std.specs.declared.cmp.Ordering.TheVariants.{Less, Equal, Greater}
-use Rattle.std.specs.Ordering.{eq_by_cmp, is_eq, ordering_then}
+use Rattle.std.specs.Ordering.{eq_by_cmp}
+use Rattle.std.specs.Cmp.{tied_then}
 use Rattle.std.specs.FinMap as fmap
 use Rattle.std.specs.FinMap.Entries.{find}
 use Rattle.mx_pay.specs.Names.{name_cmp, is_name}
@@ -48,7 +47,8 @@ sum_at set h d =
     by_case None = refl
     by_case (Some u) = refl
 
-either_way : (d e : Details) → is_details d e ≡ is_details e d
+-- whether details are the same is so either way
+pub either_way : (d e : Details) → is_details d e ≡ is_details e d
 either_way d e = by_case (is_details d e) (is_details e d) refl refl
   where
     by_case : (a b : Bool) → is_details d e ≡ a → is_details e d ≡ b → a ≡ b
@@ -78,11 +78,6 @@ marks_found d (e ∷ es) = grind (arith, marks_found d es)
 still_logged : (log : Entries) (o : Option Details) (d : Details) → has_logged log d ≡ true → has_logged (with_pending log o) d ≡ true
 still_logged log None d there = there
 still_logged log (Some e) d there = has-with_entry log e d ∙ or_right _ _ there
-
-both_equal : (a b : Ordering) → is_eq (ordering_then a b) ≡ (is_eq a && is_eq b)
-both_equal Less b = refl
-both_equal Equal b = refl
-both_equal Greater b = refl
 
 -- ---- numbers by two and by three tests
 
@@ -140,17 +135,17 @@ module _ (r : Rows) where
 
   archive_listed : (p : Name) (d : Details) (es : List ((Name × Details) × Unit {0})) → is_some (find result_cmp (p, d) es) ≡ true → list_any (is_details d) (from_archive es) ≡ true
   archive_listed p d [] there = absurd (cc)
-  archive_listed p d (e ∷ es) there = grind (arith, archive_listed p d es, both_equal (name_cmp p e.0.0) (details_cmp d e.0.1))
+  archive_listed p d (e ∷ es) there = grind (arith, archive_listed p d es, tied_then (name_cmp p e.0.0) (details_cmp d e.0.1))
 
   archive_occurs : (p : Name) (d : Details) → fmap.contains_key r.archive (p, d) ≡ true → has_logged all d ≡ true
   archive_occurs p d there = occurs d ∙ or_right _ _ (archive_listed p d (fmap.entries r.archive) (ap is_some (sym (fmap.get-entries r.archive (p, d))) ∙ there))
 
   -- ---- the two tests of details, from the rows
 
-  left_is : (d : Details) (b : Bool) (o : Option PurseRow)
+  left_by_row : (d : Details) (b : Bool) (o : Option PurseRow)
       → (has_sent o d || b) ≡ (from_row false (λ x. expects_ack x.holding.purse.status d) (option_map (row_of r d.from) o) || (from_row false (λ x. has_logged x.holding.purse.log d) (option_map (row_of r d.from) o) || b))
-  left_is d b None = refl
-  left_is d b (Some x) = grind arith
+  left_by_row d b None = refl
+  left_by_row d b (Some x) = grind arith
 
   -- the value of details where it has left the from purse
   abbrev left_value : Details → ℕ
@@ -161,7 +156,7 @@ module _ (r : Rows) where
 
   left_either : (d : Details) → left_of d ≡ (from_in_epa (world_of r) d || from_logged (world_of r) d)
   left_either d =
-      left_is d (fmap.contains_key r.archive (d.from, d)) (fmap.get r.purses d.from)
+      left_by_row d (fmap.contains_key r.archive (d.from, d)) (fmap.get r.purses d.from)
       ∙ ap (λ o. from_row false (λ x. expects_ack x.holding.purse.status d) o || (from_row false (λ x. has_logged x.holding.purse.log d) o || fmap.contains_key r.archive (d.from, d))) (sym (get_rows r d.from))
 
   -- ---- in transit
@@ -253,7 +248,7 @@ module _ (r : Rows) where
   in_result result d = cond (eq_by_cmp result_cmp (d.to, d) result) (cleared d) 0
 
   result_pair : (p : Name) (d e : Details) → in_result (p, d) e ≡ cond (is_details d e) (cond (is_name e.to p) (cleared e) 0) 0
-  result_pair p d e = grind (arith, both_equal (name_cmp e.to p) (details_cmp e d), either_way d e)
+  result_pair p d e = grind (arith, tied_then (name_cmp e.to p) (details_cmp e d), either_way d e)
 
   result_at : (p : Name) (d : Details) (b : Bool) → is_name d.to p ≡ b → cond (is_name d.to p) (cleared d) 0 ≡ lost_in_archive r.purses r.archive (p, d)
   result_at p d true to =

@@ -161,14 +161,14 @@ module _ (u : fmap.FinMap name_cmp Redemption) where
   left_all [] h = refl
   left_all (e ∷ es) h = λ i. left_one e h.0 i + left_all es h.1 i
 
-  left_is : sum_entries (λ ref amount. cond (fmap.contains_key (pick mark_of u) ref) 0 amount) (pick amount_of u) ≡ total (λ (e : Name × Redemption). uncollected_amount e.1) (fmap.entries u)
+  left_sum : sum_entries (λ ref amount. cond (fmap.contains_key (pick mark_of u) ref) 0 amount) (pick amount_of u) ≡ total (λ (e : Name × Redemption). uncollected_amount e.1) (fmap.entries u)
   unfolding sum_entries
-  left_is = total_is left_at (fmap.entries (pick amount_of u)) ∙ ap (total left_at) (entries-pick names_total amount_of u)
+  left_sum = total_is left_at (fmap.entries (pick amount_of u)) ∙ ap (total left_at) (entries-pick names_total amount_of u)
       ∙ left_all (fmap.entries u) (all_entries names_total (λ k x. fmap.get u k ≡ Some x) u (λ k x at. at))
 
-left_of : (r : Rows) (p : Name) (x : PurseRow) → uncollected_row (row_of r p x) ≡ total (λ (e : Name × Redemption). uncollected_amount e.1) (those name_cmp p (fmap.entries r.redemptions))
-left_of r p x =
-    left_is (under name_cmp name_cmp p r.redemptions)
+left_under : (r : Rows) (p : Name) (x : PurseRow) → uncollected_row (row_of r p x) ≡ total (λ (e : Name × Redemption). uncollected_amount e.1) (those name_cmp p (fmap.entries r.redemptions))
+left_under r p x =
+    left_sum (under name_cmp name_cmp p r.redemptions)
     ∙ ap (total (λ (e : Name × Redemption). uncollected_amount e.1)) (entries-under name_cmp name_cmp names_total p r.redemptions)
 
 -- ---- and of all that count
@@ -181,7 +181,7 @@ module _ (r : Rows) (scope : Scope) where
   redeemed_is h = sum_is r scope redeemed_row (λ (x : Redemption). x.amount) r.redemptions (redeemed_of r) h.redemptions
 
   pub uncollected_is : IsProper r → sum_values (of_row r scope uncollected_row) (world_of r).rows ≡ row_uncollected_of r scope
-  uncollected_is h = sum_is r scope uncollected_row uncollected_amount r.redemptions (left_of r) h.redemptions
+  uncollected_is h = sum_is r scope uncollected_row uncollected_amount r.redemptions (left_under r) h.redemptions
 
   balances_listed : (ps : List (Name × PurseRow)) → total (λ (e : Name × Row). of_row r scope balance_row e.1) (remade (row_of r) ps) ≡ total (λ (e : Name × PurseRow). counted_balance r.holders scope e.1) ps
   balances_listed [] = refl

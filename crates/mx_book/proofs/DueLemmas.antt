@@ -4,10 +4,8 @@ use mathlib.Core.Bool.{true≢false}
 use Rattle.std.specs.Prelude.{option_map, filter, filter_map, sum_by}
 use Rattle.std.specs.List.{cons_option, prefix_len}
 use Rattle.std.proofs.lemmas.List.Sums.{sum_by-cons}
-use Rattle.std.specs.Ordering.{eq_by_cmp, is_eq}
-use Rattle.std.specs.Option.{option_cmp}
+use Rattle.std.specs.Ordering.{eq_by_cmp}
 use Rattle.std.specs.Cmp.{IsTotalOrder, eq_by_cmp_equiv}
-use Rattle.std.specs.Cmp.Lexicographic.{options_total}
 use Rattle.std.specs.FinMap as fmap
 use Rattle.std.specs.FinMap.{IsAntisymmetric}
 use Rattle.std.specs.FinSet.{FinSet}
@@ -25,8 +23,7 @@ use Rattle.mx_book.specs.declared.totals.Scope.TheVariants.{Member}
 use Rattle.mx_book.specs.Under.{pair_cmp, remake}
 use Rattle.mx_book.specs.World.{Name, is_of}
 use Rattle.mx_book.proofs.FoundLemmas.{still_some, each_inserted, none_found}
-use Rattle.mx_book.proofs.HeldLemmas.{both_equal, one_more, one_less}
-use Rattle.mx_book.proofs.IndexLemmas.{keys_under}
+use Rattle.mx_book.proofs.IndexLemmas.{keys_under, is_key, index_total, has-added, has-dropped}
 use Rattle.mx_book.proofs.SumLemmas.{total, total_is, total_entries}
 use Rattle.mx_book.proofs.NameLemmas.{names_total, names_exact, same_name, name_itself}
 use Rattle.mx_book.proofs.RowLemmas.{NoStray-insert, NoStray-purse}
@@ -47,9 +44,6 @@ keys_total = pair_total names_total names_total
 pub keys_exact : IsAntisymmetric (pair_cmp name_cmp name_cmp)
 keys_exact = pair_exact names_exact names_exact
 
-due_total : IsTotalOrder due_cmp
-due_total = pair_total names_total (options_total keys_total)
-
 same_key : (j k : Name × Name) → eq_by_cmp (pair_cmp name_cmp name_cmp) j k ≡ true → j ≡ k
 same_key j k t = keys_exact j k (is_equal _ t)
 
@@ -58,20 +52,9 @@ is_open x = not x.collected
 
 -- ---- one redemption under a member
 
-abbrev is_key : Option (Name × Name) → Name × Name → Bool
-is_key None k = false
-is_key (Some j) k = eq_by_cmp (pair_cmp name_cmp name_cmp) j k
-
-key_is : (q : Option (Name × Name)) (k : Name × Name) → is_eq (option_cmp (pair_cmp name_cmp name_cmp) q (Some k)) ≡ is_key q k
-key_is None k = refl
-key_is (Some j) k = refl
-
-has-owed : (due : FinSet due_cmp) (o : Option Name) (k : Name × Name) (n : Name) (q : Option (Name × Name)) → fmap.contains_key (owed due o k) (n, q) ≡ ((is_of n o && is_key q k) || fmap.contains_key due (n, q))
+has-owed : (due : FinSet due_cmp) (o : Option Name) (k : Name × Name) (n : Name) (q : Option (Name × Name)) → fmap.contains_key (owed due o k) (n, q) ≡ ((is_of n o && is_key (pair_cmp name_cmp name_cmp) q k) || fmap.contains_key due (n, q))
 has-owed due None k n q = refl
-has-owed due (Some m) k n q =
-    ap is_some (fmap.get-insert due_total due (m, Some k) tt (n, q))
-    ∙ one_more _ (fmap.get due (n, q))
-    ∙ ap (λ b. b || fmap.contains_key due (n, q)) (both_equal (name_cmp n m) (option_cmp (pair_cmp name_cmp name_cmp) q (Some k)) ∙ ap (λ b. is_name n m && b) (key_is q k))
+has-owed due (Some m) k n q = has-added (pair_cmp name_cmp name_cmp) keys_total due n m q k
 
 -- a purse has one member
 both_members : (n m : Name) (o : Option Name) → (is_of n o && not (is_of m o)) ≡ (is_of n o && not (is_name n m))
@@ -95,10 +78,6 @@ tied_new = record {
     none_due n (Some k) = ap is_some (fmap.get-empty due_cmp (n, Some k)) ∙ sym (ap (λ o. is_met is_open o && is_redeemed_of fmap.empty fmap.empty n k) (fmap.get-empty (pair_cmp name_cmp name_cmp) k))
 
 -- what a test of an edit says
-pub was_not : (b : Bool) → not b ≡ true → b ≡ false
-was_not true e = absurd (cc)
-was_not false e = refl
-
 pub not_but : (a b : Bool) → (not a && b) ≡ true → (a ≡ false) × (b ≡ true)
 not_but true b e = absurd (cc)
 not_but false b e = (refl, e)
@@ -111,14 +90,14 @@ module _ (purses : Held) (holders : Members) (redemptions : Redeemed) (due : Fin
   due_as purses' holders' redemptions' same n None = is.under n None
   due_as purses' holders' redemptions' same n (Some k) = is.under n (Some k) ∙ same n k
 
-  member_stays : (g m : Name) → fmap.contains_key holders g ≡ false → (p : Name) (o : Option PurseRow) → fmap.get purses p ≡ o → member_at (fmap.insert holders g m) o ≡ member_at holders o
-  member_stays g m new p None at = refl
-  member_stays g m new p (Some x) at = grind (arith, fmap.get-insert names_total holders g m x.holder, same_name x.holder g, is.known p x at, new)
+  member_as_before : (g m : Name) → fmap.contains_key holders g ≡ false → (p : Name) (o : Option PurseRow) → fmap.get purses p ≡ o → member_at (fmap.insert holders g m) o ≡ member_at holders o
+  member_as_before g m new p None at = refl
+  member_as_before g m new p (Some x) at = grind (arith, fmap.get-insert names_total holders g m x.holder, same_name x.holder g, is.known p x at, new)
 
   -- a new holder has no purse yet
   pub tied_holder : (g m : Name) → fmap.contains_key holders g ≡ false → IsTied purses (fmap.insert holders g m) redemptions due
   tied_holder g m new = record {
-    under = due_as purses (fmap.insert holders g m) redemptions (λ n k. ap (λ o. is_met is_open (fmap.get redemptions k) && is_of n o) (sym (member_stays g m new k.0 (fmap.get purses k.0) refl)));
+    under = due_as purses (fmap.insert holders g m) redemptions (λ n k. ap (λ o. is_met is_open (fmap.get redemptions k) && is_of n o) (sym (member_as_before g m new k.0 (fmap.get purses k.0) refl)));
     known = λ p x at. still_some holders g m x.holder (is.known p x at);
     proper = is.proper;
   }
@@ -214,10 +193,8 @@ module _ (purses : Held) (holders : Members) (redemptions : Redeemed) (due : Fin
 -- ---- one redemption after another
 
 module _ (first old : FinSet due_cmp) (m : Name) (key : Name × Name) where
-  has-taken : (n : Name) (q : Option (Name × Name)) → fmap.contains_key (fmap.remove old (m, Some key)) (n, q) ≡ (fmap.contains_key old (n, q) && not (is_name n m && is_key q key))
-  has-taken n q =
-      ap is_some (fmap.get-remove due_total old (m, Some key) (n, q)) ∙ one_less _ (fmap.get old (n, q))
-      ∙ ap (λ b. fmap.contains_key old (n, q) && not b) (both_equal (name_cmp n m) (option_cmp (pair_cmp name_cmp name_cmp) q (Some key)) ∙ ap (λ b. is_name n m && b) (key_is q key))
+  has-taken : (n : Name) (q : Option (Name × Name)) → fmap.contains_key (fmap.remove old (m, Some key)) (n, q) ≡ (fmap.contains_key old (n, q) && not (is_name n m && is_key (pair_cmp name_cmp name_cmp) q key))
+  has-taken n q = has-dropped (pair_cmp name_cmp name_cmp) keys_total old n m q key
 
   -- what was under the member and isn't any more
   abbrev taken : FinSet due_cmp → Name × Name → Bool
@@ -239,7 +216,7 @@ module _ (first old : FinSet due_cmp) (m : Name) (key : Name × Name) where
   pub fewer : fmap.contains_key old (m, Some key) ≡ true → fmap.len (fmap.remove old (m, Some key)) < fmap.len old
   fewer there =
       let some = some_left (fmap.len old) refl in
-      let less = fmap.len-remove due_total old (m, Some key) ∙ ap (λ b. cond b (fmap.len old - 1) (fmap.len old)) there in
+      let less = fmap.len-remove (index_total (pair_cmp name_cmp name_cmp) keys_total) old (m, Some key) ∙ ap (λ b. cond b (fmap.len old - 1) (fmap.len old)) there in
       omega (arith, some, less)
     where
       some_left : (n : ℕ) → fmap.len old ≡ n → 0 < n
@@ -335,18 +312,18 @@ module _ (purses : Held) (holders : Members) (redemptions : Redeemed) (due : Fin
   abbrev under_member : List ((Name × Option (Name × Name)) × Unit {0})
   under_member = first_of m (rows_from due_cmp (m, None) (fmap.entries due))
 
-  abbrev counted : Name × Name → Redemption → ℕ
-  counted = counted_of purses holders (Member m) uncollected_amount
+  abbrev counted_amount : Name × Name → Redemption → ℕ
+  counted_amount = counted_of purses holders (Member m) uncollected_amount
 
-  same_amount : (k : Name × Name) (x : Redemption) → fmap.get redemptions k ≡ Some x → cond (passes k x) (amount_at (fmap.get redemptions k)) 0 ≡ counted k x
+  same_amount : (k : Name × Name) (x : Redemption) → fmap.get redemptions k ≡ Some x → cond (passes k x) (amount_at (fmap.get redemptions k)) 0 ≡ counted_amount k x
   same_amount k x at = grind (arith, at)
 
-  pub due_sum : sum_by (λ (e : (Name × Option (Name × Name)) × Unit {0}). amount_due redemptions e.0.1) under_member ≡ sum_entries counted redemptions
+  pub due_sum : sum_by (λ (e : (Name × Option (Name × Name)) × Unit {0}). amount_due redemptions e.0.1) under_member ≡ sum_entries counted_amount redemptions
   unfolding sum_entries
   due_sum =
       total_is _ under_member
       ∙ total_keyed redemptions under_member
       ∙ ap (total (λ k. amount_at (fmap.get redemptions k))) (keys_under keys_total keys_exact passes redemptions m due (λ k. is.under m (Some k) ∙ met_both k (fmap.get redemptions k)))
       ∙ total_passed (λ k. amount_at (fmap.get redemptions k)) (λ (e : (Name × Name) × Redemption). e.0) (λ e. passes e.0 e.1) (fmap.entries redemptions)
-      ∙ total_entries keys_total (λ k x. cond (passes k x) (amount_at (fmap.get redemptions k)) 0) counted redemptions same_amount
-      ∙ sym (total_is (λ (e : (Name × Name) × Redemption). counted e.0 e.1) (fmap.entries redemptions))
+      ∙ total_entries keys_total (λ k x. cond (passes k x) (amount_at (fmap.get redemptions k)) 0) counted_amount redemptions same_amount
+      ∙ sym (total_is (λ (e : (Name × Name) × Redemption). counted_amount e.0 e.1) (fmap.entries redemptions))

@@ -33,7 +33,7 @@ use Rattle.mx_book.specs.RowEdits.{rewritten, all_rewritten, able, all_able, can
 use Rattle.mx_book.proofs.UnderLemmas.{under-insert, under-insert_other, under-remove, under-remove_other, under-none, under-remake, get-remake, pair_exact, entries_empty}
 use Rattle.mx_book.proofs.LogLemmas.{under_has, within_from}
 use Rattle.mx_book.proofs.LineLemmas.{lines-insert}
-use Rattle.mx_book.proofs.RowLemmas.{rows_put, get_rows, found, found_row, not_there, change_is, NoStray-insert, NoStray-remove, proper_purse}
+use Rattle.mx_book.proofs.RowLemmas.{world_rows_put, get_rows, found, found_row, not_there, change_is, NoStray-insert, NoStray-remove, proper_purse}
 
 -- another key after a write
 get-other : {X : Type 0} (m : fmap.FinMap name_cmp X) (p q : Name) (x : X) → is_name q p ≡ false → fmap.get (fmap.insert m p x) q ≡ fmap.get m q
@@ -58,7 +58,7 @@ new_purse_row r h p g gone =
       pick-empty mark_of,
     ) in
     record {
-      world = ap (λ rows. record (world_of r) { rows = rows }) (sym (rows_put r s p (new_row g p) (grind (arith, get-inserted r.purses p y, fresh)) (λ n f. grind (arith, get-other r.purses p n y f))));
+      world = ap (λ rows. record (world_of r) { rows = rows }) (sym (world_rows_put r s p (new_row g p) (grind (arith, get-inserted r.purses p y, fresh)) (λ n f. grind (arith, get-other r.purses p n y f))));
       proper = proper_purse r p y h;
     }
 

@@ -1,12 +1,6 @@
 -- The index of the purses of each holder.
-use Rattle.std.proofs.Common.{◌≡◌, Bool, true, false, not, cond, ◌&&◌, ◌||◌, List, map, length, refl, sym, ◌∙◌, ap, Option, Some, None, is_some, arith}
+use Rattle.std.proofs.Common.{◌≡◌, Bool, true, false, not, cond, ◌&&◌, List, map, length, refl, sym, ◌∙◌, ap, Option, Some, None, is_some, arith}
 use Rattle.std.specs.Prelude.{filter_map, option_map}
-use Rattle.std.specs.declared.cmp.Ordering.{Ordering}
-use Rattle.std.specs.declared.cmp.Ordering.TheVariants.{Less, Equal, Greater}
-use Rattle.std.specs.Ordering.{eq_by_cmp, is_eq, ordering_then}
-use Rattle.std.specs.Option.{option_cmp}
-use Rattle.std.specs.Cmp.{IsTotalOrder}
-use Rattle.std.specs.Cmp.Lexicographic.{options_total}
 use Rattle.std.specs.FinMap as fmap
 use Rattle.std.specs.FinSet.{FinSet}
 use Rattle.std.proofs.lemmas.List.{length-map}
@@ -16,49 +10,13 @@ use Rattle.mx_book.specs.World.{Name}
 use Rattle.mx_book.specs.Blocks.{rows_from, first_of}
 use Rattle.mx_book.specs.Index.{index_cmp, stands, is_met, is_held, IsHeld, released}
 use Rattle.mx_book.specs.RowReads.{purse_rows_of}
-use Rattle.mx_book.proofs.IndexLemmas.{keys_under}
+use Rattle.mx_book.proofs.IndexLemmas.{keys_under, is_key, has-added, has-dropped}
 use Rattle.mx_book.proofs.NameLemmas.{names_total, names_exact, same_name}
-use Rattle.mx_book.proofs.UnderLemmas.{pair_total}
 
-held_total : IsTotalOrder (index_cmp name_cmp)
-held_total = pair_total names_total (options_total names_total)
-
--- whether a key of the index is a purse's
-abbrev same_key : Option Name → Name → Bool
-same_key None p = false
-same_key (Some q) p = is_name q p
-
-pub both_equal : (a b : Ordering) → is_eq (ordering_then a b) ≡ (is_eq a && is_eq b)
-both_equal Less b = refl
-both_equal Equal b = refl
-both_equal Greater b = refl
-
-key_is : (q : Option Name) (p : Name) → is_eq (option_cmp name_cmp q (Some p)) ≡ same_key q p
-key_is None p = refl
-key_is (Some q) p = refl
-
-pair_is : (n h p : Name) (q : Option Name) → eq_by_cmp (index_cmp name_cmp) (n, q) (h, Some p) ≡ (is_name n h && same_key q p)
-pair_is n h p q = both_equal (name_cmp n h) (option_cmp name_cmp q (Some p)) ∙ ap (λ b. is_name n h && b) (key_is q p)
-
--- ---- one purse under a holder, or none
-
-pub one_more : (b : Bool) (o : Option (Unit {0})) → is_some (cond b (Some tt) o) ≡ (b || is_some o)
-one_more true o = refl
-one_more false o = refl
-
-pub one_less : (b : Bool) (o : Option (Unit {0})) → is_some (cond b None o) ≡ (is_some o && not b)
-one_less true None = refl
-one_less true (Some u) = refl
-one_less false None = refl
-one_less false (Some u) = refl
-
-module _ (held : FinSet (index_cmp name_cmp)) (n p : Name) (q : Option Name) where
-  has-put : (h : Name) → fmap.contains_key (fmap.insert held (h, Some p) tt) (n, q) ≡ ((is_name n h && same_key q p) || fmap.contains_key held (n, q))
-  has-put h = ap is_some (fmap.get-insert held_total held (h, Some p) tt (n, q)) ∙ one_more _ (fmap.get held (n, q)) ∙ ap (λ b. b || fmap.contains_key held (n, q)) (pair_is n h p q)
-
-  has-released : (o : Option PurseRow) → fmap.contains_key (released held o p) (n, q) ≡ (fmap.contains_key held (n, q) && not (is_met (λ (x : PurseRow). is_name n x.holder) o && same_key q p))
-  has-released None = grind arith
-  has-released (Some x) = ap is_some (fmap.get-remove held_total held (x.holder, Some p) (n, q)) ∙ one_less _ (fmap.get held (n, q)) ∙ ap (λ b. fmap.contains_key held (n, q) && not b) (pair_is n x.holder p q)
+-- the index without a purse, which had this row or none
+has-released : (held : FinSet (index_cmp name_cmp)) (n p : Name) (q : Option Name) (o : Option PurseRow) → fmap.contains_key (released held o p) (n, q) ≡ (fmap.contains_key held (n, q) && not (is_met (λ (x : PurseRow). is_name n x.holder) o && is_key name_cmp q p))
+has-released held n p q None = grind arith
+has-released held n p q (Some x) = has-dropped name_cmp names_total held n x.holder q p
 
 -- ---- the index after a write
 
@@ -75,9 +33,9 @@ held_new purses held none nothing n (Some q) =
 module _ (purses : fmap.FinMap name_cmp PurseRow) (held : FinSet (index_cmp name_cmp)) (p : Name) (x : PurseRow) (is : IsHeld purses held) where
   -- a purse comes under its holder, and is no longer under the one before
   pub held_put : IsHeld (fmap.insert purses p x) (fmap.insert (released held (fmap.get purses p) p) (x.holder, Some p) tt)
-  held_put n None = has-put (released held (fmap.get purses p) p) n p None x.holder ∙ grind (arith, has-released held n p None (fmap.get purses p), is n None)
+  held_put n None = has-added name_cmp names_total (released held (fmap.get purses p) p) n x.holder None p ∙ grind (arith, has-released held n p None (fmap.get purses p), is n None)
   held_put n (Some q) =
-      has-put (released held (fmap.get purses p) p) n p (Some q) x.holder
+      has-added name_cmp names_total (released held (fmap.get purses p) p) n x.holder (Some q) p
       ∙ grind (arith, has-released held n p (Some q) (fmap.get purses p), is n (Some q), same_name q p, fmap.get-insert names_total purses p x q)
 
   -- a purse that stays with its holder

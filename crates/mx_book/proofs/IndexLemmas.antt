@@ -1,12 +1,12 @@
 -- An index: the keys under a name are those of the rows that it is an index of.
-use Rattle.std.proofs.Common.{◌≡◌, ℕ, ◌+◌, suc, take, Bool, true, false, cond, T, List, [], ◌∷◌, map, refl, sym, ◌∙◌, ap, Option, Some, None, is_some, MatchOption, arith}
+use Rattle.std.proofs.Common.{◌≡◌, ℕ, ◌+◌, suc, take, Bool, true, false, not, cond, ◌&&◌, ◌||◌, T, List, [], ◌∷◌, map, refl, sym, ◌∙◌, ap, Option, Some, None, is_some, MatchOption, arith}
 use mathlib.Core.Bool.{true≢false}
 use Rattle.std.specs.Prelude.{filter, filter_map}
 use Rattle.std.specs.declared.cmp.Ordering.{Ordering}
 use Rattle.std.specs.Ordering.{eq_by_cmp, is_eq, is_le}
 use Rattle.std.specs.List.{prefix_len}
 use Rattle.std.specs.Option.{option_cmp}
-use Rattle.std.specs.Cmp.{IsTotalOrder, tied_itself}
+use Rattle.std.specs.Cmp.{IsTotalOrder, tied_itself, tied_then}
 use Rattle.std.specs.Cmp.Lexicographic.{options_total}
 use Rattle.std.specs.FinMap as fmap
 use Rattle.std.specs.FinMap.{FinMap, IsAntisymmetric, from_sorted, entries, entries_sorted, entries-from_sorted, get, get-from_sorted, get-entries}
@@ -23,7 +23,43 @@ use Rattle.mx_book.proofs.LogLemmas.{same_members}
 use Rattle.mx_book.proofs.MapLemmas.{find_below}
 use Rattle.mx_book.proofs.NameLemmas.{names_total}
 use Rattle.mx_book.proofs.ReadLemmas.{those_are}
-use Rattle.mx_book.proofs.UnderLemmas.{find-those, sorted-those}
+use Rattle.mx_book.proofs.UnderLemmas.{pair_total, find-those, sorted-those}
+
+-- ---- one key under a name, or none
+
+one_more : (b : Bool) (o : Option (Unit {0})) → is_some (cond b (Some tt) o) ≡ (b || is_some o)
+one_more true o = refl
+one_more false o = refl
+
+one_less : (b : Bool) (o : Option (Unit {0})) → is_some (cond b None o) ≡ (is_some o && not b)
+one_less true None = refl
+one_less true (Some u) = refl
+one_less false None = refl
+one_less false (Some u) = refl
+
+module _ {K : Type 0} (R : K → K → Ordering) where
+  -- whether it is this key
+  abbrev pub is_key : Option K → K → Bool
+  is_key None k = false
+  is_key (Some j) k = eq_by_cmp R j k
+
+  key_is : (q : Option K) (k : K) → is_eq (option_cmp R q (Some k)) ≡ is_key q k
+  key_is None k = refl
+  key_is (Some j) k = refl
+
+  pair_is : (n h : Name) (q : Option K) (k : K) → eq_by_cmp (index_cmp R) (n, q) (h, Some k) ≡ (is_name n h && is_key q k)
+  pair_is n h q k = sym (tied_then (name_cmp n h) (option_cmp R q (Some k))) ∙ ap (λ b. is_name n h && b) (key_is q k)
+
+  pub index_total : IsTotalOrder R → IsTotalOrder (index_cmp R)
+  index_total o = pair_total names_total (options_total o)
+
+  module _ (o : IsTotalOrder R) (index : FinSet (index_cmp R)) (n h : Name) (q : Option K) (k : K) where
+    -- what an index has where a key is added, and where one is taken out
+    pub has-added : fmap.contains_key (fmap.insert index (h, Some k) tt) (n, q) ≡ ((is_name n h && is_key q k) || fmap.contains_key index (n, q))
+    has-added = ap is_some (fmap.get-insert (index_total o) index (h, Some k) tt (n, q)) ∙ one_more _ (fmap.get index (n, q)) ∙ ap (λ b. b || fmap.contains_key index (n, q)) (pair_is n h q k)
+
+    pub has-dropped : fmap.contains_key (fmap.remove index (h, Some k)) (n, q) ≡ (fmap.contains_key index (n, q) && not (is_name n h && is_key q k))
+    has-dropped = ap is_some (fmap.get-remove (index_total o) index (h, Some k) (n, q)) ∙ one_less _ (fmap.get index (n, q)) ∙ ap (λ b. fmap.contains_key index (n, q) && not b) (pair_is n h q k)
 
 -- ---- the keys of rows
 
@@ -108,8 +144,8 @@ module _ {K V : Type 0} {R : K → K → Ordering} (o : IsTotalOrder R) (exact :
     here_sorted : T (is_sorted R (keyed here))
     here_sorted = sorted-keyed R here (sorted-those name_cmp (option_cmp R) names_total n (entries index) (entries_sorted index))
 
-    found : (k : K) → fmap.contains_key (from_sorted {R = R} (keyed here)) k ≡ fmap.contains_key (from_sorted {R = R} (marked (entries m))) k
-    found k =
+    keys_alike : (k : K) → fmap.contains_key (from_sorted {R = R} (keyed here)) k ≡ fmap.contains_key (from_sorted {R = R} (marked (entries m))) k
+    keys_alike k =
         ap is_some (get-from_sorted R (keyed here) k here_sorted ∙ find-keyed R k here ∙ find-those name_cmp (option_cmp R) names_total n (Some k) (entries index) ∙ sym (get-entries index (n, Some k)))
         ∙ is k
         ∙ ap (is_met (test k)) (get-entries m k)
@@ -118,7 +154,7 @@ module _ {K V : Type 0} {R : K → K → Ordering} (o : IsTotalOrder R) (exact :
     same_keys : keyed here ≡ marked (entries m)
     same_keys =
         sym (entries-from_sorted R (keyed here) here_sorted)
-        ∙ ap entries (same_members o exact (from_sorted {R = R} (keyed here)) (from_sorted {R = R} (marked (entries m))) found)
+        ∙ ap entries (same_members o exact (from_sorted {R = R} (keyed here)) (from_sorted {R = R} (marked (entries m))) keys_alike)
         ∙ entries-from_sorted R (marked (entries m)) (sorted-marked (entries m) (entries_sorted m))
 
     -- the keys under a name, from the first on, are those of the rows that the test passes

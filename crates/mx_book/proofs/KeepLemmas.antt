@@ -185,13 +185,13 @@ count_is : (g : Name) (es : List (Name × Row)) → length (map (λ (e : Name ×
 count_is g [] = refl
 count_is g (e ∷ es) = grind (arith, count_is g es)
 
-held_count : (w : World) (g : Name) → length (purses_of w g) ≡ sum_values (one_held g) w.rows
+purses_as_sum : (w : World) (g : Name) → length (purses_of w g) ≡ sum_values (one_held g) w.rows
 unfolding sum_values
-held_count w g = count_is g (fmap.entries w.rows) ∙ sym (total_is (λ (e : Name × Row). one_held g e.1) (fmap.entries w.rows))
+purses_as_sum w g = count_is g (fmap.entries w.rows) ∙ sym (total_is (λ (e : Name × Row). one_held g e.1) (fmap.entries w.rows))
 
 -- a row that is set adds one to the purses of its holder, and takes one from those of the holder before
-held_set : (w : World) (p : Name) (s : Row) (g : Name) → length (purses_of (set_row w p s) g) + value_of (one_held g) (fmap.get w.rows p) ≡ length (purses_of w g) + one_held g s
-held_set w p s g = omega (arith, sum_values-insert names_total (one_held g) w.rows p s, held_count (set_row w p s) g, held_count w g)
+purses_after_set : (w : World) (p : Name) (s : Row) (g : Name) → length (purses_of (set_row w p s) g) + value_of (one_held g) (fmap.get w.rows p) ≡ length (purses_of w g) + one_held g s
+purses_after_set w p s g = omega (arith, sum_values-insert names_total (one_held g) w.rows p s, purses_as_sum (set_row w p s) g, purses_as_sum w g)
 
 -- ---- a new purse
 
@@ -215,7 +215,7 @@ new_row_is w p g there text = record {
 
 pub new_purse_stays : (w : World) (p g : Name) → Suits w (NewPurse p g) → IsTrue (is_name_text p) → length (purses_of w g) < most_purses → IsWorld w → IsWorld (edited w (NewPurse p g))
 new_purse_stays w p g suits text room h = rows_stay w (fmap.insert w.rows p (new_row g p))
-    (λ x. grind (arith, held_set w p (new_row g p) x, suits.0, same_name x g, room, h.purses.few x))
+    (λ x. grind (arith, purses_after_set w p (new_row g p) x, suits.0, same_name x g, room, h.purses.few x))
     (each_inserted w.rows p (new_row g p) (λ q r. IsRow w q r) (new_row_is w p g suits.1 text) (λ q r at. is_row w q r at h))
     (λ q r at. (r, kept_value w.rows p (new_row g p) suits.0 q r at, λ d there logged. logged))
     h
@@ -225,7 +225,7 @@ new_purse_stays w p g suits text room h = rows_stay w (fmap.insert w.rows p (new
 module _ (w : World) (p : Name) (r : Row) (at : fmap.get w.rows p ≡ Some r) (h : IsWorld w) where
   pub set_stays : (s : Row) → s.holder ≡ r.holder → IsRow w p s → ((d : Details) → fmap.contains_key w.tray (p, d) ≡ true → has_logged r.holding.purse.log d ≡ true → has_logged s.holding.purse.log d ≡ true) → IsWorld (set_row w p s)
   set_stays s same one still = rows_stay w (fmap.insert w.rows p s)
-      (λ x. grind (arith, held_set w p s x, at, same, h.purses.few x))
+      (λ x. grind (arith, purses_after_set w p s x, at, same, h.purses.few x))
       (each_inserted w.rows p s (λ q x. IsRow w q x) one (λ q x here. is_row w q x here h))
       (λ q x here. (cond (is_name q p) s x, grind (arith, fmap.gets, names_total), λ d there logged. grind (arith, same_name q p, still d)))
       h

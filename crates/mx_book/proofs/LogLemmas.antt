@@ -15,7 +15,7 @@ use Rattle.mx_pay.specs.Details.{Details, details_cmp, is_details}
 use Rattle.mx_pay.specs.Orders.{details_exact}
 use Rattle.mx_pay.specs.Log.{Entries, logged, log_len, has_logged, with_entry, none_logged, is_within}
 use Rattle.mx_pay.proofs.LogLemmas.{details_total}
-use Rattle.mx_pay.proofs.SameLemmas.{one_of, all_of, same_details, has-with_entry, len-with_entry, has-none_logged}
+use Rattle.mx_pay.proofs.SameLemmas.{all_of, same_details, has-with_entry, len-with_entry, has-none_logged}
 use Rattle.mx_book.specs.Under.{under}
 use Rattle.mx_book.specs.World.{Name, result_cmp}
 use Rattle.mx_book.proofs.NameLemmas.{names_total}
@@ -61,8 +61,8 @@ sum_past f [] (suc i) h = refl
 sum_past f (x ∷ ds) zero h = absurd (omega arith)
 sum_past f (x ∷ ds) (suc i) h = ap (λ n. f x + n) (sum_past f ds i (omega arith))
 
-pub sum_more : (f : Details → ℕ) (log : Entries) (i : ℕ) (d : Details) → slice_get (logged log) i ≡ Some d → sum_by f (take (i + 1) (logged log)) ≡ sum_by f (take i (logged log)) + f d
-sum_more f log i d at = rw add-one (total_is f (take (suc i) (logged log)) ∙ sum_step f (logged log) i d at ∙ ap (λ n. n + f d) (sym (total_is f (take i (logged log)))))
+pub sum_next : (f : Details → ℕ) (log : Entries) (i : ℕ) (d : Details) → slice_get (logged log) i ≡ Some d → sum_by f (take (i + 1) (logged log)) ≡ sum_by f (take i (logged log)) + f d
+sum_next f log i d at = rw add-one (total_is f (take (suc i) (logged log)) ∙ sum_step f (logged log) i d at ∙ ap (λ n. n + f d) (sym (total_is f (take i (logged log)))))
 
 pub sum_all : (f : Details → ℕ) (log : Entries) (i : ℕ) → log_len log ≤ i → sum_by f (take i (logged log)) ≡ sum_by f (logged log)
 sum_all f log i past = total_is f (take i (logged log)) ∙ sum_past f (logged log) i (omega (arith, logged_len log)) ∙ sym (total_is f (logged log))
@@ -126,9 +126,6 @@ pub laid_all : (log results : Entries) (i : ℕ) (f : Details → Bool) → log_
 laid_all log results i f past is = same_members details_total details_exact _ _ (λ d. grind (arith, is d, among_all log i past d, has_kept details_exact log f d))
 
 -- ---- logs within one another
-
-pub within_means : (a b : Entries) → is_within a b ≡ true → (d : Details) → has_logged a d ≡ true → has_logged b d ≡ true
-within_means a b h d there = one_of (has_logged b) d (logged a) h (sym (fmap.contains_key-keys a d) ∙ there)
 
 pub within_from : (a b : Entries) → ((d : Details) → has_logged a d ≡ true → has_logged b d ≡ true) → is_within a b ≡ true
 within_from a b each = all_of (has_logged b) (logged a) (λ d there. each d (fmap.contains_key-keys a d ∙ there))

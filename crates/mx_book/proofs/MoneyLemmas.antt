@@ -138,8 +138,8 @@ get_collected : (w : World) (m p : Name) → fmap.get (all_collected w m).rows p
 get_collected w m p = get-remake name_cmp (λ q r. collect_row w m r) names_exact w.rows p
 
 -- a row that is collected, or isn't, holds what it held
-collected_is : (w : World) (m p : Name) (r : Row) → IsRow w p r → IsRow w p (collect_row w m r)
-collected_is w m p r x = by_case (is_of_member w m r)
+collected_row_is : (w : World) (m p : Name) (r : Row) → IsRow w p r → IsRow w p (collect_row w m r)
+collected_row_is w m p r x = by_case (is_of_member w m r)
   where
     by_case : (b : Bool) → IsRow w p (cond b (with_collected r) r)
     by_case true = record {
@@ -166,6 +166,6 @@ same_purses w m g = ap (λ es. map (λ (e : Name × Row). e.0) (filter (λ (e : 
 pub collect_stays : (w : World) (m : Name) → IsWorld w → IsWorld (all_collected w m)
 collect_stays w m h = rows_stay w (all_collected w m).rows
     (λ g. let same : length (purses_of (all_collected w m) g) ≡ length (purses_of w g) = ap length (same_purses w m g) in omega (arith, same, h.purses.few g))
-    (λ p x at. grind (arith, get_collected w m p, λ (r : Row) (was : fmap.get w.rows p ≡ Some r). collected_is w m p r (is_row w p r was h)))
+    (λ p x at. grind (arith, get_collected w m p, λ (r : Row) (was : fmap.get w.rows p ≡ Some r). collected_row_is w m p r (is_row w p r was h)))
     (λ p r at. (collect_row w m r, get_collected w m p ∙ ap (option_map (collect_row w m)) at, λ d there logged. grind arith))
     h

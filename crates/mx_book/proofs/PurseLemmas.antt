@@ -30,7 +30,7 @@ insert_twice : {X : Type 0} (m : fmap.FinMap name_cmp X) (p : Name) (x y : X) �
 insert_twice m p x y = fmap.same_map names_total names_exact _ _ (λ q. grind (arith, fmap.gets, names_total))
 
 -- a write of the value that is there
-insert_same : {X : Type 0} (m : fmap.FinMap name_cmp X) (p : Name) (x : X) → fmap.get m p ≡ Some x → fmap.insert m p x ≡ m
+pub insert_same : {X : Type 0} (m : fmap.FinMap name_cmp X) (p : Name) (x : X) → fmap.get m p ≡ Some x → fmap.insert m p x ≡ m
 insert_same m p x at = fmap.same_map names_total names_exact _ _ (λ q. grind (arith, fmap.gets, names_total, same_name q p))
 
 set_twice : (w : World) (p : Name) (r s : Row) → set_row (set_row w p r) p s ≡ set_row w p s

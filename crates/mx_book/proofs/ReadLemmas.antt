@@ -35,12 +35,12 @@ lines_above p after (e ∷ es) = grind (arith, lines_above p after es)
 
 -- ---- the purses of a holder
 
-held_names : (r : Rows) (h : Name) (es : List (Name × PurseRow)) → map (λ (e : Name × Row). e.0) (filter (λ (e : Name × Row). is_name h e.1.holder) (remade (row_of r) es)) ≡ map (λ (e : Name × PurseRow). e.0) (filter (λ (e : Name × PurseRow). is_name h e.1.holder) es)
-held_names r h [] = refl
-held_names r h (e ∷ es) = grind (arith, held_names r h es)
+holder_names : (r : Rows) (h : Name) (es : List (Name × PurseRow)) → map (λ (e : Name × Row). e.0) (filter (λ (e : Name × Row). is_name h e.1.holder) (remade (row_of r) es)) ≡ map (λ (e : Name × PurseRow). e.0) (filter (λ (e : Name × PurseRow). is_name h e.1.holder) es)
+holder_names r h [] = refl
+holder_names r h (e ∷ es) = grind (arith, holder_names r h es)
 
 pub purses_are : (r : Rows) (h : Name) → purses_of (world_of r) h ≡ row_purses_of r h
-purses_are r h = ap (λ es. map (λ (e : Name × Row). e.0) (filter (λ (e : Name × Row). is_name h e.1.holder) es)) (entries-remake name_cmp (row_of r) r.purses) ∙ held_names r h (fmap.entries r.purses)
+purses_are r h = ap (λ es. map (λ (e : Name × Row). e.0) (filter (λ (e : Name × Row). is_name h e.1.holder) es)) (entries-remake name_cmp (row_of r) r.purses) ∙ holder_names r h (fmap.entries r.purses)
 
 pub holder_is : (r : Rows) (h : Name) → holder_of (world_of r) h ≡ row_holder_of r h
 holder_is r h = ap (λ n. option_map (λ m. record { member = m; purses = n }) (fmap.get r.holders h)) (ap length (purses_are r h) ∙ length-map (purse_rows_of h (fmap.entries r.purses)) _)

@@ -12,6 +12,7 @@ use Rattle.mx_pay.specs.Details.{Details, IsDetails, details_cmp, is_details}
 use Rattle.mx_pay.specs.Log.{Entries, logged, log_len, has_logged, is_within}
 use Rattle.mx_pay.specs.Orders.{details_exact}
 use Rattle.mx_pay.proofs.LogLemmas.{details_total}
+use Rattle.mx_pay.proofs.SameLemmas.{within_means}
 use Rattle.mx_pay.proofs.TestLemmas.{is_equal}
 use Rattle.mx_book.specs.Under.{under}
 use Rattle.mx_book.specs.World.{World, Row, Name, result_cmp, results_of, results_but, and_results, with_archived}
@@ -25,7 +26,7 @@ use Rattle.mx_book.specs.declared.edits.Edit.TheVariants.{AddTray, ArchiveTray}
 use Rattle.mx_book.specs.Edits.{edited, Suits}
 use Rattle.mx_book.proofs.NameLemmas.{names_total, names_exact, same_name}
 use Rattle.mx_book.proofs.UnderLemmas.{pair_total, pair_exact}
-use Rattle.mx_book.proofs.LogLemmas.{is_among, among_more, same_members, has_kept, within_means, under_has}
+use Rattle.mx_book.proofs.LogLemmas.{is_among, among_more, same_members, has_kept, under_has}
 use Rattle.mx_book.proofs.FoundLemmas.{inside, some_of, value_found}
 use Rattle.mx_book.proofs.KeepLemmas.{may_lie}
 
@@ -72,11 +73,11 @@ has-put : (m : FinSet result_cmp) (p : Name) (d : Details) (k : Name × Details)
 has-put m p d k = grind (arith, fmap.get-insert results_total m (p, d) tt k, same_pair p d k)
 
 module _ (first old : FinSet result_cmp) (p : Name) (log : Entries) (i : ℕ) (d : Details) (at : slice_get (logged log) i ≡ Some d) where
-  pub taken_more : ((k : Name × Details) → fmap.contains_key old k ≡ (fmap.contains_key first k && not (is_one p (is_among log i) k))) → (k : Name × Details) → fmap.contains_key (fmap.remove old (p, d)) k ≡ (fmap.contains_key first k && not (is_one p (is_among log (i + 1)) k))
-  taken_more is k = grind (arith, is k, has-removed old p d k, among_more log i d at k.1)
+  pub taken_next : ((k : Name × Details) → fmap.contains_key old k ≡ (fmap.contains_key first k && not (is_one p (is_among log i) k))) → (k : Name × Details) → fmap.contains_key (fmap.remove old (p, d)) k ≡ (fmap.contains_key first k && not (is_one p (is_among log (i + 1)) k))
+  taken_next is k = grind (arith, is k, has-removed old p d k, among_more log i d at k.1)
 
-  pub put_more : ((k : Name × Details) → fmap.contains_key old k ≡ (fmap.contains_key first k || is_one p (is_among log i) k)) → (k : Name × Details) → fmap.contains_key (fmap.insert old (p, d) tt) k ≡ (fmap.contains_key first k || is_one p (is_among log (i + 1)) k)
-  put_more is k = grind (arith, is k, has-put old p d k, among_more log i d at k.1)
+  pub put_next : ((k : Name × Details) → fmap.contains_key old k ≡ (fmap.contains_key first k || is_one p (is_among log i) k)) → (k : Name × Details) → fmap.contains_key (fmap.insert old (p, d) tt) k ≡ (fmap.contains_key first k || is_one p (is_among log (i + 1)) k)
+  put_next is k = grind (arith, is k, has-put old p d k, among_more log i d at k.1)
 
 -- ---- a tray all of which is in a log
 

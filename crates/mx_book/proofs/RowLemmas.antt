@@ -21,8 +21,8 @@ pub get_rows : (r : Rows) (q : Name) → fmap.get (world_of r).rows q ≡ row_at
 get_rows r q = get-remake name_cmp (row_of r) names_exact r.purses q
 
 -- the rows of one purse are written
-pub rows_put : (r s : Rows) (p : Name) (new : Row) → row_at s p ≡ Some new → ((q : Name) → is_name q p ≡ false → row_at s q ≡ row_at r q) → (world_of s).rows ≡ fmap.insert (world_of r).rows p new
-rows_put r s p new here others = fmap.same_map names_total names_exact _ _ (λ q.
+pub world_rows_put : (r s : Rows) (p : Name) (new : Row) → row_at s p ≡ Some new → ((q : Name) → is_name q p ≡ false → row_at s q ≡ row_at r q) → (world_of s).rows ≡ fmap.insert (world_of r).rows p new
+world_rows_put r s p new here others = fmap.same_map names_total names_exact _ _ (λ q.
     let at = get_rows s q in
     let was = get_rows r q in
     let after = fmap.get-insert names_total (world_of r).rows p new q in
@@ -55,7 +55,7 @@ pub change_is : (r s : Rows) (p : Name) (f : Row → Row) (x y : PurseRow) → f
     → ((q : Name) → is_name q p ≡ false → row_at s q ≡ row_at r q) → change_row (world_of r) p f ≡ record (world_of r) { rows = (world_of s).rows }
 change_is r s p f x y at then is others =
     ap (changed_row (world_of r) p f) (there r p x at)
-    ∙ ap (λ rows. record (world_of r) { rows = rows }) (sym (rows_put r s p (f (row_of r p x)) (ap (option_map (row_of s p)) then ∙ ap Some is) others))
+    ∙ ap (λ rows. record (world_of r) { rows = rows }) (sym (world_rows_put r s p (f (row_of r p x)) (ap (option_map (row_of s p)) then ∙ ap Some is) others))
 
 -- ---- no stray rows
 

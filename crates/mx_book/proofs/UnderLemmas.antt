@@ -5,7 +5,7 @@ use Rattle.std.specs.declared.cmp.Ordering.{Ordering}
 use Rattle.std.specs.declared.cmp.Ordering.TheVariants.{Equal}
 use Rattle.std.specs.Ordering.{eq_by_cmp}
 use Rattle.std.specs.Cmp.{IsTotalOrder, tied_itself, then_total, on_total}
-use Rattle.std.specs.FinMap.{FinMap, IsAntisymmetric, get, insert, remove, empty, entries, from_sorted, entries_sorted, entries-from_sorted, get-entries, same_map, len, len-entries, len-empty}
+use Rattle.std.specs.FinMap.{FinMap, IsAntisymmetric, get, insert, remove, empty, entries, entries_sorted, entries-from_sorted, get-entries, same_map, len, len-entries, len-empty}
 use Rattle.std.specs.FinMap.Entries.{find, is_sorted, below_all}
 use Rattle.std.proofs.lemmas.Map.Lookups.{exact_pairs}
 use Rattle.mx_book.specs.Under.{pair_cmp, under, those, remake, remade}
@@ -88,7 +88,3 @@ module _ {A K X Y : Type 0} {P : A → A → Ordering} {R : K → K → Ordering
 
 pub entries_empty : {K V : Type 0} (R : K → K → Ordering) → entries (empty {X = V} {R = R}) ≡ []
 entries_empty {V = V} R = nil_from_length _ (sym (len-entries (empty {X = V} {R = R})) ∙ len-empty R V)
-
-pub remake-from_sorted : {K X Y : Type 0} (R : K → K → Ordering) (f : K → X → Y) (es : List (K × X)) → T (is_sorted R es) → from_sorted {R = R} (remade f es) ≡ remake f (from_sorted {R = R} es)
-unfolding remake
-remake-from_sorted R f es h = ap (λ xs. from_sorted {R = R} (remade f xs)) (sym (entries-from_sorted R es h))

@@ -23,7 +23,7 @@ use Rattle.mx_pay.specs.Codes.{entry_text}
 use Rattle.mx_pay.specs.Reading.{cut, onto, same_bytes, number_of, up_to, limited, name_of, apart, made_of, entry_of}
 use Rattle.std.specs.Cmp.{first_so, second_so}
 use Rattle.mx_pay.proofs.Texts.{name_bytes}
-use Rattle.mx_pay.proofs.SameLemmas.{same_names, names_alike, names_unlike}
+use Rattle.mx_pay.proofs.SameLemmas.{same_name, names_alike, names_unlike}
 
 -- the steps of a reading that gave something
 pub bind_some : {A B : Type 0} (f : A → Option B) (o : Option A) (y : B) → option_and_then f o ≡ Some y → (x : A) × ((o ≡ Some x) × (f x ≡ Some y))
@@ -96,7 +96,7 @@ cut_is c bs (Some x) h low =
     sym (ap (cut c) parts.0 ∙ cut_at c x.0.now x.1.now parts.1)
 
 pub new_apart : (r : Option Details) (d : Details) → (IsNone r → d.from ≡ d.to) × (d.from ≡ d.to → IsNone r) → IfSome r (λ x. x ≡ d) → r ≡ apart d
-new_apart r d none new = grind (arith, same_names d.from d.to, names_alike d.from d.to)
+new_apart r d none new = grind (arith, same_name d.from d.to, names_alike d.from d.to)
 
 apart_takes : (d e : Details) → apart d ≡ Some e → (d ≡ e) × (d.from ≡ d.to → ⊥)
 apart_takes d e h = grind (arith, names_alike d.from d.to)

@@ -19,8 +19,8 @@ use Rattle.mx_pay.specs.Log.{Entries, IsLog, IsLogValue, log_of, log_len, has_lo
 use Rattle.mx_pay.proofs.LogLemmas.{details_total, room_is}
 use Rattle.mx_pay.proofs.TestLemmas.{is_equal}
 
-pub same_names : (a b : List ℕ) → is_name a b ≡ true → a ≡ b
-same_names a b h = slice_cmp-IsAntisymmetric nat_cmp-IsAntisymmetric a b (is_equal _ h)
+pub same_name : (a b : List ℕ) → is_name a b ≡ true → a ≡ b
+same_name a b h = slice_cmp-IsAntisymmetric nat_cmp-IsAntisymmetric a b (is_equal _ h)
 
 pub same_details : (a b : Details) → is_details a b ≡ true → a ≡ b
 same_details a b h = details_exact a b (is_equal _ h)
@@ -58,14 +58,13 @@ all_of f (e ∷ es) h =
     and_from _ _ (h e (or_left _ _ (details_itself e))) (all_of f es (λ d there. h d (or_right _ _ there)))
 
 -- what a log that is within another says of details
-within_means : (a b : Entries) → is_within a b ≡ true → (d : Details) → has_logged a d ≡ true → has_logged b d ≡ true
+pub within_means : (a b : Entries) → is_within a b ≡ true → (d : Details) → has_logged a d ≡ true → has_logged b d ≡ true
 within_means a b h d there = one_of (has_logged b) d (logged a) h (sym (fmap.contains_key-keys a d) ∙ there)
 
 -- a log is within itself
 within_itself : (a : Entries) → is_within a a ≡ true
 within_itself a = all_of (has_logged a) (logged a) (λ d there. fmap.contains_key-keys a d ∙ there)
 
--- two marks that are there or not alike are the same
 -- two logs that have the same details are one
 pub same_logs : (a b : Entries) → is_same_log a b ≡ true → a ≡ b
 same_logs a b h =
@@ -85,7 +84,7 @@ pub names_differ : (a b : List ℕ) → is_name a b ≡ false → a ≡ b → �
 names_differ a b apart e = let same : is_name a b ≡ true = names_alike a b e in cc
 
 pub names_unlike : (a b : List ℕ) → (a ≡ b → ⊥) → is_name a b ≡ false
-names_unlike a b apart = false_from_ne_true _ (λ same. apart (same_names a b same))
+names_unlike a b apart = false_from_ne_true _ (λ same. apart (same_name a b same))
 
 -- what holds of each of some details, by recursion and of those that are among them
 pub each_of : (P : Details → Type 0) (ds : List Details) → AllByRecursion P ds → (d : Details) → list_any (is_details d) ds ≡ true → P d

@@ -9,7 +9,7 @@ use Rattle.mx_pay.specs.Names.{is_name, is_name_text}
 use Rattle.mx_pay.specs.Details.{Details, IsDetails}
 use Rattle.mx_pay.specs.Log.{IsLogValue, Entries, log_len, has_logged, logged, owns, all_owned}
 use Rattle.std.specs.Cmp.{first_so, second_so}
-use Rattle.mx_pay.proofs.SameLemmas.{same_names, names_alike, one_of, all_of}
+use Rattle.mx_pay.proofs.SameLemmas.{same_name, names_alike, one_of, all_of}
 use Rattle.mx_purse.specs.declared.status.Status.{Status}
 use Rattle.mx_purse.specs.declared.status.Status.TheVariants.{EaFrom, EaTo, Epr, Epv, Epa}
 use Rattle.mx_purse.specs.State.{State, IsPurse, details_of, IsInStatus, IsOwnEntry}
@@ -19,9 +19,9 @@ use Rattle.mx_purse.specs.Conditions.{can_log, in_status, is_purse}
 status_means : (p : State) (s : Status) → in_status p s ≡ true → IsInStatus p s
 status_means p EaFrom h = leb-true _ _ h
 status_means p EaTo h = leb-true _ _ h
-status_means p (Epr d) h = grind (arith, nat_tests, same_names d.from p.name)
-status_means p (Epv d) h = grind (arith, nat_tests, same_names d.to p.name)
-status_means p (Epa d) h = grind (arith, nat_tests, same_names d.from p.name)
+status_means p (Epr d) h = grind (arith, nat_tests, same_name d.from p.name)
+status_means p (Epv d) h = grind (arith, nat_tests, same_name d.to p.name)
+status_means p (Epa d) h = grind (arith, nat_tests, same_name d.from p.name)
 
 -- a status that the purse meets passes its test
 status_tests : (p : State) (s : Status) → IsInStatus p s → in_status p s ≡ true
@@ -33,7 +33,7 @@ status_tests p (Epa d) h = grind (arith, nat_tests, names_alike d.from p.name)
 
 -- what the test of an entry means
 owns_means : (p : State) (d : Details) → owns p.name p.next d ≡ true → IsOwnEntry p d
-owns_means p d h = grind (arith, nat_tests, same_names d.from p.name, same_names d.to p.name)
+owns_means p d h = grind (arith, nat_tests, same_name d.from p.name, same_name d.to p.name)
 
 -- an entry of the purse passes its test
 owns_tests : (p : State) (d : Details) → IsOwnEntry p d → owns p.name p.next d ≡ true

@@ -167,15 +167,15 @@ names_apart o d iff is e = let both : false ≡ true = sym (iff.1 e) ∙ ap is_s
 -- ---- the messages
 
 -- the status in which a message is expected
-is_epr : (s : Status) (d : Details) → expects_req s d ≡ true → s ≡ Epr d
+pub is_epr : (s : Status) (d : Details) → expects_req s d ≡ true → s ≡ Epr d
 is_epr (Epr e) d h = ap Epr (same_details e d h)
 is_epr s d h = cc
 
-is_epv : (s : Status) (d : Details) → expects_val s d ≡ true → s ≡ Epv d
+pub is_epv : (s : Status) (d : Details) → expects_val s d ≡ true → s ≡ Epv d
 is_epv (Epv e) d h = ap Epv (same_details e d h)
 is_epv s d h = cc
 
-is_epa : (s : Status) (d : Details) → expects_ack s d ≡ true → s ≡ Epa d
+pub is_epa : (s : Status) (d : Details) → expects_ack s d ≡ true → s ≡ Epa d
 is_epa (Epa e) d h = ap Epa (same_details e d h)
 is_epa s d h = cc
 

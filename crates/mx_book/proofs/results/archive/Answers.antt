@@ -7,7 +7,7 @@ use Rattle.mx_pay.proofs.CodeLemmas.{no_gap}
 use Rattle.mx_book.specs.World.{result_cmp}
 use Rattle.mx_book.specs.Slots.{map_of}
 use Rattle.mx_book.proofs.LogLemmas.{among_all}
-use Rattle.mx_book.proofs.ResultLemmas.{taken_more, put_more}
+use Rattle.mx_book.proofs.ResultLemmas.{taken_next, put_next}
 use Rattle.mx_book.proofs.results.archive.Goals as goal
 use Rattle.mx_book.proofs.results.archive.Goals.{in-Some, in_default}
 
@@ -20,9 +20,9 @@ loop-place-preserved c =
             upto = c.loop-place.invariant.upto;
             limit = c.loop-place.invariant.limit;
             tray = λ k. ap (λ s. contains_key (map_of result_cmp s) k) w.tray-is ∙ ap (λ m. contains_key m k) w.remove.ensures.map
-                ∙ taken_more (map_of result_cmp c.args.tray.now) (map_of result_cmp c.loop-place.tray) c.args.purse c.args.results.now c.loop-place.place w.in-Some.details at c.loop-place.invariant.tray k;
+                ∙ taken_next (map_of result_cmp c.args.tray.now) (map_of result_cmp c.loop-place.tray) c.args.purse c.args.results.now c.loop-place.place w.in-Some.details at c.loop-place.invariant.tray k;
             archive = λ k. ap (λ s. contains_key (map_of result_cmp s) k) w.archive-is ∙ ap (λ m. contains_key m k) w.put.ensures.map
-                ∙ put_more (map_of result_cmp c.args.archive.now) (map_of result_cmp c.loop-place.archive) c.args.purse c.args.results.now c.loop-place.place w.in-Some.details at c.loop-place.invariant.archive k;
+                ∙ put_next (map_of result_cmp c.args.archive.now) (map_of result_cmp c.loop-place.archive) c.args.purse c.args.results.now c.loop-place.place w.in-Some.details at c.loop-place.invariant.archive k;
             tray_room = let same = ap (λ s. s.room) w.tray-is in omega (arith, same, w.remove.ensures.room, c.loop-place.invariant.tray_room);
             archive_room = let same = ap (λ s. s.room) w.archive-is in omega (arith, same, w.put.ensures.room, c.loop-place.invariant.archive_room);
           }

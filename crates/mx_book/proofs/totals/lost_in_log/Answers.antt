@@ -7,7 +7,7 @@ use Rattle.mx_pay.proofs.CodeLemmas.{no_gap}
 use Rattle.mx_book.specs.World.{result_cmp}
 use Rattle.mx_book.specs.Slots.{map_of}
 use Rattle.mx_book.specs.RowTotals.{lost_by}
-use Rattle.mx_book.proofs.LogLemmas.{sum_more, sum_all}
+use Rattle.mx_book.proofs.LogLemmas.{sum_next, sum_all}
 use Rattle.mx_book.proofs.totals.lost_in_log.Goals as goal
 use Rattle.mx_book.proofs.totals.lost_in_log.Goals.{in-Some, in_default}
 
@@ -17,7 +17,7 @@ loop-place-preserved c =
     elim c.match-at.branch [
       | in-Some w ↦
           let at : slice_get (logged c.args.log.now) c.loop-place.place ≡ Some w.in-Some.details = sym c.at.ensures.value ∙ w.in-Some.is in
-          let more = sum_more f c.args.log.now c.loop-place.place w.in-Some.details at in
+          let more = sum_next f c.args.log.now c.loop-place.place w.in-Some.details at in
           record {
             upto = c.loop-place.invariant.upto;
             limit = c.loop-place.invariant.limit;

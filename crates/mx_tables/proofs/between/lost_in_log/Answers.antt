@@ -4,7 +4,7 @@ use Rattle.sqlite.specs.Held.{state}
 use Rattle.mx_pay.specs.Details.{Details}
 use Rattle.mx_pay.specs.Log.{logged}
 use Rattle.mx_book.specs.RowTotals.{lost_by}
-use Rattle.mx_book.proofs.LogLemmas.{sum_more, sum_all}
+use Rattle.mx_book.proofs.LogLemmas.{sum_next, sum_all}
 use Rattle.mx_tables.proofs.StateLemmas.{sure_before}
 use Rattle.mx_tables.proofs.CountedSums.{still_holds, stays_then}
 use Rattle.mx_tables.proofs.between.lost_in_log.Goals as goal
@@ -24,7 +24,7 @@ loop-place-preserved g c =
           let at : slice_get (logged c.args.log.now) c.loop-place.place ≡ Some c.in-Some.details = sym c.at.ensures.value ∙ c.in-Some.is in
           let before = c.loop-place.invariant.2 ours calm r holds purses archive in
           let more = c.in_ok-more.ensures.value first.ours sure r (still_holds start mid r first calm holds) purses archive in
-          let next = sum_more f c.args.log.now c.loop-place.place c.in-Some.details at in
+          let next = sum_next f c.args.log.now c.loop-place.place c.in-Some.details at in
           omega (arith, before, more, next, c.in_ok-sum.ensures),
     )
 

@@ -1,11 +1,11 @@
 use Rattle.std.proofs.Common.{◌≡◌, false, true}
 use Rattle.mx_pay.specs.Names.{is_name}
-use Rattle.mx_pay.proofs.SameLemmas.{same_names, names_differ}
+use Rattle.mx_pay.proofs.SameLemmas.{same_name, names_differ}
 use Rattle.mx_pay.proofs.details.PayDetails.new.Goals as goal
 
 pub returns-then-same_name-clause-none : goal.returns-then-same_name-clause-none
 returns-then-same_name-clause-none c =
-    let same : is_name c.args.from c.args.to ≡ true = cc in (λ _. same_names _ _ same, λ _. cc)
+    let same : is_name c.args.from c.args.to ≡ true = cc in (λ _. same_name _ _ same, λ _. cc)
 
 pub invariant_of-result : goal.invariant_of-result
 invariant_of-result c =

@@ -2,10 +2,11 @@ use Rattle.std.proofs.Common.{refl}
 use Rattle.std.specs.FinMap as fmap
 use Rattle.mx_pay.specs.Names.{name_cmp}
 use Rattle.mx_book.specs.Slots.{map_of}
-use Rattle.mx_book.proofs.DueLemmas.{tied_as, tied_holder, was_not}
+use Rattle.std.proofs.lemmas.Bool.{not-true}
+use Rattle.mx_book.proofs.DueLemmas.{tied_as, tied_holder}
 use Rattle.mx_book.proofs.shelves.tables.Shelves.add_holder.Goals as goal
 
 pub invariant_of-self : goal.invariant_of-self
 invariant_of-self c =
-    let new = was_not (fmap.contains_key (map_of name_cmp c.args.self.now.holders) c.args.holder) c.requires.fit in
+    let new = not-true (fmap.contains_key (map_of name_cmp c.args.self.now.holders) c.args.holder) c.requires.fit in
     record { tied = tied_as refl c.put.ensures.map refl refl (tied_holder _ _ _ _ c.args.self.now.tied c.args.holder c.args.member new) }
