@@ -13,7 +13,8 @@ use Rattle.mx_pay.specs.Details.{Details, details_cmp, is_details}
 use Rattle.mx_pay.specs.Log.{Entries, logged, has_logged, marks}
 use Rattle.mx_pay.specs.Orders.{details_exact}
 use Rattle.mx_pay.proofs.LogLemmas.{details_total}
-use Rattle.mx_pay.proofs.SameLemmas.{same_details, details_itself, has-with_entry, has-none_logged}
+use Rattle.mx_pay.proofs.SameLemmas.{same_details, details_itself, details_turned, has-with_entry, has-none_logged}
+use Rattle.mx_pay.proofs.TestLemmas.{or_turned}
 use Rattle.mx_purse.specs.Operations.{aborted, pending, with_pending, expects_val, expects_ack}
 use Rattle.mx_purse.specs.State.{IsInStatus}
 use Rattle.mx_purse.specs.declared.status.Status.{Status}
@@ -47,15 +48,6 @@ sum_at set h d =
     by_case None = refl
     by_case (Some u) = refl
 
--- whether details are the same is so either way
-pub either_way : (d e : Details) → is_details d e ≡ is_details e d
-either_way d e = by_case (is_details d e) (is_details e d) refl refl
-  where
-    by_case : (a b : Bool) → is_details d e ≡ a → is_details e d ≡ b → a ≡ b
-    by_case true b l r = sym (sym r ∙ ap (λ x. is_details x d) (sym (same_details d e l)) ∙ details_itself d)
-    by_case false true l r = sym l ∙ ap (λ x. is_details d x) (same_details e d r) ∙ details_itself d
-    by_case false false l r = refl
-
 -- the sum over a log is one over a set that has all that the log has
 sum_within : (h : Details → ℕ) (log set : Entries) → ((d : Details) → has_logged log d ≡ true → has_logged set d ≡ true) → total h (logged log) ≡ total (λ d. cond (has_logged log d) (h d) 0) (logged set)
 sum_within h log set within =
@@ -65,7 +57,7 @@ sum_within h log set within =
     ∙ sym (total_map (λ d. total (λ e. cond (is_details d e) (h e) 0) (logged set)) (λ (e : Details × Unit {0}). e.0) (fmap.entries log))
     ∙ total_swap (λ d e. cond (is_details d e) (h e) 0) (logged log) (logged set)
     ∙ total_same _ (λ e. cond (has_logged log e) (h e) 0) (logged set) (λ e.
-    total_same (λ d. cond (is_details d e) (h e) 0) (λ d. cond (is_details e d) (h e) 0) (logged log) (λ d. ap (λ b. cond b (h e) 0) (either_way d e))
+    total_same (λ d. cond (is_details d e) (h e) 0) (λ d. cond (is_details e d) (h e) 0) (logged log) (λ d. ap (λ b. cond b (h e) 0) (details_turned d e))
     ∙ sum_at log (λ d. h e) e)
 
 -- ---- the details that occur
@@ -75,7 +67,7 @@ marks_found d [] = refl
 marks_found d (e ∷ es) = grind (arith, marks_found d es)
 
 -- what a log has is still there after an abort, and so is what is pending
-still_logged : (log : Entries) (o : Option Details) (d : Details) → has_logged log d ≡ true → has_logged (with_pending log o) d ≡ true
+pub still_logged : (log : Entries) (o : Option Details) (d : Details) → has_logged log d ≡ true → has_logged (with_pending log o) d ≡ true
 still_logged log None d there = there
 still_logged log (Some e) d there = has-with_entry log e d ∙ or_right _ _ there
 
@@ -86,12 +78,6 @@ both_tests true true n = refl
 both_tests true false n = refl
 both_tests false true n = refl
 both_tests false false n = refl
-
-either_first : (a b : Bool) → (a || b) ≡ (b || a)
-either_first true true = refl
-either_first true false = refl
-either_first false true = refl
-either_first false false = refl
 
 -- what is logged and what is archived but not logged are what is either
 lost_parts : (log archive left : Bool) (n : ℕ) → cond ((log || archive) && left) n 0 ≡ cond log (cond left n 0) 0 + cond archive (cond log 0 (cond left n 0)) 0
@@ -248,7 +234,7 @@ module _ (r : Rows) where
   in_result result d = cond (eq_by_cmp result_cmp (d.to, d) result) (cleared d) 0
 
   result_pair : (p : Name) (d e : Details) → in_result (p, d) e ≡ cond (is_details d e) (cond (is_name e.to p) (cleared e) 0) 0
-  result_pair p d e = grind (arith, tied_then (name_cmp e.to p) (details_cmp e d), either_way d e)
+  result_pair p d e = grind (arith, tied_then (name_cmp e.to p) (details_cmp e d), details_turned d e)
 
   result_at : (p : Name) (d : Details) (b : Bool) → is_name d.to p ≡ b → cond (is_name d.to p) (cleared d) 0 ≡ lost_in_archive r.purses r.archive (p, d)
   result_at p d true to =
@@ -288,7 +274,7 @@ module _ (r : Rows) where
       let archived = fmap.contains_key r.archive (d.to, d) in
       let sent = from_logged (world_of r) d || from_in_epa (world_of r) d in
       ap (λ b. cond ((b || archived) && sent) d.value 0) (ap (from_row false (λ x. has_logged x.holding.purse.log d)) (get_rows r d.to) ∙ logged_row d (fmap.get r.purses d.to))
-      ∙ ap (λ b. cond ((logged_to d || archived) && b) d.value 0) (either_first (from_logged (world_of r) d) (from_in_epa (world_of r) d) ∙ sym (left_either d))
+      ∙ ap (λ b. cond ((logged_to d || archived) && b) d.value 0) (or_turned (from_logged (world_of r) d) (from_in_epa (world_of r) d) ∙ sym (left_either d))
       ∙ lost_parts (logged_to d) archived (left_of d) d.value
 
   pub lost_is : lost (world_of r) ≡ row_lost_of r

@@ -6,9 +6,7 @@ use Rattle.mx_pay.specs.Names.{name_cmp}
 use Rattle.mx_book.specs.World.{Name}
 use Rattle.mx_book.proofs.NameLemmas.{names_total, same_name}
 use Rattle.std.specs.FinMap.{gets}
-
-pub inside : {X : Type 0} (x y : X) → Some x ≡ Some y → x ≡ y
-inside x y e = cc
+pub use Rattle.std.proofs.lemmas.Option.{same_Some as inside}
 
 -- a fact of the value that is found is a fact of some value
 pub some_of : {X : Type 0} (o : Option X) (x : X) → o ≡ Some x → IsSome o

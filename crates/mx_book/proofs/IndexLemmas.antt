@@ -27,11 +27,11 @@ use Rattle.mx_book.proofs.UnderLemmas.{pair_total, find-those, sorted-those}
 
 -- ---- one key under a name, or none
 
-one_more : (b : Bool) (o : Option (Unit {0})) → is_some (cond b (Some tt) o) ≡ (b || is_some o)
+pub one_more : (b : Bool) (o : Option (Unit {0})) → is_some (cond b (Some tt) o) ≡ (b || is_some o)
 one_more true o = refl
 one_more false o = refl
 
-one_less : (b : Bool) (o : Option (Unit {0})) → is_some (cond b None o) ≡ (is_some o && not b)
+pub one_less : (b : Bool) (o : Option (Unit {0})) → is_some (cond b None o) ≡ (is_some o && not b)
 one_less true None = refl
 one_less true (Some u) = refl
 one_less false None = refl

@@ -1,7 +1,6 @@
 -- Logs: how a loop goes over one, which are within one another, and the log of what a purse has in a set of results.
 use Rattle.std.proofs.Common.{◌≡◌, ℕ, ◌+◌, ◌<◌, ◌≤◌, zero, suc, Bool, true, false, cond, not, ◌&&◌, ◌||◌, List, [], ◌∷◌, take, length, add-one, refl, sym, ◌∙◌, ap, Option, Some, None, is_some, arith}
 use Rattle.std.specs.Prelude.{slice_get, nat_le, option_map, sum_by}
-use Rattle.std.proofs.lemmas.List.{length-map}
 use Rattle.std.proofs.lemmas.Bool.Decides.{nat_tests}
 use Rattle.std.specs.List.{list_any}
 use Rattle.std.specs.declared.cmp.Ordering.{Ordering}
@@ -14,6 +13,7 @@ use Rattle.mx_pay.specs.Names.{name_cmp}
 use Rattle.mx_pay.specs.Details.{Details, details_cmp, is_details}
 use Rattle.mx_pay.specs.Orders.{details_exact}
 use Rattle.mx_pay.specs.Log.{Entries, logged, log_len, has_logged, with_entry, none_logged, is_within}
+use Rattle.mx_pay.proofs.CodeLemmas.{len_logged}
 use Rattle.mx_pay.proofs.LogLemmas.{details_total}
 use Rattle.mx_pay.proofs.SameLemmas.{all_of, same_details, has-with_entry, len-with_entry, has-none_logged}
 use Rattle.mx_book.specs.Under.{under}
@@ -42,11 +42,8 @@ is_among log i d = list_any (is_details d) (take i (logged log))
 pub among_more : (log : Entries) (i : ℕ) (d : Details) → slice_get (logged log) i ≡ Some d → (e : Details) → is_among log (i + 1) e ≡ (is_among log i e || is_details e d)
 among_more log i d at e = rw add-one (any_step (is_details e) (logged log) i d at)
 
-logged_len : (log : Entries) → length (logged log) ≡ log_len log
-logged_len log = length-map (fmap.entries log) (λ e. e.0) ∙ sym (fmap.len-entries log)
-
 pub among_all : (log : Entries) (i : ℕ) → log_len log ≤ i → (d : Details) → is_among log i d ≡ has_logged log d
-among_all log i past d = any_past (is_details d) (logged log) i (omega (arith, logged_len log)) ∙ sym (fmap.contains_key-keys log d)
+among_all log i past d = any_past (is_details d) (logged log) i (omega (arith, len_logged log)) ∙ sym (fmap.contains_key-keys log d)
 
 -- ---- a sum over the first entries of a log
 
@@ -65,7 +62,7 @@ pub sum_next : (f : Details → ℕ) (log : Entries) (i : ℕ) (d : Details) →
 sum_next f log i d at = rw add-one (total_is f (take (suc i) (logged log)) ∙ sum_step f (logged log) i d at ∙ ap (λ n. n + f d) (sym (total_is f (take i (logged log)))))
 
 pub sum_all : (f : Details → ℕ) (log : Entries) (i : ℕ) → log_len log ≤ i → sum_by f (take i (logged log)) ≡ sum_by f (logged log)
-sum_all f log i past = total_is f (take i (logged log)) ∙ sum_past f (logged log) i (omega (arith, logged_len log)) ∙ sym (total_is f (logged log))
+sum_all f log i past = total_is f (take i (logged log)) ∙ sum_past f (logged log) i (omega (arith, len_logged log)) ∙ sym (total_is f (logged log))
 
 -- ---- those of a log's entries that pass a test
 

@@ -84,13 +84,13 @@ module _ (w : World) (r : Request) where
   by_caller None route = refl
   by_caller (Some caller) route = by_class caller (is_of_class caller (class_of route)) (command_of route r.body) _
 
-  no_route : (who : Option Caller) → w ≡ after_asked w (asked_by r who None)
-  no_route None = refl
-  no_route (Some caller) = refl
+  not_routed : (who : Option Caller) → w ≡ after_asked w (asked_by r who None)
+  not_routed None = refl
+  not_routed (Some caller) = refl
 
   by_route : (route : Option Route) → (after_route w r route).world ≡ after_asked w (asked_by r (caller_of w r.token) route)
   unfolding after_route
-  by_route None = no_route (caller_of w r.token)
+  by_route None = not_routed (caller_of w r.token)
   by_route (Some route) = by_caller (caller_of w r.token) route
 
   pub respond_asked : (respond w r).world ≡ after_asked w (asked_of w r)

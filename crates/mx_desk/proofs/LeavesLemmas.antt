@@ -13,7 +13,7 @@ use Rattle.mx_desk.specs.Requests.{Whole, First}
 use Rattle.mx_desk.specs.Serve.{Marked, MayBeMarked, world_after_one, outputs, requests_of, response_to, stop_text}
 use Rattle.mx_desk.specs.Steps.{State, StepCase, Steps, Ran}
 use Rattle.mx_desk.specs.Isolation.{IsWritten, IsLeft}
-use Rattle.mx_desk.proofs.Known.{Appends-none, Appends-then, Consumes-none, Consumes-then}
+use Rattle.std.proofs.KnownBytes.{Appends-nil, Appends-trans, Consumes-nil, Consumes-trans}
 use Rattle.mx_desk.proofs.RequestLemmas.{Begins-append, Begins-snoc}
 use Rattle.mx_desk.proofs.RunLemmas.{Ran-none, world_after-snoc, outputs-snoc, marks-snoc}
 use Rattle.mx_desk.proofs.ApartLemmas.{are_apart}
@@ -28,8 +28,8 @@ module _ (fails : StoreFault → Type 0) (s u t : State) (ms : List Marked) (ran
     record {
       came = all;
       out = ran.out ++ out;
-      consumed = Consumes-then _ _ _ ran.came came ran.consumed consumed;
-      wrote = Appends-then _ _ _ ran.out out ran.wrote wrote;
+      consumed = Consumes-trans _ _ _ ran.came came ran.consumed consumed;
+      wrote = Appends-trans _ _ _ ran.out out ran.wrote wrote;
       marked = ms;
       rest = u.pending ++ came;
       begins = rw (sym (append_assoc s.pending ran.came came)) (Begins-append (s.pending ++ ran.came) came (requests_of ms) u.pending ran.answered.begins);
@@ -48,8 +48,8 @@ module _ (fails : StoreFault → Type 0) (s u t : State) (ms : List Marked) (ran
         record {
           came = all;
           out = ran.out ++ out;
-          consumed = Consumes-then _ _ _ ran.came came ran.consumed consumed;
-          wrote = Appends-then _ _ _ ran.out out ran.wrote wrote;
+          consumed = Consumes-trans _ _ _ ran.came came ran.consumed consumed;
+          wrote = Appends-trans _ _ _ ran.out out ran.wrote wrote;
           marked = ms ++ m ∷ [];
           rest = rest;
           begins = rw (sym (append_assoc s.pending ran.came came), map-append) (
@@ -97,7 +97,7 @@ leaves fails s u t ms r pending ran step = by_case fails s u t ms ran step.came 
 pub leaves_nothing : (fails : StoreFault → Type 0) (s : State) (pending : List ℕ) → IsLeft fails s (record s { pending = pending })
 leaves_nothing fails s pending =
     let ran = Ran-none fails s in
-    no_more fails s s s [] ran [] (Consumes-none _) pending [] (Appends-none _) refl (nothing_more fails s s s [] ran [] (Consumes-none _) pending)
+    no_more fails s s s [] ran [] (Consumes-nil _) pending [] (Appends-nil _) refl (nothing_more fails s s s [] ran [] (Consumes-nil _) pending)
 
 -- after one turn
 pub leaves_one : (fails : StoreFault → Type 0) (s t : State) (r : Result Served DeskFault) (pending : List ℕ) → Steps fails s r t → IsLeft fails s (record t { pending = pending })

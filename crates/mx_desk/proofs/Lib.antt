@@ -1,10 +1,8 @@
 pub mod FieldLemmas
 pub mod FirstLemmas
 pub mod UniqueLemmas
-pub mod Results
 pub mod RequestLemmas
 pub mod Lists
-pub mod Known
 pub mod KnowsLemmas
 pub mod StepLemmas
 pub mod RunLemmas

@@ -10,7 +10,7 @@ use Rattle.mx_desk.specs.declared.fault.DeskFault.TheVariants as fault
 use Rattle.mx_desk.specs.Requests.{Nothing, Stops, First, none, nothing}
 use Rattle.mx_desk.specs.Serve.{Marked, MayBeMarked, AllMayBeMarked, world_after_one, response_to, stop_text, world_after, outputs, requests_of, ServedAll}
 use Rattle.mx_desk.specs.Steps.{State, Steps, Ran, Leads}
-use Rattle.mx_desk.proofs.Known.{Appends-none, Appends-then, Appends-kept, Consumes-none, Consumes-then}
+use Rattle.std.proofs.KnownBytes.{Appends-nil, Appends-trans, Appends-kept, Consumes-nil, Consumes-trans}
 use Rattle.mx_desk.proofs.RequestLemmas.{Begins-append, Begins-snoc}
 
 pub world_after-snoc : (w : World) (ms : List Marked) (m : Marked) → world_after w (ms ++ m ∷ []) ≡ world_after_one (world_after w ms) m
@@ -32,8 +32,8 @@ module _ (fails : StoreFault → Type 0) where
   Ran-none s = record {
     came = [];
     out = [];
-    consumed = Consumes-none _;
-    wrote = Appends-none _;
+    consumed = Consumes-nil _;
+    wrote = Appends-nil _;
     answered = record { begins = rw (append-nil s.pending) none; marks = tt; out_is = refl; world_is = refl };
   }
 
@@ -48,8 +48,8 @@ module _ (fails : StoreFault → Type 0) where
         record {
           came = ran.came ++ step.came;
           out = ran.out ++ response_to u.world m;
-          consumed = Consumes-then _ _ _ ran.came step.came ran.consumed step.consumed;
-          wrote = Appends-then _ _ _ ran.out (response_to u.world m) ran.wrote a.wrote;
+          consumed = Consumes-trans _ _ _ ran.came step.came ran.consumed step.consumed;
+          wrote = Appends-trans _ _ _ ran.out (response_to u.world m) ran.wrote a.wrote;
           answered = record {
             begins =
                 rw (sym (append_assoc s.pending ran.came step.came), map-append) (
@@ -73,7 +73,7 @@ module _ (fails : StoreFault → Type 0) where
 
   pub serves_nothing : (s u t : State) (ms : List Marked) → s.pending ≡ [] → Ran fails s ms u → Steps fails u (Ok served.Nothing) t
       → Serves s.input s.output t.output s.world t.world (length ms)
-  serves_nothing s u t ms fresh ran step = by s.input t.input (Consumes-then _ _ _ ran.came step.came ran.consumed step.consumed) step.then.at_end
+  serves_nothing s u t ms fresh ran step = by s.input t.input (Consumes-trans _ _ _ ran.came step.came ran.consumed step.consumed) step.then.at_end
     where
       by : (i j : Option (List ℕ)) → Consumes i j (ran.came ++ step.came) → IsAtEnd j → Serves i s.output t.output s.world t.world (length ms)
       by None j e f = tt
@@ -82,7 +82,7 @@ module _ (fails : StoreFault → Type 0) where
           let parts = append_nil_parts u.pending step.came step.then.empty in
           let all : b ≡ s.pending ++ ran.came = e ∙ rw (f, parts.1, fresh, append-nil (ran.came ++ []), append-nil ran.came) refl in (
             ran.out ++ [],
-            Appends-then _ _ _ ran.out [] ran.wrote step.then.wrote,
+            Appends-trans _ _ _ ran.out [] ran.wrote step.then.wrote,
             record {
               marked = ms;
               rest = u.pending;
@@ -98,7 +98,7 @@ module _ (fails : StoreFault → Type 0) where
 
   pub serves_stopped : (s u t : State) (ms : List Marked) → s.pending ≡ [] → Ran fails s ms u → Steps fails u (Ok served.Stopped) t
       → Serves s.input s.output t.output s.world t.world (length ms + 1)
-  serves_stopped s u t ms fresh ran step = by s.input t.input (Consumes-then _ _ _ ran.came step.came ran.consumed step.consumed) step.then.first
+  serves_stopped s u t ms fresh ran step = by s.input t.input (Consumes-trans _ _ _ ran.came step.came ran.consumed step.consumed) step.then.first
     where
       by : (i j : Option (List ℕ)) → Consumes i j (ran.came ++ step.came) → IfSome j (λ rest. First ((u.pending ++ step.came) ++ rest) (Stops step.then.stop)) → Serves i s.output t.output s.world t.world (length ms + 1)
       by None j e f = tt
@@ -106,7 +106,7 @@ module _ (fails : StoreFault → Type 0) where
       by (Some b) (Some rest) e f =
           let all : b ≡ (s.pending ++ ran.came) ++ (step.came ++ rest) = e ∙ rw (fresh, append_assoc) refl in (
             ran.out ++ stop_text step.then.stop,
-            Appends-then _ _ _ ran.out (stop_text step.then.stop) ran.wrote step.then.wrote,
+            Appends-trans _ _ _ ran.out (stop_text step.then.stop) ran.wrote step.then.wrote,
             record {
               marked = ms;
               rest = u.pending ++ (step.came ++ rest);

@@ -108,32 +108,32 @@ in_tray w p d = fmap.contains_key w.tray (p, d)
 
 -- the purse after an operation, with its lines, is one that the World can have: the lines are numbered on, counted and
 -- within their limits, and what was logged is still, where it has to be kept
-pub record Follows (kept : Details → Bool) (p q : State) (ls : List Line) : Type 0 where
+pub record Follows (kept : Details → Bool) (p q : State) (new_lines : List Line) : Type 0 where
   pub name : q.name ≡ p.name
   pub whole : IsPurse q
-  pub numbered : AreNumbered (p.lines + 1) ls
-  pub counted : q.lines ≡ p.lines + length ls
-  pub valid : AllByRecursion IsLine ls
+  pub numbered : AreNumbered (p.lines + 1) new_lines
+  pub counted : q.lines ≡ p.lines + length new_lines
+  pub valid : AllByRecursion IsLine new_lines
   pub logged : (d : Details) → kept d ≡ true → has_logged p.log d ≡ true → has_logged q.log d ≡ true
 
-pub numbered_after : (j k : ℕ) (ls ms : List Line) → k ≡ j + length ls → AreNumbered j ls → AreNumbered k ms → AreNumbered j (ls ++ ms)
+pub numbered_after : (j k : ℕ) (new_lines ms : List Line) → k ≡ j + length new_lines → AreNumbered j new_lines → AreNumbered k ms → AreNumbered j (new_lines ++ ms)
 numbered_after j k [] ms is h g = let same : k ≡ j = omega (arith, is) in subst (λ n. AreNumbered n ms) same g
-numbered_after j k (l ∷ ls) ms is h g = (h.0, numbered_after (j + 1) k ls ms (omega (arith, is)) h.1 g)
+numbered_after j k (l ∷ new_lines) ms is h g = (h.0, numbered_after (j + 1) k new_lines ms (omega (arith, is)) h.1 g)
 
-lines_same : (p : Name) (ls : List Line) → map (λ l. AddLine p l) ls ≡ line_edits p ls
+lines_same : (p : Name) (new_lines : List Line) → map (λ l. AddLine p l) new_lines ≡ line_edits p new_lines
 lines_same p [] = refl
-lines_same p (l ∷ ls) = ap (λ es. AddLine p l ∷ es) (lines_same p ls)
+lines_same p (l ∷ new_lines) = ap (λ es. AddLine p l ∷ es) (lines_same p new_lines)
 
 -- the row with that purse and these lines is one that the World can have
-pub record IsNext (w : World) (p : Name) (r : Row) (q : State) (ls : List Line) : Type 0 where
+pub record IsNext (w : World) (p : Name) (r : Row) (q : State) (new_lines : List Line) : Type 0 where
   pub named : q.name ≡ p
-  pub numbered : AreNumbered 1 (r.holding.lines ++ ls)
-  pub counted : length (r.holding.lines ++ ls) ≡ q.lines
+  pub numbered : AreNumbered 1 (r.holding.lines ++ new_lines)
+  pub counted : length (r.holding.lines ++ new_lines) ≡ q.lines
   pub logged : (d : Details) → in_tray w p d ≡ true → has_logged r.holding.purse.log d ≡ true → has_logged q.log d ≡ true
-  pub edits : purse_and_lines q ls ≡ SetPurse q ∷ line_edits p ls
+  pub edits : purse_and_lines q new_lines ≡ SetPurse q ∷ line_edits p new_lines
 
-pub is_next : (w : World) (p : Name) (test : Row → Bool) (before : State) (found : IsFound w p test before) (q : State) (ls : List Line) → IsWorld w → Follows (in_tray w p) before q ls → IsNext w p found.row q ls
-is_next w p test before found q ls is follows =
+pub is_next : (w : World) (p : Name) (test : Row → Bool) (before : State) (found : IsFound w p test before) (q : State) (new_lines : List Line) → IsWorld w → Follows (in_tray w p) before q new_lines → IsNext w p found.row q new_lines
+is_next w p test before found q new_lines is follows =
     let r = found.row in
     let old = is.lines.each p r found.at in
     let old_count = old.counted in
@@ -142,34 +142,34 @@ is_next w p test before found q ls is follows =
     let name : q.name ≡ p = follows.name ∙ ap (λ x. x.name) (sym found.purse) ∙ (is.purses.each p r found.at).named in
     record {
       named = name;
-      numbered = numbered_after 1 (before.lines + 1) r.holding.lines ls (omega (arith, old_count, lines)) old.numbered follows.numbered;
-      counted = omega (arith, length-append r.holding.lines ls, old_count, lines, more);
+      numbered = numbered_after 1 (before.lines + 1) r.holding.lines new_lines (omega (arith, old_count, lines)) old.numbered follows.numbered;
+      counted = omega (arith, length-append r.holding.lines new_lines, old_count, lines, more);
       logged = λ d kept there. follows.logged d kept (ap (λ x. has_logged x.log d) (sym found.purse) ∙ there);
-      edits = ap (λ es. SetPurse q ∷ es) (lines_same q.name ls) ∙ ap (λ n. SetPurse q ∷ line_edits n ls) name;
+      edits = ap (λ es. SetPurse q ∷ es) (lines_same q.name new_lines) ∙ ap (λ n. SetPurse q ∷ line_edits n new_lines) name;
     }
 
 -- a rule that changes the purse, adds its line and sends a message
 module _ (w : World) (g p : Name) (before : State) (own : IsOwn w g p before) (q : State) (line : Option Line) (h : IsWorld w) (follows : Follows (in_tray w p) before q (listed line)) where
-  abbrev ls : List Line
-  ls = listed line
+  abbrev new_lines : List Line
+  new_lines = listed line
 
-  abbrev changed : World
-  changed = set_row w p (with_lines own.row q ls)
+  abbrev with_change : World
+  with_change = set_row w p (with_lines own.row q new_lines)
 
-  same_places : (sent : Option (Name × Message)) → placed changed sent ≡ placed w sent
+  same_places : (sent : Option (Name × Message)) → placed with_change sent ≡ placed w sent
   unfolding has_room
-  same_places sent = placed_kept w p own.row (with_lines own.row q ls) sent own.at refl
+  same_places sent = placed_kept w p own.row (with_lines own.row q new_lines) sent own.at refl
 
   pub changed_decides : (f : Holding → Deed Holding) (r : Reply) (sent : Option (Name × Message)) (d : Decided) → IsSent sent → f own.row.holding ≡ record { state = with_purse own.row.holding q line; reply = r; sent = sent; result = None }
       → d.reply ≡ r → d.edits ≡ purse_edits q line (placed w sent) → Decides w (on_own w g p f) d
   changed_decides f r sent d valid f_is reply_is edits_is =
-      let next = is_next w p (λ x. is_name g x.holder) before own q ls h follows in
-      let first : List Edit = SetPurse q ∷ line_edits p ls in
+      let next = is_next w p (λ x. is_name g x.holder) before own q new_lines h follows in
+      let first : List Edit = SetPurse q ∷ line_edits p new_lines in
       let last : List Edit = put_edits (placed w sent) in
-      let lead : all_edited w first ≡ changed = purse_leads w p own.row q ls own.at next.named in
-      let here : Puts changed sent last = subst (λ m. Puts changed sent (put_edits m)) (same_places sent) (puts changed sent) in
-      edits_decide w (on_own w g p f) (record { state = changed; reply = r; sent = sent; result = None }) (first ++ last) d (own_there w g p before own f ∙ ap (in_place (λ b. set_row w p (record own.row { holding = b }))) f_is)
-      (suits_append w first last (purse_suits w p own.row q ls own.at next.named next.numbered) (subst (λ x. AllSuit x last) (sym lead) here.suits))
+      let lead : all_edited w first ≡ with_change = purse_leads w p own.row q new_lines own.at next.named in
+      let here : Puts with_change sent last = subst (λ m. Puts with_change sent (put_edits m)) (same_places sent) (puts with_change sent) in
+      edits_decide w (on_own w g p f) (record { state = with_change; reply = r; sent = sent; result = None }) (first ++ last) d (own_there w g p before own f ∙ ap (in_place (λ b. set_row w p (record own.row { holding = b }))) f_is)
+      (suits_append w first last (purse_suits w p own.row q new_lines own.at next.named next.numbered) (subst (λ x. AllSuit x last) (sym lead) here.suits))
       (edits_append w first last ∙ ap (λ x. all_edited x last) lead ∙ here.leads)
-      (sent_stays changed sent valid (purse_stays w p own.row q ls own.at next.named follows.whole next.numbered next.counted follows.valid next.logged h))
+      (sent_stays with_change sent valid (purse_stays w p own.row q new_lines own.at next.named follows.whole next.numbered next.counted follows.valid next.logged h))
       reply_is (edits_is ∙ ap (λ es. es ++ last) next.edits)

@@ -138,44 +138,44 @@ module _ (e : Details) (m n R L Q K : ℕ) where
 -- ---- what a change of one row is
 
 module _ (w : World) (p : Name) (r s : Row) (at : fmap.get w.rows p ≡ Some r) (i : Invariant w) (j : Invariant (set_row w p s)) (step : Step (seen w) (seen (set_row w p s))) (c : ChosenLost) where
-  abbrev next : World
-  next = set_row w p s
+  abbrev with_row : World
+  with_row = set_row w p s
 
   -- the choice before
   abbrev choice_before : ChosenLost
-  choice_before = counts_lost next c
+  choice_before = counts_lost with_row c
 
   module _ (asked : Command) (x : Reply) where
     simulated : (act : Act) (E : Effect) → IsAct w asked x act → allows (abstract_of w choice_before) act ≡ true → ((a : AbstractWorld) (q : Name) → fmap.get (performed a act) q ≡ option_map (E q) (fmap.get a q))
-        → ((q : Name) → is_name q p ≡ false → (y : Row) → E q (abstract_purse w choice_before q y) ≡ abstract_purse next c q y) → E p (abstract_purse w choice_before p r) ≡ abstract_purse next c p s
-        → Simulated w asked next x c
-    simulated act E is allowed gets each one = record { before = choice_before; act = act; is = is; leads = leads_to w next choice_before c act E allowed gets (row_each w p r s at choice_before c E each one) }
+        → ((q : Name) → is_name q p ≡ false → (y : Row) → E q (abstract_purse w choice_before q y) ≡ abstract_purse with_row c q y) → E p (abstract_purse w choice_before p r) ≡ abstract_purse with_row c p s
+        → Simulated w asked with_row x c
+    simulated act E is allowed gets each one = record { before = choice_before; act = act; is = is; leads = leads_to w with_row choice_before c act E allowed gets (row_each w p r s at choice_before c E each one) }
 
     -- ---- what is under way stays
 
-    module _ (flow : (d : Details) → flowing next d ≡ flowing w d) where
-      received : (q : Name) → received_by w choice_before q ≡ received_by next c q
-      received q = sym (fate.still_received w next i j step c flow q)
+    module _ (flow : (d : Details) → flowing with_row d ≡ flowing w d) where
+      received : (q : Name) → received_by w choice_before q ≡ received_by with_row c q
+      received q = sym (fate.still_received w with_row i j step c flow q)
 
-      lost : (q : Name) → losses_of w choice_before q ≡ losses_of next c q
-      lost q = sym (fate.still_lost w next i j step c flow q)
+      lost : (q : Name) → losses_of w choice_before q ≡ losses_of with_row c q
+      lost q = sym (fate.still_lost w with_row i j step c flow q)
 
-      pub still_nothing : s.holding.purse.balance ≡ r.holding.purse.balance → IsAct w asked x Act.Ignore → Simulated w asked next x c
+      pub still_nothing : s.holding.purse.balance ≡ r.holding.purse.balance → IsAct w asked x Act.Ignore → Simulated w asked with_row x c
       still_nothing money is = simulated Act.Ignore (λ q y. y) is refl (λ a q. sym (map_same (fmap.get a q)))
           (λ q t y. purses_are _ _ _ _ (ap (λ n. y.holding.purse.balance + n) (received q)) (lost q))
           (purses_are _ _ _ _ (λ k. sym money k + received p k) (lost p))
 
       -- the purse is changed
       still_turned : (act : Act) (f : AbstractPurse → AbstractPurse) → IsAct w asked x act → allows (abstract_of w choice_before) act ≡ true → ((a : AbstractWorld) (q : Name) → fmap.get (performed a act) q ≡ option_map (turned p f q) (fmap.get a q))
-          → f (abstract_purse w choice_before p r) ≡ abstract_purse w choice_before p s → Simulated w asked next x c
+          → f (abstract_purse w choice_before p r) ≡ abstract_purse w choice_before p s → Simulated w asked with_row x c
       still_turned act f is allowed gets one = simulated act (turned p f) is allowed gets
           (λ q t y. ap (λ b. cond b (f (abstract_purse w choice_before q y)) (abstract_purse w choice_before q y)) t ∙ purses_are _ _ _ _ (ap (λ n. y.holding.purse.balance + n) (received q)) (lost q))
           (ap (λ b. cond b (f (abstract_purse w choice_before p r)) (abstract_purse w choice_before p r)) (name_itself p) ∙ one ∙ purses_are _ _ _ _ (ap (λ n. s.holding.purse.balance + n) (received p)) (lost p))
 
-      pub still_load : (n : ℕ) → s.holding.purse.balance ≡ r.holding.purse.balance + n → IsAct w asked x (Act.Load p n) → Simulated w asked next x c
+      pub still_load : (n : ℕ) → s.holding.purse.balance ≡ r.holding.purse.balance + n → IsAct w asked x (Act.Load p n) → Simulated w asked with_row x c
       still_load n money is = still_turned (Act.Load p n) (gains n) is (ap is_some (found_at w p r s at choice_before c)) (λ a q. get-change a p (gains n) q) (purses_are _ _ _ _ (omega (arith, money)) refl)
 
-      pub still_redeem : (n : ℕ) → n ≤ r.holding.purse.balance → s.holding.purse.balance ≡ r.holding.purse.balance - n → IsAct w asked x (Act.Redeem p n) → Simulated w asked next x c
+      pub still_redeem : (n : ℕ) → n ≤ r.holding.purse.balance → s.holding.purse.balance ≡ r.holding.purse.balance - n → IsAct w asked x (Act.Redeem p n) → Simulated w asked with_row x c
       still_redeem n enough money is =
           still_turned (Act.Redeem p n) (pays n) is
           (ap (λ o. has_funds o n) (found_at w p r s at choice_before c) ∙ le_true n (r.holding.purse.balance + received_by w choice_before p) (omega (arith, enough))) (λ a q. get-change a p (pays n) q)
@@ -183,9 +183,9 @@ module _ (w : World) (p : Name) (r s : Row) (at : fmap.get w.rows p ≡ Some r) 
 
     -- ---- one payment begins or ends to be under way
 
-    module _ (e : Details) (other : (d : Details) → is_details e d ≡ false → flowing next d ≡ flowing w d) where
+    module _ (e : Details) (other : (d : Details) → is_details e d ≡ false → flowing with_row d ≡ flowing w d) where
       -- a request is accepted
-      module _ (own : e.from ≡ p) (rests : flowing w e ≡ false) (flows : flowing next e ≡ true) (there : is_some (fmap.get w.rows e.to) ≡ true) (apart : is_name e.from e.to ≡ false)
+      module _ (own : e.from ≡ p) (rests : flowing w e ≡ false) (flows : flowing with_row e ≡ true) (there : is_some (fmap.get w.rows e.to) ≡ true) (apart : is_name e.from e.to ≡ false)
           (enough : e.value ≤ r.holding.purse.balance) (money : s.holding.purse.balance ≡ r.holding.purse.balance - e.value) where
         pays_allowed : may_transfer (abstract_of w choice_before) e ≡ true
         pays_allowed =
@@ -196,18 +196,18 @@ module _ (w : World) (p : Name) (r s : Row) (at : fmap.get w.rows p ≡ Some r) 
             let to : is_some (fmap.get (abstract_of w choice_before) e.to) ≡ true = ap is_some (get-abstract w choice_before e.to) ∙ some_map (abstract_purse w choice_before e.to) (fmap.get w.rows e.to) ∙ there in
             (λ k. covered k && (to k && not (apart k)))
 
-        received_as : (y : Bool) → counts_received next c e ≡ y → (q : Name) → received_by next c q + share (is_name q e.to) false e ≡ received_by w choice_before q + share (is_name q e.to) y e
-        received_as y now = fate.received_now w next i j step c e other false y (never_received w i choice_before e rests) now
+        received_as : (y : Bool) → counts_received with_row c e ≡ y → (q : Name) → received_by with_row c q + share (is_name q e.to) false e ≡ received_by w choice_before q + share (is_name q e.to) y e
+        received_as y now = fate.received_now w with_row i j step c e other false y (never_received w i choice_before e rests) now
 
-        lost_as : (y : Bool) → counts_lost next c e ≡ y → (q : Name) → losses_of next c q + share (is_name q e.from) false e ≡ losses_of w choice_before q + share (is_name q e.from) y e
-        lost_as y now = fate.lost_now w next i j step c e other false y (never_lost w i choice_before e rests) now
+        lost_as : (y : Bool) → counts_lost with_row c e ≡ y → (q : Name) → losses_of with_row c q + share (is_name q e.from) false e ≡ losses_of w choice_before q + share (is_name q e.from) y e
+        lost_as y now = fate.lost_now w with_row i j step c e other false y (never_lost w i choice_before e rests) now
 
         -- another purse doesn't pay, and this one does
         elsewhere : (q : Name) → is_name q p ≡ false → is_name q e.from ≡ false
         elsewhere q t = ap (is_name q) own ∙ t
 
-        stays : (q : Name) → is_name q p ≡ false → (y : Row) → y.holding.purse.balance ≡ cond (is_name q e.from) (y.holding.purse.balance - e.value) y.holding.purse.balance
-        stays q t y = ap (λ b. cond b (y.holding.purse.balance - e.value) y.holding.purse.balance) (sym (elsewhere q t))
+        others_stay : (q : Name) → is_name q p ≡ false → (y : Row) → y.holding.purse.balance ≡ cond (is_name q e.from) (y.holding.purse.balance - e.value) y.holding.purse.balance
+        others_stay q t y = ap (λ b. cond b (y.holding.purse.balance - e.value) y.holding.purse.balance) (sym (elsewhere q t))
 
         falls : s.holding.purse.balance ≡ cond (is_name p e.from) (r.holding.purse.balance - e.value) r.holding.purse.balance
         falls = money ∙ ap (λ b. cond b (r.holding.purse.balance - e.value) r.holding.purse.balance) (sym (ap (is_name p) own ∙ name_itself p))
@@ -215,35 +215,35 @@ module _ (w : World) (p : Name) (r s : Row) (at : fmap.get w.rows p ≡ Some r) 
         pays_alone : is_name p e.to ≡ false
         pays_alone = ap (λ q. is_name q e.to) (sym own) ∙ apart
 
-        request_case : IsAct w asked x (Act.TransferOkay e) → IsAct w asked x (Act.TransferLost e) → (y : Bool) → counts_received next c e ≡ y → Simulated w asked next x c
+        request_case : IsAct w asked x (Act.TransferOkay e) → IsAct w asked x (Act.TransferLost e) → (y : Bool) → counts_received with_row c e ≡ y → Simulated w asked with_row x c
         request_case moves loses_it true now =
-            let lost : counts_lost next c e ≡ false = one_of_two next j c e flows ∙ ap not now in
+            let lost : counts_lost with_row c e ≡ false = one_of_two with_row j c e flows ∙ ap not now in
             simulated (Act.TransferOkay e) (λ q y. turned e.to (gains e.value) q (turned e.from (pays e.value) q y)) moves pays_allowed
             (λ a q. get-change (change a e.from (pays e.value)) e.to (gains e.value) q ∙ ap (option_map (turned e.to (gains e.value) q)) (get-change a e.from (pays e.value) q)
             ∙ map_twice (turned e.from (pays e.value) q) (turned e.to (gains e.value) q) (fmap.get a q))
-            (λ q t y. transfer_case e _ _ _ _ _ _ (is_name q e.to) (is_name q e.from) (λ own. clash _ own (elsewhere q t)) (stays q t y) (received_as true now q) (lost_as false lost q))
+            (λ q t y. transfer_case e _ _ _ _ _ _ (is_name q e.to) (is_name q e.from) (λ own. clash _ own (elsewhere q t)) (others_stay q t y) (received_as true now q) (lost_as false lost q))
             (transfer_case e _ _ _ _ _ _ (is_name p e.to) (is_name p e.from) (λ _. (pays_alone, enough)) falls (received_as true now p) (lost_as false lost p))
         request_case moves loses_it false now =
-            let lost : counts_lost next c e ≡ true = one_of_two next j c e flows ∙ ap not now in
+            let lost : counts_lost with_row c e ≡ true = one_of_two with_row j c e flows ∙ ap not now in
             simulated (Act.TransferLost e) (turned e.from (loses e.value)) loses_it pays_allowed (λ a q. get-change a e.from (loses e.value) q)
-            (λ q t y. lose_case e _ _ _ _ _ _ (is_name q e.to) (is_name q e.from) (λ own. clash _ own (elsewhere q t)) (stays q t y) (received_as false now q) (lost_as true lost q))
+            (λ q t y. lose_case e _ _ _ _ _ _ (is_name q e.to) (is_name q e.from) (λ own. clash _ own (elsewhere q t)) (others_stay q t y) (received_as false now q) (lost_as true lost q))
             (lose_case e _ _ _ _ _ _ (is_name p e.to) (is_name p e.from) (λ _. (pays_alone, enough)) falls (received_as false now p) (lost_as true lost p))
 
-        pub request_simulated : IsAct w asked x (Act.TransferOkay e) → IsAct w asked x (Act.TransferLost e) → Simulated w asked next x c
-        request_simulated moves loses_it = request_case moves loses_it (counts_received next c e) refl
+        pub request_simulated : IsAct w asked x (Act.TransferOkay e) → IsAct w asked x (Act.TransferLost e) → Simulated w asked with_row x c
+        request_simulated moves loses_it = request_case moves loses_it (counts_received with_row c e) refl
 
       -- a value is accepted
-      module _ (own : e.to ≡ p) (flows : flowing w e ≡ true) (waits : (seen w).epv e ≡ true) (rests : flowing next e ≡ false) (money : s.holding.purse.balance ≡ r.holding.purse.balance + e.value) where
+      module _ (own : e.to ≡ p) (flows : flowing w e ≡ true) (waits : (seen w).epv e ≡ true) (rests : flowing with_row e ≡ false) (money : s.holding.purse.balance ≡ r.holding.purse.balance + e.value) where
         was_received : counts_received w choice_before e ≡ true
-        was_received = (λ k. (maybe_is w i e ∙ (λ l. flows l && waits l)) k && not (never_lost next j c e rests k))
+        was_received = (λ k. (maybe_is w i e ∙ (λ l. flows l && waits l)) k && not (never_lost with_row j c e rests k))
 
-        received_then : (q : Name) → received_by next c q + share (is_name q e.to) true e ≡ received_by w choice_before q + share (is_name q e.to) false e
-        received_then = fate.received_now w next i j step c e other true false was_received (never_received next j c e rests)
+        received_then : (q : Name) → received_by with_row c q + share (is_name q e.to) true e ≡ received_by w choice_before q + share (is_name q e.to) false e
+        received_then = fate.received_now w with_row i j step c e other true false was_received (never_received with_row j c e rests)
 
-        lost_then : (q : Name) → losses_of next c q + share (is_name q e.from) false e ≡ losses_of w choice_before q + share (is_name q e.from) false e
-        lost_then = fate.lost_now w next i j step c e other false false (one_of_two w i choice_before e flows ∙ ap not was_received) (never_lost next j c e rests)
+        lost_then : (q : Name) → losses_of with_row c q + share (is_name q e.from) false e ≡ losses_of w choice_before q + share (is_name q e.from) false e
+        lost_then = fate.lost_now w with_row i j step c e other false false (one_of_two w i choice_before e flows ∙ ap not was_received) (never_lost with_row j c e rests)
 
-        pub value_simulated : IsAct w asked x Act.Ignore → Simulated w asked next x c
+        pub value_simulated : IsAct w asked x Act.Ignore → Simulated w asked with_row x c
         value_simulated is = simulated Act.Ignore (λ q y. y) is refl (λ a q. sym (map_same (fmap.get a q)))
             (λ q t y. value_case e _ _ _ _ _ _ (is_name q e.to) (is_name q e.from) (ap (λ b. cond b (y.holding.purse.balance + e.value) y.holding.purse.balance) (sym (ap (is_name q) own ∙ t))) (received_then q) (lost_then q))
             (value_case e _ _ _ _ _ _ (is_name p e.to) (is_name p e.from) (money ∙ ap (λ b. cond b (r.holding.purse.balance + e.value) r.holding.purse.balance) (sym (ap (is_name p) own ∙ name_itself p))) (received_then p) (lost_then p))

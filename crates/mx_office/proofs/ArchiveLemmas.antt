@@ -58,8 +58,8 @@ there (Some x) f = refl
 -- ---- archives
 
 module _ (w : World) (p : Name) (d : Decided) (is : IsWorld w) where
-  pub no_archive : is_none (account_of w p) ≡ true → d.reply ≡ reply.Refused NoSuchPurse → d.edits ≡ [] → Decides w (archive w p) d
-  no_archive none = refused_decides w (archive_refusal w p) _ NoSuchPurse d is (first _ _ _ (not_given w p true is none))
+  pub archive_refused : is_none (account_of w p) ≡ true → d.reply ≡ reply.Refused NoSuchPurse → d.edits ≡ [] → Decides w (archive w p) d
+  archive_refused none = refused_decides w (archive_refusal w p) _ NoSuchPurse d is (first _ _ _ (not_given w p true is none))
 
   may_archive : is_none (account_of w p) ≡ false → archive_refusal w p ≡ None
   may_archive found = next _ _ _ _ (not_given w p false is found) none_left
@@ -159,66 +159,66 @@ entry_logged : (log : Entries) (i : ℕ) (d : Details) → entry_at log i ≡ So
 entry_logged log i d at = fmap.contains_key-keys log d ∙ at_place d i (logged log) at
 
 module _ (w : World) (h p : Name) (q : State) (place : ℕ) (d : Decided) (is : IsWorld w) (e : own_purse w h p ≡ Some q) where
-  abbrev own : IsOwn w h p q
-  own = is_own w h p q e
+  abbrev is_owner : IsOwn w h p q
+  is_owner = is_own w h p q e
 
-  abbrev now : State
-  now = aborted q
+  abbrev purse_at_rest : State
+  purse_at_rest = aborted q
 
-  abbrev ls : List Line
-  ls = listed (abort_line now (pending q.status))
+  abbrev abort_lines : List Line
+  abort_lines = listed (abort_line purse_at_rest (pending q.status))
 
-  abbrev changed : World
-  changed = set_row w p (with_lines own.row now ls)
+  abbrev with_read : World
+  with_read = set_row w p (with_lines is_owner.row purse_at_rest abort_lines)
 
   abbrev firsts : List Edit
-  firsts = SetPurse now ∷ line_edits p ls
+  firsts = SetPurse purse_at_rest ∷ line_edits p abort_lines
 
   -- what is read is sent in the purse's name
   abbrev sent : Option Details → Option (Name × Details)
   sent = option_map (λ x. (p, x))
 
-  abbrev told : Option Details → Deed World
-  told entry = record { state = changed; reply = reply.Read entry; sent = None; result = sent entry }
+  abbrev read_deed : Option Details → Deed World
+  read_deed entry = record { state = with_read; reply = reply.Read entry; sent = None; result = sent entry }
 
-  abbrev follows : Follows (in_tray w p) q now ls
-  follows = abort_follows (in_tray w p) q now (whole w h p q is own) refl refl refl (aborted_is q (whole w h p q is own))
+  abbrev follows : Follows (in_tray w p) q purse_at_rest abort_lines
+  follows = abort_follows (in_tray w p) q purse_at_rest (whole w h p q is is_owner) refl refl refl (aborted_is q (whole w h p q is is_owner))
 
-  abbrev after : IsNext w p own.row now ls
-  after = is_next w p (λ x. is_name h x.holder) q own now ls is follows
+  abbrev after : IsNext w p is_owner.row purse_at_rest abort_lines
+  after = is_next w p (λ x. is_name h x.holder) q is_owner purse_at_rest abort_lines is follows
 
-  lead : all_edited w firsts ≡ changed
-  lead = purse_leads w p own.row now ls own.at after.named
+  lead : all_edited w firsts ≡ with_read
+  lead = purse_leads w p is_owner.row purse_at_rest abort_lines is_owner.at after.named
 
   suits : AllSuit w firsts
-  suits = purse_suits w p own.row now ls own.at after.named after.numbered
+  suits = purse_suits w p is_owner.row purse_at_rest abort_lines is_owner.at after.named after.numbered
 
-  stays : IsWorld changed
-  stays = purse_stays w p own.row now ls own.at after.named follows.whole after.numbered after.counted follows.valid after.logged is
+  with_read_is : IsWorld with_read
+  with_read_is = purse_stays w p is_owner.row purse_at_rest abort_lines is_owner.at after.named follows.whole after.numbered after.counted follows.valid after.logged is
 
-  read_is : on_own w h p (read_log place) ≡ told (read_entry q place)
+  read_is : on_own w h p (read_log place) ≡ read_deed (read_entry q place)
   unfolding read_log
   read_is =
-      own_there w h p q own (read_log place)
-      ∙ (λ i. let x : State = own.purse i in in_place (λ b. set_row w p (record own.row { holding = b })) (record { state = with_aborted (record own.row.holding { purse = x }) (aborted x); reply = reply.Read (read_entry x place); sent = None; result = option_map (λ y. (x.name, y)) (read_entry x place) }))
-      ∙ ap (λ n. record { state = changed; reply = reply.Read (read_entry q place); sent = None; result = option_map (λ y. (n, y)) (read_entry q place) }) after.named
+      own_there w h p q is_owner (read_log place)
+      ∙ (λ i. let x : State = is_owner.purse i in in_place (λ b. set_row w p (record is_owner.row { holding = b })) (record { state = with_aborted (record is_owner.row.holding { purse = x }) (aborted x); reply = reply.Read (read_entry x place); sent = None; result = option_map (λ y. (x.name, y)) (read_entry x place) }))
+      ∙ ap (λ n. record { state = with_read; reply = reply.Read (read_entry q place); sent = None; result = option_map (λ y. (n, y)) (read_entry q place) }) after.named
 
-  entry_is : (x : Details) → read_entry q place ≡ Some x → IsEntry changed p x
-  entry_is x at = (with_lines own.row now ls, get-inserted w.rows p (with_lines own.row now ls), entry_logged now.log place x at)
+  entry_is : (x : Details) → read_entry q place ≡ Some x → IsEntry with_read p x
+  entry_is x at = (with_lines is_owner.row purse_at_rest abort_lines, get-inserted w.rows p (with_lines is_owner.row purse_at_rest abort_lines), entry_logged purse_at_rest.log place x at)
 
   -- a result that is kept, or not
-  kept_case : (x : Details) (b : Bool) → read_entry q place ≡ Some x → is_kept w (p, x) ≡ b → d.reply ≡ reply.Read (Some x) → d.edits ≡ read_edits now (abort_line now (pending q.status)) (cond b None (Some x)) → Decides w (on_own w h p (read_log place)) d
+  kept_case : (x : Details) (b : Bool) → read_entry q place ≡ Some x → is_kept w (p, x) ≡ b → d.reply ≡ reply.Read (Some x) → d.edits ≡ read_edits purse_at_rest (abort_line purse_at_rest (pending q.status)) (cond b None (Some x)) → Decides w (on_own w h p (read_log place)) d
   kept_case x true at kept reply_is edits_is =
-      edits_decide w (on_own w h p (read_log place)) (told (Some x)) firsts d (read_is ∙ ap told at)
-      suits (lead ∙ sym (ap (λ b. cond b changed (edited changed (AddTray p x))) kept)) (rw kept stays) reply_is (edits_is ∙ after.edits)
+      edits_decide w (on_own w h p (read_log place)) (read_deed (Some x)) firsts d (read_is ∙ ap read_deed at)
+      suits (lead ∙ sym (ap (λ b. cond b with_read (edited with_read (AddTray p x))) kept)) (rw kept with_read_is) reply_is (edits_is ∙ after.edits)
   kept_case x false at kept reply_is edits_is =
-      let suit : Suits changed (AddTray p x) = (ap is_some (get-inserted w.rows p (with_lines own.row now ls)), grind (arith, kept), grind (arith, kept)) in
-      edits_decide w (on_own w h p (read_log place)) (told (Some x)) (firsts ++ AddTray p x ∷ []) d (read_is ∙ ap told at)
+      let suit : Suits with_read (AddTray p x) = (ap is_some (get-inserted w.rows p (with_lines is_owner.row purse_at_rest abort_lines)), grind (arith, kept), grind (arith, kept)) in
+      edits_decide w (on_own w h p (read_log place)) (read_deed (Some x)) (firsts ++ AddTray p x ∷ []) d (read_is ∙ ap read_deed at)
       (suits_append w firsts (AddTray p x ∷ []) suits (subst (λ v. AllSuit v (AddTray p x ∷ [])) (sym lead) (suit, tt)))
-      (edits_append w firsts (AddTray p x ∷ []) ∙ ap (λ v. edited v (AddTray p x)) lead ∙ sym (ap (λ b. cond b changed (edited changed (AddTray p x))) kept))
-      (rw kept (result_stays changed p x suit (entry_is x at) stays)) reply_is (edits_is ∙ (λ i. after.edits i ++ AddTray (after.named i) x ∷ []))
+      (edits_append w firsts (AddTray p x ∷ []) ∙ ap (λ v. edited v (AddTray p x)) lead ∙ sym (ap (λ b. cond b with_read (edited with_read (AddTray p x))) kept))
+      (rw kept (result_stays with_read p x suit (entry_is x at) with_read_is)) reply_is (edits_is ∙ (λ i. after.edits i ++ AddTray (after.named i) x ∷ []))
 
-  pub read_decides : (entry : Option Details) → entry ≡ read_entry q place → d.reply ≡ reply.Read entry → d.edits ≡ read_edits now (abort_line now (pending q.status)) (not_kept w p entry) → Decides w (on_own w h p (read_log place)) d
+  pub read_decides : (entry : Option Details) → entry ≡ read_entry q place → d.reply ≡ reply.Read entry → d.edits ≡ read_edits purse_at_rest (abort_line purse_at_rest (pending q.status)) (not_kept w p entry) → Decides w (on_own w h p (read_log place)) d
   read_decides None at reply_is edits_is =
-      edits_decide w (on_own w h p (read_log place)) (told None) firsts d (read_is ∙ ap told (sym at)) suits lead stays reply_is (edits_is ∙ after.edits)
+      edits_decide w (on_own w h p (read_log place)) (read_deed None) firsts d (read_is ∙ ap read_deed (sym at)) suits lead with_read_is reply_is (edits_is ∙ after.edits)
   read_decides (Some x) at reply_is edits_is = kept_case x (is_kept w (p, x)) (sym at) refl reply_is edits_is

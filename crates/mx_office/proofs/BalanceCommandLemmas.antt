@@ -117,8 +117,8 @@ module _ (w : World) (m : Name) where
     same_case f r false same = refl
 
     -- what doesn't look at what is collected
-    same_sum : (f : Row → ℕ) → ((r : Row) → f (with_collected r) ≡ f r) → of_purses (all_collected w m) chosen f ≡ of_purses w chosen f
-    same_sum f same =
+    same_purses_sum : (f : Row → ℕ) → ((r : Row) → f (with_collected r) ≡ f r) → of_purses (all_collected w m) chosen f ≡ of_purses w chosen f
+    same_purses_sum f same =
         collected_sum f
         ∙ sum_entries-same (λ p r. counted w chosen f (taken p r)) (λ p r. counted w chosen f r) w.rows (λ p r _. same_case f r (is_of_member w m r) (same r))
         ∙ sym (values_are (counted w chosen f) w.rows)
@@ -149,12 +149,12 @@ module _ (w : World) (m : Name) where
     collected_left_side : left (all_collected w m) chosen + cond (chosen m) (uncollected_of w m) 0 ≡ left w chosen
     collected_left_side =
         let e1 : of_purses (all_collected w m) chosen uncollected_row + cond (chosen m) (uncollected_of w m) 0 ≡ of_purses w chosen uncollected_row = open_sum in
-        let e2 : of_purses (all_collected w m) chosen issued_row ≡ of_purses w chosen issued_row = same_sum issued_row (λ r. refl) in
+        let e2 : of_purses (all_collected w m) chosen issued_row ≡ of_purses w chosen issued_row = same_purses_sum issued_row (λ r. refl) in
         omega (arith, e1, e2)
 
     collected_right_side : right (all_collected w m) chosen ≡ right w chosen
     collected_right_side =
-        let e1 : of_purses (all_collected w m) chosen redeemed_row ≡ of_purses w chosen redeemed_row = same_sum redeemed_row (λ r. refl) in
+        let e1 : of_purses (all_collected w m) chosen redeemed_row ≡ of_purses w chosen redeemed_row = same_purses_sum redeemed_row (λ r. refl) in
         omega (arith, e1)
 
   collected_rows : IsAccounted w → (p : Name) (y : Row) → fmap.get (all_collected w m).rows p ≡ Some y → IsRow w.holders y

@@ -107,20 +107,20 @@ module _ (w : World) (p : Name) (s : Row) where
   rows_set chosen f = sum_values-insert names_total (counted w chosen f) w.rows p s
 
   module _ (r : Row) (at : fmap.get w.rows p ≡ Some r) (holder : s.holder ≡ r.holder) (chosen : Choice) where
-    row_set : (f : Row → ℕ) → of_purses (set_row w p s) chosen f + cond (is_counted w chosen r) (f r) 0 ≡ of_purses w chosen f + cond (is_counted w chosen r) (f s) 0
-    row_set f =
+    purses_set : (f : Row → ℕ) → of_purses (set_row w p s) chosen f + cond (is_counted w chosen r) (f r) 0 ≡ of_purses w chosen f + cond (is_counted w chosen r) (f s) 0
+    purses_set f =
         subst (λ o. of_purses (set_row w p s) chosen f + value_of (counted w chosen f) o ≡ of_purses w chosen f + counted w chosen f s) at (rows_set chosen f)
         ∙ ap (λ h. of_purses w chosen f + cond (is_chosen chosen (fmap.get w.holders h)) (f s) 0) holder
 
     pub left_set : left (set_row w p s) chosen + cond (is_counted w chosen r) (left_row r) 0 ≡ left w chosen + cond (is_counted w chosen r) (left_row s) 0
     left_set =
-        let uncollected : of_purses (set_row w p s) chosen uncollected_row + cond (is_counted w chosen r) (uncollected_row r) 0 ≡ of_purses w chosen uncollected_row + cond (is_counted w chosen r) (uncollected_row s) 0 = row_set uncollected_row in
-        let issued : of_purses (set_row w p s) chosen issued_row + cond (is_counted w chosen r) (issued_row r) 0 ≡ of_purses w chosen issued_row + cond (is_counted w chosen r) (issued_row s) 0 = row_set issued_row in
+        let uncollected : of_purses (set_row w p s) chosen uncollected_row + cond (is_counted w chosen r) (uncollected_row r) 0 ≡ of_purses w chosen uncollected_row + cond (is_counted w chosen r) (uncollected_row s) 0 = purses_set uncollected_row in
+        let issued : of_purses (set_row w p s) chosen issued_row + cond (is_counted w chosen r) (issued_row r) 0 ≡ of_purses w chosen issued_row + cond (is_counted w chosen r) (issued_row s) 0 = purses_set issued_row in
         omega (arith, uncollected, issued, both_count (is_counted w chosen r) (uncollected_row r) (issued_row r), both_count (is_counted w chosen r) (uncollected_row s) (issued_row s))
 
     pub right_set : right (set_row w p s) chosen + cond (is_counted w chosen r) (redeemed_row r) 0 ≡ right w chosen + cond (is_counted w chosen r) (redeemed_row s) 0
     right_set =
-        let redeemed : of_purses (set_row w p s) chosen redeemed_row + cond (is_counted w chosen r) (redeemed_row r) 0 ≡ of_purses w chosen redeemed_row + cond (is_counted w chosen r) (redeemed_row s) 0 = row_set redeemed_row in
+        let redeemed : of_purses (set_row w p s) chosen redeemed_row + cond (is_counted w chosen r) (redeemed_row r) 0 ≡ of_purses w chosen redeemed_row + cond (is_counted w chosen r) (redeemed_row s) 0 = purses_set redeemed_row in
         omega (arith, redeemed)
 
   -- each row is one after the write

@@ -248,13 +248,13 @@ same_answer (Some r) a x e = absurd (cc)
 module _ (w : World) (h p : Name) (q : State) (f : Holding → Deed Holding) (o : Option StartRefusal) (status : Status) (details : Details) (sent : Details → Option (Name × Message))
     (f_is : (a : Holding) → a.purse ≡ q → f a ≡ unless a (option_map refusal_of_start o) (record { state = with_aborted a (started q status); reply = reply.Started details; sent = sent details; result = None }))
     (sent_is : IfSome (details_of status) IsDetails → IsSent (sent details)) (d : Decided) (is : IsWorld w) (e : own_purse w h p ≡ Some q) where
-  abbrev done : Holding → Deed Holding
-  done a = record { state = with_aborted a (started q status); reply = reply.Started details; sent = sent details; result = None }
+  abbrev started_deed : Holding → Deed Holding
+  started_deed a = record { state = with_aborted a (started q status); reply = reply.Started details; sent = sent details; result = None }
 
   pub start_refused : (r : StartRefusal) → or_refused o details ≡ Err r → d.reply ≡ reply.Refused (refusal_of_start r) → d.edits ≡ [] → Decides w (on_own w h p f) d
   start_refused r refused =
       let own = is_own w h p q e in
-      own_told w h p q own f (reply.Refused (refusal_of_start r)) d is (f_is own.row.holding own.purse ∙ ap (λ x. unless own.row.holding (option_map refusal_of_start x) (done own.row.holding)) (is_refused o details r refused))
+      own_told w h p q own f (reply.Refused (refusal_of_start r)) d is (f_is own.row.holding own.purse ∙ ap (λ x. unless own.row.holding (option_map refusal_of_start x) (started_deed own.row.holding)) (is_refused o details r refused))
 
   pub start_decides : (after : State) (x : Details) → IsPurse after → or_refused o details ≡ Ok x → after ≡ unless_refused o q (started q status)
       → d.reply ≡ reply.Started x → d.edits ≡ purse_edits after (abort_line after (pending q.status)) (placed w (sent x)) → Decides w (on_own w h p f) d
@@ -267,7 +267,7 @@ module _ (w : World) (h p : Name) (q : State) (f : Holding → Deed Holding) (o 
       let purse = whole w h p q is own in
       let next = subst IsPurse now_is stays in
       changed_decides w h p q own now (abort_line now (pending q.status)) is (abort_follows (in_tray w p) q now purse refl refl refl next) f (reply.Started details) (sent details) d (sent_is next.details)
-      (f_is own.row.holding own.purse ∙ ap (λ y. unless own.row.holding (option_map refusal_of_start y) (done own.row.holding)) free ∙ rw own.purse refl)
+      (f_is own.row.holding own.purse ∙ ap (λ y. unless own.row.holding (option_map refusal_of_start y) (started_deed own.row.holding)) free ∙ rw own.purse refl)
       (reply_is ∙ ap reply.Started x_is) (edits_is ∙ (λ i. purse_edits (now_is i) (abort_line (now_is i) (pending q.status)) (placed w (sent (x_is i)))))
 
 -- ---- a redemption

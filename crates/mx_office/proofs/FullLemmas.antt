@@ -167,10 +167,10 @@ module _ (w : World) (s : Sane w) (is : IsWorld w) (balanced : IsBalanced w) whe
   guard_case false true f = clash true refl f
   guard_case false false f = refl
 
-  load_case : (r : Row) (member : MemberRow) (amount : ℕ) → (amount ≤ member.float → r.holding.purse.balance + amount ≤ most_number) → (b : Bool) → nat_lt member.float amount ≡ b
+  new_load_other : (r : Row) (member : MemberRow) (amount : ℕ) → (amount ≤ member.float → r.holding.purse.balance + amount ≤ most_number) → (b : Bool) → nat_lt member.float amount ≡ b
       → none_full (cond b (Some refusal.FloatTooSmall) (option_map refusal_of_load (load_refusal r.holding.purse amount))) ≡ false
-  load_case r member amount fits true t = refl
-  load_case r member amount fits false t = guard_case (nat_le most_number r.holding.purse.lines) _ (not_above _ _ (fits (not_below _ _ t)))
+  new_load_other r member amount fits true t = refl
+  new_load_other r member amount fits false t = guard_case (nat_le most_number r.holding.purse.lines) _ (not_above _ _ (fits (not_below _ _ t)))
 
   of_case : (b : Bool) (o : Option Reply) → reply_full o ≡ false → reply_full (cond b o (Some (reply.Refused refusal.NoSuchPurse))) ≡ false
   of_case true o h = h
@@ -183,7 +183,7 @@ module _ (w : World) (s : Sane w) (is : IsWorld w) (balanced : IsBalanced w) whe
   load_at m p amount reference (Some r) (Some member) at there =
       of_case (is_of_member w m r) _
       (idle_other (fmap.get r.loads reference) amount reply.Loaded (new_load_refusal member r amount) refl
-      (load_case r member amount (λ enough. load_fits w s is balanced p m r member amount at there enough) (nat_lt member.float amount) refl))
+      (new_load_other r member amount (λ enough. load_fits w s is balanced p m r member amount at there enough) (nat_lt member.float amount) refl))
 
   load_other : (m p : Name) (amount : ℕ) (reference : Name) → reply_full (idle_load w m p amount reference) ≡ false
   unfolding idle_load

@@ -83,15 +83,15 @@ abbrev silent : Holdings → Course Holdings Reply
 silent m = ends m []
 
 -- a change that is seen where it changes something
-seen : (w : World) (h p : Name) (g : Holding → Holding) (e : Event) (b : Bool) → after_event (cut w h) e ≡ silent (with_changed (cut w h) p g) → (b ≡ false → (a : Holding) → own_holding w h p ≡ Some a → g a ≡ a)
+event_law : (w : World) (h p : Name) (g : Holding → Holding) (e : Event) (b : Bool) → after_event (cut w h) e ≡ silent (with_changed (cut w h) p g) → (b ≡ false → (a : Holding) → own_holding w h p ≡ Some a → g a ≡ a)
     → local (cut w h) (only_if b e) ≡ silent (with_changed (cut w h) p g)
-seen w h p g e true is same = ap (λ (c : Course Holdings Reply). ends c.end (c.replies ++ [])) is
-seen w h p g e false is same = ap silent (sym (changed-same w h p g _ refl (same refl)))
+event_law w h p g e true is same = ap (λ (c : Course Holdings Reply). ends c.end (c.replies ++ [])) is
+event_law w h p g e false is same = ap silent (sym (changed-same w h p g _ refl (same refl)))
 
 put_law : (w : World) (h : Name) (sent : Option (Name × Message)) → local (cut w h) (put_event w h sent) ≡ silent (cut (put_sent w sent) h)
 put_law w h None = refl
 put_law w h (Some m) =
-    seen w h m.0 (λ a. with_message a m.1) (Event.Put m.0 m.1) _ refl (λ f a at. ap (λ b. cond b (delivered a m.1) a) (sym (ap (λ o. option_map_or has_room o false) at) ∙ f))
+    event_law w h m.0 (λ a. with_message a m.1) (Event.Put m.0 m.1) _ refl (λ f a at. ap (λ b. cond b (delivered a m.1) a) (sym (ap (λ o. option_map_or has_room o false) at) ∙ f))
     ∙ ap silent (sym (cut-holding w h m.0 (λ a. with_message a m.1)))
 
 -- ---- a command of a holder
@@ -176,7 +176,7 @@ load_law : (w : World) (h m p : Name) (amount : ℕ) (reference : Name) (x : Opt
     ≡ silent (cut (unless_told w x (tell (loaded_world w m p amount reference) reply.Loaded)).state h)
 load_law w h m p amount reference (Some r) = refl
 load_law w h m p amount reference None =
-    seen w h p (λ a. loaded_holding a amount reference) (Event.Loaded p reference amount) _ refl (λ none a at. let there = ap is_some at in cc)
+    event_law w h p (λ a. loaded_holding a amount reference) (Event.Loaded p reference amount) _ refl (λ none a at. let there = ap is_some at in cc)
     ∙ ap silent (sym (cut-member (change_row w p (loaded_row amount reference)) h m _
     ∙ cut-change w h p (loaded_row amount reference) (λ a. loaded_holding a amount reference) (λ r. refl) (λ r. refl)))
 

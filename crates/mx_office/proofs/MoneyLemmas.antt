@@ -119,12 +119,12 @@ module _ (w : World) (m p : Name) (amount : ℕ) (reference : Name) (l : IsLoad 
   abbrev last : Edit
   last = SetMember m l.member.granted (l.member.float - amount)
 
-  whole : IsPurse now
-  whole = loaded_is l.row.holding.purse amount (is.purses.each p l.row l.at).purse l.free
+  loaded_whole : IsPurse now
+  loaded_whole = loaded_is l.row.holding.purse amount (is.purses.each p l.row l.at).purse l.free
 
   next_row : IsNext w p l.row now ls
   next_row = is_next w p (is_of_member w m) l.row.holding.purse (record { row = l.row; at = l.at; passes = l.owned; purse = refl }) now ls is
-      (record { name = refl; whole = whole; numbered = (refl, tt); counted = omega arith; valid = (record { amount = small; balance = whole.balance; note = text }, tt); logged = λ x kept there. there })
+      (record { name = refl; whole = loaded_whole; numbered = (refl, tt); counted = omega arith; valid = (record { amount = small; balance = loaded_whole.balance; note = text }, tt); logged = λ x kept there. there })
 
   row_is : loaded_row amount reference l.row ≡ with_load (with_lines l.row now ls) reference amount
   unfolding loaded_holding
@@ -136,7 +136,7 @@ module _ (w : World) (m p : Name) (amount : ℕ) (reference : Name) (l : IsLoad 
       let most = is.members.granted in
       let float_most : l.member.float ≤ most_number = is.members.floats m l.member l.there in
       set_member_stays with_loaded m l.member.granted (l.member.float - amount) (some_of _ l.member l.there) (omega (arith, float_most)) (omega (arith, sums, most))
-      (loads_stay w p l.row now ls reference amount l.at next_row.named whole next_row.numbered next_row.counted (record { amount = small; balance = whole.balance; note = text }, tt) next_row.logged text small is)
+      (loads_stay w p l.row now ls reference amount l.at next_row.named loaded_whole next_row.numbered next_row.counted (record { amount = small; balance = loaded_whole.balance; note = text }, tt) next_row.logged text small is)
 
   pub load_stays : IsWorld (with_member (set_row w p (loaded_row amount reference l.row)) m (record l.member { float = l.member.float - amount }))
   load_stays = rw row_is stays

@@ -12,12 +12,12 @@ use Rattle.mx_office.specs.Commands.{IsAsked}
 use Rattle.mx_office.specs.Step.{Asked, step}
 use Rattle.mx_office.specs.Run.{IsRun, MayBeUndone}
 
-one_more : (cs : List Asked) (i : ℕ) (c : Asked) → i < length cs → c ≡ get_or cs i c → take (i + 1) cs ≡ take i cs ++ c ∷ []
-one_more cs i c lt at = take_more cs i c lt ∙ ap (λ x. take i cs ++ x ∷ []) (sym at)
+one_taken : (cs : List Asked) (i : ℕ) (c : Asked) → i < length cs → c ≡ get_or cs i c → take (i + 1) cs ≡ take i cs ++ c ∷ []
+one_taken cs i c lt at = take_more cs i c lt ∙ ap (λ x. take i cs ++ x ∷ []) (sym at)
 
 -- commands that are values, and one more
 pub asked_more : (cs : List Asked) (i : ℕ) (c : Asked) → i < length cs → c ≡ get_or cs i c → AllByRecursion IsAsked (take i cs) → IsAsked c → AllByRecursion IsAsked (take (i + 1) cs)
-asked_more cs i c lt at before asked = rw (one_more cs i c lt at) (all_append IsAsked (take i cs) (c ∷ []) before (asked, tt))
+asked_more cs i c lt at before asked = rw (one_taken cs i c lt at) (all_append IsAsked (take i cs) (c ∷ []) before (asked, tt))
 
 module _ (fails : StoreFault → Type 0) where
   -- one command more, which is answered
@@ -40,8 +40,8 @@ module _ (fails : StoreFault → Type 0) where
 
   pub run_replied_at : (w v : World) (cs : List Asked) (i : ℕ) (c : Asked) (os more : List Outcome) (o : Outcome) (r : Reply) → i < length cs → c ≡ get_or cs i c → IsRun fails w (take i cs) os v
       → r ≡ (step v c.0 c.1).reply → o ≡ Replied r → more ≡ os ++ o ∷ [] → IsRun fails w (take (i + 1) cs) more (step v c.0 c.1).world
-  run_replied_at w v cs i c os more o r lt at is reply o_is more_is = rw (one_more cs i c lt at, more_is, o_is) (run_replied w v (take i cs) os c r is reply)
+  run_replied_at w v cs i c os more o r lt at is reply o_is more_is = rw (one_taken cs i c lt at, more_is, o_is) (run_replied w v (take i cs) os c r is reply)
 
   pub run_undone_at : (w v : World) (cs : List Asked) (i : ℕ) (c : Asked) (os more : List Outcome) (o : Outcome) → i < length cs → c ≡ get_or cs i c → IsRun fails w (take i cs) os v
       → MayBeUndone fails v c → o ≡ Unavailable → more ≡ os ++ o ∷ [] → IsRun fails w (take (i + 1) cs) more v
-  run_undone_at w v cs i c os more o lt at is why o_is more_is = rw (one_more cs i c lt at, more_is, o_is) (run_undone w v (take i cs) os c is why)
+  run_undone_at w v cs i c os more o lt at is why o_is more_is = rw (one_taken cs i c lt at, more_is, o_is) (run_undone w v (take i cs) os c is why)

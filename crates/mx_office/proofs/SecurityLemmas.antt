@@ -80,7 +80,7 @@ all_accounted w caller c r neither =
 -- ---- a message that is accepted
 
 -- a message in the inbox of the purse of a row, which it handles so
-record IsTaken (w : World) (p : Name) (n : ℕ) (x : Handled) : Type 0 where
+record IsAccepted (w : World) (p : Name) (n : ℕ) (x : Handled) : Type 0 where
   row : Row
   at : fmap.get w.rows p ≡ Some row
   message : Message
@@ -92,18 +92,18 @@ taken_as x (reply.Handled h) = h
 taken_as x r = x
 
 module _ (w : World) (h p : Name) (n : ℕ) (x : Handled) where
-  message_case : (r : Row) → fmap.get w.rows p ≡ Some r → (o : Option Message) → fmap.get r.holding.inbox n ≡ o → (on_found r.holding NoSuchMessage o (handle_message r.holding)).reply ≡ reply.Handled x → IsTaken w p n x
+  message_case : (r : Row) → fmap.get w.rows p ≡ Some r → (o : Option Message) → fmap.get r.holding.inbox n ≡ o → (on_found r.holding NoSuchMessage o (handle_message r.holding)).reply ≡ reply.Handled x → IsAccepted w p n x
   message_case r at None found e = cc
   message_case r at (Some m) found e = record { row = r; at = at; message = m; found = found; is = ap (taken_as x) e }
 
-  own_taken : (o : Option Held) → own_holding w h p ≡ o → (on_found w NoSuchPurse o (λ a. in_place (λ b. change_holding w p (λ _. b)) (handle n a))).reply ≡ reply.Handled x → IsTaken w p n x
+  own_taken : (o : Option Held) → own_holding w h p ≡ o → (on_found w NoSuchPurse o (λ a. in_place (λ b. change_holding w p (λ _. b)) (handle n a))).reply ≡ reply.Handled x → IsAccepted w p n x
   unfolding handle
   own_taken None own e = cc
   own_taken (Some a) own e =
       let r = is_owned w h p a own in
       message_case r.row r.at (fmap.get r.row.holding.inbox n) refl (subst (λ y. (handle n y).reply ≡ reply.Handled x) (sym r.holding) e)
 
-  is_taken : (step w (Holder h) (Handle p n)).reply ≡ reply.Handled x → IsTaken w p n x
+  is_taken : (step w (Holder h) (Handle p n)).reply ≡ reply.Handled x → IsAccepted w p n x
   unfolding step
   is_taken e = own_taken (own_holding w h p) refl e
 
@@ -140,7 +140,7 @@ pub accepts_authentic : (w : World) (h p : Name) (n : ℕ) → IsReachable w →
 accepts_authentic w h p n reach d e =
     let s : Sane w = reachable_sane w reach in
     let i : Invariant w = s.invariant in
-    let t : IsTaken w p n (took.Val d) = is_taken w h p n (took.Val d) e in
+    let t : IsAccepted w p n (took.Val d) = is_taken w h p n (took.Val d) e in
     let r : Row = t.row in
     let v : IsVal r.holding.purse t.message d = is_val r.holding.purse d t.message t.is in
     let gone : (seen w).gone d ≡ true = (value_left w p r t.at i d v.waits (i.timely p r t.at n (message.Val d) (t.found ∙ ap Some v.same))).0 in
@@ -151,7 +151,7 @@ accepts_authentic w h p n reach d e =
 pub pays_covered : (w : World) (h p : Name) (n : ℕ) → IsReachable w → PaysCovered w h p n
 pays_covered w h p n reach d e =
     let i : Invariant w = (reachable_sane w reach).invariant in
-    let t : IsTaken w p n (took.Req d) = is_taken w h p n (took.Req d) e in
+    let t : IsAccepted w p n (took.Req d) = is_taken w h p n (took.Req d) e in
     let r : Row = t.row in
     let v : IsReq r.holding.purse t.message d = is_req r.holding.purse d t.message t.is in
     let was = expects_req_is r.holding.purse.status d v.waits in

@@ -33,16 +33,16 @@ stays_on u v w a b = record { tokens = λ t c at. b.tokens t c (a.tokens t c at)
 -- ---- rows
 
 module _ (w : World) (p : Name) (s : Row) (before : (g : Name) → holder_at w p ≡ Some g → s.holder ≡ g) where
-  row_case : (q g : Name) (b : Bool) → is_name q p ≡ b → holder_at w q ≡ Some g → option_map (λ (r : Row). r.holder) (cond b (Some s) (fmap.get w.rows q)) ≡ Some g
-  row_case q g true is at = ap Some (before g (subst (λ x. holder_at w x ≡ Some g) (same_name q p is) at))
-  row_case q g false is at = at
+  same_holder_case : (q g : Name) (b : Bool) → is_name q p ≡ b → holder_at w q ≡ Some g → option_map (λ (r : Row). r.holder) (cond b (Some s) (fmap.get w.rows q)) ≡ Some g
+  same_holder_case q g true is at = ap Some (before g (subst (λ x. holder_at w x ≡ Some g) (same_name q p is) at))
+  same_holder_case q g false is at = at
 
   -- a purse's row is another, with the same holder if there was one
   row_stays : Stays w (set_row w p s)
   row_stays = record {
     tokens = λ t c at. at;
     holders = λ h m at. at;
-    purses = λ q g at. ap (option_map (λ (r : Row). r.holder)) (fmap.get-insert names_total w.rows p s q) ∙ row_case q g (is_name q p) refl at;
+    purses = λ q g at. ap (option_map (λ (r : Row). r.holder)) (fmap.get-insert names_total w.rows p s q) ∙ same_holder_case q g (is_name q p) refl at;
   }
 
 -- and so is one that has its holder
@@ -52,15 +52,15 @@ same_holder_stays w p r s at same = row_stays w p s (λ g is. let found : Some r
 -- ---- new tokens
 
 -- a token that is nobody's is no clerk's and no holder's
-free_case : (w : World) (t : Token) (b : Bool) → is_token t w.operator ≡ b → cond b (Some Operator) (fmap.get w.tokens t) ≡ None → fmap.get w.tokens t ≡ None
-free_case w t true is nobody = cc
-free_case w t false is nobody = nobody
+nobodys_case : (w : World) (t : Token) (b : Bool) → is_token t w.operator ≡ b → cond b (Some Operator) (fmap.get w.tokens t) ≡ None → fmap.get w.tokens t ≡ None
+nobodys_case w t true is nobody = cc
+nobodys_case w t false is nobody = nobody
 
 module _ (w : World) (t : Token) (c : Caller) (free : who_of w t ≡ None) where
   -- a new token
   token_case : (s : Token) (d : Caller) (b : Bool) → is_token s w.operator ≡ b → cond b (Some Operator) (fmap.get w.tokens s) ≡ Some d → cond b (Some Operator) (fmap.get (fmap.insert w.tokens t c) s) ≡ Some d
   token_case s d true is at = at
-  token_case s d false is at = kept_value w.tokens t c (free_case w t _ refl free) s d at
+  token_case s d false is at = kept_value w.tokens t c (nobodys_case w t _ refl free) s d at
 
   pub token_stays : (s : Token) (d : Caller) → who_of w s ≡ Some d → cond (is_token s w.operator) (Some Operator) (fmap.get (fmap.insert w.tokens t c) s) ≡ Some d
   token_stays s d at = token_case s d (is_token s w.operator) refl at

@@ -7,7 +7,7 @@ use Rattle.std.specs.Option.{some_prefix}
 use Rattle.std.specs.declared.cmp.Ordering.{Ordering}
 use Rattle.std.specs.declared.cmp.Ordering.TheVariants.{Less, Equal, Greater}
 use Rattle.std.specs.Ordering.{is_eq}
-use Rattle.std.specs.Cmp.{tied_itself, first_so, second_so}
+use Rattle.std.specs.Cmp.{tied_itself, first_so, second_so, eq_by_cmp_equiv}
 use Rattle.std.proofs.lemmas.Cmp.{nat_list_cmp_total}
 use Rattle.std.specs.FinMap.{slice_cmp-IsAntisymmetric, nat_cmp-IsAntisymmetric}
 use Rattle.std.specs.FinMap as fmap
@@ -33,6 +33,13 @@ name_itself a = ap is_eq (tied_itself nat_list_cmp_total a)
 
 pub names_alike : (a b : List ℕ) → a ≡ b → is_name a b ≡ true
 names_alike a b e = ap (is_name a) (sym e) ∙ name_itself a
+
+-- the tests of names and of details answer the same either way
+pub names_turned : (a b : List ℕ) → is_name a b ≡ is_name b a
+names_turned a b = (eq_by_cmp_equiv nat_list_cmp_total).symm a b
+
+pub details_turned : (a b : Details) → is_details a b ≡ is_details b a
+details_turned a b = (eq_by_cmp_equiv details_total).symm a b
 
 pub has-with_entry : (s : Entries) (d e : Details) → has_logged (with_entry s d) e ≡ (is_details e d || has_logged s e)
 has-with_entry s d e = grind (arith, fmap.get-insert details_total s d tt e)

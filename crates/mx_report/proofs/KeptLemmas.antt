@@ -1,8 +1,7 @@
 -- Rows stay as they stand: those that are same are so after each command, and those that were added are same.
-use Rattle.std.proofs.Common.{◌≡◌, ◌≢◌, ◌≤◌, ◌+◌, ℕ, Bool, true, false, cond, List, [], ◌∷◌, ◌++◌, length, length-append, Option, Some, None, refl, sym, ◌∙◌, ap, subst, arith, option_map, is_some, is_none, ◌&&◌, IsTrue}
+use Rattle.std.proofs.Common.{◌≡◌, ◌≤◌, ◌+◌, Bool, true, false, cond, List, [], ◌∷◌, length, length-append, Option, Some, None, refl, ◌∙◌, ap, arith, option_map, ◌&&◌}
 use Rattle.std.specs.FinMap as fmap
 use Rattle.std.specs.List.{AllByRecursion}
-use Rattle.mx_pay.specs.Names.{is_name}
 use Rattle.mx_pay.specs.Tokens.{is_token}
 use Rattle.mx_book.proofs.PartLemmas.{all_append}
 use Rattle.mx_book.specs.declared.values.Caller.{Caller}
@@ -10,11 +9,10 @@ use Rattle.mx_book.specs.declared.values.Caller.TheVariants as caller
 use Rattle.mx_book.specs.Reads.{who_of}
 use Rattle.mx_book.specs.World.{World, Row, Name, Token, is_of, new_row}
 use Rattle.mx_book.proofs.NameLemmas.{get-inserted, name_itself}
-use Rattle.mx_office.specs.declared.values.Command.{Command}
 use Rattle.mx_office.specs.declared.values.Refusal.{Refusal}
 use Rattle.mx_office.specs.declared.values.Reply.{Reply}
 use Rattle.mx_office.specs.declared.values.Reply.TheVariants as reply
-use Rattle.mx_office.specs.Step.{Asked, base, step, steps, new_member_refusal, new_holder_refusal, new_purse_refusal}
+use Rattle.mx_office.specs.Step.{step, new_member_refusal, new_holder_refusal, new_purse_refusal}
 use Rattle.mx_office.proofs.OwnLemmas.{absent, none_refused}
 use Rattle.mx_report.specs.declared.roll_rows.RollRow.{RollRow}
 use Rattle.mx_report.specs.declared.roll_rows.RollRow.TheVariants.{Member, Holder, Purse}
@@ -22,7 +20,7 @@ use Rattle.mx_report.specs.declared.rolls.RollReason.TheVariants as reason
 use Rattle.mx_report.specs.declared.rolls.RowOutcome.{RowOutcome}
 use Rattle.mx_report.specs.declared.rolls.RowOutcome.TheVariants.{Added, Same, Refused}
 use Rattle.mx_report.specs.Roll.{Fields, is_clerk, is_holder, is_holders, is_same, asker, command_of, row_of}
-use Rattle.mx_report.specs.Import.{Import, Imported, IsSame, after_record, after_records, asked, import, no_rows, outcome_of, record_imported, row_imported, row_standing, rows_counted, rows_standing, spelled_imported, tallied, Tally}
+use Rattle.mx_report.specs.Import.{Import, IsSame, after_record, after_records, asked, no_rows, outcome_of, record_imported, row_imported, row_standing, rows_counted, rows_standing, spelled_imported, tallied, Tally}
 use Rattle.mx_office.proofs.StayLemmas.{Stays, holder_at, stays_itself, stays_on, step_stays}
 
 -- ---- a row that is same stays so
@@ -31,9 +29,9 @@ clerk_case : (m : Name) (o n : Option Caller) → ((c : Caller) → o ≡ Some c
 clerk_case m None n stays is = cc
 clerk_case m (Some c) n stays is = rw (stays c refl) is
 
-holder_case : (h : Name) (o n : Option Caller) → ((c : Caller) → o ≡ Some c → n ≡ Some c) → is_holder h o ≡ true → is_holder h n ≡ true
-holder_case h None n stays is = cc
-holder_case h (Some c) n stays is = rw (stays c refl) is
+caller_case : (h : Name) (o n : Option Caller) → ((c : Caller) → o ≡ Some c → n ≡ Some c) → is_holder h o ≡ true → is_holder h n ≡ true
+caller_case h None n stays is = cc
+caller_case h (Some c) n stays is = rw (stays c refl) is
 
 of_case : (m : Name) (o n : Option Name) → ((x : Name) → o ≡ Some x → n ≡ Some x) → is_of m o ≡ true → is_of m n ≡ true
 of_case m None n stays is = cc
@@ -52,7 +50,7 @@ pub same_stays : (w v : World) (row : RollRow) → Stays w v → is_same w row �
 unfolding is_same
 same_stays w v (Member m t) stays is = clerk_case m (who_of w t) (who_of v t) (stays.tokens t) is
 same_stays w v (Holder h m t) stays is =
-    both _ _ _ _ (of_case m (fmap.get w.holders h) (fmap.get v.holders h) (stays.holders h)) (holder_case h (who_of w t) (who_of v t) (stays.tokens t)) is
+    both _ _ _ _ (of_case m (fmap.get w.holders h) (fmap.get v.holders h) (stays.holders h)) (caller_case h (who_of w t) (who_of v t) (stays.tokens t)) is
 same_stays w v (Purse p h) stays is = holders_case h (holder_at w p) (holder_at v p) (stays.purses p) is
 
 -- ---- a row that was added is same

@@ -1,5 +1,5 @@
 -- Pages of lines that are read one after the other are the lines of a purse.
-use Rattle.std.proofs.Common.{◌≡◌, ℕ, zero, suc, ◌+◌, ◌<◌, ◌≤◌, true, false, List, [], ◌∷◌, ◌++◌, Option, Some, None, refl, sym, ◌∙◌, ap, arith, append_assoc, length, take, drop, IsSome, option_map}
+use Rattle.std.proofs.Common.{◌≡◌, ℕ, zero, suc, ◌+◌, ◌<◌, true, false, List, [], ◌∷◌, ◌++◌, Option, Some, None, refl, sym, ◌∙◌, ap, arith, append_assoc, length, take, drop, option_map}
 use Rattle.std.specs.Prelude.{filter, nat_lt, is_none, option_and_then}
 use Rattle.std.proofs.lemmas.List.{length-take, take_all, take-append-drop}
 use Rattle.std.proofs.Math.Seq.{drop-append_seam}
@@ -74,22 +74,10 @@ all_read w p read more now n is so_far count page last few =
     let same : more ≡ lines_of w p (length read) most_lines = rw (← count) page in
     last ∙ rw same (last_page (own_lines w p) read (own_numbered w p is) so_far (rw same at few))
 
-account_case : (w : World) (p : Name) (o : Option Row) → is_none (option_and_then (λ (r : Row). option_map (account_with r) (fmap.get w.holders r.holder)) o) ≡ false → Some (from_row [] (λ r. r.holding.lines) o) ≡ option_map (λ (r : Row). r.holding.lines) o
-account_case w p None there = cc
-account_case w p (Some r) there = refl
+statement_case : (w : World) (p : Name) (o : Option Row) → is_none (option_and_then (λ (r : Row). option_map (account_with r) (fmap.get w.holders r.holder)) o) ≡ false → Some (from_row [] (λ r. r.holding.lines) o) ≡ option_map (λ (r : Row). r.holding.lines) o
+statement_case w p None there = cc
+statement_case w p (Some r) there = refl
 
 -- the lines of a purse that is there are its statement
 pub whole_statement : (w : World) (p : Name) → is_none (account_of w p) ≡ false → Some (own_lines w p) ≡ statement_of w p
-whole_statement w p there = account_case w p (fmap.get w.rows p) there
-
-member_case : (w : World) (p : Name) (r : Row) (m : Option Name) → IsSome m → is_none (option_map (account_with r) m) ≡ true → fmap.get w.rows p ≡ Some r → None ≡ statement_of w p
-member_case w p r None there gone at = cc
-member_case w p r (Some m) there gone at = cc
-
-gone_case : (w : World) (p : Name) (o : Option Row) → IsWorld w → fmap.get w.rows p ≡ o → is_none (option_and_then (λ (r : Row). option_map (account_with r) (fmap.get w.holders r.holder)) o) ≡ true → None ≡ statement_of w p
-gone_case w p None is at gone = rw at refl
-gone_case w p (Some r) is at gone = member_case w p r (fmap.get w.holders r.holder) (is.purses.each p r at).holder gone at
-
--- a purse that a book doesn't have has no statement
-pub no_statement : (w : World) (p : Name) → IsWorld w → is_none (account_of w p) ≡ true → None ≡ statement_of w p
-no_statement w p is gone = gone_case w p (fmap.get w.rows p) is refl gone
+whole_statement w p there = statement_case w p (fmap.get w.rows p) there

@@ -33,6 +33,7 @@ use Rattle.mx_book.specs.RowEdits.{log_at}
 use Rattle.mx_book.specs.RowTotals.{awaited, lost_by, lost_in_log, lost_in_archive, row_transit_of}
 use Rattle.mx_book.proofs.MapLemmas.{AllEntries, all_entries}
 use Rattle.mx_book.proofs.NameLemmas.{names_total}
+use Rattle.mx_book.proofs.ResultLemmas.{results_total}
 use Rattle.mx_tables.specs.Cells.{status_text}
 use Rattle.mx_tables.specs.Answers.{ArePurses}
 use Rattle.mx_tables.specs.Results.{AreDetails}
@@ -204,4 +205,4 @@ module _ (r : Rows) (rows items : List Row) (is : rows ≡ items) where
   results_summed valid same =
       sum_shown (result_row r.purses r.archive) result_shown _ rows items is same
       ∙ sum_same _ _ (fmap.entries r.archive)
-      (all_entries kept.results_total _ r.archive (λ k x at. sym (result_is r (result_shown (k, x)) k.0 k.1 refl refl (valid k x at))))
+      (all_entries results_total _ r.archive (λ k x at. sym (result_is r (result_shown (k, x)) k.0 k.1 refl refl (valid k x at))))

@@ -13,6 +13,7 @@ use Rattle.sqlite_value.specs.declared.value.Value.TheVariants.{Text}
 use Rattle.sqlite_value.specs.Order.{Row, column}
 use Rattle.sqlite.specs.State.{State, Executes}
 use Rattle.mx_pay.specs.Names.{name_cmp, is_name}
+use Rattle.mx_pay.proofs.TestLemmas.{or_assoc}
 use Rattle.mx_book.specs.World.{Name, is_of}
 use Rattle.mx_book.specs.Rows.{Rows}
 use Rattle.mx_book.specs.Under.{pair_cmp, remake}
@@ -21,16 +22,18 @@ use Rattle.mx_book.specs.declared.values.PurseRow.{PurseRow}
 use Rattle.mx_book.specs.declared.values.Redemption.{Redemption}
 use Rattle.mx_book.proofs.NameLemmas.{names_total}
 use Rattle.mx_book.proofs.UnderLemmas.{get-remake}
+use Rattle.mx_book.proofs.DueLemmas.{keys_total, keys_exact}
 use Rattle.mx_tables.specs.Schema.{office_schema}
 use Rattle.sqlite.specs.Effect.{Database}
 use Rattle.mx_tables.specs.Holds.{Holds}
 use Rattle.mx_tables.specs.States.{Goes}
 use Rattle.mx_tables.specs.Counted.{owned_shown, is_owned, collected_where}
+use Rattle.mx_tables.proofs.MapLists.{any_mapped}
 use Rattle.mx_tables.proofs.MoneyTexts.{mark_purse, mark_purse_is}
 use Rattle.mx_tables.proofs.StoredLemmas.{and_true, same_text, cast_int}
 use Rattle.mx_tables.proofs.WriteLemmas.{alters, goes_as, goes_then}
-use Rattle.mx_tables.proofs.RedemptionLemmas.{place}
-use Rattle.mx_tables.proofs.KeptLemmas.{redemptions, references_total, references_exact}
+use Rattle.mx_tables.proofs.RedemptionLemmas.{redemption_place}
+use Rattle.mx_tables.proofs.KeptLemmas.{redemptions}
 
 abbrev Redemptions : Type 0
 Redemptions = fmap.FinMap (pair_cmp name_cmp name_cmp) Redemption
@@ -43,10 +46,6 @@ or_false : (b : Bool) → (b || false) ≡ b
 or_false true = refl
 or_false false = refl
 
-or_or : (a b c : Bool) → ((a || b) || c) ≡ (a || (b || c))
-or_or true b c = refl
-or_or false b c = refl
-
 -- ---- the UPDATE
 
 set_or_left : (b : Bool) (x : Redemption) → cond b (record x { collected = true }) x ≡ record x { collected = x.collected || b }
@@ -57,7 +56,7 @@ pub collects_purse : (p : Name) (old new : State) (count : ℕ) → old.now.sche
     → Goes (λ r. record r { redemptions = remake (collected_where (λ q. is_name q p)) r.redemptions }) old new
 collects_purse p old new count has ran =
     goes_as _ _ old new (λ r h. λ i. record r { redemptions = remake (λ k x. set_or_left (is_name k.0 p) x i) r.redemptions })
-    (alters redemptions place (λ l c. refl) mark_purse _ _ mark_purse_is (Text p ∷ []) (λ e. is_name e.0.0 p) (λ k x. record x { collected = true }) (λ id e. rw (same_text e.0.0 p) (and_true _)) (λ id e. refl)
+    (alters redemptions redemption_place (λ l c. refl) mark_purse _ _ mark_purse_is (Text p ∷ []) (λ e. is_name e.0.0 p) (λ k x. record x { collected = true }) (λ id e. rw (same_text e.0.0 p) (and_true _)) (λ id e. refl)
     (λ id e. rw (cast_int id, cast_int (pos e.1.amount), cast_int (pos 1)) refl) old new count has ran)
 
 -- ---- one after the other
@@ -65,12 +64,12 @@ collects_purse p old new count has ran =
 module _ (p q : Name → Bool) (m : Redemptions) where
   twice : (k : Name × Name) (o : Option Redemption) → option_map (collected_where q k) (option_map (collected_where p k) o) ≡ option_map (collected_where (λ n. p n || q n) k) o
   twice k None = refl
-  twice k (Some x) = λ i. Some (record x { collected = or_or x.collected (p k.0) (q k.0) i })
+  twice k (Some x) = λ i. Some (record x { collected = or_assoc x.collected (p k.0) (q k.0) i })
 
   pub collected_twice : remake (collected_where q) (remake (collected_where p) m) ≡ remake (collected_where (λ n. p n || q n)) m
-  collected_twice = fmap.same_map references_total references_exact _ _ (λ k.
-      get-remake _ (collected_where q) references_exact (remake (collected_where p) m) k ∙ ap (option_map (collected_where q k)) (get-remake _ (collected_where p) references_exact m k)
-      ∙ twice k (fmap.get m k) ∙ sym (get-remake _ (collected_where (λ n. p n || q n)) references_exact m k))
+  collected_twice = fmap.same_map keys_total keys_exact _ _ (λ k.
+      get-remake _ (collected_where q) keys_exact (remake (collected_where p) m) k ∙ ap (option_map (collected_where q k)) (get-remake _ (collected_where p) keys_exact m k)
+      ∙ twice k (fmap.get m k) ∙ sym (get-remake _ (collected_where (λ n. p n || q n)) keys_exact m k))
 
   pub collected_same : ((n : Name) → p n ≡ q n) → remake (collected_where p) m ≡ remake (collected_where q) m
   collected_same same = λ i. remake {K = Name × Name} {X = Redemption} {Y = Redemption} {R = pair_cmp name_cmp name_cmp} (λ k x. record x { collected = x.collected || same k.0 i }) m
@@ -80,7 +79,7 @@ as_it_was k None = refl
 as_it_was k (Some x) = λ i. Some (record x { collected = or_false x.collected i })
 
 pub collected_none : (m : Redemptions) → remake (collected_where (λ _. false)) m ≡ m
-collected_none m = fmap.same_map references_total references_exact _ _ (λ k. get-remake _ (collected_where (λ _. false)) references_exact m k ∙ as_it_was k (fmap.get m k))
+collected_none m = fmap.same_map keys_total keys_exact _ _ (λ k. get-remake _ (collected_where (λ _. false)) keys_exact m k ∙ as_it_was k (fmap.get m k))
 
 any_last : {X : Type 0} (p : X → Bool) (xs : List X) (x : X) → (list_any p xs || p x) ≡ list_any p (xs ++ x ∷ [])
 any_last p [] x = sym (or_false (p x))
@@ -90,9 +89,9 @@ any_last p (y ∷ xs) x = elim (cases_Bool (p y)) [ inl t ↦ rw t refl | inr e 
 abbrev pub so_far : fmap.FinMap name_cmp Name → Name → List Row → Name → Bool
 so_far holders m rows n = list_any (λ row. is_owned holders m row n) rows
 
-pub one_more : (holders : fmap.FinMap name_cmp Name) (m : Name) (rows : List Row) (at : ℕ) (row : Row) → at < length rows → row ≡ get_or rows at row → (e : Redemptions)
+pub one_row_more : (holders : fmap.FinMap name_cmp Name) (m : Name) (rows : List Row) (at : ℕ) (row : Row) → at < length rows → row ≡ get_or rows at row → (e : Redemptions)
     → remake (collected_where (is_owned holders m row)) (remake (collected_where (so_far holders m (take at rows))) e) ≡ remake (collected_where (so_far holders m (take (at + 1) rows))) e
-one_more holders m rows at row within is e =
+one_row_more holders m rows at row within is e =
     collected_twice _ _ e
     ∙ collected_same _ _ e (λ n. any_last (λ row. is_owned holders m row n) (take at rows) row ∙ ap (list_any (λ row. is_owned holders m row n)) (ap (λ r. take at rows ++ r ∷ []) is ∙ sym (take_more rows at row within)))
 
@@ -110,16 +109,12 @@ module _ (g : PurseRow → Bool) (p : Name) where
   missed q [] t h = refl
   missed q (e ∷ es) t h = grind (arith, missed q es, names_total.congr p q e.0)
 
-  listed : (es : List (Name × PurseRow)) → T (is_sorted name_cmp es) → list_any named es ≡ if_there (fmap.find name_cmp p es)
-  listed [] h = refl
-  listed (e ∷ es) h = grind (arith, listed es, missed e.0 es, or_false (g e.1))
+  named_listed : (es : List (Name × PurseRow)) → T (is_sorted name_cmp es) → list_any named es ≡ if_there (fmap.find name_cmp p es)
+  named_listed [] h = refl
+  named_listed (e ∷ es) h = grind (arith, named_listed es, missed e.0 es, or_false (g e.1))
 
   pub any_named : (m : fmap.FinMap name_cmp PurseRow) → list_any named (fmap.entries m) ≡ if_there (fmap.get m p)
-  any_named m = listed (fmap.entries m) (fmap.entries_sorted m) ∙ ap if_there (sym (fmap.get-entries m p))
-
-any_mapped : {X : Type 0} (f : Row → Bool) (show : X → Row) (xs : List X) → list_any f (map show xs) ≡ list_any (λ x. f (show x)) xs
-any_mapped f show [] = refl
-any_mapped f show (x ∷ xs) = ap (λ b. f (show x) || b) (any_mapped f show xs)
+  any_named m = named_listed (fmap.entries m) (fmap.entries_sorted m) ∙ ap if_there (sym (fmap.get-entries m p))
 
 member_there : (holders : fmap.FinMap name_cmp Name) (m : Name) (o : Option PurseRow) → if_there (λ x. is_of m (fmap.get holders x.holder)) [] o ≡ is_of m (member_at holders o)
 member_there holders m None = refl
@@ -176,7 +171,7 @@ goes_begun s m has = goes_as _ _ s s (λ r h. λ i. record r { redemptions = sym
 pub goes_more : (a b c : State) (m : Name) (rows : List Row) (at : ℕ) (row : Row) → at < length rows → row ≡ get_or rows at row → Goes (collects_so_far m (take at rows)) a b
     → Goes (λ r. record r { redemptions = remake (collected_where (is_owned r.holders m row)) r.redemptions }) b c → Goes (collects_so_far m (take (at + 1) rows)) a c
 goes_more a b c m rows at row within is one two =
-    goes_as _ _ a c (λ r h. λ i. record r { redemptions = one_more r.holders m rows at row within is r.redemptions i }) (goes_then _ _ a b c one two)
+    goes_as _ _ a c (λ r h. λ i. record r { redemptions = one_row_more r.holders m rows at row within is r.redemptions i }) (goes_then _ _ a b c one two)
 
 pub goes_all : (a b c : State) (m : Name) (rows items : List Row) (at : ℕ) → length rows ≤ at → rows ≡ items → a.now.schema ≡ office_schema → b.now ≡ a.now → ((r : Rows) → Holds a.now r → IsPermutation (map owned_shown (fmap.entries r.purses)) items)
     → Goes (collects_so_far m (take at rows)) b c → Goes (λ r. record r { redemptions = remake (marked r.purses r.holders m) r.redemptions }) a c

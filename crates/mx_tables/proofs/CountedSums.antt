@@ -22,14 +22,6 @@ use Rattle.mx_tables.specs.Counted.{number_of, owed_shown, counted_row, row_sums
 use Rattle.mx_tables.specs.Answers.{member_shown}
 use Rattle.mx_tables.specs.Holds.{Holds}
 use Rattle.mx_tables.specs.States.{Stays, worry}
-use Rattle.mx_tables.proofs.StateLemmas.{sure_before}
-
-pub stays_then : (a b c : State) → Stays a b → Stays b c → Stays a c
-stays_then a b c one two = record {
-  ours = two.ours;
-  later = let x = one.later in let y = two.later in omega (arith, x, y);
-  same = λ h. two.same h ∙ one.same (sure_before b c two.later h);
-}
 
 -- what a database held it holds after a call that leaves the rows
 pub still_holds : (a b : State) (r : Rows) → Stays a b → worry b ≡ 0 → Holds a.now r → Holds b.now r

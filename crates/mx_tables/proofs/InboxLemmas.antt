@@ -6,7 +6,7 @@ use Rattle.std.specs.List.{AllByRecursion}
 use Rattle.std.specs.FinMap as fmap
 use Rattle.std.specs.declared.cmp.Ordering.{Ordering}
 use Rattle.std.specs.Ordering.{nat_cmp, is_eq, eq_by_cmp, ordering_then}
-use Rattle.std.specs.Cmp.{eq_by_cmp_equiv, nat_cmp_total}
+use Rattle.std.specs.Cmp.{eq_by_cmp_equiv, nat_cmp_total, tied_then}
 use Rattle.std.proofs.lemmas.Bool.{cases_Bool}
 use Rattle.std.proofs.lemmas.Bool.Decides.{eqb_tells}
 use Rattle.sqlite_value.specs.declared.value.Value.TheVariants.{Int, Text}
@@ -19,6 +19,7 @@ use Rattle.sqlite_schema.specs.declared.schema.Table.{Table}
 use Rattle.sqlite_sql.specs.Term.{col}
 use Rattle.sqlite.specs.Effect.{Database}
 use Rattle.sqlite.specs.State.{State, Shown, Executes}
+use Rattle.mx_pay.proofs.SameLemmas.{names_turned}
 use Rattle.mx_pay.specs.Names.{name_cmp, is_name}
 use Rattle.mx_pay.proofs.TestLemmas.{is_equal}
 use Rattle.mx_purse.specs.declared.message.Message.{Message}
@@ -42,11 +43,11 @@ use Rattle.mx_tables.proofs.Queries.{is_given}
 use Rattle.mx_tables.proofs.Texts.{select_inbox, select_inbox_is, select_held_numbers, select_held_numbers_is, select_message, select_message_is, select_number, select_number_is, insert_message, insert_message_is, delete_message, delete_message_is}
 use Rattle.mx_tables.proofs.Statements.{passes}
 use Rattle.mx_tables.proofs.StoredLemmas.{and_true, same_text, same_numbers, numbers_cmp, cast_int, cast_null}
-use Rattle.mx_tables.proofs.ReadLemmas.{turned, answers, answers_in_order}
+use Rattle.mx_tables.proofs.ReadLemmas.{answers, answers_in_order}
 use Rattle.mx_tables.proofs.WriteLemmas.{Place, adds, drops, goes_as}
 use Rattle.mx_tables.proofs.KeptLemmas as kept
 use Rattle.mx_tables.proofs.MessageLemmas.{same_message, same_message_rows}
-use Rattle.mx_tables.proofs.ValueLemmas.{same_text as same_words}
+use Rattle.mx_tables.proofs.ValueLemmas.{same_words}
 
 -- under one first key, pairs are in the order of their second keys
 pub second_less : (a b : Ordering) → is_eq a ≡ true → ordering_then a b ≡ Less → b ≡ Less
@@ -62,7 +63,7 @@ pub finds_inbox : (p : Name) (old new : State) (rows : List Row) → Shown selec
 finds_inbox p old new rows shown r h =
     answers_in_order kept.inbox (is_given 1 0 ∷ []) (col 1 2 ∷ col 1 3 ∷ col 1 4 ∷ []) ((col 1 2, ascending Binary) ∷ []) (Text p ∷ []) (λ (e : (Name × ℕ) × Message). is_name p e.0.0)
     (λ (e : (Name × ℕ) × Message). (number e.0.1 ∷ [], message_row (e.0.1, e.1)))
-    (λ id e. rw (same_text e.0.0 p) (and_true _ ∙ turned e.0.0 p)) (λ id e. refl)
+    (λ id e. rw (same_text e.0.0 p) (and_true _ ∙ names_turned e.0.0 p)) (λ id e. refl)
     (λ a b s t low. then-Equal _ ∙ value_cmp-Int (pos a.0.1) (pos b.0.1) ∙ numbers_cmp a.0.1 b.0.1 ∙ second_less _ _ (same_first p a.0.0 b.0.0 s t) low)
     select_inbox (codes "number" ∷ codes "kind" ∷ codes "details" ∷ []) select_inbox_is old new rows shown r h
     ∙ sym (map-map message_row (λ (e : (Name × ℕ) × Message). (e.0.1, e.1)) (of_name p (fmap.entries r.inbox)))
@@ -72,7 +73,7 @@ pub finds_numbers : (p : Name) (old new : State) (rows : List Row) → Shown sel
 finds_numbers p old new rows shown r h =
     answers_in_order kept.inbox (is_given 1 0 ∷ []) (col 1 2 ∷ []) ((col 1 2, ascending Binary) ∷ []) (Text p ∷ []) (λ (e : (Name × ℕ) × Message). is_name p e.0.0)
     (λ (e : (Name × ℕ) × Message). (number e.0.1 ∷ [], number e.0.1 ∷ []))
-    (λ id e. rw (same_text e.0.0 p) (and_true _ ∙ turned e.0.0 p)) (λ id e. refl)
+    (λ id e. rw (same_text e.0.0 p) (and_true _ ∙ names_turned e.0.0 p)) (λ id e. refl)
     (λ a b s t low. then-Equal _ ∙ value_cmp-Int (pos a.0.1) (pos b.0.1) ∙ numbers_cmp a.0.1 b.0.1 ∙ second_less _ _ (same_first p a.0.0 b.0.0 s t) low)
     select_held_numbers (codes "number" ∷ []) select_held_numbers_is old new rows shown r h
     ∙ sym (map-map (λ (m : ℕ × Message). number m.0 ∷ []) (λ (e : (Name × ℕ) × Message). (e.0.1, e.1)) (of_name p (fmap.entries r.inbox)))
@@ -93,19 +94,14 @@ inbox_read p r valid rows ms read mine is =
     same_message_rows ms (row_inbox_of r p) mine (all_of_purse p (fmap.entries r.inbox) (all_entries kept.pairs_total (λ _ m. IsMessage m) r.inbox valid))
     (sym read ∙ ap (map first_three) is ∙ map-map first_three message_row (row_inbox_of r p))
 
-pub eq_then : (a b : Ordering) → is_eq (ordering_then a b) ≡ (is_eq a && is_eq b)
-eq_then Less b = refl
-eq_then Equal b = refl
-eq_then Greater b = refl
-
 pub both_turned : (a b c d e f : Bool) → a ≡ c → b ≡ d → c ≡ e → d ≡ f → (a && (b && true)) ≡ (e && f)
 both_turned a b c d e f p q s t = ap₂ (λ x y. x && y) (p ∙ s) (and_true b ∙ q ∙ t)
 
 -- the test on both columns of the key
 at_message : (p : Name) (n : ℕ) (id : ℤ) (e : (Name × ℕ) × Message) → passes (is_given 1 0 ∷ is_given 2 1 ∷ []) (Text p ∷ number n ∷ []) (Int id ∷ message_cells e) ≡ eq_by_cmp (pair_cmp name_cmp nat_cmp) (p, n) e.0
 at_message p n id e =
-    both_turned _ _ (is_name e.0.0 p) (eq_by_cmp nat_cmp e.0.1 n) (is_name p e.0.0) (eq_by_cmp nat_cmp n e.0.1) (same_text e.0.0 p) (same_numbers e.0.1 n) (turned e.0.0 p) ((eq_by_cmp_equiv nat_cmp_total).symm e.0.1 n)
-    ∙ sym (eq_then (name_cmp p e.0.0) (nat_cmp n e.0.1))
+    both_turned _ _ (is_name e.0.0 p) (eq_by_cmp nat_cmp e.0.1 n) (is_name p e.0.0) (eq_by_cmp nat_cmp n e.0.1) (same_text e.0.0 p) (same_numbers e.0.1 n) (names_turned e.0.0 p) ((eq_by_cmp_equiv nat_cmp_total).symm e.0.1 n)
+    ∙ tied_then (name_cmp p e.0.0) (nat_cmp n e.0.1)
 
 pub finds_message : (p : Name) (n : ℕ) (old new : State) (rows : List Row) → Shown select_message (Text p ∷ number n ∷ []) old new rows → (r : Rows) → Holds old.now r
     → IsPermutation (map (λ (e : (Name × ℕ) × Message). message_shown e.1) (at_key (pair_cmp name_cmp nat_cmp) (p, n) (fmap.entries r.inbox))) rows
@@ -139,11 +135,11 @@ message_back v m row one two is a b = sym (same_message v m one two (same_words 
 abbrev inbox_table : Table
 inbox_table = record inbox { tree = 10 }
 
-abbrev with_list : List ((Name × ℕ) × Message) → Contents → Contents
-with_list l c = record c { inbox = l }
+abbrev with_inbox : List ((Name × ℕ) × Message) → Contents → Contents
+with_inbox l c = record c { inbox = l }
 
-place : Place (pair_cmp name_cmp nat_cmp) message_cells 5 inbox_table with_list (λ m r. record r { inbox = m })
-place = record {
+inbox_place : Place (pair_cmp name_cmp nat_cmp) message_cells 5 inbox_table with_inbox (λ m r. record r { inbox = m })
+inbox_place = record {
   found = refl;
   uncounted = refl;
   not_meta = λ e. omega (arith, e);
@@ -171,13 +167,13 @@ pub drops_message : (p : Name) (n : ℕ) (old new : State) (count : ℕ) → old
     → Goes (λ r. record r { inbox = fmap.remove r.inbox (p, n) }) old new
 drops_message p n old new count has ran =
     goes_as _ _ old new (λ r h. ap (λ m. record r { inbox = m }) (remove_is r.inbox (p, n)))
-    (drops kept.inbox place (λ l c. refl) delete_message _ _ delete_message_is (Text p ∷ number n ∷ []) (eq_by_cmp (pair_cmp name_cmp nat_cmp) (p, n))
+    (drops kept.inbox inbox_place (λ l c. refl) delete_message _ _ delete_message_is (Text p ∷ number n ∷ []) (eq_by_cmp (pair_cmp name_cmp nat_cmp) (p, n))
     (at_message p n) (λ id e. refl) old new count has ran)
 
 pub adds_message : (p : Name) (n : ℕ) (m : Message) (old new : State) (count : ℕ) → old.now.schema ≡ office_schema
     → Executes insert_message (Text p ∷ number n ∷ Text (message_kind m) ∷ Text (message_details m) ∷ []) old new (Ok count) → Goes (λ r. record r { inbox = fmap.insert r.inbox (p, n) m }) old new
 adds_message p n m =
-    adds kept.inbox place (λ l c. refl) insert_message _ _ insert_message_is (Text p ∷ number n ∷ Text (message_kind m) ∷ Text (message_details m) ∷ []) ((p, n), m) (rw (cast_null, cast_int (pos n)) refl)
+    adds kept.inbox inbox_place (λ l c. refl) insert_message _ _ insert_message_is (Text p ∷ number n ∷ Text (message_kind m) ∷ Text (message_details m) ∷ []) ((p, n), m) (rw (cast_null, cast_int (pos n)) refl)
 
 -- a message under the next number of its purse, which rises
 pub delivers : (p : Name) (m : Message) (n : ℕ) (a b c d : State) → b.now ≡ a.now → ((r : Rows) → Holds b.now r → option_map (λ (x : PurseRow). x.next_message) (fmap.get r.purses p) ≡ Some n)

@@ -16,9 +16,7 @@ use Rattle.mx_pay.specs.Names.{name_cmp}
 use Rattle.mx_pay.specs.Tokens.{token_cmp}
 use Rattle.mx_pay.specs.Details.{Details}
 use Rattle.mx_pay.specs.Codes.{entry_text}
-use Rattle.mx_pay.specs.Orders.{details_exact}
 use Rattle.hex.specs.Hex.{encode_lower}
-use Rattle.mx_pay.proofs.LogLemmas.{details_total}
 use Rattle.mx_pay.proofs.TestLemmas.{is_equal}
 use Rattle.mx_book.specs.World.{Name, result_cmp}
 use Rattle.mx_book.specs.Rows.{Rows}
@@ -26,6 +24,8 @@ use Rattle.mx_book.specs.Under.{pair_cmp}
 use Rattle.mx_book.specs.declared.values.Caller.TheVariants.{Operator}
 use Rattle.mx_book.proofs.NameLemmas.{names_total, names_exact, name_itself}
 use Rattle.mx_book.proofs.UnderLemmas.{pair_total, pair_exact}
+use Rattle.mx_book.proofs.DueLemmas.{keys_total, keys_exact}
+use Rattle.mx_book.proofs.ResultLemmas.{results_total, results_exact}
 use Rattle.mx_tables.specs.Contents.{Contents}
 use Rattle.mx_tables.specs.Cells.{member_cells, token_cells, holder_cells, purse_cells, message_cells, line_cells, result_cells, load_cells, redemption_cells, tokens_of}
 use Rattle.mx_tables.specs.Holds.{HaveCells, Stores, HasContents, Holds}
@@ -77,18 +77,6 @@ pairs_total = pair_total names_total nat_cmp_total
 
 pub pairs_exact : IsAntisymmetric (pair_cmp name_cmp nat_cmp)
 pairs_exact = pair_exact names_exact nat_cmp-IsAntisymmetric
-
-pub references_total : IsTotalOrder (pair_cmp name_cmp name_cmp)
-references_total = pair_total names_total names_total
-
-pub references_exact : IsAntisymmetric (pair_cmp name_cmp name_cmp)
-references_exact = pair_exact names_exact names_exact
-
-pub results_total : IsTotalOrder result_cmp
-results_total = pair_total names_total details_total
-
-pub results_exact : IsAntisymmetric result_cmp
-results_exact = pair_exact names_exact details_exact
 
 -- ---- the tables
 
@@ -172,20 +160,20 @@ archive = record {
 
 pub loads : Kept (pair_cmp name_cmp name_cmp) load_cells 18 (λ c. c.loads) (λ r. r.loads)
 loads = record {
-  total = references_total;
-  exact = references_exact;
+  total = keys_total;
+  exact = keys_exact;
   stored = λ db c h. h.tables.1.1.1.1.1.1.1.1.1.0;
-  distinct = λ db c h. distinct_rows (pair_cmp name_cmp name_cmp) references_total load_cells (1 ∷ 2 ∷ []) (λ i j e f t. let same = references_exact e.0 f.0 (is_equal _ t) in two_places (Int i ∷ load_cells e) (Int j ∷ load_cells f) (equal_texts e.0.0 f.0.0 (ap (λ (k : Name × Name). k.0) same)) (equal_texts e.0.1 f.0.1 (ap (λ (k : Name × Name). k.1) same)))
+  distinct = λ db c h. distinct_rows (pair_cmp name_cmp name_cmp) keys_total load_cells (1 ∷ 2 ∷ []) (λ i j e f t. let same = keys_exact e.0 f.0 (is_equal _ t) in two_places (Int i ∷ load_cells e) (Int j ∷ load_cells f) (equal_texts e.0.0 f.0.0 (ap (λ (k : Name × Name). k.0) same)) (equal_texts e.0.1 f.0.1 (ap (λ (k : Name × Name). k.1) same)))
       (db.trees 18) c.loads h.tables.1.1.1.1.1.1.1.1.1.0.have h.tables.1.1.1.1.1.1.1.1.1.0.rise (each_free _ _ (db.trees 18) h.unique.1.1.1.1.1.1.1.1.1.0);
   is = λ c. refl;
 }
 
 pub redemptions : Kept (pair_cmp name_cmp name_cmp) redemption_cells 20 (λ c. c.redemptions) (λ r. r.redemptions)
 redemptions = record {
-  total = references_total;
-  exact = references_exact;
+  total = keys_total;
+  exact = keys_exact;
   stored = λ db c h. h.tables.1.1.1.1.1.1.1.1.1.1.0;
-  distinct = λ db c h. distinct_rows (pair_cmp name_cmp name_cmp) references_total redemption_cells (1 ∷ 2 ∷ []) (λ i j e f t. let same = references_exact e.0 f.0 (is_equal _ t) in two_places (Int i ∷ redemption_cells e) (Int j ∷ redemption_cells f) (equal_texts e.0.0 f.0.0 (ap (λ (k : Name × Name). k.0) same)) (equal_texts e.0.1 f.0.1 (ap (λ (k : Name × Name). k.1) same)))
+  distinct = λ db c h. distinct_rows (pair_cmp name_cmp name_cmp) keys_total redemption_cells (1 ∷ 2 ∷ []) (λ i j e f t. let same = keys_exact e.0 f.0 (is_equal _ t) in two_places (Int i ∷ redemption_cells e) (Int j ∷ redemption_cells f) (equal_texts e.0.0 f.0.0 (ap (λ (k : Name × Name). k.0) same)) (equal_texts e.0.1 f.0.1 (ap (λ (k : Name × Name). k.1) same)))
       (db.trees 20) c.redemptions h.tables.1.1.1.1.1.1.1.1.1.1.0.have h.tables.1.1.1.1.1.1.1.1.1.1.0.rise (each_free _ _ (db.trees 20) h.unique.1.1.1.1.1.1.1.1.1.1.0);
   is = λ c. refl;
 }

@@ -35,11 +35,11 @@ insert_line_is = record { is = refl; plain = (refl, refl) }
 abbrev line_table : Table
 line_table = record line { tree = 12 }
 
-abbrev with_list : List ((Name × ℕ) × LineRow) → Contents → Contents
-with_list l c = record c { lines = l }
+abbrev with_lines : List ((Name × ℕ) × LineRow) → Contents → Contents
+with_lines l c = record c { lines = l }
 
-place : Place (pair_cmp name_cmp nat_cmp) line_cells 6 line_table with_list (λ m r. record r { lines = m })
-place = record {
+line_place : Place (pair_cmp name_cmp nat_cmp) line_cells 6 line_table with_lines (λ m r. record r { lines = m })
+line_place = record {
   found = refl;
   uncounted = refl;
   not_meta = λ e. omega (arith, e);
@@ -53,5 +53,5 @@ pub adds_line : (p : Name) (l : Line) (old new : State) (count : ℕ) → old.no
     → Executes insert_line (Text p ∷ number l.number ∷ Text (kind_text l.kind) ∷ number l.amount ∷ number l.balance ∷ Text (note_text l.note) ∷ []) old new (Ok count)
     → Goes (λ r. record r { lines = fmap.insert r.lines (p, l.number) (line_row l) }) old new
 adds_line p l =
-    adds kept.lines place (λ l c. refl) insert_line _ _ insert_line_is (Text p ∷ number l.number ∷ Text (kind_text l.kind) ∷ number l.amount ∷ number l.balance ∷ Text (note_text l.note) ∷ []) ((p, l.number), line_row l)
+    adds kept.lines line_place (λ l c. refl) insert_line _ _ insert_line_is (Text p ∷ number l.number ∷ Text (kind_text l.kind) ∷ number l.amount ∷ number l.balance ∷ Text (note_text l.note) ∷ []) ((p, l.number), line_row l)
     (rw (cast_null, cast_int (pos l.number), cast_int (pos l.amount), cast_int (pos l.balance)) refl)

@@ -1,6 +1,7 @@
 -- The statements on loads.
-use Rattle.std.proofs.Common.{◌≡◌, inl, inr, ℕ, pos, List, [], ◌∷◌, map, Ok, refl, sym, ◌∙◌, arith, true, ◌&&◌}
+use Rattle.std.proofs.Common.{◌≡◌, inl, inr, ℕ, pos, List, [], ◌∷◌, map, Ok, refl, ◌∙◌, arith, true, ◌&&◌}
 use Rattle.std.specs.List.Sorted.{IsPermutation}
+use Rattle.std.specs.Cmp.{tied_then}
 use Rattle.std.specs.FinMap as fmap
 use Rattle.std.specs.Ordering.{eq_by_cmp}
 use Rattle.std.proofs.lemmas.Bool.Decides.{eqb_tells}
@@ -12,6 +13,7 @@ use Rattle.sqlite_sql.specs.declared.ops.BinaryOp.TheVariants.{Compare}
 use Rattle.sqlite_sql.specs.declared.ops.CompareOp.TheVariants.{Eq}
 use Rattle.sqlite_sql.specs.Ops.{binary, is_true}
 use Rattle.sqlite.specs.State.{State, Shown, Executes}
+use Rattle.mx_pay.proofs.SameLemmas.{names_turned}
 use Rattle.mx_pay.specs.Names.{name_cmp, is_name}
 use Rattle.mx_book.specs.World.{Name}
 use Rattle.mx_book.specs.Rows.{Rows}
@@ -24,17 +26,17 @@ use Rattle.mx_tables.specs.States.{Goes}
 use Rattle.mx_tables.specs.Answers.{at_key, amount_shown}
 use Rattle.mx_tables.proofs.MoneyTexts.{select_load, select_load_is, insert_load, insert_load_is}
 use Rattle.mx_tables.proofs.StoredLemmas.{same_text, cast_int, cast_null}
-use Rattle.mx_tables.proofs.ReadLemmas.{turned, answers}
+use Rattle.mx_tables.proofs.ReadLemmas.{answers}
 use Rattle.mx_tables.proofs.WriteLemmas.{Place, adds}
-use Rattle.mx_tables.proofs.InboxLemmas.{eq_then, both_turned}
+use Rattle.mx_tables.proofs.InboxLemmas.{both_turned}
 use Rattle.mx_tables.proofs.KeptLemmas.{loads}
 
 -- two texts that are compared with those of a purse and a reference
 pub reference_passes : (p reference : Name) (k : Name × Name)
     → (is_true (binary (Compare Eq Binary) (Text k.0) (Text p)) && (is_true (binary (Compare Eq Binary) (Text k.1) (Text reference)) && true)) ≡ eq_by_cmp (pair_cmp name_cmp name_cmp) (p, reference) k
 reference_passes p reference k =
-    both_turned _ _ (is_name k.0 p) (is_name k.1 reference) (is_name p k.0) (is_name reference k.1) (same_text k.0 p) (same_text k.1 reference) (turned k.0 p) (turned k.1 reference)
-    ∙ sym (eq_then (name_cmp p k.0) (name_cmp reference k.1))
+    both_turned _ _ (is_name k.0 p) (is_name k.1 reference) (is_name p k.0) (is_name reference k.1) (same_text k.0 p) (same_text k.1 reference) (names_turned k.0 p) (names_turned k.1 reference)
+    ∙ tied_then (name_cmp p k.0) (name_cmp reference k.1)
 
 pub finds_load : (p reference : Name) (old new : State) (rows : List Row) → Shown select_load (Text p ∷ Text reference ∷ []) old new rows → (r : Rows) → Holds old.now r
     → IsPermutation (map (λ (e : (Name × Name) × ℕ). amount_shown e.1) (at_key (pair_cmp name_cmp name_cmp) (p, reference) (fmap.entries r.loads))) rows
@@ -45,11 +47,11 @@ finds_load p reference =
 abbrev load_table : Table
 load_table = record load { tree = 18 }
 
-abbrev with_list : List ((Name × Name) × ℕ) → Contents → Contents
-with_list l c = record c { loads = l }
+abbrev with_loads : List ((Name × Name) × ℕ) → Contents → Contents
+with_loads l c = record c { loads = l }
 
-place : Place (pair_cmp name_cmp name_cmp) load_cells 9 load_table with_list (λ m r. record r { loads = m })
-place = record {
+load_place : Place (pair_cmp name_cmp name_cmp) load_cells 9 load_table with_loads (λ m r. record r { loads = m })
+load_place = record {
   found = refl;
   uncounted = refl;
   not_meta = λ e. omega (arith, e);
@@ -62,4 +64,4 @@ place = record {
 pub adds_load : (p reference : Name) (amount : ℕ) (old new : State) (count : ℕ) → old.now.schema ≡ office_schema → Executes insert_load (Text p ∷ Text reference ∷ number amount ∷ []) old new (Ok count)
     → Goes (λ r. record r { loads = fmap.insert r.loads (p, reference) amount }) old new
 adds_load p reference amount =
-    adds loads place (λ l c. refl) insert_load _ _ insert_load_is (Text p ∷ Text reference ∷ number amount ∷ []) ((p, reference), amount) (rw (cast_null, cast_int (pos amount)) refl)
+    adds loads load_place (λ l c. refl) insert_load _ _ insert_load_is (Text p ∷ Text reference ∷ number amount ∷ []) ((p, reference), amount) (rw (cast_null, cast_int (pos amount)) refl)

@@ -49,13 +49,13 @@ module _ {K V : Type 0} {R : K → K → Ordering} (o : IsTotalOrder R) (exact :
         ]
       ]
 
-  turned : (b : Bool) (x : Option V) → cond b None x ≡ cond (not b) x None
-  turned true x = refl
-  turned false x = refl
+  cond_turned : (b : Bool) (x : Option V) → cond b None x ≡ cond (not b) x None
+  cond_turned true x = refl
+  cond_turned false x = refl
 
   -- what is left of a list is what the map keeps
   pub map_left : (gone : K → Bool) (es : List (K × V)) → fmap.from_entries {R = R} (filter (λ (e : K × V). not (gone e.0)) es) ≡ fmap.retain_keys (fmap.from_entries es) (λ k. not (gone k))
   map_left gone es = fmap.same_map o exact _ _ (λ q.
       fmap.get-from_entries o (filter (λ (e : K × V). not (gone e.0)) es) q ∙ find_left gone q es ∙ ap (cond (gone q) None) (sym (fmap.get-from_entries o es q))
-      ∙ turned (gone q) (fmap.get (fmap.from_entries es) q)
+      ∙ cond_turned (gone q) (fmap.get (fmap.from_entries es) q)
       ∙ sym (fmap.get-retain_keys (fmap.from_entries es) (λ k. not (gone k)) q (λ x tie. ap (λ k. not (gone k)) (sym (exact q x tie)))))

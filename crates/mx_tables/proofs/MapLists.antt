@@ -1,5 +1,6 @@
 -- A map's entries are those of the list that it was made of, in order.
-use Rattle.std.proofs.Common.{◌≡◌, inl, inr, true, cond, List, [], ◌∷◌, ◌++◌, Some, None, refl, sym, subst, ◌∙◌}
+use Rattle.std.proofs.Common.{◌≡◌, inl, inr, Bool, true, cond, ◌||◌, List, [], ◌∷◌, ◌++◌, map, Some, None, refl, sym, ap, subst, ◌∙◌}
+use Rattle.std.specs.List.{list_any}
 use Rattle.std.specs.List.Sorted.{IsPermutation}
 use Rattle.std.proofs.lemmas.Bool.{cases_Bool}
 use Rattle.std.proofs.lemmas.List.Sorted.{IsPermutation-refl, IsPermutation-cons, IsPermutation-trans, IsPermutation-append_comm}
@@ -16,6 +17,11 @@ use Rattle.mx_book.proofs.UnderLemmas.{entries_empty}
 abbrev pub AreDistinct : {K V : Type 0} → (K → K → Ordering) → List (K × V) → Type 0
 AreDistinct R [] = Unit {0}
 AreDistinct R (e ∷ es) = (fmap.find R e.0 es ≡ None) × AreDistinct R es
+
+-- a test of some value of a list that was mapped is one of the list
+pub any_mapped : {X Y : Type 0} (f : Y → Bool) (show : X → Y) (xs : List X) → list_any f (map show xs) ≡ list_any (λ x. f (show x)) xs
+any_mapped f show [] = refl
+any_mapped f show (x ∷ xs) = ap (λ b. f (show x) || b) (any_mapped f show xs)
 
 swapped : {X : Type 0} (a b : X) (xs : List X) → IsPermutation (a ∷ b ∷ xs) (b ∷ a ∷ xs)
 swapped a b xs = IsPermutation-trans (a ∷ b ∷ xs) (b ∷ xs ++ a ∷ []) (b ∷ a ∷ xs) (IsPermutation-append_comm (a ∷ []) (b ∷ xs)) (IsPermutation-cons b (xs ++ a ∷ []) (a ∷ xs) (IsPermutation-append_comm xs (a ∷ [])))

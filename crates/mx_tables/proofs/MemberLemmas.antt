@@ -13,6 +13,7 @@ use Rattle.sqlite_trees.proofs.ListLemmas.{map-map}
 use Rattle.sqlite_schema.specs.declared.schema.Table.{Table}
 use Rattle.sqlite_sql.specs.Term.{col}
 use Rattle.sqlite.specs.State.{State, Shown, Executes}
+use Rattle.mx_pay.proofs.SameLemmas.{names_turned}
 use Rattle.mx_pay.specs.Names.{name_cmp, is_name}
 use Rattle.mx_book.specs.World.{Name}
 use Rattle.mx_book.specs.Rows.{Rows}
@@ -26,7 +27,7 @@ use Rattle.mx_tables.specs.States.{Goes}
 use Rattle.mx_tables.specs.Answers.{at_key, member_shown, text_shown}
 use Rattle.mx_tables.proofs.Texts.{select_member, select_member_is, select_members, select_members_is, insert_member, insert_member_is, update_member, update_member_is}
 use Rattle.mx_tables.proofs.StoredLemmas.{and_true, same_text, cast_int, cast_null}
-use Rattle.mx_tables.proofs.ReadLemmas.{turned, answers, answers_in_order}
+use Rattle.mx_tables.proofs.ReadLemmas.{answers, answers_in_order}
 use Rattle.mx_tables.proofs.WriteLemmas.{Place, adds, alters, counts, goes_as, remake_some, one_passes}
 use Rattle.mx_tables.proofs.KeptLemmas.{members}
 
@@ -34,7 +35,7 @@ pub finds_member : (name : Name) (old new : State) (rows : List Row) → Shown s
     → IsPermutation (map (λ (e : Name × MemberRow). member_shown e.1) (at_key name_cmp name (fmap.entries r.members))) rows
 finds_member name =
     answers members select_member _ _ _ select_member_is (Text name ∷ []) (λ (e : Name × MemberRow). is_name name e.0) (λ (e : Name × MemberRow). member_shown e.1)
-    (λ id e. rw (same_text e.0 name) (and_true _ ∙ turned e.0 name)) (λ id e. refl)
+    (λ id e. rw (same_text e.0 name) (and_true _ ∙ names_turned e.0 name)) (λ id e. refl)
 
 pub filter_everything : {X : Type 0} (xs : List X) → filter (λ _. true) xs ≡ xs
 filter_everything [] = refl
@@ -67,11 +68,11 @@ names_read rows names keys read is =
 abbrev member_table : Table
 member_table = record member { tree = 1 }
 
-abbrev with_list : List (Name × MemberRow) → Contents → Contents
-with_list l c = record c { members = l }
+abbrev with_members : List (Name × MemberRow) → Contents → Contents
+with_members l c = record c { members = l }
 
-place : Place name_cmp member_cells 1 member_table with_list (λ m r. record r { members = m })
-place = record {
+member_place : Place name_cmp member_cells 1 member_table with_members (λ m r. record r { members = m })
+member_place = record {
   found = refl;
   uncounted = refl;
   not_meta = λ e. omega (arith, e);
@@ -83,7 +84,7 @@ place = record {
 
 pub adds_member : (name : Name) (old new : State) (count : ℕ) → old.now.schema ≡ office_schema → Executes insert_member (Text name ∷ []) old new (Ok count)
     → Goes (λ r. record r { members = fmap.insert r.members name (record { granted = 0; float = 0 }) }) old new
-adds_member name = adds members place (λ l c. refl) insert_member _ _ insert_member_is (Text name ∷ []) (name, record { granted = 0; float = 0 }) (rw (cast_null, cast_int (pos 0)) refl)
+adds_member name = adds members member_place (λ l c. refl) insert_member _ _ insert_member_is (Text name ∷ []) (name, record { granted = 0; float = 0 }) (rw (cast_null, cast_int (pos 0)) refl)
 
 module _ (m : Name) (row : MemberRow) (old new : State) (has : old.now.schema ≡ office_schema)
     (ran : Executes update_member (Text m ∷ number row.granted ∷ number row.float ∷ []) old new (Ok 1)) where
@@ -94,8 +95,8 @@ module _ (m : Name) (row : MemberRow) (old new : State) (has : old.now.schema �
   resets =
       goes_as _ _ old new
       (λ r h.
-      let there = one_passes name_cmp names_total m r.members (counts members place (λ l c. refl) update_member _ _ update_member_is params (λ e. is_name e.0 m) (λ _ _. row) (λ id e. rw (same_text e.0 m) (and_true _)) (λ id e. refl)
+      let there = one_passes name_cmp names_total m r.members (counts members member_place (λ l c. refl) update_member _ _ update_member_is params (λ e. is_name e.0 m) (λ _ _. row) (λ id e. rw (same_text e.0 m) (and_true _)) (λ id e. refl)
       (λ id e. rw (cast_int id, cast_int (pos row.granted), cast_int (pos row.float)) refl) old new 1 has ran r h) in
       ap (λ t. record r { members = t }) (remake_some names_total names_exact r.members m (λ _. row) there.0 there.1))
-      (alters members place (λ l c. refl) update_member _ _ update_member_is params (λ e. is_name e.0 m) (λ _ _. row) (λ id e. rw (same_text e.0 m) (and_true _)) (λ id e. refl)
+      (alters members member_place (λ l c. refl) update_member _ _ update_member_is params (λ e. is_name e.0 m) (λ _ _. row) (λ id e. rw (same_text e.0 m) (and_true _)) (λ id e. refl)
       (λ id e. rw (cast_int id, cast_int (pos row.granted), cast_int (pos row.float)) refl) old new 1 has ran)

@@ -1,21 +1,21 @@
 -- What the texts of messages, logs and details tell.
-use Rattle.std.proofs.Common.{◌≡◌, ℕ, List, [], ◌∷◌, map, length, slice_get, Some, None, Option, IfSome, refl, sym, ap, subst, ◌∙◌, arith}
+use Rattle.std.proofs.Common.{◌≡◌, ℕ, List, [], ◌∷◌, map, length, Some, Option, refl, sym, ap, ◌∙◌, arith}
 use Rattle.std.specs.List.{AllByRecursion}
 use Rattle.sqlite_value.specs.declared.value.Value.{Value}
 use Rattle.sqlite_value.specs.declared.value.Value.TheVariants.{Text}
 use Rattle.mx_pay.specs.Limits.{most_entries}
 use Rattle.mx_pay.specs.Details.{Details, IsDetails}
-use Rattle.mx_pay.specs.Codes.{code, entry_text, entry_texts}
+use Rattle.mx_pay.specs.Codes.{code, entry_text}
 use Rattle.mx_pay.specs.Reading.{entry_of, entries_of}
-use Rattle.mx_pay.specs.Log.{Entries, IsLogValue, none_logged, logged, log_len, entry_at}
+use Rattle.mx_pay.specs.Log.{Entries, IsLogValue, none_logged}
 use Rattle.mx_pay.proofs.EntryLemmas.{entry_again}
-use Rattle.mx_pay.proofs.CodeLemmas.{len_logged, only_in, none_only}
-use Rattle.mx_pay.proofs.SameLemmas.{logged_each}
+use Rattle.mx_pay.proofs.CodeLemmas.{only_in, none_only}
 use Rattle.mx_purse.specs.declared.message.Message.{Message}
 use Rattle.mx_purse.specs.declared.message.Message.TheVariants.{Req, Val, Ack, Clear}
 use Rattle.mx_purse.specs.Messages.{IsMessage}
 use Rattle.mx_tables.specs.Cells.{number, message_kind, message_details}
 use Rattle.mx_tables.specs.Answers.{message_row}
+use Rattle.mx_tables.proofs.ValueLemmas.{same_number}
 
 -- details within their limits have one text each
 pub same_entry : (d e : Details) → IsDetails d → IsDetails e → entry_text d ≡ entry_text e → d ≡ e
@@ -31,9 +31,6 @@ same_code a b one two h = by_text (code a) refl
         let first = only_in (code a) (entries_of most_entries (code a) none_logged) refl (λ n. omega (arith, ap length (sym e ∙ n))) a one refl in
         let second = only_in (code a) (entries_of most_entries (code a) none_logged) refl (λ n. omega (arith, ap length (sym e ∙ n))) b two h in
         let it : ◌≡◌ {A = Option Entries} (Some a) (Some b) = sym first ∙ second in cc
-
-pub same_number : (m n : ℕ) → number m ≡ number n → m ≡ n
-same_number m n e = cc
 
 abbrev first : List ℕ → ℕ
 first [] = 0

@@ -2,6 +2,8 @@
 use Rattle.std.proofs.Common.{◌≡◌, inl, inr, ℕ, zero, suc, pos, ◌+◌, ◌≤◌, Bool, true, false, ◌&&◌, List, [], ◌∷◌, ◌++◌, map, filter, take, length, codes, refl, sym, ap, ap₂, ◌∙◌, arith, Some, None, Option}
 use Rattle.std.specs.Prelude.{nat_lt, ◌==◌, if◌then◌else◌, option_map}
 use Rattle.std.specs.List.{AllByRecursion, take-map}
+use Rattle.std.specs.Cmp.{first_so}
+use Rattle.std.proofs.ByRecursion.{All-push}
 use Rattle.std.specs.FinMap as fmap
 use Rattle.std.specs.Ordering.{nat_cmp, is_gt}
 use Rattle.std.proofs.lemmas.Bool.{cases_Bool}
@@ -28,6 +30,7 @@ use Rattle.sqlite.specs.State.{State, Shown}
 use Rattle.sqlite.specs.Listing.{understood}
 use Rattle.sqlite.proofs.Callers.{reads_as, begins_as, given_begin}
 use Rattle.sqlite_tied.specs.Compute.{everything}
+use Rattle.mx_pay.proofs.SameLemmas.{names_turned}
 use Rattle.mx_pay.specs.Names.{is_name, is_name_text}
 use Rattle.mx_pay.specs.Reading.{entry_of}
 use Rattle.mx_pay.specs.Details as pay
@@ -52,7 +55,7 @@ use Rattle.mx_tables.specs.Schema.{office_schema}
 use Rattle.mx_tables.proofs.Queries.{scan, alone, is_given}
 use Rattle.mx_tables.proofs.Texts.{IsSelect}
 use Rattle.mx_tables.proofs.StoredLemmas.{and_true, same_text, if_truth, numbers_cmp}
-use Rattle.mx_tables.proofs.ReadLemmas.{turned, reads_in_order}
+use Rattle.mx_tables.proofs.ReadLemmas.{reads_in_order}
 use Rattle.mx_tables.proofs.MessageLemmas.{same_entry}
 use Rattle.mx_tables.proofs.InboxLemmas.{second_less, same_first}
 use Rattle.mx_tables.proofs.KeptLemmas as kept
@@ -70,10 +73,6 @@ greater m n = grind (arith, nat_tests)
 above_is : (m n : ℕ) → is_true (binary (Compare Gt Binary) (Int (pos m)) (Int (pos n))) ≡ nat_lt n m
 unfolding binary
 above_is m n = if_truth _ ∙ ap is_gt (value_cmp-Int (pos m) (pos n) ∙ numbers_cmp m n) ∙ greater m n
-
-of_both : (a b : Bool) → (a && b) ≡ true → a ≡ true
-of_both true b h = refl
-of_both false b h = h
 
 abbrev terms : List Term
 terms = is_given 1 0 ∷ is_above ∷ []
@@ -102,8 +101,8 @@ module _ (p : Name) (after : ℕ) where
   reads_lines =
       reads_in_order kept.lines terms project order given
       (λ (e : (Name × ℕ) × LineRow). is_name p e.0.0 && nat_lt after e.0.1) (λ (e : (Name × ℕ) × LineRow). (number e.0.1 ∷ [], line_shown (line_of_row e)))
-      (λ id e. ap₂ (λ a b. a && b) (same_text e.0.0 p ∙ turned e.0.0 p) (and_true _ ∙ above_is e.0.1 after)) (λ id e. refl)
-      (λ a b s t low. then-Equal _ ∙ value_cmp-Int (pos a.0.1) (pos b.0.1) ∙ numbers_cmp a.0.1 b.0.1 ∙ second_less _ _ (same_first p a.0.0 b.0.0 (of_both (is_name p a.0.0) (nat_lt after a.0.1) s) (of_both (is_name p b.0.0) (nat_lt after b.0.1) t)) low)
+      (λ id e. ap₂ (λ a b. a && b) (same_text e.0.0 p ∙ names_turned e.0.0 p) (and_true _ ∙ above_is e.0.1 after)) (λ id e. refl)
+      (λ a b s t low. then-Equal _ ∙ value_cmp-Int (pos a.0.1) (pos b.0.1) ∙ numbers_cmp a.0.1 b.0.1 ∙ second_less _ _ (same_first p a.0.0 b.0.0 (first_so (is_name p a.0.0) (nat_lt after a.0.1) s) (first_so (is_name p b.0.0) (nat_lt after b.0.1) t)) low)
       names
 
   -- the query ended: its rows are those of all lines
@@ -131,12 +130,12 @@ module _ {S : Type 0} (g : store.Ghosts S) (sql : List ℕ) (params : Row) (old 
   pub one_more : (ls : List Line) → map first_five rows ≡ map line_shown ls → (l : Line) → GivesLine g old new (Some l) → (all : List Row) × HasGiven g sql params new all × (map first_five all ≡ map line_shown (ls ++ l ∷ []))
   one_more ls read l h = more ls read l h.0 h.1 h.2
 
-  none : (got : Option Row) → Advances g old new got → ◌≡◌ {A = Option Row} (option_map first_five got) None → Shown sql params (state g old) (state g new) rows
-  none None gives is = gives sql params rows has
-  none (Some row) gives is = absurd (cc)
+  none_given : (got : Option Row) → Advances g old new got → ◌≡◌ {A = Option Row} (option_map first_five got) None → Shown sql params (state g old) (state g new) rows
+  none_given None gives is = gives sql params rows has
+  none_given (Some row) gives is = absurd (cc)
 
   pub no_more : GivesLine g old new None → Shown sql params (state g old) (state g new) rows
-  no_more h = none h.0 h.1 h.2
+  no_more h = none_given h.0 h.1 h.2
 
 -- ---- lines that show the same rows are the same
 
@@ -175,8 +174,7 @@ abbrev pub Noted : Line → Type 0
 Noted l = IsNote l.note
 
 pub noted_more : (ls : List Line) (l : Line) → AllByRecursion Noted ls → Noted l → AllByRecursion Noted (ls ++ l ∷ [])
-noted_more [] l h n = (n, tt)
-noted_more (m ∷ ls) l h n = (h.0, noted_more ls l h.1 n)
+noted_more = All-push Noted
 
 same_line : (a b : Line) → Noted a → Noted b → line_shown a ≡ line_shown b → a ≡ b
 same_line a b one two h =
@@ -205,10 +203,10 @@ same_lines (l ∷ ls) (m ∷ ms) one two h =
 
 -- ---- a page of lines
 
-abbrev Kept : Name × ℕ → LineRow → Type 0
-Kept k x = (k.1 ≤ most_number + 2) × IsNote x.note
+abbrev IsPageRow : Name × ℕ → LineRow → Type 0
+IsPageRow k x = (k.1 ≤ most_number + 2) × IsNote x.note
 
-noted : (q : (Name × ℕ) × LineRow → Bool) (n : ℕ) (es : List ((Name × ℕ) × LineRow)) → AllEntries Kept es → AllByRecursion Noted (map line_of_row (take n (filter q es)))
+noted : (q : (Name × ℕ) × LineRow → Bool) (n : ℕ) (es : List ((Name × ℕ) × LineRow)) → AllEntries IsPageRow es → AllByRecursion Noted (map line_of_row (take n (filter q es)))
 noted q zero es h = tt
 noted q (suc n) [] h = tt
 noted q (suc n) (e ∷ es) h = elim (cases_Bool (q e)) [
@@ -223,7 +221,7 @@ module _ (p : Name) (after most : ℕ) (r : Rows) (valid : AreLines r) where
       let page : map first_five (take most rows) ≡ map line_shown (map line_of_row found) =
       ap (λ rs. map first_five (take most rs)) is ∙ ap (map first_five) (take-map (λ e. line_shown (line_of_row e)) most (lines_above p after r))
       ∙ map-map first_five (λ e. line_shown (line_of_row e)) found ∙ sym (map-map line_shown line_of_row found) in
-      same_lines ls (map line_of_row found) mine (noted _ most (fmap.entries r.lines) (all_entries kept.pairs_total Kept r.lines valid)) (sym read ∙ page)
+      same_lines ls (map line_of_row found) mine (noted _ most (fmap.entries r.lines) (all_entries kept.pairs_total IsPageRow r.lines valid)) (sym read ∙ page)
 
   -- as many rows were taken as the page has at most
   pub full_page : (rows tail : List Row) (ls : List Line) → map first_five rows ≡ map line_shown ls → AllByRecursion (λ l. IsNote l.note) ls → length ls ≡ most → rows ++ tail ≡ all_shown p after r → ls ≡ row_lines_of r p after most
@@ -237,7 +235,7 @@ module _ (p : Name) (after most : ℕ) (r : Rows) (valid : AreLines r) where
       let count : length rows ≡ length ls = sym (length-map rows first_five) ∙ ap length read ∙ length-map ls line_shown in
       page_read rows ls (ap (map first_five) (take_all most rows (omega (arith, count, few))) ∙ read) mine is
 
-below : (p : Name) (after : ℕ) → most_number + 2 ≤ after → (es : List ((Name × ℕ) × LineRow)) → AllEntries Kept es → AllByRecursion (λ (e : (Name × ℕ) × LineRow). (is_name p e.0.0 && nat_lt after e.0.1) ≡ false) es
+below : (p : Name) (after : ℕ) → most_number + 2 ≤ after → (es : List ((Name × ℕ) × LineRow)) → AllEntries IsPageRow es → AllByRecursion (λ (e : (Name × ℕ) × LineRow). (is_name p e.0.0 && nat_lt after e.0.1) ≡ false) es
 below p after high [] h = tt
 below p after high (e ∷ es) h = (grind (arith, nat_tests, h.0.0, high), below p after high es h.1)
 
@@ -248,5 +246,5 @@ none_taken (suc n) = refl
 -- no line is numbered above the most
 pub no_page : (p : Name) (after most : ℕ) (r : Rows) → AreLines r → most_number + 2 ≤ after → row_lines_of r p after most ≡ []
 no_page p after most r valid high =
-    ap (λ es. map line_of_row (take most es)) (filter_none _ (fmap.entries r.lines) (below p after high (fmap.entries r.lines) (all_entries kept.pairs_total Kept r.lines valid)))
+    ap (λ es. map line_of_row (take most es)) (filter_none _ (fmap.entries r.lines) (below p after high (fmap.entries r.lines) (all_entries kept.pairs_total IsPageRow r.lines valid)))
     ∙ ap (map line_of_row) (none_taken most)

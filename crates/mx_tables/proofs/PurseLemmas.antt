@@ -17,6 +17,7 @@ use Rattle.sqlite_sql.specs.Term.{Term, col, eval_all}
 use Rattle.std.proofs.lemmas.Bool.Decides.{eqb_tells}
 use Rattle.sqlite_schema.specs.declared.schema.Table.{Table}
 use Rattle.sqlite.specs.State.{State, Shown, Executes}
+use Rattle.mx_pay.proofs.SameLemmas.{names_turned}
 use Rattle.mx_pay.specs.Names.{name_cmp, is_name}
 use Rattle.mx_pay.specs.Codes.{code, entry_texts}
 use Rattle.mx_pay.specs.Details.{Details, IsDetails}
@@ -45,17 +46,17 @@ use Rattle.mx_tables.proofs.Texts.{IsUpdate, select_held, select_held_is, insert
 use Rattle.mx_pay.proofs.TestLemmas.{is_equal}
 use Rattle.mx_tables.proofs.Statements.{env, passes}
 use Rattle.mx_tables.proofs.StoredLemmas.{and_true, same_text, same_numbers, cast_int, cast_null}
-use Rattle.mx_tables.proofs.ReadLemmas.{turned, answers, answers_in_order}
+use Rattle.mx_tables.proofs.ReadLemmas.{answers, answers_in_order}
 use Rattle.mx_tables.proofs.WriteLemmas.{Place, adds, alters, counts, counts_in, goes_as, remake_some, one_passes, one_at, at_key_where, remake_where}
-use Rattle.mx_tables.proofs.MessageLemmas.{same_code, same_number}
-use Rattle.mx_tables.proofs.ValueLemmas.{same_text as same_words}
+use Rattle.mx_tables.proofs.MessageLemmas.{same_code}
+use Rattle.mx_tables.proofs.ValueLemmas.{same_number, same_words}
 use Rattle.mx_tables.proofs.KeptLemmas.{purses}
 
 pub finds_held : (holder : Name) (old new : State) (rows : List Row) → Shown select_held (Text holder ∷ []) old new rows → (r : Rows) → Holds old.now r
     → rows ≡ map text_shown (row_purses_of r holder)
 finds_held holder old new rows shown r h =
     answers_in_order purses (is_given 2 0 ∷ []) (col 1 1 ∷ []) ((col 1 1, ascending Binary) ∷ []) (Text holder ∷ []) (λ (e : Name × PurseRow). is_name holder e.1.holder) (λ (e : Name × PurseRow). (text_shown e.0, text_shown e.0))
-    (λ id e. rw (same_text e.1.holder holder) (and_true _ ∙ turned e.1.holder holder)) (λ id e. refl)
+    (λ id e. rw (same_text e.1.holder holder) (and_true _ ∙ names_turned e.1.holder holder)) (λ id e. refl)
     (λ a b _ _ low. then-Equal _ ∙ value_cmp-Text a.0 b.0 ∙ low) select_held (codes "name" ∷ []) select_held_is old new rows shown r h
     ∙ sym (map-map text_shown (λ (e : Name × PurseRow). e.0) (purse_rows_of holder (fmap.entries r.purses)))
 
@@ -63,36 +64,36 @@ pub finds_purse : (p : Name) (old new : State) (rows : List Row) → Shown selec
     → IsPermutation (map (λ (e : Name × PurseRow). purse_shown e.1) (at_key name_cmp p (fmap.entries r.purses))) rows
 finds_purse p =
     answers purses select_purse _ _ _ select_purse_is (Text p ∷ []) (λ (e : Name × PurseRow). is_name p e.0) (λ (e : Name × PurseRow). purse_shown e.1)
-    (λ id e. rw (same_text e.0 p) (and_true _ ∙ turned e.0 p)) (λ id e. refl)
+    (λ id e. rw (same_text e.0 p) (and_true _ ∙ names_turned e.0 p)) (λ id e. refl)
 
 pub finds_own : (p : Name) (old new : State) (rows : List Row) → Shown select_own (Text p ∷ []) old new rows → (r : Rows) → Holds old.now r
     → IsPermutation (map (λ (e : Name × PurseRow). own_shown e.1) (at_key name_cmp p (fmap.entries r.purses))) rows
 finds_own p =
     answers purses select_own _ _ _ select_own_is (Text p ∷ []) (λ (e : Name × PurseRow). is_name p e.0) (λ (e : Name × PurseRow). own_shown e.1)
-    (λ id e. rw (same_text e.0 p) (and_true _ ∙ turned e.0 p)) (λ id e. refl)
+    (λ id e. rw (same_text e.0 p) (and_true _ ∙ names_turned e.0 p)) (λ id e. refl)
 
 pub finds_owner : (p : Name) (old new : State) (rows : List Row) → Shown select_owner (Text p ∷ []) old new rows → (r : Rows) → Holds old.now r
     → IsPermutation (map (λ (e : Name × PurseRow). text_shown e.1.holder) (at_key name_cmp p (fmap.entries r.purses))) rows
 finds_owner p =
     answers purses select_owner _ _ _ select_owner_is (Text p ∷ []) (λ (e : Name × PurseRow). is_name p e.0) (λ (e : Name × PurseRow). text_shown e.1.holder)
-    (λ id e. rw (same_text e.0 p) (and_true _ ∙ turned e.0 p)) (λ id e. refl)
+    (λ id e. rw (same_text e.0 p) (and_true _ ∙ names_turned e.0 p)) (λ id e. refl)
 
 pub finds_next : (p : Name) (old new : State) (rows : List Row) → Shown select_next (Text p ∷ []) old new rows → (r : Rows) → Holds old.now r
     → IsPermutation (map (λ (e : Name × PurseRow). next_shown e.1) (at_key name_cmp p (fmap.entries r.purses))) rows
 finds_next p =
     answers purses select_next _ _ _ select_next_is (Text p ∷ []) (λ (e : Name × PurseRow). is_name p e.0) (λ (e : Name × PurseRow). next_shown e.1)
-    (λ id e. rw (same_text e.0 p) (and_true _ ∙ turned e.0 p)) (λ id e. refl)
+    (λ id e. rw (same_text e.0 p) (and_true _ ∙ names_turned e.0 p)) (λ id e. refl)
 
 -- ---- writes
 
 abbrev purse_table : Table
 purse_table = record purse { tree = 8 }
 
-abbrev with_list : List (Name × PurseRow) → Contents → Contents
-with_list l c = record c { purses = l }
+abbrev with_purses : List (Name × PurseRow) → Contents → Contents
+with_purses l c = record c { purses = l }
 
-place : Place name_cmp purse_cells 4 purse_table with_list (λ m r. record r { purses = m })
-place = record {
+purse_place : Place name_cmp purse_cells 4 purse_table with_purses (λ m r. record r { purses = m })
+purse_place = record {
   found = refl;
   uncounted = refl;
   not_meta = λ e. omega (arith, e);
@@ -113,7 +114,7 @@ none_coded = ap entry_texts none_is
 pub adds_purse : (p h : Name) (old new : State) (count : ℕ) → old.now.schema ≡ office_schema → Executes insert_purse (Text p ∷ Text h ∷ []) old new (Ok count)
     → Goes (λ r. rewritten r (NewPurse p h)) old new
 adds_purse p h =
-    adds purses place (λ l c. refl) insert_purse _ _ insert_purse_is (Text p ∷ Text h ∷ []) (p, record { holder = h; purse = new_purse p; next_message = 0 })
+    adds purses purse_place (λ l c. refl) insert_purse _ _ insert_purse_is (Text p ∷ Text h ∷ []) (p, record { holder = h; purse = new_purse p; next_message = 0 })
     (rw (cast_null, cast_int (pos 0)) (ap (blank_cells p h) (sym none_coded)))
 
 -- an UPDATE of one purse
@@ -128,9 +129,9 @@ module _ (sql : List ℕ) (project : List Term) (text : IsUpdate sql 4 8 (is_giv
   one_purse =
       goes_as _ _ old new
       (λ r h.
-      let there = one_passes name_cmp names_total p r.purses (counts purses place (λ l c. refl) sql _ _ text (Text p ∷ more) (λ e. is_name e.0 p) (λ _ x. g x) (λ id e. rw (same_text e.0 p) (and_true _)) first forms old new 1 has ran r h) in
+      let there = one_passes name_cmp names_total p r.purses (counts purses purse_place (λ l c. refl) sql _ _ text (Text p ∷ more) (λ e. is_name e.0 p) (λ _ x. g x) (λ id e. rw (same_text e.0 p) (and_true _)) first forms old new 1 has ran r h) in
       ap (λ t. record r { purses = t }) (remake_some names_total names_exact r.purses p g there.0 there.1) ∙ ap (λ o. on_purse o r (λ x. change x r)) (sym there.1))
-      (alters purses place (λ l c. refl) sql _ _ text (Text p ∷ more) (λ e. is_name e.0 p) (λ _ x. g x) (λ id e. rw (same_text e.0 p) (and_true _)) first forms old new 1 has ran)
+      (alters purses purse_place (λ l c. refl) sql _ _ text (Text p ∷ more) (λ e. is_name e.0 p) (λ _ x. g x) (λ id e. rw (same_text e.0 p) (and_true _)) first forms old new 1 has ran)
 
 abbrev purse_params : Purse → Row
 purse_params q = number q.balance ∷ number q.next ∷ Text (status_text q.status) ∷ Text (details_text q.status) ∷ Text (code q.log) ∷ number q.lines ∷ []
@@ -157,7 +158,7 @@ module _ (p : Name) (n : ℕ) (old new : State) (has : old.now.schema ≡ office
   raised_from : (r : Rows) → Holds old.now r → (x : PurseRow) × (fmap.get r.purses p ≡ Some x) × (is_next x ≡ true)
   raised_from r h =
       let c = h.contents in
-      let one = counts_in purses place (λ l c. refl) raise_next _ _ raise_next_is _ (at_key_where name_cmp names_total names_exact p is_next) (λ _ x. raised x) tests (λ id e. refl) forms old new 1 has ran c h.has in
+      let one = counts_in purses purse_place (λ l c. refl) raise_next _ _ raise_next_is _ (at_key_where name_cmp names_total names_exact p is_next) (λ _ x. raised x) tests (λ id e. refl) forms old new 1 has ran c h.has in
       let it = one_at name_cmp names_total names_exact p is_next c.purses (purses.distinct old.now c h.has) one in
       (it.0, ap (λ (s : Rows). fmap.get s.purses p) (sym h.rows) ∙ fmap.get-from_entries names_total c.purses p ∙ it.1, it.2)
 
@@ -172,7 +173,7 @@ module _ (p : Name) (n : ℕ) (old new : State) (has : old.now.schema ≡ office
       (λ r h.
       let it = raised_from r h in
       ap (λ t. record r { purses = t }) (remake_where name_cmp names_total names_exact p is_next r.purses raised it.0 it.1 it.2) ∙ ap (λ o. on_purse o r (λ x. record r { purses = fmap.insert r.purses p (raised x) })) (sym it.1))
-      (alters purses place (λ l c. refl) raise_next _ _ raise_next_is _ (at_key_where name_cmp names_total names_exact p is_next) (λ _ x. raised x) tests (λ id e. refl) forms old new 1 has ran)
+      (alters purses purse_place (λ l c. refl) raise_next _ _ raise_next_is _ (at_key_where name_cmp names_total names_exact p is_next) (λ _ x. raised x) tests (λ id e. refl) forms old new 1 has ran)
 
 -- ---- a purse that was read
 

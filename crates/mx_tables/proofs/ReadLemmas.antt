@@ -5,7 +5,6 @@ use Rattle.std.specs.List.Sorted.{IsPermutation}
 use Rattle.std.proofs.lemmas.Bool.{cases_Bool}
 use Rattle.std.proofs.lemmas.List.Sorted.{IsPermutation-sym, IsPermutation-trans, IsPermutation-map}
 use Rattle.std.specs.declared.cmp.Ordering.{Ordering}
-use Rattle.std.specs.Cmp.{eq_by_cmp_equiv}
 use Rattle.std.specs.FinMap as fmap
 use Rattle.std.specs.FinMap.Entries.{is_sorted, below_all}
 use Rattle.sqlite_value.specs.declared.value.Value.TheVariants.{Int}
@@ -22,11 +21,8 @@ use Rattle.sqlite.proofs.Callers.{reads_as}
 use Rattle.sqlite_schema.specs.declared.command.Command.TheVariants.{Select}
 use Rattle.sqlite.specs.Effect.{Database, Reads}
 use Rattle.sqlite.specs.State.{State, Shown}
-use Rattle.mx_pay.specs.Names.{is_name}
 use Rattle.mx_pay.proofs.TestLemmas.{first_true, second_true, is_less}
-use Rattle.mx_book.specs.World.{Name}
 use Rattle.mx_book.specs.Rows.{Rows}
-use Rattle.mx_book.proofs.NameLemmas.{names_total}
 use Rattle.mx_tables.specs.Schema.{office_schema}
 use Rattle.mx_tables.specs.Contents.{Contents}
 use Rattle.mx_tables.specs.Holds.{Holds, HaveCells}
@@ -36,9 +32,6 @@ use Rattle.mx_tables.proofs.Texts.{IsSelect}
 use Rattle.mx_tables.proofs.Statements.{selected, picked, shown_rows, env, passes}
 use Rattle.mx_tables.proofs.RowLemmas.{found_none, found_one}
 use Rattle.mx_tables.proofs.KeptLemmas.{Kept, listed}
-
-pub turned : (a b : Name) → is_name a b ≡ is_name b a
-turned a b = (eq_by_cmp_equiv names_total).symm a b
 
 -- a query of one tree answers what it shows of the typed rows that pass
 pub answered : {X : Type 0} (sql : List ℕ) (tree : ℕ) (terms project : List Term) (names : List (List ℕ)) → IsSelect sql tree terms project [] names

@@ -35,11 +35,11 @@ finds_redemption p reference =
 abbrev redemption_table : Table
 redemption_table = record redemption { tree = 20 }
 
-abbrev with_list : List ((Name × Name) × Redemption) → Contents → Contents
-with_list l c = record c { redemptions = l }
+abbrev with_redemptions : List ((Name × Name) × Redemption) → Contents → Contents
+with_redemptions l c = record c { redemptions = l }
 
-pub place : Place (pair_cmp name_cmp name_cmp) redemption_cells 10 redemption_table with_list (λ m r. record r { redemptions = m })
-place = record {
+pub redemption_place : Place (pair_cmp name_cmp name_cmp) redemption_cells 10 redemption_table with_redemptions (λ m r. record r { redemptions = m })
+redemption_place = record {
   found = refl;
   uncounted = refl;
   not_meta = λ e. omega (arith, e);
@@ -52,5 +52,5 @@ place = record {
 pub adds_redemption : (p reference : Name) (amount : ℕ) (old new : State) (count : ℕ) → old.now.schema ≡ office_schema → Executes insert_redemption (Text p ∷ Text reference ∷ number amount ∷ []) old new (Ok count)
     → Goes (λ r. record r { redemptions = fmap.insert r.redemptions (p, reference) (record { amount = amount; collected = false }) }) old new
 adds_redemption p reference amount =
-    adds redemptions place (λ l c. refl) insert_redemption _ _ insert_redemption_is (Text p ∷ Text reference ∷ number amount ∷ []) ((p, reference), record { amount = amount; collected = false })
+    adds redemptions redemption_place (λ l c. refl) insert_redemption _ _ insert_redemption_is (Text p ∷ Text reference ∷ number amount ∷ []) ((p, reference), record { amount = amount; collected = false })
     (rw (cast_null, cast_int (pos amount), cast_int (pos 0)) refl)

@@ -21,6 +21,7 @@ use Rattle.sqlite_sql.specs.Term.{col, lit}
 use Rattle.sqlite.specs.State.{State, Shown, Executes}
 use Rattle.sqlite.specs.Listing.{understood}
 use Rattle.sqlite_tied.specs.Compute.{everything}
+use Rattle.mx_pay.proofs.SameLemmas.{names_turned}
 use Rattle.mx_pay.specs.Names.{is_name}
 use Rattle.mx_pay.specs.Details.{Details, IsDetails, is_details}
 use Rattle.mx_pay.specs.Codes.{entry_text}
@@ -37,7 +38,7 @@ use Rattle.mx_book.specs.declared.edits.Edit.TheVariants.{ArchiveTray}
 use Rattle.mx_book.proofs.NameLemmas.{same_name, name_itself}
 use Rattle.mx_book.proofs.MapLemmas.{AllEntries, all_entries}
 use Rattle.mx_book.proofs.LogLemmas.{same_members, has_kept, under_has}
-use Rattle.mx_book.proofs.ResultLemmas.{has-both}
+use Rattle.mx_book.proofs.ResultLemmas.{has-both, results_total, results_exact}
 use Rattle.mx_tables.specs.Schema.{office_schema, tray, archive}
 use Rattle.mx_tables.specs.Contents.{Contents}
 use Rattle.mx_tables.specs.Cells.{result_cells, number}
@@ -45,10 +46,11 @@ use Rattle.mx_tables.specs.Holds.{Holds}
 use Rattle.mx_tables.specs.States.{Goes}
 use Rattle.mx_tables.specs.Answers.{at_key}
 use Rattle.mx_tables.specs.Results.{details_shown, first_one, AreDetails, Shows, and_details}
+use Rattle.mx_tables.proofs.MapLists.{any_mapped}
 use Rattle.mx_tables.proofs.Queries.{is_given}
 use Rattle.mx_tables.proofs.Texts.{IsInsert, IsSelect, IsDelete}
 use Rattle.mx_tables.proofs.StoredLemmas.{and_true, same_text, cast_null}
-use Rattle.mx_tables.proofs.ReadLemmas.{turned, answers, got_one}
+use Rattle.mx_tables.proofs.ReadLemmas.{answers, got_one}
 use Rattle.mx_tables.proofs.WriteLemmas.{Place, adds, drops, no_actions}
 use Rattle.mx_tables.proofs.Statements.{inserted}
 use Rattle.mx_tables.proofs.MessageLemmas.{same_entry}
@@ -146,20 +148,20 @@ adds_schema p text old new count has ran =
 pub drops_tray : (p : Name) (old new : State) (count : ℕ) → old.now.schema ≡ office_schema → Executes delete_tray (Text p ∷ []) old new (Ok count)
     → Goes (λ r. record r { tray = results_but p r.tray }) old new
 drops_tray p = drops kept.tray tray_place (λ l c. refl) delete_tray _ _ delete_tray_is (Text p ∷ []) (λ (k : Name × Details). is_name p k.0)
-    (λ id e. rw (same_text e.0.0 p) (and_true _ ∙ turned e.0.0 p)) (λ id e. refl)
+    (λ id e. rw (same_text e.0.0 p) (and_true _ ∙ names_turned e.0.0 p)) (λ id e. refl)
 
 -- ---- reads
 
 pub finds_tray : (p : Name) (old new : State) (rows : List Row) → Shown select_tray (Text p ∷ []) old new rows → (r : Rows) → Holds old.now r
     → IsPermutation (map (λ (e : Result). details_shown e.0.1) (of_name p (fmap.entries r.tray))) rows
 finds_tray p = answers kept.tray select_tray _ _ _ select_tray_is (Text p ∷ []) (λ (e : Result). is_name p e.0.0) (λ (e : Result). details_shown e.0.1)
-    (λ id e. rw (same_text e.0.0 p) (and_true _ ∙ turned e.0.0 p)) (λ id e. refl)
+    (λ id e. rw (same_text e.0.0 p) (and_true _ ∙ names_turned e.0.0 p)) (λ id e. refl)
 
 -- texts of details within their limits are the same where the details are
 same_texts : (d e : Details) → IsDetails d → IsDetails e → eq_by_cmp (slice_cmp nat_cmp) (entry_text e) (entry_text d) ≡ is_details d e
 same_texts d e one two = elim (cases_Bool (eq_by_cmp (slice_cmp nat_cmp) (entry_text e) (entry_text d))) [
   | inl t ↦
-      let same : d ≡ e = same_entry d e one two (same_name (entry_text d) (entry_text e) (turned (entry_text d) (entry_text e) ∙ t)) in
+      let same : d ≡ e = same_entry d e one two (same_name (entry_text d) (entry_text e) (names_turned (entry_text d) (entry_text e) ∙ t)) in
       t ∙ sym (ap (is_details d) (sym same) ∙ ap is_eq (tied_itself details_total d))
   | inr f ↦ f ∙ sym (elim (cases_Bool (is_details d e)) [
     | inl u ↦
@@ -190,9 +192,9 @@ same_found p d valid (e ∷ es) h =
 pub finds_archived : (p : Name) (d : Details) → IsDetails d → (old new : State) (rows : List Row) → Shown select_archived (Text p ∷ Text (entry_text d) ∷ []) old new rows → (r : Rows) → Holds old.now r → AreDetails r.archive
     → IsPermutation (map (λ (e : Result). number 1 ∷ []) (at_key result_cmp (p, d) (fmap.entries r.archive))) rows
 finds_archived p d valid old new rows shown r h each =
-    subst (λ es. IsPermutation (map (λ (e : Result). number 1 ∷ []) es) rows) (same_found p d valid (fmap.entries r.archive) (all_entries kept.results_total Valid r.archive each))
+    subst (λ es. IsPermutation (map (λ (e : Result). number 1 ∷ []) es) rows) (same_found p d valid (fmap.entries r.archive) (all_entries results_total Valid r.archive each))
     (answers kept.archive select_archived _ _ _ select_archived_is (Text p ∷ Text (entry_text d) ∷ []) (λ (e : Result). is_name p e.0.0 && eq_by_cmp (slice_cmp nat_cmp) (entry_text e.0.1) (entry_text d)) (λ (e : Result). number 1 ∷ [])
-    (λ id e. ap₂ (λ a b. a && b) (same_text e.0.0 p ∙ turned e.0.0 p) (and_true _ ∙ same_text (entry_text e.0.1) (entry_text d))) (λ id e. refl) old new rows shown r h)
+    (λ id e. ap₂ (λ a b. a && b) (same_text e.0.0 p ∙ names_turned e.0.0 p) (and_true _ ∙ same_text (entry_text e.0.1) (entry_text d))) (λ id e. refl) old new rows shown r h)
 
 -- ---- a result among those of a purse
 
@@ -210,14 +212,14 @@ module _ (p : Name) (k : Name × Details) where
             let here : of_purse e ≡ eq_by_cmp result_cmp k e.0 = ap (eq_by_cmp result_cmp k) same in
             elim (cases_Bool (eq_by_cmp result_cmp k e.0)) [
               | inl u ↦
-                  let at : k ≡ e.0 = kept.results_exact k e.0 (is_equal _ u) in
+                  let at : k ≡ e.0 = results_exact k e.0 (is_equal _ u) in
                   let own : is_name p k.0 ≡ true = ap (λ (x : Name × Details). is_name p x.0) at ∙ t in
                   rw (t, here, u, own) refl
               | inr f ↦ rw (t, here, f) more
             ]
         | inr n ↦ elim (cases_Bool (eq_by_cmp result_cmp k e.0)) [
           | inl u ↦
-              let at : k ≡ e.0 = kept.results_exact k e.0 (is_equal _ u) in
+              let at : k ≡ e.0 = results_exact k e.0 (is_equal _ u) in
               let other : is_name p k.0 ≡ false = ap (λ (x : Name × Details). is_name p x.0) at ∙ n in
               rw (n, u) (more ∙ rw other (none (is_some (fmap.find result_cmp k es)) ∙ refl))
           | inr f ↦ rw (n, f) more
@@ -295,7 +297,7 @@ pub tray_read : (p : Name) (r : Rows) → AreDetails r.tray → (rows items : Li
 tray_read p r each rows items log h is same =
     let of = unmapped (λ (e : Result). details_shown e.0.1) (of_name p (fmap.entries r.tray)) items same in
     let zs = of.0 in
-    let valid = all_mapped zs (all-permutation (λ (e : Result). IsDetails (second e)) (of_name p (fmap.entries r.tray)) zs of.1 (all_second p (fmap.entries r.tray) (all_entries kept.results_total Valid r.tray each))) in
+    let valid = all_mapped zs (all-permutation (λ (e : Result). IsDetails (second e)) (of_name p (fmap.entries r.tray)) zs of.1 (all_second p (fmap.entries r.tray) (all_entries results_total Valid r.tray each))) in
     let again : map first_one rows ≡ map details_shown (map second zs) =
     ap (map first_one) (is ∙ sym of.2) ∙ map-map first_one (λ (e : Result). details_shown e.0.1) zs ∙ sym (map-map details_shown second zs) in
     let found : h.details ≡ map second zs = same_details h.details (map second zs) h.valid valid (sym h.shown ∙ again) in
@@ -311,18 +313,14 @@ tray_read p r each rows items log h is same =
 
 has_details : (p : Name) (k : Name × Details) (s : FinSet result_cmp) (ds : List Details) → fmap.contains_key (and_details p s ds) k ≡ (fmap.contains_key s k || list_any (λ d. eq_by_cmp result_cmp k (p, d)) ds)
 has_details p k s [] = grind arith
-has_details p k s (d ∷ ds) = grind (arith, has_details p k (fmap.insert s (p, d) tt) ds, fmap.get-insert kept.results_total s (p, d) tt k)
-
-any_mapped : (p : Name) (k : Name × Details) (zs : List Result) → list_any (λ d. eq_by_cmp result_cmp k (p, d)) (map second zs) ≡ list_any (of_purse p k) zs
-any_mapped p k [] = refl
-any_mapped p k (z ∷ zs) = ap (λ b. of_purse p k z || b) (any_mapped p k zs)
+has_details p k s (d ∷ ds) = grind (arith, has_details p k (fmap.insert s (p, d) tt) ds, fmap.get-insert results_total s (p, d) tt k)
 
 pub archive_all : (p : Name) (tray archive : FinSet result_cmp) (zs : List Result) → IsPermutation (of_name p (fmap.entries tray)) zs
     → and_details p archive (map second zs) ≡ and_results archive (fmap.keys (results_of p tray))
 archive_all p tray archive zs same =
-    same_members kept.results_total kept.results_exact _ _ (λ k.
+    same_members results_total results_exact _ _ (λ k.
     has_details p k archive (map second zs)
-    ∙ ap (λ b. fmap.contains_key archive k || b) (any_mapped p k zs ∙ among_tray p k tray zs same ∙ sym (has_kept kept.results_exact tray (λ result. is_name p result.0) k))
+    ∙ ap (λ b. fmap.contains_key archive k || b) (any_mapped (λ d. eq_by_cmp result_cmp k (p, d)) second zs ∙ among_tray p k tray zs same ∙ sym (has_kept results_exact tray (λ result. is_name p result.0) k))
     ∙ sym (has-both archive (results_of p tray) k))
 
 details_last : (p : Name) (s : FinSet result_cmp) (ds : List Details) (d : Details) → and_details p s (ds ++ d ∷ []) ≡ fmap.insert (and_details p s ds) (p, d) tt

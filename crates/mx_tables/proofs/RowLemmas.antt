@@ -29,12 +29,12 @@ module _ {K V A : Type 0} (R : K → K → Ordering) (show : V → A) (q : K) wh
         | inr f ↦ rw f (none_at es (rw f at h))
       ]
 
-  one_at : (es : List (K × V)) (x : A) → shown es ≡ x ∷ [] → (v : V) × (fmap.find R q es ≡ Some v) × (show v ≡ x)
-  one_at [] x h = absurd (let n = ap length h in omega (arith, n))
-  one_at (e ∷ es) x h =
+  one_shown : (es : List (K × V)) (x : A) → shown es ≡ x ∷ [] → (v : V) × (fmap.find R q es ≡ Some v) × (show v ≡ x)
+  one_shown [] x h = absurd (let n = ap length h in omega (arith, n))
+  one_shown (e ∷ es) x h =
       elim (cases_Bool (eq_by_cmp R q e.0)) [
         | inl t ↦ (e.1, rw t refl, let it : show e.1 ∷ shown es ≡ x ∷ [] = rw t at h in cc)
-        | inr f ↦ let more = one_at es x (rw f at h) in (more.0, rw f more.1, more.2)
+        | inr f ↦ let more = one_shown es x (rw f at h) in (more.0, rw f more.1, more.2)
       ]
 
   -- no row: no such key
@@ -49,4 +49,4 @@ module _ {K V A : Type 0} (R : K → K → Ordering) (show : V → A) (q : K) wh
       → (v : V) × (fmap.find R q es ≡ Some v) × (show v ≡ x)
   found_one es rows items x h same some few is =
       let one : items ≡ x ∷ [] = sym same ∙ only rows x some few is in
-      one_at es x (one_permutation x _ (IsPermutation-sym _ _ (subst (IsPermutation (shown es)) one h)))
+      one_shown es x (one_permutation x _ (IsPermutation-sym _ _ (subst (IsPermutation (shown es)) one h)))

@@ -1,5 +1,5 @@
 -- A database holds the rows of one book at most: what is stored of a row within its limits tells the row.
-use Rattle.std.proofs.Common.{◌≡◌, inl, inr, ℕ, Bool, true, if◌then◌else◌, List, [], ◌∷◌, map, length, Some, None, Option, refl, sym, ap, subst, ◌∙◌, arith}
+use Rattle.std.proofs.Common.{◌≡◌, inl, inr, ℕ, Bool, true, if◌then◌else◌, List, [], ◌∷◌, map, Some, None, Option, refl, sym, ap, subst, ◌∙◌, arith}
 use Rattle.std.specs.List.{AllByRecursion}
 use Rattle.std.specs.declared.cmp.Ordering.{Ordering}
 use Rattle.std.specs.Ordering.{eq_by_cmp}
@@ -8,7 +8,6 @@ use Rattle.std.specs.FinMap as fmap
 use Rattle.std.specs.FinMap.{IsAntisymmetric}
 use Rattle.std.proofs.lemmas.Bool.{cases_Bool}
 use Rattle.hex.specs.Hex.{encode_lower}
-use Rattle.sqlite_value.specs.declared.value.Value.{Value}
 use Rattle.sqlite_value.specs.declared.value.Value.TheVariants.{Text}
 use Rattle.sqlite_value.specs.Order.{Row}
 use Rattle.sqlite.specs.Effect.{Database}
@@ -27,7 +26,6 @@ use Rattle.mx_book.specs.Conditions.{IsNote}
 use Rattle.mx_book.specs.declared.values.LineRow.{LineRow}
 use Rattle.mx_book.specs.Rows.{Rows}
 use Rattle.mx_book.specs.declared.values.Caller.{Caller}
-use Rattle.mx_book.specs.declared.values.Caller.TheVariants.{Operator, Clerk, Holder}
 use Rattle.mx_book.specs.declared.values.MemberRow.{MemberRow}
 use Rattle.mx_book.specs.declared.values.PurseRow.{PurseRow}
 use Rattle.mx_book.specs.declared.values.Redemption.{Redemption}
@@ -38,7 +36,8 @@ use Rattle.mx_tables.specs.Rows.{rows_of}
 use Rattle.mx_tables.proofs.MapLists.{AreDistinct}
 use Rattle.mx_tables.proofs.KeptLemmas.{Kept, members, token_rows, holders, purses, inbox, lines, tray, archive, loads, redemptions}
 use Rattle.mx_tables.proofs.TokenLemmas.{token_back}
-use Rattle.mx_tables.proofs.MessageLemmas.{same_number, same_entry, same_message}
+use Rattle.mx_tables.proofs.MessageLemmas.{same_entry, same_message}
+use Rattle.mx_tables.proofs.ValueLemmas.{same_number, same_words, same_caller}
 use Rattle.mx_tables.proofs.PurseLemmas.{purse_back}
 use Rattle.mx_tables.proofs.PageLemmas.{same_kind, same_note}
 use Rattle.mx_tables.proofs.SoundLemmas.{messages_valid, purses_valid, lines_valid, tray_valid, archive_valid}
@@ -92,15 +91,12 @@ module _ {K V : Type 0} {R : K → K → Ordering} {cells : K × V → Row} {tre
 
 -- ---- what is stored tells the row
 
-same_texts : (s t : List ℕ) → ◌≡◌ {A = Value} (Text s) (Text t) → s ≡ t
-same_texts s t e = cc
-
 tells_member : (e f : Name × MemberRow) → Unit {0} → Unit {0} → member_cells e ≡ member_cells f → e ≡ f
 tells_member e f _ _ h =
     let a : Text e.0 ≡ Text f.0 = cc in
     let b : number e.1.granted ≡ number f.1.granted = cc in
     let c : number e.1.float ≡ number f.1.float = cc in
-    let name = same_texts e.0 f.0 a in
+    let name = same_words e.0 f.0 a in
     let granted = same_number e.1.granted f.1.granted b in
     let float = same_number e.1.float f.1.float c in
     λ i. (name i, record { granted = granted i; float = float i })
@@ -109,20 +105,9 @@ tells_holder : (e f : Name × Name) → Unit {0} → Unit {0} → holder_cells e
 tells_holder e f _ _ h =
     let a : Text e.0 ≡ Text f.0 = cc in
     let b : Text e.1 ≡ Text f.1 = cc in
-    let name = same_texts e.0 f.0 a in
-    let member = same_texts e.1 f.1 b in
+    let name = same_words e.0 f.0 a in
+    let member = same_words e.1 f.1 b in
     λ i. (name i, member i)
-
-same_caller : (a b : Caller) → kind_text a ≡ kind_text b → owner_text a ≡ owner_text b → a ≡ b
-same_caller Operator Operator k o = refl
-same_caller (Clerk m) (Clerk n) k o = ap Clerk o
-same_caller (Holder m) (Holder n) k o = ap Holder o
-same_caller Operator (Clerk n) k o = absurd (let n = ap length k in omega (arith, n))
-same_caller Operator (Holder n) k o = absurd (let n = ap length k in omega (arith, n))
-same_caller (Clerk m) Operator k o = absurd (let n = ap length k in omega (arith, n))
-same_caller (Clerk m) (Holder n) k o = absurd (let n = ap length k in omega (arith, n))
-same_caller (Holder m) Operator k o = absurd (let n = ap length k in omega (arith, n))
-same_caller (Holder m) (Clerk n) k o = absurd (let n = ap length k in omega (arith, n))
 
 same_token : (s t : Token) → IsToken s → IsToken t → encode_lower s ≡ encode_lower t → s ≡ t
 same_token s t one two h = let it : ◌≡◌ {A = Option Token} (Some s) (Some t) = sym (token_back s one) ∙ ap token_of h ∙ token_back t two in cc
@@ -132,8 +117,8 @@ tells_token e f one two h =
     let a : Text (encode_lower e.0) ≡ Text (encode_lower f.0) = cc in
     let b : Text (kind_text e.1) ≡ Text (kind_text f.1) = cc in
     let c : Text (owner_text e.1) ≡ Text (owner_text f.1) = cc in
-    let token = same_token e.0 f.0 one two (same_texts _ _ a) in
-    let caller = same_caller e.1 f.1 (same_texts _ _ b) (same_texts _ _ c) in
+    let token = same_token e.0 f.0 one two (same_words _ _ a) in
+    let caller = same_caller e.1 f.1 (same_words _ _ b) (same_words _ _ c) in
     λ i. (token i, caller i)
 
 tells_message : (e f : (Name × ℕ) × Message) → IsMessage e.1 → IsMessage f.1 → message_cells e ≡ message_cells f → e ≡ f
@@ -142,9 +127,9 @@ tells_message e f one two h =
     let b : number e.0.1 ≡ number f.0.1 = cc in
     let c : Text (message_kind e.1) ≡ Text (message_kind f.1) = cc in
     let d : Text (message_details e.1) ≡ Text (message_details f.1) = cc in
-    let purse = same_texts e.0.0 f.0.0 a in
+    let purse = same_words e.0.0 f.0.0 a in
     let count = same_number e.0.1 f.0.1 b in
-    let message = same_message e.1 f.1 one two (same_texts _ _ c) (same_texts _ _ d) in
+    let message = same_message e.1 f.1 one two (same_words _ _ c) (same_words _ _ d) in
     λ i. ((purse i, count i), message i)
 
 tells_load : (e f : (Name × Name) × ℕ) → Unit {0} → Unit {0} → load_cells e ≡ load_cells f → e ≡ f
@@ -152,8 +137,8 @@ tells_load e f _ _ h =
     let a : Text e.0.0 ≡ Text f.0.0 = cc in
     let b : Text e.0.1 ≡ Text f.0.1 = cc in
     let c : number e.1 ≡ number f.1 = cc in
-    let purse = same_texts e.0.0 f.0.0 a in
-    let reference = same_texts e.0.1 f.0.1 b in
+    let purse = same_words e.0.0 f.0.0 a in
+    let reference = same_words e.0.1 f.0.1 b in
     let amount = same_number e.1 f.1 c in
     λ i. ((purse i, reference i), amount i)
 
@@ -169,8 +154,8 @@ tells_redemption e f _ _ h =
     let b : Text e.0.1 ≡ Text f.0.1 = cc in
     let c : number e.1.amount ≡ number f.1.amount = cc in
     let d : number (if e.1.collected then 1 else 0) ≡ number (if f.1.collected then 1 else 0) = cc in
-    let purse = same_texts e.0.0 f.0.0 a in
-    let reference = same_texts e.0.1 f.0.1 b in
+    let purse = same_words e.0.0 f.0.0 a in
+    let reference = same_words e.0.1 f.0.1 b in
     let amount = same_number e.1.amount f.1.amount c in
     let collected = same_flag e.1.collected f.1.collected d in
     λ i. ((purse i, reference i), record { amount = amount i; collected = collected i })
@@ -182,7 +167,7 @@ IsRow e = (e.1.purse.name ≡ e.0) × IsPurse e.1.purse
 tells_purse : (e f : Name × PurseRow) → IsRow e → IsRow f → purse_cells e ≡ purse_cells f → e ≡ f
 tells_purse e f one two h =
     let a : Text e.0 ≡ Text f.0 = cc in
-    let name = same_texts e.0 f.0 a in
+    let name = same_words e.0 f.0 a in
     let row = purse_back e.1 f.1 (purse_shown e.1) one.1 two.1 (one.0 ∙ name ∙ sym two.0) refl (ap but_number h) in
     λ i. (name i, sym row i)
 
@@ -190,8 +175,8 @@ tells_result : (e f : (Name × Details) × Unit {0}) → IsDetails e.0.1 → IsD
 tells_result e f one two h =
     let a : Text e.0.0 ≡ Text f.0.0 = cc in
     let b : Text (entry_text e.0.1) ≡ Text (entry_text f.0.1) = cc in
-    let purse = same_texts e.0.0 f.0.0 a in
-    let details = same_entry e.0.1 f.0.1 one two (same_texts _ _ b) in
+    let purse = same_words e.0.0 f.0.0 a in
+    let details = same_entry e.0.1 f.0.1 one two (same_words _ _ b) in
     λ i. ((purse i, details i), tt)
 
 tells_line : (e f : (Name × ℕ) × LineRow) → IsNote e.1.note → IsNote f.1.note → line_cells e ≡ line_cells f → e ≡ f
@@ -202,12 +187,12 @@ tells_line e f one two h =
     let d : number e.1.amount ≡ number f.1.amount = cc in
     let l : number e.1.balance ≡ number f.1.balance = cc in
     let n : Text (words.note_text e.1.note) ≡ Text (words.note_text f.1.note) = cc in
-    let purse = same_texts e.0.0 f.0.0 a in
+    let purse = same_words e.0.0 f.0.0 a in
     let count = same_number e.0.1 f.0.1 b in
-    let kind = same_kind e.1.kind f.1.kind (same_texts _ _ c) in
+    let kind = same_kind e.1.kind f.1.kind (same_words _ _ c) in
     let amount = same_number e.1.amount f.1.amount d in
     let balance = same_number e.1.balance f.1.balance l in
-    let note = same_note e.1.note f.1.note one two (same_texts _ _ n) in
+    let note = same_note e.1.note f.1.note one two (same_words _ _ n) in
     λ i. ((purse i, count i), record { kind = kind i; amount = amount i; balance = balance i; note = note i })
 
 -- ---- all tables
@@ -221,9 +206,9 @@ abbrev first_token : List (Token × Caller) → Token
 first_token [] = []
 first_token (e ∷ es) = e.0
 
-abbrev other_tokens : List (Token × Caller) → List (Token × Caller)
-other_tokens [] = []
-other_tokens (e ∷ es) = es
+abbrev later_tokens : List (Token × Caller) → List (Token × Caller)
+later_tokens [] = []
+later_tokens (e ∷ es) = es
 
 -- a database spells one World at most
 one_spelled : (db : Database) (v w : World) → Spells db v → Spells db w → v ≡ w
@@ -232,7 +217,7 @@ one_spelled db v w h g =
     let s = g.rows in
     let operators_and_tokens = tokens_once db h.holds.contents g.holds.contents h.holds.has g.holds.has in
     let operator = ap first_token operators_and_tokens in
-    let tokens = ap other_tokens operators_and_tokens in
+    let tokens = ap later_tokens operators_and_tokens in
     let member = listed_once members (λ _. Unit {0}) tells_member db r s h.holds g.holds (λ _ _ _. tt) (λ _ _ _. tt) in
     let holder = listed_once holders (λ _. Unit {0}) tells_holder db r s h.holds g.holds (λ _ _ _. tt) (λ _ _ _. tt) in
     let purse = listed_once purses IsRow tells_purse db r s h.holds g.holds (purses_valid r v h.spells) (purses_valid s w g.spells) in

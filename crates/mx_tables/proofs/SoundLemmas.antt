@@ -1,5 +1,5 @@
 -- What a World's conditions say of the rows that spell it.
-use Rattle.std.proofs.Common.{◌≡◌, inl, inr, ℕ, ◌+◌, ◌<◌, ◌≤◌, true, is_some, List, [], ◌∷◌, map, length, refl, Some, None, Option, sym, ap, subst, ◌∙◌, arith}
+use Rattle.std.proofs.Common.{◌≡◌, inl, inr, ℕ, ◌+◌, ◌<◌, ◌≤◌, List, [], ◌∷◌, map, length, refl, Some, None, Option, sym, ap, subst, ◌∙◌, arith}
 use Rattle.std.specs.Prelude.{option_map}
 use Rattle.std.specs.FinMap as fmap
 use Rattle.mx_purse.specs.Messages.{IsMessage}
@@ -15,7 +15,8 @@ use Rattle.mx_book.specs.Conditions.{IsWorld}
 use Rattle.mx_book.specs.Spells.{Spells}
 use Rattle.mx_book.specs.declared.values.PurseRow.{PurseRow}
 use Rattle.mx_book.proofs.NameLemmas.{names_total}
-use Rattle.mx_book.proofs.RowLemmas.{get_rows}
+use Rattle.mx_book.proofs.RowLemmas.{get_rows, there}
+use Rattle.mx_book.proofs.FoundLemmas.{some_of, none_found}
 use Rattle.mx_book.proofs.UnderLemmas.{get-under}
 use Rattle.mx_tables.specs.Answers.{AreMessages, HaveNumbers, ArePurses}
 use Rattle.std.specs.List.{AllByRecursion}
@@ -32,36 +33,29 @@ use Rattle.mx_book.specs.Conditions.{IsLine, IsNote, AreNumbered}
 use Rattle.mx_book.specs.declared.values.LineRow.{LineRow}
 use Rattle.mx_tables.specs.Pages.{AreLines}
 
--- a row under a purse is of a purse that is there
-there : {X : Type 0} (x : X) (o : Option X) → o ≡ Some x → o ≡ None → ⊥
-there x o a b = let it : ◌≡◌ {A = Option _} (Some x) None = sym a ∙ b in absurd (cc)
-
 module _ (r : Rows) (w : World) (h : Spells r w) where
   own : IsWorld (world_of r)
   own = subst IsWorld h.spelled.world h.sound
-
-  row : (p : Name) (x : PurseRow) → fmap.get r.purses p ≡ Some x → fmap.get (world_of r).rows p ≡ Some (row_of r p x)
-  row p x e = get_rows r p ∙ ap (option_map (row_of r p)) e
 
   pub messages_valid : AreMessages r
   messages_valid k m at = by_purse (fmap.get r.purses k.0) refl
     where
       by_purse : (o : Option PurseRow) → fmap.get r.purses k.0 ≡ o → IsMessage m
-      by_purse None e = absurd (there m (fmap.get r.inbox k) at (h.spelled.proper.inbox k.0 k.1 e))
-      by_purse (Some x) e = (own.inboxes.each k.0 (row_of r k.0 x) (row k.0 x e)).messages k.1 m (get-under name_cmp nat_cmp names_total k.0 r.inbox k.1 ∙ at)
+      by_purse None e = none_found (fmap.get r.inbox k) m (h.spelled.proper.inbox k.0 k.1 e) at
+      by_purse (Some x) e = (own.inboxes.each k.0 (row_of r k.0 x) (there r k.0 x e)).messages k.1 m (get-under name_cmp nat_cmp names_total k.0 r.inbox k.1 ∙ at)
 
   pub numbers_valid : HaveNumbers r
   numbers_valid k m at = by_purse (fmap.get r.purses k.0) refl
     where
       by_purse : (o : Option PurseRow) → fmap.get r.purses k.0 ≡ o → k.1 ≤ most_number
-      by_purse None e = absurd (there m (fmap.get r.inbox k) at (h.spelled.proper.inbox k.0 k.1 e))
+      by_purse None e = none_found (fmap.get r.inbox k) m (h.spelled.proper.inbox k.0 k.1 e) at
       by_purse (Some x) e =
-          let it = own.inboxes.each k.0 (row_of r k.0 x) (row k.0 x e) in
+          let it = own.inboxes.each k.0 (row_of r k.0 x) (there r k.0 x e) in
           let low = it.below k.1 (rw (get-under name_cmp nat_cmp names_total k.0 r.inbox k.1 ∙ at) refl) in
           omega (arith, low, it.next)
 
   pub purses_valid : ArePurses r
-  purses_valid p x at = let it = own.purses.each p (row_of r p x) (row p x at) in (it.named, it.purse)
+  purses_valid p x at = let it = own.purses.each p (row_of r p x) (there r p x at) in (it.named, it.purse)
 
 few_lines : (p : State) (s : Status) → IsInStatus p s → p.lines ≤ most_number + 2
 few_lines p EaFrom h = h
@@ -91,7 +85,7 @@ lines_valid r w h k x at = by_purse (fmap.get r.purses k.0) refl
     own = subst IsWorld h.spelled.world h.sound
 
     by_purse : (o : Option PurseRow) → fmap.get r.purses k.0 ≡ o → (k.1 ≤ most_number + 2) × IsNote x.note
-    by_purse None e = absurd (there x (fmap.get r.lines k) at (h.spelled.proper.lines k.0 k.1 e))
+    by_purse None e = none_found (fmap.get r.lines k) x (h.spelled.proper.lines k.0 k.1 e) at
     by_purse (Some y) e =
         let row = get_rows r k.0 ∙ ap (option_map (row_of r k.0)) e in
         let lines = own.lines.each k.0 (row_of r k.0 y) row in
@@ -104,16 +98,13 @@ lines_valid r w h k x at = by_purse (fmap.get r.purses k.0) refl
 
 -- ---- results
 
-there_too : {X : Type 0} (x : X) (o : Option X) → o ≡ Some x → is_some o ≡ true
-there_too x o at = ap is_some at
-
 pub archive_valid : (r : Rows) (w : World) → Spells r w → AreDetails r.archive
-archive_valid r w h k x at = (subst IsWorld h.spelled.world h.sound).results.details k.0 k.1 (there_too x (fmap.get r.archive k) at)
+archive_valid r w h k x at = (subst IsWorld h.spelled.world h.sound).results.details k.0 k.1 (some_of (fmap.get r.archive k) x at)
 
 pub tray_valid : (r : Rows) (w : World) → Spells r w → AreDetails r.tray
 tray_valid r w h k x at =
     let own : IsWorld (world_of r) = subst IsWorld h.spelled.world h.sound in
-    let entry = own.results.logged k.0 k.1 (there_too x (fmap.get r.tray k) at) in
+    let entry = own.results.logged k.0 k.1 (some_of (fmap.get r.tray k) x at) in
     (own.purses.each k.0 entry.0 entry.1).purse.log.entries k.1 entry.2
 
 pub tray_as : (r : Rows) (w : World) (p : Name) → Spells r w → row_tray_of r p ≡ tray_of w p

@@ -1,5 +1,5 @@
 -- What a statement leaves of the connection.
-use Rattle.std.proofs.Common.{◌≡◌, ◌⊎◌, inl, inr, ℕ, zero, suc, ◌≤◌, Bool, true, false, List, Ok, Err, Result, IfErr, OnOk, OnErr, IsTrue, Option, Some, None, refl, sym, ap, subst, ◌∙◌, arith}
+use Rattle.std.proofs.Common.{◌≡◌, ◌⊎◌, inl, inr, ℕ, zero, suc, ◌≤◌, Bool, true, false, List, Ok, Err, Result, IfErr, OnErr, IsTrue, Option, Some, None, refl, sym, ap, subst, ◌∙◌, arith}
 use Rattle.std.specs.Prelude.{if◌then◌else◌}
 use Rattle.sqlite_value.specs.Order.{Row}
 use Rattle.sqlite_trees.specs.View.{doubt}
@@ -16,8 +16,6 @@ use Rattle.sqlite.specs.State.{State, HasCleanDisk, IsUnchanged, IsRolledBack, F
 use Rattle.mx_tables.specs.Holds.{Holds}
 use Rattle.sqlite.specs.Steps.{FailsToCommit}
 use Rattle.mx_tables.specs.Schema.{office_schema}
-use Rattle.mx_book.specs.declared.contract.StoreFault.{StoreFault}
-use Rattle.mx_book.specs.Rows.{Rows}
 use Rattle.mx_tables.specs.States.{worry, IsOurs, IsText, Stays, Goes}
 
 -- a statement that fails changes nothing, or its transaction is rolled back
@@ -175,10 +173,6 @@ unmade first old new (Err e) kept inside h = λ is_open. elim h [
   | inr ended ↦ absurd (let e = ended.1 in cc)
 ]
 
-pub goes_on : (sql : List ℕ) (params : Row) (old new : State) (r : Result ℕ Error) → ExecutesInside 0 sql params old new r → OnOk r (IsTrue new.in_transaction)
-goes_on sql params old new (Ok count) h = h.1.mode
-goes_on sql params old new (Err e) h = tt
-
 -- ---- reads in a transaction
 
 rows_keep : (old new : State) (sql : List ℕ) (c : Compiled) (params : Row) (rows : List Row) (what : Option Returning) → IsTrue old.in_transaction → ShowsRows old new sql c params rows what → KeepsCommit old new × IsTrue new.in_transaction
@@ -194,30 +188,6 @@ refused_keeps sql params old new e (inl failed) = quits old new (query_quits sql
 refused_keeps sql params old new e (inr late) = quits old new (inl late.5)
 
 -- ---- a transaction as a whole
-
--- what a call that made all its changes, or none, leaves
-pub ours_after : {X : Type 0} (old new : State) (r : Result X StoreFault) (change : Rows → Rows) → IsOurs old → new.in_transaction ≡ false → worry old ≤ worry new
-    → (HasCleanDisk new → old.now.schema ≡ office_schema → OnOk r (Goes change old new × (new.committed ≡ new.now)))
-    → (HasCleanDisk new → OnErr r (IsTrue new.is_open → (new.now ≡ old.committed) × (new.committed ≡ old.committed)))
-    → IsOurs new
-ours_after old new (Ok x) change ours ended later done none = record {
-  autocommit = ended;
-  settled = λ h. (done (sure new h).1 (ours.schema (sure_before old new later h))).1;
-  schema = λ h. (done (sure new h).1 (ours.schema (sure_before old new later h))).0.schema;
-}
-ours_after old new (Err e) change ours ended later done none =
-    let left = λ (h : worry new ≡ 0). none (sure new h).1 (sure new h).0 in
-    record {
-      autocommit = ended;
-      settled = λ h. (left h).1 ∙ sym (left h).0;
-      schema = λ h. let before = sure_before old new later h in ap (λ (d : Database). d.schema) ((left h).0 ∙ ours.settled before) ∙ ours.schema before;
-    }
-
-pub left_as_was : {X : Type 0} (old new : State) (r : Result X StoreFault) → IsOurs old → worry old ≤ worry new
-    → (HasCleanDisk new → OnErr r (IsTrue new.is_open → (new.now ≡ old.committed) × (new.committed ≡ old.committed)))
-    → worry new ≡ 0 → OnErr r (new.now ≡ old.now)
-left_as_was old new (Ok x) ours later none h = tt
-left_as_was old new (Err e) ours later none h = (none (sure new h).1 (sure new h).0).0 ∙ ours.settled (sure_before old new later h)
 
 pub keeps_then : (a b c : State) → KeepsCommit a b → KeepsCommit b c → KeepsCommit a c
 keeps_then a b c one two = record { was_open = λ o. one.was_open (two.was_open o); committed = λ o. two.committed o ∙ one.committed (two.was_open o) }

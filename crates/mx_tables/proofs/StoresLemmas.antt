@@ -35,10 +35,10 @@ have_filtered cells test p tests (r ∷ tree) (x ∷ xs) h =
 
 have_mapped : {X : Type 0} (cells : X → Row) (f : Row → Row) (g : X → X) → ((id : ℤ) (x : X) → f (Int id ∷ cells x) ≡ Int id ∷ cells (g x))
     → (tree : List Row) (xs : List X) → HaveCells tree (map cells xs) → HaveCells (map f tree) (map cells (map g xs))
-have_mapped cells f g goes [] [] h = tt
-have_mapped cells f g goes [] (x ∷ xs) h = absurd h
-have_mapped cells f g goes (r ∷ tree) [] h = absurd h
-have_mapped cells f g goes (r ∷ tree) (x ∷ xs) h = ((h.0.0, ap f h.0.1 ∙ goes h.0.0 x), have_mapped cells f g goes tree xs h.1)
+have_mapped cells f g formed_if [] [] h = tt
+have_mapped cells f g formed_if [] (x ∷ xs) h = absurd h
+have_mapped cells f g formed_if (r ∷ tree) [] h = absurd h
+have_mapped cells f g formed_if (r ∷ tree) (x ∷ xs) h = ((h.0.0, ap f h.0.1 ∙ formed_if h.0.0 x), have_mapped cells f g formed_if tree xs h.1)
 
 module _ {X : Type 0} (cells : X → Row) (tree : List Row) (xs : List X) (stores : Stores tree (map cells xs)) (test : Row → Bool) (p : X → Bool) (tests : (id : ℤ) (x : X) → test (Int id ∷ cells x) ≡ p x)
     -- what the statement read, whose first column is the rowid
@@ -55,8 +55,8 @@ module _ {X : Type 0} (cells : X → Row) (tree : List Row) (xs : List X) (store
       let known : id_in (rowid (show r)) ≡ id = ap id_in (keeps_id r (has_filtered test tree r h).0 ∙ is) in
       subst (Has (ids_of read)) known (map_has (λ y. id_in (rowid y)) read (show r) there)
 
-  named : (id : ℤ) → Has (ids_of read) id → (r : Row) × Has (filter test tree) r × (rowid r ≡ Int id)
-  named id h =
+  row_of_id : (id : ℤ) → Has (ids_of read) id → (r : Row) × Has (filter test tree) r × (rowid r ≡ Int id)
+  row_of_id id h =
       let y = has_mapped (λ y. id_in (rowid y)) read id h in
       let x = has_mapped show (filter test tree) y.0 (permuted read _ (IsPermutation-sym _ _ same) y.0 y.1) in
       let was = (has_filtered test tree x.0 x.1).0 in
@@ -66,36 +66,36 @@ module _ {X : Type 0} (cells : X → Row) (tree : List Row) (xs : List X) (store
 
   pub stores_left : Stores (without_all tree (ids_of read)) (map cells (filter (λ x. not (p x)) xs))
   stores_left =
-      let is = left tree stores.rise ids test (ids_of read) taken named in
+      let is = left tree stores.rise ids test (ids_of read) taken row_of_id in
       subst (λ rows. Stores rows (map cells (filter (λ x. not (p x)) xs))) (sym is) (record {
         rise = filter_table (λ r. not (test r)) tree stores.rise;
         have = have_filtered cells (λ r. not (test r)) (λ x. not (p x)) (λ id x. ap not (tests id x)) tree xs stores.have;
       })
 
   module _ (form : Row → Row) (g : X → X) (forms : (id : ℤ) (x : X) → form (show (Int id ∷ cells x)) ≡ Int id ∷ cells (g x)) (fresh : are_fresh (without_all tree (ids_of read)) (map form read) ≡ true) where
-    abbrev change : Row → Row
-    change r = form (show r)
+    abbrev formed : Row → Row
+    formed r = form (show r)
 
-    keeps : (r : Row) → Has tree r → rowid (change r) ≡ rowid r
-    keeps r h = let it = had cells tree xs stores.have r h in ap (λ y. rowid (change y)) it.2 ∙ ap rowid (forms it.0 it.1) ∙ sym (ap rowid it.2)
+    keeps : (r : Row) → Has tree r → rowid (formed r) ≡ rowid r
+    keeps r h = let it = had cells tree xs stores.have r h in ap (λ y. rowid (formed y)) it.2 ∙ ap rowid (forms it.0 it.1) ∙ sym (ap rowid it.2)
 
-    put : (r : Row) → Has (filter test tree) r → Has (map form read) (change r)
-    put r h = map_has form read (show r) (permuted _ read same (show r) (map_has show (filter test tree) r h))
+    form_put : (r : Row) → Has (filter test tree) r → Has (map form read) (formed r)
+    form_put r h = map_has form read (show r) (permuted _ read same (show r) (map_has show (filter test tree) r h))
 
-    from : (n : Row) → Has (map form read) n → (r : Row) × Has (filter test tree) r × (n ≡ change r)
+    from : (n : Row) → Has (map form read) n → (r : Row) × Has (filter test tree) r × (n ≡ formed r)
     from n h =
         let y = has_mapped form read n h in
         let x = has_mapped show (filter test tree) y.0 (permuted read _ (IsPermutation-sym _ _ same) y.0 y.1) in
         (x.0, x.1, y.2 ∙ ap form x.2)
 
-    goes : (b : Bool) (id : ℤ) (x : X) → (if b then change (Int id ∷ cells x) else (Int id ∷ cells x)) ≡ Int id ∷ cells (if b then g x else x)
-    goes true id x = forms id x
-    goes false id x = refl
+    formed_if : (b : Bool) (id : ℤ) (x : X) → (if b then formed (Int id ∷ cells x) else (Int id ∷ cells x)) ≡ Int id ∷ cells (if b then g x else x)
+    formed_if true id x = forms id x
+    formed_if false id x = refl
 
     pub stores_changed : Stores (put_all (without_all tree (ids_of read)) (map form read)) (map cells (map (λ x. if p x then g x else x) xs))
     stores_changed =
-        let is = changed tree stores.rise ids test (ids_of read) taken named change keeps (map form read) fresh put from in
+        let is = changed tree stores.rise ids test (ids_of read) taken row_of_id formed keeps (map form read) fresh form_put from in
         subst (λ rows. Stores rows (map cells (map (λ x. if p x then g x else x) xs))) (sym is) (record {
-          rise = after_table tree stores.rise ids test (ids_of read) taken named change keeps (map form read) fresh put from;
-          have = have_mapped cells (λ r. if test r then change r else r) (λ x. if p x then g x else x) (λ id x. ap (λ b. if b then change (Int id ∷ cells x) else (Int id ∷ cells x)) (tests id x) ∙ goes (p x) id x) tree xs stores.have;
+          rise = after_table tree stores.rise ids test (ids_of read) taken row_of_id formed keeps (map form read) fresh form_put from;
+          have = have_mapped cells (λ r. if test r then formed r else r) (λ x. if p x then g x else x) (λ id x. ap (λ b. if b then formed (Int id ∷ cells x) else (Int id ∷ cells x)) (tests id x) ∙ formed_if (p x) id x) tree xs stores.have;
         })

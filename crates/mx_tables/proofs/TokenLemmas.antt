@@ -1,6 +1,8 @@
 -- The statements on tokens.
-use Rattle.std.proofs.Common.{◌≡◌, ◌≢◌, inl, inr, ℕ, Bool, true, false, cond, List, [], ◌∷◌, ◌++◌, map, filter, Ok, Some, Option, refl, sym, ap, subst, ◌∙◌, arith}
+use Rattle.std.proofs.Common.{◌≡◌, ◌≢◌, inl, inr, ℕ, Bool, cond, List, [], ◌∷◌, ◌++◌, map, filter, Ok, Some, Option, refl, sym, ap, subst, ◌∙◌, arith}
 use Rattle.std.specs.List.{AllByRecursion}
+use Rattle.std.specs.Cmp.{both_ways}
+use Rattle.std.proofs.ByRecursion.{All-push}
 use Rattle.std.specs.Result.{result_ok}
 use Rattle.std.specs.List.Sorted.{IsPermutation}
 use Rattle.std.proofs.lemmas.List.{map-append}
@@ -14,6 +16,7 @@ use Rattle.sqlite_value.specs.Order.{Row}
 use Rattle.sqlite_schema.specs.declared.schema.Table.{Table}
 use Rattle.sqlite_keyed.proofs.ListLemmas.{IsPermutation-filter}
 use Rattle.sqlite.specs.State.{State, Shown, Executes}
+use Rattle.mx_pay.proofs.SameLemmas.{names_turned}
 use Rattle.mx_pay.specs.Limits.{token_bytes}
 use Rattle.mx_pay.specs.Names.{is_name}
 use Rattle.mx_pay.specs.Tokens.{token_cmp, is_token, token_of, IsToken}
@@ -34,7 +37,7 @@ use Rattle.mx_tables.proofs.Texts.{select_token, select_token_is, insert_token, 
 use Rattle.mx_tables.proofs.Statements.{inserted}
 use Rattle.mx_tables.proofs.StoredLemmas.{and_true, same_text, cast_null, stores_put}
 use Rattle.mx_tables.proofs.MapLists.{entries_of, map_push}
-use Rattle.mx_tables.proofs.ReadLemmas.{turned, answered}
+use Rattle.mx_tables.proofs.ReadLemmas.{answered}
 use Rattle.mx_tables.proofs.WriteLemmas.{has_then, no_actions, goes}
 use Rattle.mx_tables.proofs.KeptLemmas.{token_rows}
 
@@ -46,14 +49,9 @@ same_tests : {X : Type 0} (p q : X → Bool) (xs : List X) → AllByRecursion (�
 same_tests p q [] h = refl
 same_tests p q (x ∷ xs) h = rw h.0 (ap (λ ys. cond (q x) (x ∷ ys) ys) (same_tests p q xs h.1))
 
-same_test : (a b : Bool) → (a ≡ true → b ≡ true) → (b ≡ true → a ≡ true) → a ≡ b
-same_test true b f g = sym (f refl)
-same_test false true f g = g refl
-same_test false false f g = refl
-
 -- texts of tokens are the same where the tokens are
 same_token_texts : (a b : Token) → IsToken a → IsToken b → is_name (encode_lower a) (encode_lower b) ≡ is_token a b
-same_token_texts a b one two = same_test _ _
+same_token_texts a b one two = both_ways _ _
     (λ t. let e : a ≡ b = let i : ◌≡◌ {A = Option Token} (Some a) (Some b) = sym (token_back a one) ∙ ap token_of {x = encode_lower a} {y = encode_lower b} (same_name (encode_lower a) (encode_lower b) t) ∙ token_back b two in cc in rw e (name_itself b))
     (λ t. rw (same_name a b t) (name_itself (encode_lower b)))
 
@@ -62,32 +60,28 @@ all_tokens t one [] h = tt
 all_tokens t one (e ∷ es) h = (same_token_texts t e.0 one h.0, all_tokens t one es h.1)
 
 -- the tokens of a book, the operator's first
-abbrev pub all_of : Rows → List (Token × Caller)
-all_of r = (r.operator, Operator) ∷ fmap.entries r.tokens
+abbrev pub book_tokens : Rows → List (Token × Caller)
+book_tokens r = (r.operator, Operator) ∷ fmap.entries r.tokens
 
-listed_tokens : (db : Database) (c : Contents) (r : Rows) → HasContents db c → rows_of c ≡ r → IsPermutation (tokens_of c) (all_of r)
+listed_tokens : (db : Database) (c : Contents) (r : Rows) → HasContents db c → rows_of c ≡ r → IsPermutation (tokens_of c) (book_tokens r)
 listed_tokens db c r has is =
     let distinct = (token_rows.distinct db c has).1 in
-    subst (λ (s : Rows). IsPermutation (tokens_of c) (all_of s)) is (IsPermutation-cons (c.operator, Operator) c.tokens _ (entries_of token_cmp names_total c.tokens distinct))
+    subst (λ (s : Rows). IsPermutation (tokens_of c) (book_tokens s)) is (IsPermutation-cons (c.operator, Operator) c.tokens _ (entries_of token_cmp names_total c.tokens distinct))
 
 pub finds_token : (t : Token) (old new : State) (rows : List Row) → Shown select_token (Text (encode_lower t) ∷ []) old new rows → IsToken t → (r : Rows) → Holds old.now r
-    → IsPermutation (map (λ (e : Token × Caller). caller_shown e.1) (at_key token_cmp t (all_of r))) rows
+    → IsPermutation (map (λ (e : Token × Caller). caller_shown e.1) (at_key token_cmp t (book_tokens r))) rows
 finds_token t old new rows shown one r h =
     let text = encode_lower t in
     let c = h.contents in
     let show = λ (e : Token × Caller). caller_shown e.1 in
     let mine = λ (e : Token × Caller). is_token t e.0 in
     let got = answered select_token 3 _ _ _ select_token_is (Text text ∷ []) token_cells (λ (e : Token × Caller). is_name text (encode_lower e.0)) show
-    (λ id e. rw (same_text (encode_lower e.0) text) (and_true _ ∙ turned (encode_lower e.0) text)) (λ id e. refl) old new rows shown h.has.schema (tokens_of c) h.has.tables.1.1.0.have in
+    (λ id e. rw (same_text (encode_lower e.0) text) (and_true _ ∙ names_turned (encode_lower e.0) text)) (λ id e. refl) old new rows shown h.has.schema (tokens_of c) h.has.tables.1.1.0.have in
     let told = subst (λ es. IsPermutation (map show es) rows) (same_tests _ mine (tokens_of c) (all_tokens t one (tokens_of c) (h.has.tokens.operator, h.has.tokens.tokens))) got in
     let same = IsPermutation-map show _ _ (IsPermutation-filter mine _ _ (listed_tokens old.now c r h.has h.rows)) in
     IsPermutation-trans _ _ _ (IsPermutation-sym _ _ same) told
 
 -- ---- writes
-
-all_push : {X : Type 0} (P : X → Type 0) (xs : List X) (x : X) → AllByRecursion P xs → P x → AllByRecursion P (xs ++ x ∷ [])
-all_push P [] x all last = (last, tt)
-all_push P (y ∷ ys) x all last = (all.0, all_push P ys x all.1 last)
 
 abbrev pub token_table : Table
 token_table = record token { tree = 3 }
@@ -109,7 +103,7 @@ adds_token t caller old new count one has h =
     goes (λ r. record r { tokens = fmap.insert r.tokens t caller }) old new wrote.schema_is (λ c holds.
     let d = with_token e c in
     let stores = stores_put (old.now.trees 3) (map token_cells (tokens_of c)) (token_cells e) holds.tables.1.1.0 in
-    let tokens : AreTokens d = record { operator = holds.tokens.operator; tokens = all_push (λ (x : Token × Caller). IsToken x.0) c.tokens e holds.tokens.tokens one } in
+    let tokens : AreTokens d = record { operator = holds.tokens.operator; tokens = All-push (λ (x : Token × Caller). IsToken x.0) c.tokens e holds.tokens.tokens one } in
     let after = has_then token_table old new _ c d wrote holds (λ z. omega (arith, z)) (other_tokens e c) (subst (Stores _) (sym (map-append token_cells (tokens_of c) (e ∷ []))) stores) tokens in
     let pushed = map_push token_cmp names_total names_exact c.tokens t caller (token_rows.distinct new.now d after).1 in
     (d, after, λ i. record (rows_of c) { tokens = pushed i }))

@@ -1,5 +1,5 @@
 -- What the changes of one table do to the rows of a book.
-use Rattle.std.proofs.Common.{◌≡◌, ◌≢◌, ◌⊎◌, inl, inr, ℕ, ℤ, suc, ap₂, ◌/◌, Bool, true, false, not, cond, if◌then◌else◌, List, [], ◌∷◌, ◌++◌, map, filter, drop, length, slice_get, Some, None, Option, Ok, Err, Result, OnOk, refl, sym, ap, subst, ◌∙◌, arith}
+use Rattle.std.proofs.Common.{◌≡◌, ◌≢◌, ◌⊎◌, inl, inr, ℕ, ℤ, suc, ◌/◌, Bool, true, false, not, cond, if◌then◌else◌, List, [], ◌∷◌, ◌++◌, map, filter, drop, length, slice_get, Some, None, Option, Ok, refl, sym, ap, subst, ◌∙◌, arith}
 use Rattle.std.specs.Prelude.{◌==◌, ◌&&◌, option_map}
 use Rattle.std.specs.List.{AllByRecursion}
 use Rattle.std.specs.Ordering.{eq_by_cmp}
@@ -91,10 +91,6 @@ same_row : {K V : Type 0} (b : Bool) (e : K × V) (v : V) → cond b (e.0, v) e 
 same_row true e v = refl
 same_row false e v = refl
 
-same_rows : {X Y : Type 0} (f g : X → Y) → ((x : X) → f x ≡ g x) → (xs : List X) → map f xs ≡ map g xs
-same_rows f g same [] = refl
-same_rows f g same (x ∷ xs) = ap₂ ◌∷◌ (same x) (same_rows f g same xs)
-
 module _ {K V : Type 0} {R : K → K → Ordering} {cells : K × V → Row} {at : ℕ} {table : Table} {list : Contents → List (K × V)} {map_of : Rows → fmap.FinMap R V} {with_list : List (K × V) → Contents → Contents} {with_map : fmap.FinMap R V → Rows → Rows}
     (kept : Kept R cells table.tree list map_of) (place : Place R cells at table with_list with_map) (listed_is : (l : List (K × V)) (c : Contents) → list (with_list l c) ≡ l) where
   -- an INSERT of one row
@@ -132,7 +128,7 @@ module _ {K V : Type 0} {R : K → K → Ordering} {cells : K × V → Row} {at 
         let stores = stores_changed cells (old.now.trees table.tree) (list c) (kept.stored old.now c holds) (passes terms params) p tests (λ r. eval_all project (env params r)) first it.0 got
         (λ s. cast_row table (drop 1 s)) (λ e. (e.0, g e.0 e.1)) forms it.4 in
         let after = has_then table old new _ c d it.2 holds place.not_meta (place.others l c) (subst (Stores _) (sym (place.placed l c)) stores) (place.tokens l c holds.tokens) in
-        let same : l ≡ map (anew kept.total kept.exact altered) (list c) = same_rows alter (anew kept.total kept.exact altered) (λ e. same_row (p e) e (g e.0 e.1)) (list c) in
+        let same : l ≡ map (anew kept.total kept.exact altered) (list c) = λ i. map (λ (e : K × V). same_row (p e) e (g e.0 e.1) i) (list c) in
         (d, after, place.spelled l c ∙ ap (λ m. with_map m (rows_of c)) (ap (λ es. fmap.from_entries {R = R} es) same ∙ map_anew kept.total kept.exact altered (list c) ∙ ap (remake altered) (sym (kept.is c)))))
 
     -- as many pass as it says
@@ -182,10 +178,6 @@ module _ {K V : Type 0} {R : K → K → Ordering} {cells : K × V → Row} {at 
       let after = has_then table old new _ c d it.2 holds place.not_meta (place.others l c) (subst (Stores _) (sym (place.placed l c)) stores) (place.tokens l c holds.tokens) in
       (d, after, place.spelled l c ∙ ap (λ m. with_map m (rows_of c)) (map_left kept.total kept.exact p (list c) ∙ ap (λ m. fmap.retain_keys m (λ k. not (p k))) (sym (kept.is c)))))
 
-pub OnOk_then : {X E P Q : Type 0} (r : Result X E) → (P → Q) → OnOk r P → OnOk r Q
-OnOk_then (Ok x) f h = f h
-OnOk_then (Err e) f h = tt
-
 pub goes_then : (one two : Rows → Rows) (a b c : State) → Goes one a b → Goes two b c → Goes (λ r. two (one r)) a c
 goes_then one two a b c first second = record { schema = second.schema; rows = λ r holds. second.rows (one r) (first.rows r holds) }
 
@@ -214,15 +206,15 @@ module _ {K V : Type 0} {R : K → K → Ordering} (o : IsTotalOrder R) (exact :
 
 -- where one entry passes the test on a key, the key is there
 module _ {K V : Type 0} (R : K → K → Ordering) (o : IsTotalOrder R) (k : K) where
-  among : (es : List (K × V)) → length (filter (λ (e : K × V). eq_by_cmp R e.0 k) es) ≡ 1 → (v : V) × (fmap.find R k es ≡ Some v)
-  among [] h = absurd (omega (arith, h))
-  among (e ∷ es) h = elim (cases_Bool (eq_by_cmp R k e.0)) [
+  one_listed : (es : List (K × V)) → length (filter (λ (e : K × V). eq_by_cmp R e.0 k) es) ≡ 1 → (v : V) × (fmap.find R k es ≡ Some v)
+  one_listed [] h = absurd (omega (arith, h))
+  one_listed (e ∷ es) h = elim (cases_Bool (eq_by_cmp R k e.0)) [
     | inl t ↦ (e.1, rw t refl)
-    | inr f ↦ let it = among es (rw ((eq_by_cmp_equiv o).symm e.0 k ∙ f) at h) in (it.0, rw f it.1)
+    | inr f ↦ let it = one_listed es (rw ((eq_by_cmp_equiv o).symm e.0 k ∙ f) at h) in (it.0, rw f it.1)
   ]
 
   pub one_passes : (m : fmap.FinMap R V) → length (filter (λ (e : K × V). eq_by_cmp R e.0 k) (fmap.entries m)) ≡ 1 → (v : V) × (fmap.get m k ≡ Some v)
-  one_passes m one = let it = among (fmap.entries m) one in (it.0, fmap.get-entries m k ∙ it.1)
+  one_passes m one = let it = one_listed (fmap.entries m) one in (it.0, fmap.get-entries m k ∙ it.1)
 
 -- where one entry passes a test on its key and one on its value, the key is there and its value passes
 module _ {K V : Type 0} (R : K → K → Ordering) (o : IsTotalOrder R) (exact : fmap.IsAntisymmetric R) (k : K) (q : V → Bool) where

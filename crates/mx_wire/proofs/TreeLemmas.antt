@@ -2,6 +2,7 @@
 use Rattle.std.proofs.Common.{◌≡◌, ℕ, ◌+◌, ◌<◌, ◌^◌, List, [], ◌∷◌, length, drop, get_or, Bool, true, false, cond, if◌then◌else◌, ℤ, Float, Bor, arith, Option, Some, None, option_map, option_and_then, is_some, refl, sym, ap, ◌∙◌, unwrap_or, bytes_eq}
 use Rattle.std.proofs.lemmas.Grind.{common_steps}
 use Rattle.std.proofs.lemmas.List.{drop_more}
+use Rattle.std.proofs.lemmas.Option.{option_and_then_some}
 use Rattle.std.proofs.lemmas.Slice.Eq.{bytes_eq-Decides}
 use Rattle.std.specs.Prelude.{SomeIff}
 use Rattle.std.specs.Float.{binary64, float_is_finite}
@@ -71,14 +72,10 @@ later_seen : (o earlier : Option json.Json) (d found : Option Data) → d ≡ or
 later_seen None earlier d found e = e
 later_seen (Some j) earlier d found e = refl
 
-then_is : {A B P : Type 0} (f : A → Option B) (b : B) (o : Option A) → option_and_then f o ≡ Some b → ((a : A) → o ≡ Some a → f a ≡ Some b → P) → P
-then_is f b None e on = absurd (cc)
-then_is f b (Some a) e on = on a refl e
-
 get_member-of : (key : List ℕ) (ms : json.Members) (found all : Members) → of_members ms found ≡ Some all → get_member key all ≡ or_found (find.get_member key ms) (get_member key found)
 get_member-of key json.no_members found all e = let same : found ≡ all = cc in ap (get_member key) (sym same)
 get_member-of key (json.member k j ms) found all e =
-    then_is (λ d. of_members ms (put k d found)) all (of_json j) e (λ d is more.
+    option_and_then_some (λ d. of_members ms (put k d found)) (of_json j) all e (λ d is more.
     get_member-of key ms (put k d found) all more ∙ later_seen (find.get_member key ms) _ _ _ (put_seen key k j d found (bytes_eq k key) refl is))
 
 get_object : (key : List ℕ) (ms : json.Members) (o : Option Members) (d : Data) → of_members ms no_members ≡ o → option_map object o ≡ Some d → get key d ≡ option_and_then of_json (find.get_member key ms)

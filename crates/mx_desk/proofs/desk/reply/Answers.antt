@@ -1,8 +1,8 @@
 use Rattle.std.proofs.Common.{◌≡◌, ◌∙◌, true, false, refl}
+use Rattle.std.proofs.lemmas.Result.{on_ok_weaker, on_err_weaker}
 use Rattle.mx_wire.specs.Replies.{sent}
 use Rattle.mx_desk.specs.Found.{request_view}
 use Rattle.mx_desk.specs.Respond.{respond, is_head}
-use Rattle.mx_desk.proofs.Results.{on_ok, on_err}
 use Rattle.mx_desk.proofs.desk.reply.Goals as goal
 
 pub returns-in-Ok-clause-ok : goal.returns-in-Ok-clause-ok
@@ -11,7 +11,7 @@ returns-in-Ok-clause-ok g c = λ w honest spelled.
     let answer = c.in-Ok.ensures.answers w honest spelled in
     let same = answer.0 in
     let text : c.text.result.now ≡ sent (is_head c.args.request.now.method.now) (respond w (request_view c.args.request.now)).response = c.text.ensures ∙ rw (head, same) refl in
-    on_ok c.write_out.result _ _ (λ x. record {
+    on_ok_weaker c.write_out.result (λ x. record {
       marked = record { request = request_view c.args.request.now; given_up = false };
       request = refl;
       marks = λ e. cc;
@@ -25,7 +25,7 @@ returns-in-Ok-clause-err g c = λ w honest spelled.
     let answer = c.in-Ok.ensures.answers w honest spelled in
     let same = answer.0 in
     let text : c.text.result.now ≡ sent (is_head c.args.request.now.method.now) (respond w (request_view c.args.request.now)).response = c.text.ensures ∙ rw (head, same) refl in
-    on_err c.write_out.result _ _ (λ x. record {
+    on_err_weaker c.write_out.result (λ x. record {
       marked = record { request = request_view c.args.request.now; given_up = false };
       count = x.0;
       request = refl;
@@ -39,7 +39,7 @@ pub returns-in-Err-clause-ok : goal.returns-in-Err-clause-ok
 returns-in-Err-clause-ok g c = λ w honest spelled.
     let text = c.unavailable_text.ensures in
     let answer = c.in-Err.ensures.answers w honest spelled in
-    on_ok c.write_out-in-Err.result _ _ (λ x. record {
+    on_ok_weaker c.write_out-in-Err.result (λ x. record {
       marked = record { request = request_view c.args.request.now; given_up = true };
       request = refl;
       marks = λ e. answer.0;
@@ -51,7 +51,7 @@ pub returns-in-Err-clause-err : goal.returns-in-Err-clause-err
 returns-in-Err-clause-err g c = λ w honest spelled.
     let text = c.unavailable_text.ensures in
     let answer = c.in-Err.ensures.answers w honest spelled in
-    on_err c.write_out-in-Err.result _ _ (λ x. record {
+    on_err_weaker c.write_out-in-Err.result (λ x. record {
       marked = record { request = request_view c.args.request.now; given_up = true };
       count = x.0;
       request = refl;

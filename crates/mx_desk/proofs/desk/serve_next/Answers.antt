@@ -5,19 +5,19 @@ use Rattle.std.proofs.lemmas.Result.{err_from_is_err_and}
 use Rattle.mx_desk.specs.Found.{request_view}
 use Rattle.mx_desk.specs.Knows.{Stands}
 use Rattle.mx_desk.specs.Serve.{world_after_one}
-use Rattle.mx_desk.proofs.Known.{Appends-none, Appends-then, Appends-kept, Consumes-none, Consumes-then, Consumes-kept}
+use Rattle.std.proofs.KnownBytes.{Appends-nil, Appends-trans, Appends-kept, Consumes-nil, Consumes-trans, Consumes-kept}
 use Rattle.mx_desk.proofs.RequestLemmas.{Whole-shorter}
 use Rattle.mx_desk.proofs.StepLemmas.{answered_step, cut_step, turns_step, read_step, flush_step, stop_step, cut_stop_step, stop_at_end, cut_stop_at_end, nothing_step, smaller, first_now, open_room, capped_none, capped_more}
 use Rattle.mx_desk.proofs.desk.serve_next.Goals as goal
 
 pub pieces-init : goal.pieces-init
 pieces-init g c = record {
-  came = ([], Consumes-none _, sym (append-nil _));
+  came = ([], Consumes-nil _, sym (append-nil _));
   reads = (0, omega arith, λ h. absurd (omega (arith, h)), capped_none _ (rw c.calls-calls.ensures at c.calls-calls.type_inv), λ _. omega arith, λ _. refl);
   ended = λ h. absurd (cc);
   read_failures = refl;
   write_failures = refl;
-  wrote = Appends-none _;
+  wrote = Appends-nil _;
   office = refl;
   callers = refl;
 }
@@ -37,7 +37,7 @@ returns-in_err-reply-in-Whole-clause-steps g c = λ w honest spelled.
           (record { came = came.0; consumed = came.1; pending_is = came.2 })
           (rw c.pending.ensures.value at c.in-Whole.ensures.1)
           err.request err.marks (omega (arith, less))
-          (Appends-then _ _ _ [] _ c.pieces.invariant.wrote err.wrote)
+          (Appends-trans _ _ _ [] _ c.pieces.invariant.wrote err.wrote)
           refl;
     })
 
@@ -55,7 +55,7 @@ returns-in-Whole-clause-steps g c = λ w honest spelled.
           (rw c.pending.ensures.value at c.in-Whole.ensures.1)
           c.forget.ensures
           ok.request ok.marks
-          (Appends-then _ _ _ [] _ c.pieces.invariant.wrote ok.wrote)
+          (Appends-trans _ _ _ [] _ c.pieces.invariant.wrote ok.wrote)
           refl;
     }
 
@@ -80,7 +80,7 @@ returns-in_err-write_stop-in-Stopped-clause-steps g c = λ w honest spelled.
           (record { came = came.0; consumed = came.1; pending_is = came.2 })
           (rw c.pending.ensures.value at how)
           err.1
-          (Appends-then _ _ _ [] _ c.pieces.invariant.wrote err.2)
+          (Appends-trans _ _ _ [] _ c.pieces.invariant.wrote err.2)
           refl;
     })
 
@@ -95,7 +95,7 @@ returns-in-Stopped-clause-steps g c = λ w honest spelled.
           stop_step g.B.Book.fails _ _ c.pieces.input c.in-Stopped.stop
           (record { came = came.0; consumed = came.1; pending_is = came.2 })
           (rw c.pending.ensures.value at how)
-          (Appends-then _ _ _ [] _ c.pieces.invariant.wrote c.in_ok-write_stop-in-Stopped.ensures.ok.0)
+          (Appends-trans _ _ _ [] _ c.pieces.invariant.wrote c.in_ok-write_stop-in-Stopped.ensures.ok.0)
           refl;
     }
 
@@ -131,7 +131,7 @@ returns-in_err-write_stop-in-Open-clause-steps g c = λ w honest spelled.
           last.0
           (c.pieces.invariant.ended c.if-ended.true)
           err.1
-          (Appends-then _ _ _ [] _ c.pieces.invariant.wrote err.2)
+          (Appends-trans _ _ _ [] _ c.pieces.invariant.wrote err.2)
           refl;
     })
 
@@ -148,7 +148,7 @@ returns-in-Open-clause-steps g c = λ w honest spelled.
           (record { came = came.0; consumed = came.1; pending_is = came.2 })
           last.0
           (c.pieces.invariant.ended c.if-ended.true)
-          (Appends-then _ _ _ [] _ c.pieces.invariant.wrote c.in_ok-write_stop-in-Open.ensures.ok.0)
+          (Appends-trans _ _ _ [] _ c.pieces.invariant.wrote c.in_ok-write_stop-in-Open.ensures.ok.0)
           refl;
     }
 
@@ -224,7 +224,7 @@ pieces-preserved g c =
     let grown = ap length ok.2 ∙ length-append c.pieces.input ok.0 in
     let got = ok.1 in
     record {
-      came = (came.0 ++ ok.0, Consumes-then _ _ _ came.0 ok.0 came.1 ok.3, ok.2 ∙ ap (λ t. t ++ ok.0) came.2 ∙ append_assoc _ came.0 ok.0);
+      came = (came.0 ++ ok.0, Consumes-trans _ _ _ came.0 ok.0 came.1 ok.3, ok.2 ∙ ap (λ t. t ++ ok.0) came.2 ∙ append_assoc _ came.0 ok.0);
       reads = (reads.0 + 1, omega (arith, reads.1), λ _. omega arith, capped_more _ reads.0 _ _ reads.3 c.read_from.ensures.calls, λ some. (let some_read = eqb-false c.in_ok-ended.field-0 0 some in omega arith), λ z. absurd (omega (arith, z)));
       ended = λ z. c.in_ok-ended.ensures.end (ap Ok (eqb-true c.in_ok-ended.field-0 0 z));
       read_failures = c.in_ok-ended.ensures.whole ∙ c.pieces.invariant.read_failures;

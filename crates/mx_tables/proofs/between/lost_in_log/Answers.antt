@@ -5,8 +5,8 @@ use Rattle.mx_pay.specs.Details.{Details}
 use Rattle.mx_pay.specs.Log.{logged}
 use Rattle.mx_book.specs.RowTotals.{lost_by}
 use Rattle.mx_book.proofs.LogLemmas.{sum_next, sum_all}
-use Rattle.mx_tables.proofs.StateLemmas.{sure_before}
-use Rattle.mx_tables.proofs.CountedSums.{still_holds, stays_then}
+use Rattle.mx_tables.proofs.CountedSums.{still_holds}
+use Rattle.mx_tables.proofs.StateLemmas.{sure_before, stays_then}
 use Rattle.mx_tables.proofs.between.lost_in_log.Goals as goal
 
 pub loop-place-preserved : goal.loop-place-preserved

@@ -1,8 +1,8 @@
 use Rattle.sqlite.specs.Held.{state}
-use Rattle.mx_tables.proofs.WriteLemmas.{OnOk_then}
+use Rattle.std.proofs.lemmas.Result.{on_ok_weaker}
 use Rattle.mx_tables.proofs.CollectLemmas.{collects_purse}
 use Rattle.mx_tables.proofs.collecting.collect_purse.Goals as goal
 
 pub returns-clause-ok : goal.returns-clause-ok
 returns-clause-ok g c clean inside has =
-    OnOk_then c.run.result (λ ran. collects_purse c.args.purse.now (state g.S.Store c.args.tx.now.conn.now) (state g.S.Store c.run.new.tx.conn.now) ran.0 has (rw (c.params-to_sql.ensures, c.as_str-purse.ensures.text) at ran.1)) (c.run.ensures.ran clean inside)
+    on_ok_weaker c.run.result (λ ran. collects_purse c.args.purse.now (state g.S.Store c.args.tx.now.conn.now) (state g.S.Store c.run.new.tx.conn.now) ran.0 has (rw (c.params-to_sql.ensures, c.as_str-purse.ensures.text) at ran.1)) (c.run.ensures.ran clean inside)

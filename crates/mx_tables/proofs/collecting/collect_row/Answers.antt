@@ -2,7 +2,7 @@ use Rattle.std.proofs.Common.{◌∙◌, arith, sym, ap, refl}
 use Rattle.sqlite.specs.Effect.{Database}
 use Rattle.sqlite.specs.State.{HasCleanDisk}
 use Rattle.sqlite.specs.Held.{state}
-use Rattle.mx_tables.proofs.WriteLemmas.{OnOk_then}
+use Rattle.std.proofs.lemmas.Result.{on_ok_weaker}
 use Rattle.mx_tables.proofs.CollectLemmas.{row_left, row_taken}
 use Rattle.mx_tables.proofs.collecting.collect_row.Goals as goal
 
@@ -18,7 +18,7 @@ returns-then-same_name-clause-ok g c clean inside has =
     let mid = state g.S.Store c.find_holder_inside.new.tx.conn.now in
     let early : HasCleanDisk mid = omega (arith, c.collect_purse.ensures.clean) in
     let same = c.in_ok-owner.ensures.same early has in
-    OnOk_then c.collect_purse.result (λ made. row_taken c.args.member.now c.in_ok-purse.purse c.in_ok-holder.holder c.args.row.now c.in_ok-purse.ensures c.in_ok-holder.ensures
+    on_ok_weaker c.collect_purse.result (λ made. row_taken c.args.member.now c.in_ok-purse.purse c.in_ok-holder.holder c.args.row.now c.in_ok-purse.ensures c.in_ok-holder.ensures
     old mid (state g.S.Store c.collect_purse.new.tx.conn.now) c.in_ok-owner.field-0 (rw c.in-Some.is (sym c.same_name.ensures.value ∙ c.if-same_name.true)) has same
     (λ r holds. c.in_ok-owner.ensures.value early r holds) made)
     (c.collect_purse.ensures.ok clean (c.in_ok-owner.ensures.inside early inside) (ap (λ (d : Database). d.schema) same ∙ has))

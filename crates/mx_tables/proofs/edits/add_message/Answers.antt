@@ -2,7 +2,7 @@ use Rattle.std.proofs.Common.{ap, ◌∙◌, arith}
 use Rattle.sqlite.specs.Effect.{Database}
 use Rattle.sqlite.specs.State.{HasCleanDisk}
 use Rattle.sqlite.specs.Held.{state}
-use Rattle.mx_tables.proofs.WriteLemmas.{OnOk_then}
+use Rattle.std.proofs.lemmas.Result.{on_ok_weaker}
 use Rattle.mx_tables.proofs.InboxLemmas.{delivers}
 use Rattle.mx_tables.proofs.edits.add_message.Goals as goal
 
@@ -19,5 +19,5 @@ returns-clause-ok g c clean inside has =
     let known = ap (λ (d : Database). d.schema) same ∙ has in
     let one = c.in_ok-raise_next.ensures.ok later within known in
     let was = c.in_ok-raise_next.ensures.value later within known in
-    OnOk_then c.insert_message.result (λ two. delivers c.args.purse.now c.args.message.now c.in_ok-number.number old read raised (state g.S.Store c.insert_message.new.tx.conn.now) same was one two)
+    on_ok_weaker c.insert_message.result (λ two. delivers c.args.purse.now c.args.message.now c.in_ok-number.number old read raised (state g.S.Store c.insert_message.new.tx.conn.now) same was one two)
     (c.insert_message.ensures.ok clean (c.in_ok-raise_next.ensures.inside later within) one.schema)

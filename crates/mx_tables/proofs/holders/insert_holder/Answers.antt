@@ -1,8 +1,8 @@
 use Rattle.sqlite.specs.Held.{state}
-use Rattle.mx_tables.proofs.WriteLemmas.{OnOk_then}
+use Rattle.std.proofs.lemmas.Result.{on_ok_weaker}
 use Rattle.mx_tables.proofs.HolderLemmas.{adds_holder}
 use Rattle.mx_tables.proofs.holders.insert_holder.Goals as goal
 
 pub returns-clause-ok : goal.returns-clause-ok
 returns-clause-ok g c clean inside has =
-    OnOk_then c.run.result (λ ran. adds_holder c.args.name.now c.args.member.now (state g.S.Store c.args.tx.now.conn.now) (state g.S.Store c.run.new.tx.conn.now) ran.0 has (rw (c.params-to_sql.ensures, c.params-to_sql-2.ensures, c.as_str-name.ensures.text, c.as_str-member.ensures.text) at ran.1)) (c.run.ensures.ran clean inside)
+    on_ok_weaker c.run.result (λ ran. adds_holder c.args.name.now c.args.member.now (state g.S.Store c.args.tx.now.conn.now) (state g.S.Store c.run.new.tx.conn.now) ran.0 has (rw (c.params-to_sql.ensures, c.params-to_sql-2.ensures, c.as_str-name.ensures.text, c.as_str-member.ensures.text) at ran.1)) (c.run.ensures.ran clean inside)

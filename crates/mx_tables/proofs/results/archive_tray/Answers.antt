@@ -1,7 +1,7 @@
 use Rattle.std.proofs.Common.{arith}
 use Rattle.sqlite.specs.State.{HasCleanDisk}
 use Rattle.sqlite.specs.Held.{state}
-use Rattle.mx_tables.proofs.WriteLemmas.{OnOk_then}
+use Rattle.std.proofs.lemmas.Result.{on_ok_weaker}
 use Rattle.mx_tables.proofs.ResultLemmas.{archives}
 use Rattle.mx_tables.proofs.results.archive_tray.Goals as goal
 
@@ -16,6 +16,6 @@ returns-clause-ok g c clean inside has =
     let found = c.in_ok-rows.ensures.ok early has in
     let begun = c.in_ok-rows.ensures.inside early inside in
     let moved = c.in_ok-archive_rows.ensures.ok late begun found.0.schema in
-    OnOk_then c.delete_tray.result
+    on_ok_weaker c.delete_tray.result
     (λ emptied. archives c.args.purse.now c.as_slice.result.now c.in_ok-rows.rows.items first read put last c.as_slice.ensures.value found moved emptied)
     (c.delete_tray.ensures.ok clean (c.in_ok-archive_rows.ensures.inside late begun) moved.0)

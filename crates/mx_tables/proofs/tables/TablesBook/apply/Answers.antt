@@ -5,7 +5,7 @@ use Rattle.mx_tables.specs.States.{worry}
 use Rattle.mx_tables.proofs.EditLemmas.{spelled_after}
 use Rattle.mx_tables.proofs.SingleLemmas.{spelled_one}
 use Rattle.mx_tables.proofs.StateLemmas.{worry_later, sure, sure_before}
-use Rattle.mx_tables.proofs.WriteLemmas.{OnOk_then}
+use Rattle.std.proofs.lemmas.Result.{on_ok_weaker}
 use Rattle.mx_tables.proofs.tables.TablesBook.apply.Goals as goal
 
 pub returns-clause-later : goal.returns-clause-later
@@ -23,5 +23,5 @@ returns-clause-ok g c w h spelled =
     let before = sure_before old new later h in
     let was : Spells old.now w = rw c.self.view_is spelled.spelled in
     let began : worry (state g.S.Store c.args.self.now) ≡ 0 = rw c.self.view_is at before in
-    OnOk_then c.edit_all.result (λ done. spelled_one (spelled_after c.args.edits.now w old.now new.now was (c.requires w began spelled) (done.0.rows was.rows was.holds)))
+    on_ok_weaker c.edit_all.result (λ done. spelled_one (spelled_after c.args.edits.now w old.now new.now was (c.requires w began spelled) (done.0.rows was.rows was.holds)))
     (c.edit_all.ensures.done (sure new h).1 (c.self.invariant.schema before))
