@@ -30,7 +30,7 @@ use Rattle.mx_office.proofs.ActLemmas.{Simulated, map_same, get-abstract, act_le
 use Rattle.mx_office.proofs.AlikeLemmas.{purse_of, alike_itself, alike_simulated, row_alike, then_alike, apart_alike}
 use Rattle.mx_office.proofs.CaseLemmas.{by_after, collected_same}
 use Rattle.mx_office.proofs.MoveCaseLemmas.{IsTold, Refuses, Names, Sums, Idles, by_moves}
-use Rattle.mx_office.proofs.DeedLemmas.{not_some, with_holding, idle_told}
+use Rattle.mx_office.proofs.DeedLemmas.{not_some, idle_told}
 use Rattle.mx_office.proofs.FateLemmas.{value_moves, still_received, still_lost, never_received, never_lost}
 use Rattle.mx_office.proofs.LawLemmas.{run_steps}
 use Rattle.mx_office.proofs.RuleActLemmas.{EachActs, each_acts}

@@ -15,7 +15,7 @@ use Rattle.mx_office.specs.declared.values.Command.{Command}
 use Rattle.mx_office.specs.declared.values.Command.TheVariants as command
 use Rattle.mx_office.specs.declared.values.Reply.{Reply}
 use Rattle.mx_office.specs.declared.values.Reply.TheVariants as reply
-use Rattle.mx_office.specs.Step.{Asked, step, steps}
+use Rattle.mx_office.specs.Step.{Asked, step}
 
 -- ---- the abstract world
 

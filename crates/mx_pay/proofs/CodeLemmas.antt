@@ -1,26 +1,23 @@
 -- The laws of code texts, of all entries.
-use Rattle.std.proofs.Common.{◌≡◌, ◌≢◌, ℕ, ◌+◌, ◌-◌, ◌^◌, ◌<◌, ◌≤◌, suc, zero, Bool, true, false, cond, ◌||◌, ◌==◌, List, [], ◌∷◌, ◌++◌, refl, sym, ◌∙◌, ap, subst, Option, Some, None, T, map, length, arith, append_assoc, length-append}
-use Rattle.std.proofs.lemmas.Bool.{not_from_false, lt-leb, or_from, and_from}
+use Rattle.std.proofs.Common.{◌≡◌, ◌≢◌, ℕ, ◌+◌, ◌^◌, ◌<◌, ◌≤◌, suc, zero, true, false, ◌==◌, List, [], ◌∷◌, ◌++◌, refl, sym, ◌∙◌, ap, subst, Option, Some, None, T, map, length, arith, append_assoc, length-append}
+use Rattle.std.proofs.lemmas.Bool.{lt-leb}
 use Rattle.mx_pay.proofs.TestLemmas.{first_true, second_true}
 use Rattle.std.proofs.lemmas.List.{append-nil, length-map, nil_from_length, drop_all}
 use Rattle.std.proofs.lemmas.Option.{slice_get_cases}
-use Rattle.std.specs.Prelude.{nat_le, decimal, not, slice_get, drop}
+use Rattle.std.specs.Prelude.{decimal, slice_get, drop}
 use Rattle.std.proofs.lemmas.Bool.Decides.{nat_tests}
 use Rattle.std.specs.Option.{option_and_then, IfSome}
 use Rattle.std.specs.List.{list_all, list_any, AllByRecursion}
-use Rattle.std.specs.declared.cmp.Ordering.{Ordering}
-use Rattle.std.specs.declared.cmp.Ordering.TheVariants as o
-use Rattle.std.specs.Ordering.{is_lt, is_eq, eq_by_cmp, ordering_reverse}
+use Rattle.std.specs.Ordering.{is_lt, eq_by_cmp}
 use Rattle.std.specs.FinMap as fmap
-use Rattle.std.specs.FinMap.Entries.{put, is_sorted, below_all, by_order}
+use Rattle.std.specs.FinMap.Entries.{put, is_sorted, below_all}
 use Rattle.mx_pay.specs.Limits.{most_amount, most_number, most_entries}
 use Rattle.mx_pay.specs.Details.{Details, IsDetails, details_cmp}
-use Rattle.mx_pay.specs.Log.{IsLogValue, Entries, logged, log_len, has_logged, with_entry, none_logged, is_below, marks}
+use Rattle.mx_pay.specs.Log.{IsLogValue, Entries, logged, log_len, with_entry, none_logged, is_below, marks}
 use Rattle.mx_pay.specs.Orders.{logged-log_of}
 use Rattle.std.specs.Int.{IsInRange}
 use Rattle.mx_pay.specs.Codes.{entry_text, entry_texts, code}
 use Rattle.mx_pay.specs.Reading.{lead, cut, entry_of, put_last, with_text, after_cut, entries_of}
-use Rattle.std.specs.Cmp.{first_so, second_so}
 use Rattle.mx_pay.proofs.LogLemmas.{details_total, log_of_none}
 use Rattle.mx_pay.proofs.SameLemmas.{each_logged, logged_each}
 use Rattle.mx_pay.proofs.EntryLemmas.{NoByte, bind_some, cut_parts, cut_none, cut_at, entry_takes, entry_again, name_lacks, number_lacks_at}

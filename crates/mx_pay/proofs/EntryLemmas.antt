@@ -1,5 +1,5 @@
 -- The laws of code texts, of one entry.
-use Rattle.std.proofs.Common.{◌≡◌, ◌≢◌, ℕ, ◌^◌, ◌<◌, ◌≤◌, suc, zero, Bool, true, false, cond, ◌&&◌, ◌==◌, List, [], ◌∷◌, ◌++◌, refl, sym, ◌∙◌, ap, subst, Option, Some, None, length, get_or, arith}
+use Rattle.std.proofs.Common.{◌≡◌, ◌≢◌, ℕ, ◌^◌, ◌<◌, ◌≤◌, suc, zero, true, false, cond, ◌&&◌, List, [], ◌∷◌, ◌++◌, refl, sym, ◌∙◌, ap, subst, Option, Some, None, length, get_or, arith}
 use Rattle.std.specs.Prelude.{nat_lt, decimal}
 use Rattle.std.specs.Option.{option_and_then, option_map, IsNone, IfSome}
 use Rattle.std.proofs.lemmas.Str.Pattern.{IsSplitOnceResult, split_parts}
@@ -10,17 +10,17 @@ use Rattle.std.proofs.Common.{lit<}
 use Rattle.std.proofs.lemmas.Option.{cond_some}
 use Rattle.std.proofs.lemmas.Bool.Decides.{nat_tests}
 use Rattle.std.proofs.Math.Dec.{eqb}
-use Rattle.std.proofs.lemmas.Bool.{eqb-true, eq-eqb, leb-true, le-leb, ltb-true, lt-ltb, false_from_ne_true}
+use Rattle.std.proofs.lemmas.Bool.{leb-true, le-leb, ltb-true, lt-ltb}
 use Rattle.std.specs.Cmp.Lexicographic.{pointwise}
 use Rattle.mx_pay.specs.Limits.{most_amount, most_number}
-use Rattle.mx_pay.specs.Names.{is_name_text, is_name, is_name_byte}
+use Rattle.mx_pay.specs.Names.{is_name_text, is_name_byte}
 use Rattle.std.specs.List.{list_all}
 use Rattle.std.specs.Int.{IsInRange}
 use Rattle.std.specs.Str.Parse.{AllDigits}
 use Rattle.std.proofs.lemmas.Str.Parse.{IsNumeralModel, numerals_by_value, tells_digits, not_in_digits}
 use Rattle.mx_pay.specs.Details.{Details, IsDetails}
 use Rattle.mx_pay.specs.Codes.{entry_text}
-use Rattle.mx_pay.specs.Reading.{cut, onto, same_bytes, number_of, up_to, limited, name_of, apart, made_of, entry_of}
+use Rattle.mx_pay.specs.Reading.{cut, same_bytes, number_of, up_to, limited, name_of, apart, made_of, entry_of}
 use Rattle.std.specs.Cmp.{first_so, second_so}
 use Rattle.mx_pay.proofs.Texts.{name_bytes}
 use Rattle.mx_pay.proofs.SameLemmas.{same_name, names_alike, names_unlike}

@@ -1,24 +1,20 @@
 -- The calls of a log as those of its set: each call on the sixteen places gives what the set does.
-use Rattle.std.proofs.Common.{◌≡◌, ℕ, ◌-◌, ◌<◌, ◌≤◌, suc, zero, Bool, true, false, cond, ◌&&◌, ◌||◌, List, [], ◌∷◌, ◌++◌, refl, sym, ◌∙◌, ap, subst, Option, Some, None, T, map, length, replicate, arith}
+use Rattle.std.proofs.Common.{◌≡◌, ℕ, ◌-◌, ◌<◌, ◌≤◌, suc, zero, Bool, true, false, ◌&&◌, ◌||◌, List, [], ◌∷◌, ◌++◌, refl, sym, ◌∙◌, ap, subst, Option, Some, None, T, map, length, replicate, arith}
 use Rattle.std.proofs.lemmas.Bool.{leb-false}
 use Rattle.std.specs.Prelude.{is_some, nat_le, count_by, slice_get, filter}
 use Rattle.std.proofs.lemmas.List.Sums.{length-filter}
 use Rattle.mx_pay.specs.Limits.{most_entries}
-use Rattle.mx_pay.specs.Orders.{logged-log_of, details_exact}
+use Rattle.mx_pay.specs.Orders.{logged-log_of}
 use Rattle.std.proofs.lemmas.List.{length-map}
 use Rattle.std.specs.Option.{some_prefix}
 use Rattle.std.specs.List.{list_all, list_any, AllByRecursion}
 use Rattle.std.proofs.lemmas.Bool.Decides.{nat_tests}
-use Rattle.std.specs.Ordering.{is_lt, eq_by_cmp, nat_cmp}
 use Rattle.std.specs.Cmp.{IsTotalOrder}
 use Rattle.std.proofs.lemmas.Cmp.{on_total, then_total, nat_list_cmp_total, nat_cmp_total}
-use Rattle.std.specs.Cmp.Lexicographic.{slice_cmp}
-use Rattle.std.proofs.lemmas.Map.Lookups.{exact_pairs, exact_unsigned}
-use Rattle.std.specs.FinMap.{IsAntisymmetric, slice_cmp-IsAntisymmetric, nat_cmp-IsAntisymmetric}
 use Rattle.std.specs.FinMap as fmap
 use Rattle.std.specs.FinMap.Entries.{put, find, is_sorted, is_sorted-put}
 use Rattle.mx_pay.specs.Details.{Details, IsDetails, details_cmp}
-use Rattle.mx_pay.specs.Log.{logged, Entries, IsLog, marks, places, log_of, log_len, has_logged, with_entry, is_within, entry_at, is_below, owns, all_owned}
+use Rattle.mx_pay.specs.Log.{logged, Entries, IsLog, marks, places, log_of, log_len, has_logged, with_entry, is_within, entry_at, is_below, all_owned}
 use Rattle.mx_pay.specs.Places.{put_in, holds_at, stands_in, option_join, is_behind, owns_place}
 use Rattle.mx_pay.proofs.PutLemmas.{put_list, put_in-places, put-marks, length-put_list, put_all}
 

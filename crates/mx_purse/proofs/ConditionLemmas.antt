@@ -1,19 +1,18 @@
 -- The tests of what always holds of a purse, and what they mean.
-use Rattle.std.proofs.Common.{◌≡◌, ◌<◌, ◌≤◌, inl, inr, Bool, true, false, ◌&&◌, sym, ◌∙◌, ap, arith}
-use Rattle.std.proofs.lemmas.Bool.{not-true, not_from_false, leb-true, le-leb, ltb-true, lt-ltb, leb-false, lt-leb, or_cases, or_left, or_right, and_from}
-use Rattle.std.specs.Prelude.{nat_le, nat_lt, not, IfSome, IsTrue, ◌↔◌}
+use Rattle.std.proofs.Common.{◌≡◌, ◌≤◌, Bool, true, false, sym, ◌∙◌, arith}
+use Rattle.std.proofs.lemmas.Bool.{leb-true, le-leb}
+use Rattle.std.specs.Prelude.{nat_le, IfSome, IsTrue, ◌↔◌}
 use Rattle.std.specs.FinMap as fmap
 use Rattle.std.proofs.lemmas.Bool.Decides.{nat_tests}
-use Rattle.mx_pay.specs.Limits.{most_number, most_entries}
-use Rattle.mx_pay.specs.Names.{is_name, is_name_text}
+use Rattle.mx_pay.specs.Limits.{most_number}
+use Rattle.mx_pay.specs.Names.{is_name_text}
 use Rattle.mx_pay.specs.Details.{Details, IsDetails}
-use Rattle.mx_pay.specs.Log.{IsLogValue, Entries, log_len, has_logged, logged, owns, all_owned}
-use Rattle.std.specs.Cmp.{first_so, second_so}
+use Rattle.mx_pay.specs.Log.{IsLogValue, logged, owns, all_owned}
 use Rattle.mx_pay.proofs.SameLemmas.{same_name, names_alike, one_of, all_of}
 use Rattle.mx_purse.specs.declared.status.Status.{Status}
 use Rattle.mx_purse.specs.declared.status.Status.TheVariants.{EaFrom, EaTo, Epr, Epv, Epa}
 use Rattle.mx_purse.specs.State.{State, IsPurse, details_of, IsInStatus, IsOwnEntry}
-use Rattle.mx_purse.specs.Conditions.{can_log, in_status, is_purse}
+use Rattle.mx_purse.specs.Conditions.{in_status, is_purse}
 
 -- what the test of a status means
 status_means : (p : State) (s : Status) → in_status p s ≡ true → IsInStatus p s

@@ -1,24 +1,22 @@
 -- What always holds of a purse survives its operations, and none of them changes its name.
-use Rattle.std.proofs.Common.{◌≡◌, ℕ, ◌+◌, ◌<◌, ◌≤◌, inl, inr, Bool, true, false, cond, ◌&&◌, List, refl, sym, ◌∙◌, ap, subst, Option, Some, None, Ok, Err, arith}
-use Rattle.std.proofs.lemmas.Bool.{leb-true, lt-ltb, ltb-false, leb-false, le-ltb, or_parts, or_cases, false_from_ne_true, cond-true, cond-false}
-use Rattle.std.specs.Prelude.{nat_le, nat_lt, is_some, IsNone, IfSome, ◌↔◌}
+use Rattle.std.proofs.Common.{◌≡◌, ℕ, ◌+◌, ◌<◌, ◌≤◌, Bool, true, false, cond, ◌&&◌, List, refl, sym, ◌∙◌, ap, subst, Option, Some, None, Ok, Err, arith}
+use Rattle.std.proofs.lemmas.Bool.{leb-true, false_from_ne_true}
+use Rattle.std.specs.Prelude.{nat_le, is_some, IsNone, IfSome, ◌↔◌}
 use Rattle.std.proofs.lemmas.Bool.Decides.{nat_tests}
 use Rattle.mx_pay.specs.Limits.{most_number, most_entries}
-use Rattle.mx_pay.specs.Details.{Details, IsDetails, is_details}
+use Rattle.mx_pay.specs.Details.{Details, IsDetails}
 use Rattle.mx_pay.specs.Log.{IsLogValue, Entries, log_len, has_logged, none_logged}
 use Rattle.std.specs.Cmp.{first_so, second_so}
 use Rattle.mx_pay.proofs.SameLemmas.{same_details, names_alike, names_unlike, has-with_entry, has-none_logged, none_valid, with_entry_valid}
 use Rattle.mx_purse.specs.declared.status.Status.{Status}
-use Rattle.mx_purse.specs.declared.status.Status.TheVariants.{EaFrom, EaTo, Epr, Epv, Epa}
+use Rattle.mx_purse.specs.declared.status.Status.TheVariants.{Epr, Epv, Epa}
 use Rattle.mx_purse.specs.declared.message.Message.{Message}
 use Rattle.mx_purse.specs.declared.message.Message.TheVariants.{Req, Val, Ack, Clear}
 use Rattle.mx_purse.specs.declared.message.Handled.{Handled}
 use Rattle.mx_purse.specs.declared.message.Handled.TheVariants as took
 use Rattle.mx_purse.specs.declared.refusals.StartRefusal.TheVariants.{SamePurse, NotEnough}
-use Rattle.mx_purse.specs.declared.refusals.LoadRefusal.TheVariants as load
-use Rattle.mx_purse.specs.declared.refusals.RedeemRefusal.TheVariants as redeem
 use Rattle.mx_purse.specs.State.{State, IsPurse, details_of, IsInStatus, IsOwnEntry}
-use Rattle.mx_purse.specs.Operations.{or_refused, unless_refused, pending, with_pending, lines_with, aborted, start_worn, start_from_refusal, start_to_refusal, from_details, to_details, started, expects_req, expects_val, expects_ack, expects_clear, handled, after_message, sent_for, load_refusal, loaded, redeem_refusal, redeemed}
+use Rattle.mx_purse.specs.Operations.{or_refused, unless_refused, pending, with_pending, lines_with, aborted, start_worn, start_from_refusal, start_to_refusal, from_details, to_details, started, expects_req, expects_val, expects_ack, expects_clear, handled, after_message, load_refusal, loaded, redeem_refusal, redeemed}
 
 -- ---- abort
 

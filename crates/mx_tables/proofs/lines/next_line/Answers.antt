@@ -1,6 +1,6 @@
-use Rattle.std.proofs.Common.{◌≡◌, inl, None, Some, refl, ap, sym, subst, ◌∙◌}
+use Rattle.std.proofs.Common.{◌≡◌, inl, None, Some, refl, ap, sym}
 use Rattle.sqlite.specs.Held.{state}
-use Rattle.sqlite.specs.Given.{Advances, row_if}
+use Rattle.sqlite.specs.Given.{row_if}
 use Rattle.mx_tables.proofs.StateLemmas.{sure, step_stays, failed_quits}
 use Rattle.mx_tables.proofs.lines.next_line.Goals as goal
 

@@ -1,4 +1,3 @@
-use Rattle.std.specs.List.{AllByRecursion}
 use Rattle.std.proofs.Common.{◌≡◌, ◌≤◌, [], ◌∷◌, ◌++◌, length, ap, sym, subst, refl, rules, arith, ◌∙◌}
 use Rattle.sqlite.specs.Effect.{Database}
 use Rattle.sqlite.specs.Given.{IsPlain}
@@ -8,7 +7,7 @@ use Rattle.sqlite.proofs.Callers.{begun_plain}
 use Rattle.mx_tables.specs.Holds.{Holds}
 use Rattle.mx_tables.specs.States.{worry, Stays}
 use Rattle.mx_tables.proofs.StateLemmas.{sure, sure_before, stays_then, begun_stays, refused_stays}
-use Rattle.mx_tables.proofs.PageLemmas.{select_lines, select_lines_is, Noted, noted_more, one_more, no_more, begins, ended, full_page, last_page}
+use Rattle.mx_tables.proofs.PageLemmas.{select_lines, select_lines_is, noted_more, one_more, no_more, begins, ended, full_page, last_page}
 use Rattle.mx_tables.proofs.lines.select_lines.Goals as goal
 
 pub returns-in-Err-clause-stays : goal.returns-in-Err-clause-stays
