@@ -57,7 +57,8 @@ pub fn run_office<R: Read, W: Write, B: Book>(
         → Leads (B.spells (B.rows office.new.book)) (λ now. LeavesReachable
         (state [] (R.remaining reader.old.device) (W.contents writer.old.device) w)
         (state [] (R.remaining reader.new.device) (W.contents writer.new.device) now)) }
-    ensures refines { (w : World) → B.doubt office.new.book ≡ 0 → B.spells (B.rows office.old.book) w → IsReachable w
+    ensures refines { (w : World) → B.doubt office.new.book ≡ 0
+        → B.spells (B.rows office.old.book) w → IsReachable w
         → Leads (B.spells (B.rows office.new.book)) (λ now. LeavesRefined
         (state [] (R.remaining reader.old.device) (W.contents writer.old.device) w)
         (state [] (R.remaining reader.new.device) (W.contents writer.new.device) now)) }

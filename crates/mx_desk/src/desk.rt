@@ -185,7 +185,8 @@ pub fn serve_one<R: Read, W: Write, B: Book>(
         → Leads (B.spells (B.rows office.new.book)) (λ v. LeavesReachable
         (state [] (R.remaining reader.old.device) (W.contents writer.old.device) w)
         (state [] (R.remaining reader.new.device) (W.contents writer.new.device) v)) }
-    ensures refines { (w : World) → B.doubt office.new.book ≡ 0 → B.spells (B.rows office.old.book) w → IsReachable w
+    ensures refines { (w : World) → B.doubt office.new.book ≡ 0
+        → B.spells (B.rows office.old.book) w → IsReachable w
         → Leads (B.spells (B.rows office.new.book)) (λ v. LeavesRefined
         (state [] (R.remaining reader.old.device) (W.contents writer.old.device) w)
         (state [] (R.remaining reader.new.device) (W.contents writer.new.device) v)) }
@@ -252,7 +253,8 @@ pub fn run<R: Read, W: Write, B: Book>(
         → Leads (B.spells (B.rows office.new.book)) (λ v. LeavesReachable
         (state [] (R.remaining reader.old.device) (W.contents writer.old.device) w)
         (state [] (R.remaining reader.new.device) (W.contents writer.new.device) v)) }
-    ensures refines { (w : World) → B.doubt office.new.book ≡ 0 → B.spells (B.rows office.old.book) w → IsReachable w
+    ensures refines { (w : World) → B.doubt office.new.book ≡ 0
+        → B.spells (B.rows office.old.book) w → IsReachable w
         → Leads (B.spells (B.rows office.new.book)) (λ v. LeavesRefined
         (state [] (R.remaining reader.old.device) (W.contents writer.old.device) w)
         (state [] (R.remaining reader.new.device) (W.contents writer.new.device) v)) }
