@@ -3,7 +3,7 @@ use super::random::{amount, name, open, seq, token};
 use mx_book::{Book, Caller, PlainBook};
 use mx_office::{Command, Office, Reply};
 use mx_pay::{Name, PayDetails, Token};
-use mx_purse::{Purse, Status};
+use mx_purse::Purse;
 use std::alloc::Global;
 use std::process::Abort;
 use std::test::Fail;
@@ -113,11 +113,13 @@ fn command_of(purse: Name, ask: Ask) -> Result<Command, Fail> {
 
 /// Whether the value of a payment has left its from purse, which then waits for the acknowledgement, or has logged it.
 fn has_left(purses: &[Purse], details: &PayDetails) -> bool {
-    purses.iter().any(|from| {
-        from.name() == details.from()
-            && (matches!(from.status(), Status::Epa(present) if present == *details)
-                || from.log().has(details))
-    })
+    for from in purses {
+        let is_from = from.name() == details.from();
+        if is_from && (from.pending() == Some(*details) || from.log().has(details)) {
+            return true;
+        }
+    }
+    false
 }
 
 /// Payments whose value has left their from purses.
@@ -132,8 +134,8 @@ struct Payments {
 impl Payments {
     /// Adds the payment that a purse waits for, if its value has left.
     fn add_awaited(&mut self, purses: &[Purse], to: &Purse) -> Result<(), Fail> {
-        if let Status::Epv(details) = to.status() {
-            if has_left(purses, &details) {
+        if let Some(details) = to.pending() {
+            if details.to() == to.name() && has_left(purses, &details) {
                 self.awaited.push(details)?;
             }
         }
