@@ -13,9 +13,9 @@ use Rattle.std.proofs.Props.{props}
 use mathlib.Core.Logic.{∥∥₁_elim, ∥∥₁_map}
 use Rattle.mx_book.proofs.ReadLemmas.{purses_are, holder_is, account_is, own_is, place_is, message_is, inbox_is, lines_are, members_are, load_is, redemption_is}
 use Rattle.mx_book.proofs.CountedLemmas.{uncollected_is}
-use Rattle.mx_book.proofs.TotalLemmas.{totals_are, member_totals_are}
-use Rattle.mx_book.specs.Totals.{totals_of, member_totals_of}
-use Rattle.mx_book.specs.RowTotals.{row_totals_of, row_member_totals_of}
+use Rattle.mx_book.proofs.TotalLemmas.{totals_are, member_totals_are, members_totals_are}
+use Rattle.mx_book.specs.Totals.{totals_of, member_totals_of, members_totals_of}
+use Rattle.mx_book.specs.RowTotals.{row_totals_of, row_member_totals_of, row_members_totals_of}
 use Rattle.mx_book.specs.declared.totals.Scope.TheVariants.{Member}
 use Rattle.mx_book.proofs.EditLemmas.{edits_spelled, all_able_there}
 use Rattle.mx_book.proofs.FitLemmas.{all_fit_there}
@@ -82,6 +82,9 @@ totals_at r w h = read_at totals_of r w _ h (totals_are r h.spelled.proper (subs
 
 pub member_totals_at : (r : Rows) (w : World) (m : Name) → Spells r w → row_member_totals_of r m ≡ member_totals_of w m
 member_totals_at r w m h = read_at (λ z. member_totals_of z m) r w _ h (member_totals_are r h.spelled.proper m)
+
+pub members_totals_at : (r : Rows) (w : World) → Spells r w → row_members_totals_of r ≡ members_totals_of w
+members_totals_at r w h = read_at members_totals_of r w _ h (members_totals_are r h.spelled.proper)
 
 pub applied : (r s : Rows) (w : World) (es : List Edit) → Spells r w → Fits w es → s ≡ all_rewritten r es → Spells s (all_edited w es)
 applied r s w es h fits is = subst (λ (z : Rows). Spells z (all_edited w es)) (sym is) (record { spelled = edits_spelled r w es h.spelled fits.each; sound = fits.end })

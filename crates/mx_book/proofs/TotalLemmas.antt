@@ -1,14 +1,14 @@
 -- What the books come to: rows and World give the same.
 use Rattle.std.proofs.Common.{◌≡◌}
-use Rattle.std.specs.Prelude.{option_map}
+use Rattle.std.specs.Prelude.{map, option_map}
 use Rattle.std.specs.FinMap as fmap
 use Rattle.mx_book.specs.declared.totals.Scope.TheVariants.{Scheme, Member}
 use Rattle.mx_book.specs.declared.values.MemberRow.{MemberRow}
 use Rattle.mx_book.specs.World.{Name}
 use Rattle.mx_book.specs.Conditions.{IsWorld}
 use Rattle.mx_book.specs.Rows.{Rows, world_of, IsProper}
-use Rattle.mx_book.specs.Totals.{totals_of, sums_of, member_totals_of}
-use Rattle.mx_book.specs.RowTotals.{row_totals_of, row_sums_of, row_member_totals_of}
+use Rattle.mx_book.specs.Totals.{totals_of, sums_of, member_totals_of, members_totals_of}
+use Rattle.mx_book.specs.RowTotals.{row_totals_of, row_sums_of, row_member_totals_of, row_members_totals_of}
 use Rattle.mx_book.proofs.CountedLemmas.{issued_is, redeemed_is, uncollected_is, balances_are}
 use Rattle.mx_book.proofs.BetweenLemmas.{transit_is, lost_is}
 
@@ -33,3 +33,6 @@ module _ (r : Rows) (h : IsProper r) where
 
   pub member_totals_are : (m : Name) → member_totals_of (world_of r) m ≡ row_member_totals_of r m
   member_totals_are m = λ i. option_map (λ row. sums_are m row i) (fmap.get r.members m)
+
+  pub members_totals_are : members_totals_of (world_of r) ≡ row_members_totals_of r
+  members_totals_are = λ i. map (λ (e : Name × MemberRow). (e.0, sums_are e.0 e.1 i)) (fmap.entries r.members)

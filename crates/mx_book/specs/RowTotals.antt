@@ -1,5 +1,5 @@
 -- What the books come to, from their rows.
-use Rattle.std.specs.Prelude.{ℕ, ◌+◌, Bool, ◌&&◌, ◌||◌, Option, Some, None, option_map, sum_by, if◌then◌else◌}
+use Rattle.std.specs.Prelude.{ℕ, ◌+◌, Bool, ◌&&◌, ◌||◌, List, map, Option, Some, None, option_map, sum_by, if◌then◌else◌}
 use Rattle.std.specs.FinMap as fmap
 use Rattle.std.specs.FinSet.{FinSet}
 use Rattle.mx_pay.specs.Names.{name_cmp, is_name}
@@ -104,3 +104,7 @@ row_sums_of r m row = record {
 -- the sums of a member, where there is such a member
 abbrev pub row_member_totals_of : Rows → Name → Option MemberTotals
 row_member_totals_of r m = option_map (row_sums_of r m) (fmap.get r.members m)
+
+-- the members in order, each with its sums
+abbrev pub row_members_totals_of : Rows → List (Name × MemberTotals)
+row_members_totals_of r = map (λ (e : Name × MemberRow). (e.0, row_sums_of r e.0 e.1)) (fmap.entries r.members)

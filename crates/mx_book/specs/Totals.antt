@@ -1,5 +1,5 @@
 -- What the books of a World come to.
-use Rattle.std.specs.Prelude.{ℕ, ◌&&◌, ◌||◌, Bool, if◌then◌else◌, ◌++◌, flat_map, map, sum_by, Option, option_map}
+use Rattle.std.specs.Prelude.{ℕ, ◌&&◌, ◌||◌, Bool, if◌then◌else◌, List, ◌++◌, flat_map, map, sum_by, Option, option_map}
 use Rattle.std.specs.FinMap as fmap
 use Rattle.mx_pay.specs.Details.{Details}
 use Rattle.mx_pay.specs.Log.{Entries, has_logged, logged, marks}
@@ -105,3 +105,7 @@ sums_of w m row = record {
 -- the sums of a member, where there is such a member
 abbrev pub member_totals_of : World → Name → Option MemberTotals
 member_totals_of w m = option_map (sums_of w m) (fmap.get w.members m)
+
+-- the members in order, each with its sums
+abbrev pub members_totals_of : World → List (Name × MemberTotals)
+members_totals_of w = map (λ (e : Name × MemberRow). (e.0, sums_of w e.0 e.1)) (fmap.entries w.members)

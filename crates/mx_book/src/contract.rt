@@ -3,7 +3,7 @@ ghost use Rattle.std.specs.Prelude.{◌≡◌, ℕ, ◌≤◌, is_some, IfOk, If
 ghost use Rattle.mx_book.specs.World.{World};
 ghost use Rattle.mx_book.specs.Conditions.{IsWorld};
 ghost use Rattle.mx_book.specs.Reads.{who_of, member_of, holder_of, account_of, own_purse, finds_place, purses_of, inbox_of, message_of, lines_of, members_of, load_of, redemption_of, is_archived, tray_of, uncollected_of};
-ghost use Rattle.mx_book.specs.Totals.{totals_of, member_totals_of};
+ghost use Rattle.mx_book.specs.Totals.{totals_of, member_totals_of, members_totals_of};
 ghost use Rattle.mx_book.specs.Edits.{Fits, all_edited};
 ghost use Rattle.mx_book.specs.Keeps.{Keeps};
 ghost use Rattle.mx_book.specs.declared.contract.StoreFault.{StoreFault};
@@ -30,6 +30,9 @@ pub enum StoreFault {
 /// A contract sees the rows and the World that they spell, if they spell one. A read leaves the rows as they
 /// are and gives the World's value. `apply` makes all edits or none. What is said of the rows holds while
 /// doubt is 0.
+///
+/// A stop, at any moment, leaves what the next opening finds. While doubt is at most 1, no read adds to what a stop
+/// may leave, and `apply` adds the rows after all its edits alone. While doubt is 0 a stop leaves the rows as they are.
 pub trait Book {
     /// What is kept, however it is kept.
     ghost Rows: { Type 0 };
@@ -39,34 +42,38 @@ pub trait Book {
     /// The rows are exactly those of this World.
     ghost spells: { Rows → World → Type 0 };
 
-    /// 0 while the store has returned what was written to it. It never falls.
+    /// 0 while the store has returned what was written to it, and works. 1 from a fault that shut it: then nothing is
+    /// known of the rows but what a stop leaves. More from a lie of the store. It never falls.
     ghost doubt: { Self → ℕ };
+
+    /// What an opening after a stop at this moment may find.
+    ghost leaves: { Self → Rows → Type 0 };
 
     /// Why a call that takes no memory may fail.
     ghost fails: { StoreFault → Type 0 };
 
     /// Whose token it is, or None where it is nobody's.
     fn who(&mut self, alloc: Global, token: &Token) -> Result<Option<Caller>, StoreFault>
-        ensures keeps { Keeps doubt rows self.old self.new }
+        ensures keeps { Keeps doubt rows leaves self.old self.new }
         ensures value { (w : World) → doubt self.new ≡ 0 → spells (rows self.old) w → IfOk result (λ r. r ≡ who_of w token.now) }
         ensures fault { IfErr result fails };
 
     /// The grants and the float of a member, or None where there is no such member.
     fn member(&mut self, alloc: Global, name: Name) -> Result<Option<MemberRow>, StoreFault>
-        ensures keeps { Keeps doubt rows self.old self.new }
+        ensures keeps { Keeps doubt rows leaves self.old self.new }
         ensures value { (w : World) → doubt self.new ≡ 0 → spells (rows self.old) w → IfOk result (λ r. r ≡ member_of w name) }
         ensures fault { IfErr result fails };
 
     /// The member of a holder and how many purses the holder has, or None where there is no such holder.
     fn holder(&mut self, alloc: Global, name: Name) -> Result<Option<HolderRow>, StoreFault>
-        ensures keeps { Keeps doubt rows self.old self.new }
+        ensures keeps { Keeps doubt rows leaves self.old self.new }
         ensures value { (w : World) → doubt self.new ≡ 0 → spells (rows self.old) w → IfOk result (λ r. r ≡ holder_of w name) }
         ensures fault { IfErr result fails };
 
     /// A purse with its holder and the holder's member, how many messages it holds and the number of its next
     /// one, or None where there is no such purse.
     fn purse(&mut self, alloc: Global, name: Name) -> Result<Option<Account>, StoreFault>
-        ensures keeps { Keeps doubt rows self.old self.new }
+        ensures keeps { Keeps doubt rows leaves self.old self.new }
         ensures value { (w : World) → doubt self.new ≡ 0 → spells (rows self.old) w → IfOk result (λ r. r ≡ account_of w name) }
         ensures fault { IfErr result fails };
 
@@ -77,32 +84,32 @@ pub trait Book {
         holder: Name,
         purse: Name,
     ) -> Result<Option<Purse>, StoreFault>
-        ensures keeps { Keeps doubt rows self.old self.new }
+        ensures keeps { Keeps doubt rows leaves self.old self.new }
         ensures value { (w : World) → doubt self.new ≡ 0 → spells (rows self.old) w → IfOk result (λ r. r ≡ own_purse w holder purse) }
         ensures fault { IfErr result fails };
 
     /// Whether the purse of that name is there and is this holder's.
     fn is_own(&mut self, alloc: Global, holder: Name, purse: Name) -> Result<bool, StoreFault>
-        ensures keeps { Keeps doubt rows self.old self.new }
+        ensures keeps { Keeps doubt rows leaves self.old self.new }
         ensures value { (w : World) → doubt self.new ≡ 0 → spells (rows self.old) w → IfOk result (λ b. b ≡ is_some (own_purse w holder purse)) }
         ensures fault { IfErr result fails };
 
     /// Whether a message to a purse finds a place: the purse is there, its inbox has fewer than 32, and the number of
     /// its next message is below 10^15.
     fn finds_place(&mut self, alloc: Global, purse: Name) -> Result<bool, StoreFault>
-        ensures keeps { Keeps doubt rows self.old self.new }
+        ensures keeps { Keeps doubt rows leaves self.old self.new }
         ensures value { (w : World) → doubt self.new ≡ 0 → spells (rows self.old) w → IfOk result (λ b. b ≡ finds_place w purse) }
         ensures fault { IfErr result fails };
 
     /// The names of a holder's purses, in order; none where there is no such holder.
     fn purses_of(&mut self, alloc: Global, holder: Name) -> Result<Vec<Name>, StoreFault>
-        ensures keeps { Keeps doubt rows self.old self.new }
+        ensures keeps { Keeps doubt rows leaves self.old self.new }
         ensures value { (w : World) → doubt self.new ≡ 0 → spells (rows self.old) w → IfOk result (λ r. r.items ≡ purses_of w holder) }
         ensures fault { IfErr result (λ e. (e ≡ Memory) ⊎ fails e) };
 
     /// The messages in the inbox of a purse with their numbers, by number; none where there is no such purse.
     fn inbox(&mut self, alloc: Global, purse: Name) -> Result<Vec<(u64, Message)>, StoreFault>
-        ensures keeps { Keeps doubt rows self.old self.new }
+        ensures keeps { Keeps doubt rows leaves self.old self.new }
         ensures value { (w : World) → doubt self.new ≡ 0 → spells (rows self.old) w → IfOk result (λ r. r.items ≡ inbox_of w purse) }
         ensures fault { IfErr result (λ e. (e ≡ Memory) ⊎ fails e) };
 
@@ -113,13 +120,13 @@ pub trait Book {
         purse: Name,
         number: u64,
     ) -> Result<Option<Message>, StoreFault>
-        ensures keeps { Keeps doubt rows self.old self.new }
+        ensures keeps { Keeps doubt rows leaves self.old self.new }
         ensures value { (w : World) → doubt self.new ≡ 0 → spells (rows self.old) w → IfOk result (λ r. r ≡ message_of w purse number) }
         ensures fault { IfErr result fails };
 
     /// Whether a message of that number lies in the inbox of a purse.
     fn has_message(&mut self, alloc: Global, purse: Name, number: u64) -> Result<bool, StoreFault>
-        ensures keeps { Keeps doubt rows self.old self.new }
+        ensures keeps { Keeps doubt rows leaves self.old self.new }
         ensures value { (w : World) → doubt self.new ≡ 0 → spells (rows self.old) w → IfOk result (λ b. b ≡ is_some (message_of w purse number)) }
         ensures fault { IfErr result fails };
 
@@ -132,13 +139,13 @@ pub trait Book {
         after: u64,
         most: u64,
     ) -> Result<Vec<Line>, StoreFault>
-        ensures keeps { Keeps doubt rows self.old self.new }
+        ensures keeps { Keeps doubt rows leaves self.old self.new }
         ensures value { (w : World) → doubt self.new ≡ 0 → spells (rows self.old) w → IfOk result (λ r. r.items ≡ lines_of w purse after most) }
         ensures fault { IfErr result (λ e. (e ≡ Memory) ⊎ fails e) };
 
     /// The names of the members, in order.
     fn members(&mut self, alloc: Global) -> Result<Vec<Name>, StoreFault>
-        ensures keeps { Keeps doubt rows self.old self.new }
+        ensures keeps { Keeps doubt rows leaves self.old self.new }
         ensures value { (w : World) → doubt self.new ≡ 0 → spells (rows self.old) w → IfOk result (λ r. r.items ≡ members_of w) }
         ensures fault { IfErr result (λ e. (e ≡ Memory) ⊎ fails e) };
 
@@ -149,7 +156,7 @@ pub trait Book {
         purse: Name,
         reference: Name,
     ) -> Result<Option<Amount>, StoreFault>
-        ensures keeps { Keeps doubt rows self.old self.new }
+        ensures keeps { Keeps doubt rows leaves self.old self.new }
         ensures value { (w : World) → doubt self.new ≡ 0 → spells (rows self.old) w → IfOk result (λ r. r ≡ load_of w purse reference) }
         ensures fault { IfErr result fails };
 
@@ -160,7 +167,7 @@ pub trait Book {
         purse: Name,
         reference: Name,
     ) -> Result<Option<Amount>, StoreFault>
-        ensures keeps { Keeps doubt rows self.old self.new }
+        ensures keeps { Keeps doubt rows leaves self.old self.new }
         ensures value { (w : World) → doubt self.new ≡ 0 → spells (rows self.old) w → IfOk result (λ r. r ≡ redemption_of w purse reference) }
         ensures fault { IfErr result fails };
 
@@ -171,26 +178,26 @@ pub trait Book {
         purse: Name,
         details: &PayDetails,
     ) -> Result<bool, StoreFault>
-        ensures keeps { Keeps doubt rows self.old self.new }
+        ensures keeps { Keeps doubt rows leaves self.old self.new }
         ensures value { (w : World) → doubt self.new ≡ 0 → spells (rows self.old) w → IfOk result (λ b. b ≡ is_archived w purse details.now) }
         ensures fault { IfErr result fails };
 
     /// The results of read log of a purse that were sent and aren't archived; none where there is no such purse.
     fn tray(&mut self, alloc: Global, purse: Name) -> Result<Log, StoreFault>
-        ensures keeps { Keeps doubt rows self.old self.new }
+        ensures keeps { Keeps doubt rows leaves self.old self.new }
         ensures value { (w : World) → doubt self.new ≡ 0 → spells (rows self.old) w → IfOk result (λ log. log ≡ tray_of w purse) }
         ensures fault { IfErr result fails };
 
     /// The sum of the redemptions of the purses of a member's holders that aren't collected; 0 where there is
     /// no such member.
     fn uncollected(&mut self, alloc: Global, member: Name) -> Result<u128, StoreFault>
-        ensures keeps { Keeps doubt rows self.old self.new }
+        ensures keeps { Keeps doubt rows leaves self.old self.new }
         ensures value { (w : World) → doubt self.new ≡ 0 → spells (rows self.old) w → IfOk result (λ r. r ≡ uncollected_of w member) }
         ensures fault { IfErr result fails };
 
     /// What the books come to for the whole scheme.
     fn totals(&mut self, alloc: Global) -> Result<Totals, StoreFault>
-        ensures keeps { Keeps doubt rows self.old self.new }
+        ensures keeps { Keeps doubt rows leaves self.old self.new }
         ensures value { (w : World) → doubt self.new ≡ 0 → spells (rows self.old) w → IfOk result (λ r. r ≡ totals_of w) }
         ensures fault { IfErr result fails };
 
@@ -201,9 +208,15 @@ pub trait Book {
         alloc: Global,
         member: Name,
     ) -> Result<Option<MemberTotals>, StoreFault>
-        ensures keeps { Keeps doubt rows self.old self.new }
+        ensures keeps { Keeps doubt rows leaves self.old self.new }
         ensures value { (w : World) → doubt self.new ≡ 0 → spells (rows self.old) w → IfOk result (λ r. r ≡ member_totals_of w member) }
         ensures fault { IfErr result fails };
+
+    /// Each member, in order, with what the books come to for it.
+    fn members_totals(&mut self, alloc: Global) -> Result<Vec<(Name, MemberTotals)>, StoreFault>
+        ensures keeps { Keeps doubt rows leaves self.old self.new }
+        ensures value { (w : World) → doubt self.new ≡ 0 → spells (rows self.old) w → IfOk result (λ r. r.items ≡ members_totals_of w) }
+        ensures fault { IfErr result (λ e. (e ≡ Memory) ⊎ fails e) };
 
     /// Makes these edits in order, all of them, or none where it answers a fault. Where a World is spelled
     /// they fit it.
@@ -212,6 +225,9 @@ pub trait Book {
         ensures later { doubt self.old ≤ doubt self.new }
         ensures ok { (w : World) → doubt self.new ≡ 0 → spells (rows self.old) w → OnOk result (spells (rows self.new) (all_edited w edits.now)) }
         ensures err { doubt self.new ≡ 0 → OnErr result (rows self.new ≡ rows self.old) }
+        ensures answered { doubt self.new ≤ 1 → OnOk result (doubt self.new ≡ 0) }
+        ensures stops { doubt self.new ≤ 1 → (r : Rows) → leaves self.new r
+            → leaves self.old r ⊎ ((doubt self.old ≡ 0) × ((w : World) → spells (rows self.old) w → spells r (all_edited w edits.now))) }
         ensures fault { IfErr result (λ e. (e ≡ Memory) ⊎ fails e) };
 
     /// What is spelled meets the conditions of a World.
@@ -219,4 +235,7 @@ pub trait Book {
 
     /// Rows spell one World at most.
     ghost single: { (r : Rows) (v w : World) → spells r v → spells r w → v ≡ w };
+
+    /// While there is no doubt, a stop leaves the rows as they are, if it leaves any.
+    ghost settled: { (b : Self) (r : Rows) → doubt b ≡ 0 → leaves b r → r ≡ rows b };
 }

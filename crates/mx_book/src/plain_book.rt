@@ -43,6 +43,9 @@ impl Book for PlainBook {
 
     ghost doubt = { λ _. 0 };
 
+    // Nothing outlives it.
+    ghost leaves = { λ _ _. ⊥ };
+
     ghost fails = { λ _. ⊥ };
 
     fn who(&mut self, _alloc: Global, token: &Token) -> Result<Option<Caller>, StoreFault> {
@@ -180,6 +183,13 @@ impl Book for PlainBook {
         Ok(self.shelves.member_totals(member))
     }
 
+    fn members_totals(&mut self, alloc: Global) -> Result<Vec<(Name, MemberTotals)>, StoreFault> {
+        match self.shelves.members_totals(alloc) {
+            Ok(totals) => Ok(totals),
+            Err(_) => Err(StoreFault::Memory),
+        }
+    }
+
     fn apply(&mut self, edits: &[Edit]) -> Result<(), StoreFault> {
         if self.shelves.reserve(edits).is_err() {
             return Err(StoreFault::Memory);
@@ -191,4 +201,6 @@ impl Book for PlainBook {
     ghost sound = { λ r w h. h.sound };
 
     ghost single = { one_world };
+
+    ghost settled = { λ b r h left. absurd left };
 }

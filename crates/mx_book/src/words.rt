@@ -1,5 +1,5 @@
-//! The words of lines, as they stand in replies and in statements.
-ghost use Rattle.std.specs.Prelude.{◌≡◌, ◌++◌, IfOk, string_bytes};
+//! The words of lines, as they stand in replies, in statements and in tables.
+ghost use Rattle.std.specs.Prelude.{◌≡◌, ◌++◌, ◌↔◌, IfOk, Some, string_bytes};
 ghost use Rattle.mx_book.specs.Words.{kind_text, note_text};
 
 use crate::values::{LineKind, Note};
@@ -16,6 +16,20 @@ pub fn kind_text(kind: LineKind) -> &'static str
         LineKind::Sent => "sent",
         LineKind::Received => "received",
         LineKind::Logged => "logged",
+    }
+}
+
+/// The kind of line of a word, or None where no line has it.
+pub fn read_kind(word: &str) -> Option<LineKind>
+    ensures { (kind : LineKind) → (result ≡ Some kind) ↔ (word.now ≡ kind_text kind) }
+{
+    match word {
+        "loaded" => Some(LineKind::Loaded),
+        "redeemed" => Some(LineKind::Redeemed),
+        "sent" => Some(LineKind::Sent),
+        "received" => Some(LineKind::Received),
+        "logged" => Some(LineKind::Logged),
+        _ => None,
     }
 }
 

@@ -1,10 +1,10 @@
 -- What the program prints of an import, and of the books.
 use Rattle.std.specs.Prelude.{ℕ, List, ◌++◌, Option, Some, None, codes, flat_map, length, option_map}
 use Rattle.std.specs.Fmt.{decimal}
-use Rattle.mx_book.specs.Totals.{totals_of}
+use Rattle.mx_book.specs.Totals.{members_totals_of, totals_of}
 use Rattle.mx_book.specs.World.{World, Name}
 use Rattle.mx_office.specs.Texts.{refusal_text}
-use Rattle.mx_report.specs.Reconciliation.{members_sums, reconciliation_text}
+use Rattle.mx_report.specs.Reconciliation.{reconciliation_text}
 use Rattle.mx_report.specs.Statement.{statement_of, statement_text}
 use Rattle.mx_report.specs.declared.rolls.RefusedRow.{RefusedRow}
 use Rattle.mx_report.specs.declared.rolls.RollReason.{RollReason}
@@ -34,5 +34,5 @@ import_text r = counts_text r.added r.same (length r.refused.items) ++ flat_map 
 
 -- the text of the reconciliation; or that of a purse's statement, where there is such a purse
 abbrev pub report_of : World → Option Name → Option (List ℕ)
-report_of w None = Some (reconciliation_text (members_sums w) (totals_of w))
+report_of w None = Some (reconciliation_text (members_totals_of w) (totals_of w))
 report_of w (Some purse) = option_map statement_text (statement_of w purse)

@@ -59,7 +59,7 @@ pub fn import_text(alloc: Global, report: &RollReport) -> Result<String, AllocEr
 
 /// The text of the reconciliation.
 fn reconciliation<B: Book>(alloc: Global, book: &mut B) -> Result<Vec<u8>, CliFault>
-    ensures keeps { Keeps B.doubt B.rows book.old book.new }
+    ensures keeps { Keeps B.doubt B.rows B.leaves book.old book.new }
     ensures value { (w : World) → B.doubt book.new ≡ 0 → B.spells (B.rows book.old) w → IfOk result (λ text. report_of w None ≡ Some text.items) }
     ensures fault { result ≢ Err CliFault.NoSuchPurse }
 {
@@ -70,7 +70,7 @@ fn reconciliation<B: Book>(alloc: Global, book: &mut B) -> Result<Vec<u8>, CliFa
 
 /// The text of a purse's statement.
 fn purse_statement<B: Book>(alloc: Global, book: &mut B, purse: Name) -> Result<Vec<u8>, CliFault>
-    ensures keeps { Keeps B.doubt B.rows book.old book.new }
+    ensures keeps { Keeps B.doubt B.rows B.leaves book.old book.new }
     ensures value { (w : World) → B.doubt book.new ≡ 0 → B.spells (B.rows book.old) w → IfOk result (λ text. report_of w (Some purse) ≡ Some text.items) }
     ensures none { (w : World) → B.doubt book.new ≡ 0 → B.spells (B.rows book.old) w → result ≡ Err CliFault.NoSuchPurse → report_of w (Some purse) ≡ None }
 {
@@ -91,7 +91,7 @@ pub fn report_text<B: Book>(
     book: &mut B,
     purse: Option<Name>,
 ) -> Result<Vec<u8>, CliFault>
-    ensures keeps { Keeps B.doubt B.rows book.old book.new }
+    ensures keeps { Keeps B.doubt B.rows B.leaves book.old book.new }
     ensures value { (w : World) → B.doubt book.new ≡ 0 → B.spells (B.rows book.old) w → IfOk result (λ text. report_of w purse ≡ Some text.items) }
     ensures none { (w : World) → B.doubt book.new ≡ 0 → B.spells (B.rows book.old) w → result ≡ Err CliFault.NoSuchPurse → report_of w purse ≡ None }
 {

@@ -38,7 +38,7 @@ fn caller_of<B: Book>(
     office: &mut Office<B>,
     field: Option<&[u8]>,
 ) -> Result<Option<Caller>, StoreFault>
-    ensures keeps { Keeps B.doubt B.rows office.old.book office.new.book }
+    ensures keeps { Keeps B.doubt B.rows B.leaves office.old.book office.new.book }
     ensures value { (w : World) → B.doubt office.new.book ≡ 0 → Stands (B.spells (B.rows office.old.book)) callers.old w → IfOk result (λ r. r ≡ caller_of w (option_map (λ x. x.now) field.entry)) }
     ensures known { (w : World) → B.doubt office.new.book ≡ 0 → Stands (B.spells (B.rows office.old.book)) callers.old w → Knows w callers.new }
     ensures fault { IfErr result B.fails }

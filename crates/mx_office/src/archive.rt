@@ -23,7 +23,7 @@ pub(crate) fn archive<B: Book>(
     purse: Name,
     decided: &mut Decided,
 ) -> Result<(), StoreFault>
-    ensures keeps { Keeps B.doubt B.rows book.old book.new }
+    ensures keeps { Keeps B.doubt B.rows B.leaves book.old book.new }
     ensures decides { (w : World) → B.doubt book.new ≡ 0 → B.spells (B.rows book.old) w → OnOk result (Decides w (archive w purse) decided.new) }
     ensures fault { IfErr result B.fails }
 {
@@ -52,7 +52,7 @@ fn may_clear<B: Book>(
     purse: Name,
     details: &Log,
 ) -> Result<bool, StoreFault>
-    ensures keeps { Keeps B.doubt B.rows book.old book.new }
+    ensures keeps { Keeps B.doubt B.rows B.leaves book.old book.new }
     ensures value { (w : World) → B.doubt book.new ≡ 0 → B.spells (B.rows book.old) w → IfOk result (λ b. b ≡ may_clear w purse details.now) }
     ensures fault { IfErr result B.fails }
 {
@@ -74,7 +74,7 @@ pub(crate) fn clear<B: Book>(
     details: &Log,
     decided: &mut Decided,
 ) -> Result<(), StoreFault>
-    ensures keeps { Keeps B.doubt B.rows book.old book.new }
+    ensures keeps { Keeps B.doubt B.rows B.leaves book.old book.new }
     ensures decides { (w : World) → IsCommand (Command.Clear purse details.now) → B.doubt book.new ≡ 0 → B.spells (B.rows book.old) w → OnOk result (Decides w (clear w purse details.now) decided.new) }
     ensures fault { IfErr result B.fails }
 {

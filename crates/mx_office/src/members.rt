@@ -24,7 +24,7 @@ pub(crate) fn new_member<B: Book>(
     token: Token,
     decided: &mut Decided,
 ) -> Result<(), StoreFault>
-    ensures keeps { Keeps B.doubt B.rows book.old book.new }
+    ensures keeps { Keeps B.doubt B.rows B.leaves book.old book.new }
     ensures decides { (w : World) → IsCommand (Command.NewMember member token) → B.doubt book.new ≡ 0 → B.spells (B.rows book.old) w → OnOk result (Decides w (new_member w member token) decided.new) }
     ensures fault { IfErr result B.fails }
 {
@@ -53,7 +53,7 @@ pub(crate) fn new_holder<B: Book>(
     token: Token,
     decided: &mut Decided,
 ) -> Result<(), StoreFault>
-    ensures keeps { Keeps B.doubt B.rows book.old book.new }
+    ensures keeps { Keeps B.doubt B.rows B.leaves book.old book.new }
     ensures decides { (w : World) → IsCommand (Command.NewHolder holder token) → B.doubt book.new ≡ 0 → B.spells (B.rows book.old) w → OnOk result (Decides w (new_holder w member holder token) decided.new) }
     ensures fault { IfErr result B.fails }
 {
@@ -85,7 +85,7 @@ fn purse_count<B: Book>(
     member: Name,
     holder: Name,
 ) -> Result<Option<usize>, StoreFault>
-    ensures keeps { Keeps B.doubt B.rows book.old book.new }
+    ensures keeps { Keeps B.doubt B.rows B.leaves book.old book.new }
     ensures value { (w : World) → B.doubt book.new ≡ 0 → B.spells (B.rows book.old) w → IfOk result (λ o. o ≡ purse_count w member holder) }
     ensures fault { IfErr result B.fails }
 {
@@ -104,7 +104,7 @@ pub(crate) fn new_purse<B: Book>(
     holder: Name,
     decided: &mut Decided,
 ) -> Result<(), StoreFault>
-    ensures keeps { Keeps B.doubt B.rows book.old book.new }
+    ensures keeps { Keeps B.doubt B.rows B.leaves book.old book.new }
     ensures decides { (w : World) → IsCommand (Command.NewPurse purse holder) → B.doubt book.new ≡ 0 → B.spells (B.rows book.old) w → OnOk result (Decides w (new_purse w member purse holder) decided.new) }
     ensures fault { IfErr result B.fails }
 {

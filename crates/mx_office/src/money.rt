@@ -25,7 +25,7 @@ const MOST: u128 = MOST_NUMBER as u128;
 
 /// How much a member was granted; 0 where there is no such member.
 fn granted_of<B: Book>(book: &mut B, alloc: Global, member: Name) -> Result<u64, StoreFault>
-    ensures keeps { Keeps B.doubt B.rows book.old book.new }
+    ensures keeps { Keeps B.doubt B.rows B.leaves book.old book.new }
     ensures value { (w : World) → B.doubt book.new ≡ 0 → B.spells (B.rows book.old) w → IfOk result (λ n. n ≡ granted_to w member) }
     ensures fault { IfErr result B.fails }
 {
@@ -37,7 +37,7 @@ fn granted_of<B: Book>(book: &mut B, alloc: Global, member: Name) -> Result<u64,
 
 /// The sum of all grants.
 fn all_granted<B: Book>(book: &mut B, alloc: Global) -> Result<u128, StoreFault>
-    ensures keeps { Keeps B.doubt B.rows book.old book.new }
+    ensures keeps { Keeps B.doubt B.rows B.leaves book.old book.new }
     ensures value { (w : World) → B.doubt book.new ≡ 0 → B.spells (B.rows book.old) w → IfOk result (λ n. n ≡ all_granted w) }
     ensures fault { IfErr result (λ e. (e ≡ Memory) ⊎ B.fails e) }
 {
@@ -57,7 +57,7 @@ pub(crate) fn grant<B: Book>(
     amount: Amount,
     decided: &mut Decided,
 ) -> Result<(), StoreFault>
-    ensures keeps { Keeps B.doubt B.rows book.old book.new }
+    ensures keeps { Keeps B.doubt B.rows B.leaves book.old book.new }
     ensures decides { (w : World) → B.doubt book.new ≡ 0 → B.spells (B.rows book.old) w → OnOk result (Decides w (grant w member amount) decided.new) }
     ensures fault { IfErr result (λ e. (e ≡ Memory) ⊎ B.fails e) }
 {
@@ -121,7 +121,7 @@ pub(crate) fn load<B: Book>(
     reference: Name,
     decided: &mut Decided,
 ) -> Result<(), StoreFault>
-    ensures keeps { Keeps B.doubt B.rows book.old book.new }
+    ensures keeps { Keeps B.doubt B.rows B.leaves book.old book.new }
     ensures decides { (w : World) → IsCommand (Command.Load purse amount reference) → B.doubt book.new ≡ 0 → B.spells (B.rows book.old) w → OnOk result (Decides w (load_purse w member purse amount reference) decided.new) }
     ensures fault { IfErr result B.fails }
 {
@@ -160,7 +160,7 @@ fn member_purse<B: Book>(
     member: Name,
     purse: Name,
 ) -> Result<Option<Purse>, StoreFault>
-    ensures keeps { Keeps B.doubt B.rows book.old book.new }
+    ensures keeps { Keeps B.doubt B.rows B.leaves book.old book.new }
     ensures value { (w : World) → B.doubt book.new ≡ 0 → B.spells (B.rows book.old) w → IfOk result (λ o. o ≡ member_purse w member purse) }
     ensures fault { IfErr result B.fails }
 {
@@ -177,7 +177,7 @@ pub(crate) fn collect<B: Book>(
     member: Name,
     decided: &mut Decided,
 ) -> Result<(), StoreFault>
-    ensures keeps { Keeps B.doubt B.rows book.old book.new }
+    ensures keeps { Keeps B.doubt B.rows B.leaves book.old book.new }
     ensures decides { (w : World) → B.doubt book.new ≡ 0 → B.spells (B.rows book.old) w → OnOk result (Decides w (collect w member) decided.new) }
     ensures fault { IfErr result B.fails }
 {
@@ -210,7 +210,7 @@ pub(crate) fn reconcile<B: Book>(
     alloc: Global,
     decided: &mut Decided,
 ) -> Result<(), StoreFault>
-    ensures keeps { Keeps B.doubt B.rows book.old book.new }
+    ensures keeps { Keeps B.doubt B.rows B.leaves book.old book.new }
     ensures decides { (w : World) → B.doubt book.new ≡ 0 → B.spells (B.rows book.old) w → OnOk result (Decides w (reconcile w) decided.new) }
     ensures edits { OnOk result (decided.new.edits ≡ []) }
     ensures fault { IfErr result B.fails }

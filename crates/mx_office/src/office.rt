@@ -74,7 +74,7 @@ impl<B: Book> Office<B> {
         caller: Caller,
         command: &Command,
     ) -> Result<Decided, StoreFault>
-        ensures keeps { Keeps B.doubt B.rows self.old.book self.new.book }
+        ensures keeps { Keeps B.doubt B.rows B.leaves self.old.book self.new.book }
         ensures decides { (w : World) → B.doubt self.new.book ≡ 0 → B.spells (B.rows self.old.book) w → IfOk result (Decides w (base w caller command.now)) }
         ensures reads { IfOk result (λ d. IsTrue (is_read command.now) → d.edits ≡ []) }
         ensures fault { IfErr result (MayNotDecide B.fails command.now) }
@@ -95,7 +95,7 @@ impl<B: Book> Office<B> {
         command: &Command,
         decided: &mut Decided,
     ) -> Result<(), StoreFault>
-        ensures keeps { Keeps B.doubt B.rows self.old.book self.new.book }
+        ensures keeps { Keeps B.doubt B.rows B.leaves self.old.book self.new.book }
         ensures decides { (w : World) → B.doubt self.new.book ≡ 0 → B.spells (B.rows self.old.book) w → OnOk result (Decides w (base w caller command.now) decided.new) }
         ensures reads { OnOk result (IsTrue (is_read command.now) → decided.new.edits ≡ []) }
         ensures fault { IfErr result (MayNotDecide B.fails command.now) }
@@ -208,7 +208,7 @@ fn decide_operator<B: Book>(
     command: &Command,
     decided: &mut Decided,
 ) -> Result<(), StoreFault>
-    ensures keeps { Keeps B.doubt B.rows book.old book.new }
+    ensures keeps { Keeps B.doubt B.rows B.leaves book.old book.new }
     ensures decides { (w : World) → IsCommand command.now → B.doubt book.new ≡ 0 → B.spells (B.rows book.old) w → OnOk result (Decides w (base w Caller.Operator command.now) decided.new) }
     ensures reads { OnOk result (IsTrue (is_read command.now) → decided.new.edits ≡ []) }
     ensures fault { IfErr result (MayNotDecide B.fails command.now) }
@@ -234,7 +234,7 @@ fn decide_clerk<B: Book>(
     command: &Command,
     decided: &mut Decided,
 ) -> Result<(), StoreFault>
-    ensures keeps { Keeps B.doubt B.rows book.old book.new }
+    ensures keeps { Keeps B.doubt B.rows B.leaves book.old book.new }
     ensures decides { (w : World) → IsCommand command.now → B.doubt book.new ≡ 0 → B.spells (B.rows book.old) w → OnOk result (Decides w (base w (Caller.Clerk member) command.now) decided.new) }
     ensures reads { OnOk result (IsTrue (is_read command.now) → decided.new.edits ≡ []) }
     ensures fault { IfErr result (MayNotDecide B.fails command.now) }
@@ -267,7 +267,7 @@ fn decide_holder<B: Book>(
     command: &Command,
     decided: &mut Decided,
 ) -> Result<(), StoreFault>
-    ensures keeps { Keeps B.doubt B.rows book.old book.new }
+    ensures keeps { Keeps B.doubt B.rows B.leaves book.old book.new }
     ensures decides { (w : World) → IsCommand command.now → B.doubt book.new ≡ 0 → B.spells (B.rows book.old) w → OnOk result (Decides w (base w (Caller.Holder holder) command.now) decided.new) }
     ensures reads { OnOk result (IsTrue (is_read command.now) → decided.new.edits ≡ []) }
     ensures fault { IfErr result (MayNotDecide B.fails command.now) }

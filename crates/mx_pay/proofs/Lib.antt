@@ -5,5 +5,6 @@ pub mod EntryLemmas
 pub mod LogLemmas
 pub mod PutLemmas
 pub mod SameLemmas
+pub mod TextLemmas
 pub mod Texts
 pub mod TokenLemmas

@@ -1,3 +1,4 @@
 pub mod ConditionLemmas
 pub mod Laws
 pub mod OperationLemmas
+pub mod WordLemmas

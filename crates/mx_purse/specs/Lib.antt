@@ -2,3 +2,4 @@ pub mod State
 pub mod Messages
 pub mod Conditions
 pub mod Operations
+pub mod Words

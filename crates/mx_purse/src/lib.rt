@@ -6,6 +6,7 @@ pub mod message;
 pub mod purse;
 pub mod refusals;
 pub mod status;
+pub mod words;
 
 pub use message::{Handled, Message};
 pub use purse::Purse;

@@ -1,24 +1,10 @@
 -- The reconciliation of the scheme, and its text.
-use Rattle.std.specs.Prelude.{ℕ, List, [], ◌∷◌, ◌++◌, Option, Some, None, codes, flat_map}
+use Rattle.std.specs.Prelude.{ℕ, List, [], ◌∷◌, ◌++◌, codes, flat_map}
 use Rattle.std.specs.Fmt.{decimal}
 use Rattle.mx_book.specs.declared.values.MemberTotals.{MemberTotals}
 use Rattle.mx_book.specs.declared.values.Totals.{Totals}
-use Rattle.mx_book.specs.Reads.{members_of}
-use Rattle.mx_book.specs.Totals.{member_totals_of}
-use Rattle.mx_book.specs.World.{World, Name}
+use Rattle.mx_book.specs.World.{Name}
 use Rattle.mx_report.specs.Statement.{record_text}
-
--- the sums of members of these names, each with its name; a name that is no member's is left out
-abbrev pub with_sums : Name → Option MemberTotals → List (Name × MemberTotals)
-with_sums name None = []
-with_sums name (Some sums) = (name, sums) ∷ []
-
-abbrev pub sums_of_names : World → List Name → List (Name × MemberTotals)
-sums_of_names w names = flat_map (λ name. with_sums name (member_totals_of w name)) names
-
--- the members in order, each with its sums
-abbrev pub members_sums : World → List (Name × MemberTotals)
-members_sums w = sums_of_names w (members_of w)
 
 -- what the columns are called
 abbrev pub reconciliation_header : List (List ℕ)

@@ -2,10 +2,10 @@
 ghost use Rattle.std.specs.Prelude.{◌≡◌, ◌⊎◌, ◌++◌, IfOk, IfErr, OnOk};
 ghost use Rattle.mx_book.specs.declared.contract.StoreFault.TheVariants.{Memory};
 ghost use Rattle.mx_book.specs.Keeps.{Keeps};
-ghost use Rattle.mx_book.specs.Totals.{totals_of};
+ghost use Rattle.mx_book.specs.Totals.{members_totals_of, totals_of};
 ghost use Rattle.mx_book.specs.World.{World};
 ghost use Rattle.mx_report.specs.Statement.{record_text};
-ghost use Rattle.mx_report.specs.Reconciliation.{member_text, members_sums, members_text, reconciliation_text, scheme_text, six, sums_fields, sums_of_names};
+ghost use Rattle.mx_report.specs.Reconciliation.{member_text, members_text, reconciliation_text, scheme_text, six, sums_fields};
 
 use crate::texts::Text;
 use mx_book::values::{MemberTotals, Totals};
@@ -22,35 +22,13 @@ pub struct Report {
     pub scheme: Totals,
 }
 
-/// The sums of these members, each with its name. A name that is no member's is left out.
-fn sums_of_members<B: Book>(
-    alloc: Global,
-    book: &mut B,
-    names: &[Name],
-) -> Result<Vec<(Name, MemberTotals)>, StoreFault>
-    ensures keeps { Keeps B.doubt B.rows book.old book.new }
-    ensures value { (w : World) → B.doubt book.new ≡ 0 → B.spells (B.rows book.old) w → IfOk result (λ members. members.items ≡ sums_of_names w names.now) }
-    ensures fault { IfErr result (λ e. (e ≡ Memory) ⊎ B.fails e) }
-{
-    let mut members = Vec::new(alloc);
-    for name in names {
-        if let Some(sums) = book.member_totals(alloc, *name)? {
-            if members.push((*name, sums)).is_err() {
-                return Err(StoreFault::Memory);
-            }
-        }
-    }
-    Ok(members)
-}
-
 /// What the books come to. A fault is one of the book's reads, or `Memory`.
 pub fn reconcile<B: Book>(alloc: Global, book: &mut B) -> Result<Report, StoreFault>
-    ensures keeps { Keeps B.doubt B.rows book.old book.new }
-    ensures value { (w : World) → B.doubt book.new ≡ 0 → B.spells (B.rows book.old) w → IfOk result (λ report. (report.members.items ≡ members_sums w) × (report.scheme ≡ totals_of w)) }
+    ensures keeps { Keeps B.doubt B.rows B.leaves book.old book.new }
+    ensures value { (w : World) → B.doubt book.new ≡ 0 → B.spells (B.rows book.old) w → IfOk result (λ report. (report.members.items ≡ members_totals_of w) × (report.scheme ≡ totals_of w)) }
     ensures fault { IfErr result (λ e. (e ≡ Memory) ⊎ B.fails e) }
 {
-    let names = book.members(alloc)?;
-    let members = sums_of_members(alloc, book, names.as_slice())?;
+    let members = book.members_totals(alloc)?;
     let scheme = book.totals(alloc)?;
     Ok(Report { members, scheme })
 }

@@ -182,7 +182,7 @@ fn is_holders(holder: &Name, purse: &Option<Account>) -> bool
 /// Whether what a row says stands already.
 #[tactic(auto, unfolding(crate::specs::Roll::is_same))]
 fn is_same<B: Book>(book: &mut B, alloc: Global, row: &RollRow) -> Result<bool, StoreFault>
-    ensures keeps { Keeps B.doubt B.rows book.old book.new }
+    ensures keeps { Keeps B.doubt B.rows B.leaves book.old book.new }
     ensures value { (w : World) → B.doubt book.new ≡ 0 → B.spells (B.rows book.old) w → IfOk result (λ b. b ≡ is_same w row.now) }
     ensures fault { IfErr result B.fails }
 {
@@ -211,7 +211,7 @@ fn is_same<B: Book>(book: &mut B, alloc: Global, row: &RollRow) -> Result<bool, 
 /// holder's member for a purse. None where that holder isn't there.
 #[tactic(auto, unfolding(crate::specs::Roll::asker))]
 fn asker<B: Book>(book: &mut B, alloc: Global, row: &RollRow) -> Result<Option<Caller>, StoreFault>
-    ensures keeps { Keeps B.doubt B.rows book.old book.new }
+    ensures keeps { Keeps B.doubt B.rows B.leaves book.old book.new }
     ensures value { (w : World) → B.doubt book.new ≡ 0 → B.spells (B.rows book.old) w → IfOk result (λ o. o ≡ asker w row.now) }
     ensures fault { IfErr result B.fails }
 {

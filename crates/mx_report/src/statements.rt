@@ -14,7 +14,7 @@ use std::alloc::{AllocError, Global};
 
 /// The lines of a purse, by number, read page by page.
 fn read_lines<B: Book>(alloc: Global, book: &mut B, purse: Name) -> Result<Vec<Line>, StoreFault>
-    ensures keeps { Keeps B.doubt B.rows book.old book.new }
+    ensures keeps { Keeps B.doubt B.rows B.leaves book.old book.new }
     ensures value { (w : World) → B.doubt book.new ≡ 0 → B.spells (B.rows book.old) w → IfOk result (λ lines. lines.items ≡ own_lines w purse) }
     ensures fault { IfErr result (λ e. (e ≡ Memory) ⊎ B.fails e) }
 {
@@ -39,7 +39,7 @@ pub fn statement<B: Book>(
     book: &mut B,
     purse: Name,
 ) -> Result<Option<Vec<Line>>, StoreFault>
-    ensures keeps { Keeps B.doubt B.rows book.old book.new }
+    ensures keeps { Keeps B.doubt B.rows B.leaves book.old book.new }
     ensures value { (w : World) → B.doubt book.new ≡ 0 → B.spells (B.rows book.old) w → IfOk result (λ o. option_map (λ lines. lines.items) o ≡ statement_of w purse) }
     ensures fault { IfErr result (λ e. (e ≡ Memory) ⊎ B.fails e) }
 {

@@ -34,7 +34,7 @@ use Rattle.mx_book.specs.RowTotals.{awaited, lost_by, lost_in_log, lost_in_archi
 use Rattle.mx_book.proofs.MapLemmas.{AllEntries, all_entries}
 use Rattle.mx_book.proofs.NameLemmas.{names_total}
 use Rattle.mx_book.proofs.ResultLemmas.{results_total}
-use Rattle.mx_tables.specs.Cells.{status_text}
+use Rattle.mx_purse.specs.Words.{status_word}
 use Rattle.mx_tables.specs.Answers.{ArePurses}
 use Rattle.mx_tables.specs.Results.{AreDetails}
 use Rattle.mx_tables.specs.Holds.{Holds}
@@ -58,23 +58,23 @@ select_waiting = codes "SELECT details FROM purse WHERE status = 'epv'"
 
 pub select_waiting_is : IsSelect select_waiting 8 (is_waiting ∷ []) (col 1 6 ∷ []) [] (codes "details" ∷ [])
 unfolding understood everything
-select_waiting_is = record { is = refl; plain = (refl, refl); unlisted = refl }
+select_waiting_is = record { is = refl; query = record { plain = (refl, refl); silent = λ _ _. refl }; unlisted = refl }
 
 abbrev pub select_logs : List ℕ
 select_logs = codes "SELECT name, log FROM purse"
 
 pub select_logs_is : IsSelect select_logs 8 [] (col 1 1 ∷ col 1 7 ∷ []) [] (codes "name" ∷ codes "log" ∷ [])
 unfolding understood everything
-select_logs_is = record { is = refl; plain = (refl, refl); unlisted = refl }
+select_logs_is = record { is = refl; query = record { plain = (refl, refl); silent = λ _ _. refl }; unlisted = refl }
 
 abbrev pub select_results : List ℕ
 select_results = codes "SELECT purse, details FROM archive"
 
 pub select_results_is : IsSelect select_results 16 [] (col 1 1 ∷ col 1 2 ∷ []) [] (codes "purse" ∷ codes "details" ∷ [])
 unfolding understood everything
-select_results_is = record { is = refl; plain = (refl, refl); unlisted = refl }
+select_results_is = record { is = refl; query = record { plain = (refl, refl); silent = λ _ _. refl }; unlisted = refl }
 
-epv_text : (s : Status) → eq_by_cmp (slice_cmp nat_cmp) (status_text s) (codes "epv") ≡ is_epv s
+epv_text : (s : Status) → eq_by_cmp (slice_cmp nat_cmp) (status_word s) (codes "epv") ≡ is_epv s
 epv_text EaFrom = refl
 epv_text EaTo = refl
 epv_text (Epr d) = refl
@@ -85,7 +85,7 @@ pub finds_waiting : (old new : State) (rows : List Row) → Shown select_waiting
     → IsPermutation (map waiting_shown (filter (λ (e : Name × PurseRow). is_epv e.1.purse.status) (fmap.entries r.purses))) rows
 finds_waiting =
     answers kept.purses select_waiting _ _ _ select_waiting_is [] (λ (e : Name × PurseRow). is_epv e.1.purse.status) waiting_shown
-    (λ id e. and_true _ ∙ same_text (status_text e.1.purse.status) (codes "epv") ∙ epv_text e.1.purse.status) (λ id e. refl)
+    (λ id e. and_true _ ∙ same_text (status_word e.1.purse.status) (codes "epv") ∙ epv_text e.1.purse.status) (λ id e. refl)
 
 pub finds_logs : (old new : State) (rows : List Row) → Shown select_logs [] old new rows → (r : Rows) → Holds old.now r
     → IsPermutation (map log_shown (fmap.entries r.purses)) rows

@@ -1,5 +1,5 @@
 -- Redemptions that are collected purse by purse.
-use Rattle.std.proofs.Common.{◌≡◌, inl, inr, ℕ, pos, ◌+◌, ◌<◌, ◌≤◌, Bool, true, false, T, cond, ◌&&◌, ◌||◌, List, [], ◌∷◌, ◌++◌, map, take, length, get_or, Option, Some, None, Ok, refl, sym, ap, subst, ◌∙◌, arith}
+use Rattle.std.proofs.Common.{◌≡◌, inl, inr, ℕ, pos, ◌+◌, ◌<◌, ◌≤◌, Bool, true, false, T, cond, ◌&&◌, ◌||◌, List, [], ◌∷◌, ◌++◌, map, take, length, get_or, Option, Some, None, Ok, refl, sym, ap, ◌∙◌, arith}
 use Rattle.std.specs.Prelude.{option_map}
 use Rattle.std.specs.List.{list_any}
 use Rattle.std.specs.List.Sorted.{IsPermutation}
@@ -24,14 +24,12 @@ use Rattle.mx_book.proofs.NameLemmas.{names_total}
 use Rattle.mx_book.proofs.UnderLemmas.{get-remake}
 use Rattle.mx_book.proofs.DueLemmas.{keys_total, keys_exact}
 use Rattle.mx_tables.specs.Schema.{office_schema}
-use Rattle.sqlite.specs.Effect.{Database}
-use Rattle.mx_tables.specs.Holds.{Holds}
 use Rattle.mx_tables.specs.States.{Goes}
 use Rattle.mx_tables.specs.Counted.{owned_shown, is_owned, collected_where}
 use Rattle.mx_tables.proofs.MapLists.{any_mapped}
 use Rattle.mx_tables.proofs.MoneyTexts.{mark_purse, mark_purse_is}
 use Rattle.mx_tables.proofs.StoredLemmas.{and_true, same_text, cast_int}
-use Rattle.mx_tables.proofs.WriteLemmas.{alters, goes_as, goes_then}
+use Rattle.mx_tables.proofs.WriteLemmas.{alters, goes_as}
 use Rattle.mx_tables.proofs.RedemptionLemmas.{redemption_place}
 use Rattle.mx_tables.proofs.KeptLemmas.{redemptions}
 
@@ -89,7 +87,7 @@ any_last p (y ∷ xs) x = elim (cases_Bool (p y)) [ inl t ↦ rw t refl | inr e 
 abbrev pub so_far : fmap.FinMap name_cmp Name → Name → List Row → Name → Bool
 so_far holders m rows n = list_any (λ row. is_owned holders m row n) rows
 
-pub one_row_more : (holders : fmap.FinMap name_cmp Name) (m : Name) (rows : List Row) (at : ℕ) (row : Row) → at < length rows → row ≡ get_or rows at row → (e : Redemptions)
+one_row_more : (holders : fmap.FinMap name_cmp Name) (m : Name) (rows : List Row) (at : ℕ) (row : Row) → at < length rows → row ≡ get_or rows at row → (e : Redemptions)
     → remake (collected_where (is_owned holders m row)) (remake (collected_where (so_far holders m (take at rows))) e) ≡ remake (collected_where (so_far holders m (take (at + 1) rows))) e
 one_row_more holders m rows at row within is e =
     collected_twice _ _ e
@@ -121,7 +119,7 @@ member_there holders m None = refl
 member_there holders m (Some x) = refl
 
 -- after the last row each purse of a holder of the member is collected
-pub all_collected : (r : Rows) (m : Name) (rows items : List Row) (at : ℕ) → length rows ≤ at → rows ≡ items → IsPermutation (map owned_shown (fmap.entries r.purses)) items
+all_collected : (r : Rows) (m : Name) (rows items : List Row) (at : ℕ) → length rows ≤ at → rows ≡ items → IsPermutation (map owned_shown (fmap.entries r.purses)) items
     → remake (collected_where (so_far r.holders m (take at rows))) r.redemptions ≡ remake (marked r.purses r.holders m) r.redemptions
 all_collected r m rows items at past is same = λ i. remake {K = Name × Name} {X = Redemption} {Y = Redemption} {R = pair_cmp name_cmp name_cmp} (λ k x. record x { collected = x.collected || each k.0 i }) r.redemptions
   where
@@ -133,10 +131,6 @@ all_collected r m rows items at past is same = λ i. remake {K = Name × Name} {
 
 -- ---- one row
 
--- where nothing was written, nothing changes
-pub goes_none : (old new : State) → old.now.schema ≡ office_schema → new.now ≡ old.now → Goes (λ r. r) old new
-goes_none old new has same = record { schema = ap (λ (d : Database). d.schema) same ∙ has; rows = λ r h. subst (λ (d : Database). Holds d r) (sym same) h }
-
 module _ (m purse holder : Name) (row : Row) (first : column row 0 ≡ Text purse) (second : column row 1 ≡ Text holder) where
   owned_as : (holders : fmap.FinMap name_cmp Name) (o : Option Name) → fmap.get holders holder ≡ o → (n : Name) → is_owned holders m row n ≡ (is_name n purse && is_of m o)
   owned_as holders o at n = rw (first, second, at) refl
@@ -146,34 +140,28 @@ module _ (m purse holder : Name) (row : Row) (first : column row 0 ≡ Text purs
   and_false false = refl
 
   -- the holder isn't one of the member
-  pub row_left : (old new : State) (o : Option Name) → is_of m o ≡ false → old.now.schema ≡ office_schema → new.now ≡ old.now → ((r : Rows) → Holds old.now r → o ≡ fmap.get r.holders holder)
-      → Goes (λ r. record r { redemptions = remake (collected_where (is_owned r.holders m row)) r.redemptions }) old new
-  row_left old new o other has same found =
-      goes_as _ _ old new (λ r h. λ i. record r { redemptions = (sym (collected_none r.redemptions) ∙ sym (collected_same _ _ r.redemptions (λ n. owned_as r.holders o (sym (found r h)) n ∙ ap (λ b. is_name n purse && b) other ∙ and_false (is_name n purse)))) i })
-      (goes_none old new has same)
+  pub row_left : (o : Option Name) → is_of m o ≡ false → (r : Rows) → o ≡ fmap.get r.holders holder → r ≡ record r { redemptions = remake (collected_where (is_owned r.holders m row)) r.redemptions }
+  row_left o other r found =
+      λ i. record r { redemptions = (sym (collected_none r.redemptions) ∙ sym (collected_same _ _ r.redemptions (λ n. owned_as r.holders o (sym found) n ∙ ap (λ b. is_name n purse && b) other ∙ and_false (is_name n purse)))) i }
 
   -- the holder is one of the member
-  pub row_taken : (old mid new : State) (o : Option Name) → is_of m o ≡ true → old.now.schema ≡ office_schema → mid.now ≡ old.now → ((r : Rows) → Holds old.now r → o ≡ fmap.get r.holders holder)
-      → Goes (λ r. record r { redemptions = remake (collected_where (λ n. is_name n purse)) r.redemptions }) mid new
-      → Goes (λ r. record r { redemptions = remake (collected_where (is_owned r.holders m row)) r.redemptions }) old new
-  row_taken old mid new o mine has same found made =
-      goes_as _ _ old new (λ r h. λ i. record r { redemptions = sym (collected_same _ _ r.redemptions (λ n. owned_as r.holders o (sym (found r h)) n ∙ ap (λ b. is_name n purse && b) mine ∙ and_true (is_name n purse))) i })
-      (goes_then _ _ old mid new (goes_none old mid has same) made)
+  pub row_taken : (o : Option Name) → is_of m o ≡ true → (r : Rows) → o ≡ fmap.get r.holders holder
+      → record r { redemptions = remake (collected_where (λ n. is_name n purse)) r.redemptions } ≡ record r { redemptions = remake (collected_where (is_owned r.holders m row)) r.redemptions }
+  row_taken o mine r found =
+      λ i. record r { redemptions = sym (collected_same _ _ r.redemptions (λ n. owned_as r.holders o (sym found) n ∙ ap (λ b. is_name n purse && b) mine ∙ and_true (is_name n purse))) i }
 
 -- ---- the loop
 
 abbrev pub collects_so_far : Name → List Row → Rows → Rows
 collects_so_far m rows r = record r { redemptions = remake (collected_where (so_far r.holders m rows)) r.redemptions }
 
-pub goes_begun : (s : State) (m : Name) → s.now.schema ≡ office_schema → Goes (collects_so_far m []) s s
-goes_begun s m has = goes_as _ _ s s (λ r h. λ i. record r { redemptions = sym (collected_none r.redemptions) i }) (goes_none s s has refl)
+pub none_so_far : (m : Name) (r : Rows) → r ≡ collects_so_far m [] r
+none_so_far m r = λ i. record r { redemptions = sym (collected_none r.redemptions) i }
 
-pub goes_more : (a b c : State) (m : Name) (rows : List Row) (at : ℕ) (row : Row) → at < length rows → row ≡ get_or rows at row → Goes (collects_so_far m (take at rows)) a b
-    → Goes (λ r. record r { redemptions = remake (collected_where (is_owned r.holders m row)) r.redemptions }) b c → Goes (collects_so_far m (take (at + 1) rows)) a c
-goes_more a b c m rows at row within is one two =
-    goes_as _ _ a c (λ r h. λ i. record r { redemptions = one_row_more r.holders m rows at row within is r.redemptions i }) (goes_then _ _ a b c one two)
+pub one_row_so_far : (m : Name) (rows : List Row) (at : ℕ) (row : Row) → at < length rows → row ≡ get_or rows at row → (r : Rows)
+    → record r { redemptions = remake (collected_where (is_owned r.holders m row)) (remake (collected_where (so_far r.holders m (take at rows))) r.redemptions) } ≡ collects_so_far m (take (at + 1) rows) r
+one_row_so_far m rows at row within is r = λ i. record r { redemptions = one_row_more r.holders m rows at row within is r.redemptions i }
 
-pub goes_all : (a b c : State) (m : Name) (rows items : List Row) (at : ℕ) → length rows ≤ at → rows ≡ items → a.now.schema ≡ office_schema → b.now ≡ a.now → ((r : Rows) → Holds a.now r → IsPermutation (map owned_shown (fmap.entries r.purses)) items)
-    → Goes (collects_so_far m (take at rows)) b c → Goes (λ r. record r { redemptions = remake (marked r.purses r.holders m) r.redemptions }) a c
-goes_all a b c m rows items at past is has same found made =
-    goes_as _ _ a c (λ r h. λ i. record r { redemptions = all_collected r m rows items at past is (found r h) i }) (goes_then _ _ a b c (goes_none a b has same) made)
+pub all_so_far : (m : Name) (rows items : List Row) (at : ℕ) → length rows ≤ at → rows ≡ items → (r : Rows) → IsPermutation (map owned_shown (fmap.entries r.purses)) items
+    → collects_so_far m (take at rows) r ≡ record r { redemptions = remake (marked r.purses r.holders m) r.redemptions }
+all_so_far m rows items at past is r same = λ i. record r { redemptions = all_collected r m rows items at past is same i }

@@ -24,6 +24,8 @@ use Rattle.mx_pay.specs.Names.{name_cmp, is_name}
 use Rattle.mx_pay.proofs.TestLemmas.{is_equal}
 use Rattle.mx_purse.specs.declared.message.Message.{Message}
 use Rattle.mx_purse.specs.Messages.{IsMessage}
+use Rattle.mx_purse.specs.Words.{message_word, message_details}
+use Rattle.mx_purse.proofs.WordLemmas.{same_message}
 use Rattle.mx_book.specs.World.{Name}
 use Rattle.mx_book.specs.Rows.{Rows}
 use Rattle.mx_book.specs.RowEdits.{rewritten, on_purse}
@@ -35,10 +37,10 @@ use Rattle.mx_book.proofs.NameLemmas.{same_name}
 use Rattle.mx_book.proofs.MapLemmas.{AllEntries, all_entries}
 use Rattle.mx_tables.specs.Schema.{office_schema, inbox}
 use Rattle.mx_tables.specs.Contents.{Contents}
-use Rattle.mx_tables.specs.Cells.{message_cells, number, message_kind, message_details}
+use Rattle.mx_tables.specs.Cells.{message_cells, number}
 use Rattle.mx_tables.specs.Holds.{Holds}
 use Rattle.mx_tables.specs.States.{Goes}
-use Rattle.mx_tables.specs.Answers.{at_key, message_row, message_shown, first_three, AreMessages}
+use Rattle.mx_tables.specs.Answers.{at_key, message_row, message_shown, first_three, AreMessages, Raises}
 use Rattle.mx_tables.proofs.Queries.{is_given}
 use Rattle.mx_tables.proofs.Texts.{select_inbox, select_inbox_is, select_held_numbers, select_held_numbers_is, select_message, select_message_is, select_number, select_number_is, insert_message, insert_message_is, delete_message, delete_message_is}
 use Rattle.mx_tables.proofs.Statements.{passes}
@@ -46,7 +48,7 @@ use Rattle.mx_tables.proofs.StoredLemmas.{and_true, same_text, same_numbers, num
 use Rattle.mx_tables.proofs.ReadLemmas.{answers, answers_in_order}
 use Rattle.mx_tables.proofs.WriteLemmas.{Place, adds, drops, goes_as}
 use Rattle.mx_tables.proofs.KeptLemmas as kept
-use Rattle.mx_tables.proofs.MessageLemmas.{same_message, same_message_rows}
+use Rattle.mx_tables.proofs.MessageLemmas.{same_message_rows}
 use Rattle.mx_tables.proofs.ValueLemmas.{same_words}
 
 -- under one first key, pairs are in the order of their second keys
@@ -127,7 +129,7 @@ finds_number p n old new rows shown r h =
     (answers kept.inbox select_number _ _ _ select_number_is (Text p ∷ number n ∷ []) (λ (e : (Name × ℕ) × Message). eq_by_cmp (pair_cmp name_cmp nat_cmp) (p, n) e.0) (λ (e : (Name × ℕ) × Message). number e.0.1 ∷ [])
     (at_message p n) (λ id e. refl) old new rows shown r h)
 
-pub message_back : (v m : Message) (row : Row) → IsMessage v → IsMessage m → message_shown v ≡ row → column row 0 ≡ Text (message_kind m) → column row 1 ≡ Text (message_details m) → m ≡ v
+pub message_back : (v m : Message) (row : Row) → IsMessage v → IsMessage m → message_shown v ≡ row → column row 0 ≡ Text (message_word m) → column row 1 ≡ Text (message_details m) → m ≡ v
 message_back v m row one two is a b = sym (same_message v m one two (same_words _ _ (ap (λ r. column r 0) is ∙ a)) (same_words _ _ (ap (λ r. column r 1) is ∙ b)))
 
 -- ---- writes
@@ -171,17 +173,16 @@ drops_message p n old new count has ran =
     (at_message p n) (λ id e. refl) old new count has ran)
 
 pub adds_message : (p : Name) (n : ℕ) (m : Message) (old new : State) (count : ℕ) → old.now.schema ≡ office_schema
-    → Executes insert_message (Text p ∷ number n ∷ Text (message_kind m) ∷ Text (message_details m) ∷ []) old new (Ok count) → Goes (λ r. record r { inbox = fmap.insert r.inbox (p, n) m }) old new
+    → Executes insert_message (Text p ∷ number n ∷ Text (message_word m) ∷ Text (message_details m) ∷ []) old new (Ok count) → Goes (λ r. record r { inbox = fmap.insert r.inbox (p, n) m }) old new
 adds_message p n m =
-    adds kept.inbox inbox_place (λ l c. refl) insert_message _ _ insert_message_is (Text p ∷ number n ∷ Text (message_kind m) ∷ Text (message_details m) ∷ []) ((p, n), m) (rw (cast_null, cast_int (pos n)) refl)
+    adds kept.inbox inbox_place (λ l c. refl) insert_message _ _ insert_message_is (Text p ∷ number n ∷ Text (message_word m) ∷ Text (message_details m) ∷ []) ((p, n), m) (rw (cast_null, cast_int (pos n)) refl)
 
 -- a message under the next number of its purse, which rises
-pub delivers : (p : Name) (m : Message) (n : ℕ) (a b c d : State) → b.now ≡ a.now → ((r : Rows) → Holds b.now r → option_map (λ (x : PurseRow). x.next_message) (fmap.get r.purses p) ≡ Some n)
-    → Goes (λ r. on_purse (fmap.get r.purses p) r (λ x. record r { purses = fmap.insert r.purses p (record x { next_message = n + 1 }) })) b c → Goes (λ r. record r { inbox = fmap.insert r.inbox (p, n) m }) c d
+pub delivers : (p : Name) (m : Message) (n : ℕ) (a b c d : State) → b.now ≡ a.now → Raises p n b c → Goes (λ r. record r { inbox = fmap.insert r.inbox (p, n) m }) c d
     → Goes (λ r. rewritten r (AddMessage p m)) a d
-delivers p m n a b c d same at one two = record {
+delivers p m n a b c d same one two = record {
   schema = two.schema;
-  rows = λ r holds. let here : Holds b.now r = subst (λ (db : Database). Holds db r) (sym same) holds in subst (Holds d.now) (is r (fmap.get r.purses p) (at r here)) (two.rows _ (one.rows r here));
+  rows = λ r holds. let here : Holds b.now r = subst (λ (db : Database). Holds db r) (sym same) holds in subst (Holds d.now) (is r (fmap.get r.purses p) (one.was r here)) (two.rows _ (one.goes.rows r here));
 }
   where
     put_in : Rows → Rows

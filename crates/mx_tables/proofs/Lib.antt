@@ -12,6 +12,7 @@ pub mod StoresLemmas
 pub mod ValueLemmas
 pub mod KeptLemmas
 pub mod ReadLemmas
+pub mod CallLemmas
 pub mod WriteLemmas
 pub mod MemberLemmas
 pub mod HolderLemmas
@@ -33,6 +34,7 @@ pub mod LoadLemmas
 pub mod RedemptionLemmas
 pub mod CountLemmas
 pub mod CountedSums
+pub mod MemberSumLemmas
 pub mod CollectLemmas
 pub mod SingleLemmas
 pub mod BetweenLemmas

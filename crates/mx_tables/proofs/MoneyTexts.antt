@@ -22,7 +22,7 @@ select_load = codes "SELECT amount FROM load WHERE purse = ?1 AND reference = ?2
 
 pub select_load_is : IsSelect select_load 18 (is_given 1 0 ∷ is_given 2 1 ∷ []) (col 1 3 ∷ []) [] (codes "amount" ∷ [])
 unfolding understood everything
-select_load_is = record { is = refl; plain = (refl, refl); unlisted = refl }
+select_load_is = record { is = refl; query = record { plain = (refl, refl); silent = λ _ _. refl }; unlisted = refl }
 
 abbrev pub insert_redemption : List ℕ
 insert_redemption = codes "INSERT INTO redemption (purse, reference, amount, collected) VALUES (?1, ?2, ?3, 0)"
@@ -36,7 +36,7 @@ select_redemption = codes "SELECT amount FROM redemption WHERE purse = ?1 AND re
 
 pub select_redemption_is : IsSelect select_redemption 20 (is_given 1 0 ∷ is_given 2 1 ∷ []) (col 1 3 ∷ []) [] (codes "amount" ∷ [])
 unfolding understood everything
-select_redemption_is = record { is = refl; plain = (refl, refl); unlisted = refl }
+select_redemption_is = record { is = refl; query = record { plain = (refl, refl); silent = λ _ _. refl }; unlisted = refl }
 
 -- the redemption isn't collected
 abbrev pub is_uncollected : Term
@@ -47,35 +47,35 @@ select_uncollected = codes "SELECT purse, amount FROM redemption WHERE collected
 
 pub select_uncollected_is : IsSelect select_uncollected 20 (is_uncollected ∷ []) (col 1 1 ∷ col 1 3 ∷ []) [] (codes "purse" ∷ codes "amount" ∷ [])
 unfolding understood everything
-select_uncollected_is = record { is = refl; plain = (refl, refl); unlisted = refl }
+select_uncollected_is = record { is = refl; query = record { plain = (refl, refl); silent = λ _ _. refl }; unlisted = refl }
 
 abbrev pub select_redeemed : List ℕ
 select_redeemed = codes "SELECT purse, amount FROM redemption"
 
 pub select_redeemed_is : IsSelect select_redeemed 20 [] (col 1 1 ∷ col 1 3 ∷ []) [] (codes "purse" ∷ codes "amount" ∷ [])
 unfolding understood everything
-select_redeemed_is = record { is = refl; plain = (refl, refl); unlisted = refl }
+select_redeemed_is = record { is = refl; query = record { plain = (refl, refl); silent = λ _ _. refl }; unlisted = refl }
 
 abbrev pub select_issued : List ℕ
 select_issued = codes "SELECT purse, amount FROM load"
 
 pub select_issued_is : IsSelect select_issued 18 [] (col 1 1 ∷ col 1 3 ∷ []) [] (codes "purse" ∷ codes "amount" ∷ [])
 unfolding understood everything
-select_issued_is = record { is = refl; plain = (refl, refl); unlisted = refl }
+select_issued_is = record { is = refl; query = record { plain = (refl, refl); silent = λ _ _. refl }; unlisted = refl }
 
 abbrev pub select_balances : List ℕ
 select_balances = codes "SELECT name, balance FROM purse"
 
 pub select_balances_is : IsSelect select_balances 8 [] (col 1 1 ∷ col 1 3 ∷ []) [] (codes "name" ∷ codes "balance" ∷ [])
 unfolding understood everything
-select_balances_is = record { is = refl; plain = (refl, refl); unlisted = refl }
+select_balances_is = record { is = refl; query = record { plain = (refl, refl); silent = λ _ _. refl }; unlisted = refl }
 
 abbrev pub select_owned : List ℕ
 select_owned = codes "SELECT name, holder FROM purse"
 
 pub select_owned_is : IsSelect select_owned 8 [] (col 1 1 ∷ col 1 2 ∷ []) [] (codes "name" ∷ codes "holder" ∷ [])
 unfolding understood everything
-select_owned_is = record { is = refl; plain = (refl, refl); unlisted = refl }
+select_owned_is = record { is = refl; query = record { plain = (refl, refl); silent = λ _ _. refl }; unlisted = refl }
 
 abbrev pub mark_purse : List ℕ
 mark_purse = codes "UPDATE redemption SET collected = 1 WHERE purse = ?1"
@@ -89,4 +89,4 @@ select_grants = codes "SELECT granted, unspent FROM member"
 
 pub select_grants_is : IsSelect select_grants 1 [] (col 1 2 ∷ col 1 3 ∷ []) [] (codes "granted" ∷ codes "unspent" ∷ [])
 unfolding understood everything
-select_grants_is = record { is = refl; plain = (refl, refl); unlisted = refl }
+select_grants_is = record { is = refl; query = record { plain = (refl, refl); silent = λ _ _. refl }; unlisted = refl }

@@ -1,6 +1,6 @@
 -- What is read of the lines of a purse.
 use Rattle.std.proofs.Common.{◌≡◌, inl, inr, ℕ, zero, suc, pos, ◌+◌, ◌≤◌, Bool, true, false, ◌&&◌, List, [], ◌∷◌, ◌++◌, map, filter, take, length, codes, refl, sym, ap, ap₂, ◌∙◌, arith, Some, None, Option}
-use Rattle.std.specs.Prelude.{nat_lt, ◌==◌, if◌then◌else◌, option_map}
+use Rattle.std.specs.Prelude.{nat_lt, option_map}
 use Rattle.std.specs.List.{AllByRecursion, take-map}
 use Rattle.std.specs.Cmp.{first_so}
 use Rattle.std.proofs.ByRecursion.{All-push}
@@ -36,6 +36,7 @@ use Rattle.mx_pay.specs.Reading.{entry_of}
 use Rattle.mx_pay.specs.Details as pay
 use Rattle.mx_pay.specs.Limits.{most_number}
 use Rattle.mx_pay.proofs.EntryLemmas.{entry_again, cut_none, name_lacks}
+use Rattle.mx_pay.proofs.TextLemmas.{same_entry}
 use Rattle.mx_book.specs.World.{Name}
 use Rattle.mx_book.specs.Rows.{Rows}
 use Rattle.mx_book.specs.RowReads.{row_lines_of, line_of_row}
@@ -43,11 +44,10 @@ use Rattle.mx_book.specs.Words.{kind_text, note_text}
 use Rattle.mx_book.specs.Conditions.{IsNote}
 use Rattle.mx_book.specs.declared.values.Line.{Line}
 use Rattle.mx_book.specs.declared.values.LineRow.{LineRow}
-use Rattle.mx_book.specs.declared.values.LineKind.{LineKind}
-use Rattle.mx_book.specs.declared.values.LineKind.TheVariants.{Loaded, Redeemed, Sent, Received, Logged}
 use Rattle.mx_book.specs.declared.values.Note.{Note}
 use Rattle.mx_book.specs.declared.values.Note.TheVariants.{Reference, Details}
 use Rattle.mx_book.proofs.MapLemmas.{AllEntries, all_entries}
+use Rattle.mx_book.proofs.WordLemmas.{same_kind}
 use Rattle.mx_tables.specs.Cells.{number}
 use Rattle.mx_tables.specs.Holds.{Holds}
 use Rattle.mx_tables.specs.Pages.{line_shown, first_five, lines_above, GivesLine, AreLines}
@@ -56,7 +56,6 @@ use Rattle.mx_tables.proofs.Queries.{scan, alone, is_given}
 use Rattle.mx_tables.proofs.Texts.{IsSelect}
 use Rattle.mx_tables.proofs.StoredLemmas.{and_true, same_text, if_truth, numbers_cmp}
 use Rattle.mx_tables.proofs.ReadLemmas.{reads_in_order}
-use Rattle.mx_tables.proofs.MessageLemmas.{same_entry}
 use Rattle.mx_tables.proofs.InboxLemmas.{second_less, same_first}
 use Rattle.mx_tables.proofs.KeptLemmas as kept
 
@@ -88,7 +87,7 @@ names = codes "number" ∷ codes "kind" ∷ codes "amount" ∷ codes "balance" �
 
 pub select_lines_is : IsSelect select_lines 12 terms project order names
 unfolding understood everything
-select_lines_is = record { is = refl; plain = (refl, refl); unlisted = refl }
+select_lines_is = record { is = refl; query = record { plain = (refl, refl); silent = λ _ _. refl }; unlisted = refl }
 
 module _ (p : Name) (after : ℕ) where
   abbrev pub given : Row
@@ -108,13 +107,13 @@ module _ (p : Name) (after : ℕ) where
   -- the query ended: its rows are those of all lines
   pub ended : (old new : State) (rows : List Row) → Shown select_lines given old new rows → (r : Rows) → Holds old.now r → rows ≡ all_shown r
   ended old new rows shown r h =
-      reads_lines old.now rows (reads_as select_lines given old new office_schema h.has.schema _ select_lines_is.is select_lines_is.plain select_lines_is.unlisted rows shown) r h
+      reads_lines old.now rows (reads_as select_lines given old new office_schema h.has.schema _ select_lines_is.is select_lines_is.query.plain select_lines_is.unlisted rows shown) r h
 
   -- it has given some rows: those of all lines begin with them
   pub begins : {S : Type 0} (g : store.Ghosts S) (h : Held S) (rows : List Row) → HasGiven g select_lines given h rows → (r : Rows) → Holds (state g h).now r → (tail : List Row) × (rows ++ tail ≡ all_shown r)
   begins g h rows has r holds =
       let s = state g h in
-      let first = begins_as select_lines given s s office_schema holds.has.schema _ select_lines_is.is select_lines_is.plain select_lines_is.unlisted rows (given_begin g select_lines given h rows has) in
+      let first = begins_as select_lines given s s office_schema holds.has.schema _ select_lines_is.is select_lines_is.query.plain select_lines_is.unlisted rows (given_begin g select_lines given h rows has) in
       (first.1.0, reads_lines s.now (rows ++ first.1.0) (record { typed = first.0; answer = first.1.1 }) r holds)
 
 -- ---- one line more
@@ -138,24 +137,6 @@ module _ {S : Type 0} (g : store.Ghosts S) (sql : List ℕ) (params : Row) (old 
   no_more h = none_given h.0 h.1 h.2
 
 -- ---- lines that show the same rows are the same
-
-third : List ℕ → ℕ
-third (a ∷ b ∷ c ∷ t) = c
-third t = 0
-
-kind_by : ℕ → LineKind
-kind_by c = if c == 97 then Loaded else if c == 100 then Redeemed else if c == 110 then Sent else if c == 99 then Received else Logged
-
-kind_back : (k : LineKind) → kind_by (third (kind_text k)) ≡ k
-unfolding kind_by third
-kind_back Loaded = refl
-kind_back Redeemed = refl
-kind_back Sent = refl
-kind_back Received = refl
-kind_back Logged = refl
-
-pub same_kind : (k l : LineKind) → kind_text k ≡ kind_text l → k ≡ l
-same_kind k l h = sym (kind_back k) ∙ ap (λ t. kind_by (third t)) h ∙ kind_back l
 
 no_entry : (n : Name) → is_name_text n ≡ true → entry_of n ≡ None
 unfolding entry_of

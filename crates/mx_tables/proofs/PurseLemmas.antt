@@ -1,6 +1,10 @@
 -- The statements on purses, and what they show.
-use Rattle.std.proofs.Common.{◌≡◌, inl, inr, ℕ, ◌+◌, ℤ, pos, Bool, true, List, [], ◌∷◌, map, drop, codes, Ok, Option, Some, None, IfSome, refl, sym, ap, ap₂, ◌∙◌, arith, if◌then◌else◌}
-use Rattle.std.specs.Prelude.{◌==◌, ◌&&◌, option_map}
+use Rattle.std.proofs.Common.{◌≡◌, inl, inr, ℕ, ◌+◌, ℤ, pos, Bool, true, false, length, is_some, List, [], ◌∷◌, map, drop, codes, Ok, Option, Some, None, refl, sym, ap, ap₂, ◌∙◌, arith, if◌then◌else◌}
+use Rattle.std.specs.Prelude.{◌&&◌, option_map, option_and_then, nat_lt}
+use Rattle.std.specs.Option.{option_map_or}
+use Rattle.std.proofs.lemmas.List.{length-map}
+use Rattle.mx_pay.specs.Limits.{most_number}
+use Rattle.mx_book.specs.Limits.{most_messages}
 use Rattle.std.specs.Ordering.{eq_by_cmp, nat_cmp}
 use Rattle.std.specs.FinMap.{nat_cmp-IsAntisymmetric}
 use Rattle.std.specs.List.Sorted.{IsPermutation}
@@ -20,24 +24,23 @@ use Rattle.sqlite.specs.State.{State, Shown, Executes}
 use Rattle.mx_pay.proofs.SameLemmas.{names_turned}
 use Rattle.mx_pay.specs.Names.{name_cmp, is_name}
 use Rattle.mx_pay.specs.Codes.{code, entry_texts}
-use Rattle.mx_pay.specs.Details.{Details, IsDetails}
 use Rattle.mx_pay.specs.Log.{none_logged}
-use Rattle.mx_pay.specs.Reading.{entry_of}
 use Rattle.mx_pay.proofs.CodeLemmas.{none_is}
-use Rattle.mx_pay.proofs.EntryLemmas.{entry_again}
-use Rattle.mx_purse.specs.State.{new_purse, IsPurse, details_of, State as Purse}
-use Rattle.mx_purse.specs.declared.status.Status.{Status}
-use Rattle.mx_purse.specs.declared.status.Status.TheVariants.{EaFrom, EaTo, Epr, Epv, Epa}
+use Rattle.mx_pay.proofs.TextLemmas.{same_code}
+use Rattle.mx_purse.specs.State.{new_purse, IsPurse, State as Purse}
+use Rattle.mx_purse.specs.Words.{status_word, status_details}
+use Rattle.mx_purse.proofs.WordLemmas.{same_status}
 use Rattle.mx_book.specs.World.{Name}
-use Rattle.mx_book.specs.RowEdits.{rewritten, on_purse}
+use Rattle.mx_book.specs.RowEdits.{rewritten, on_purse, member_at}
 use Rattle.mx_book.specs.declared.edits.Edit.TheVariants.{NewPurse, SetPurse}
 use Rattle.mx_book.specs.Rows.{Rows}
-use Rattle.mx_book.specs.RowReads.{row_purses_of, purse_rows_of}
+use Rattle.mx_book.specs.RowReads.{row_purses_of, purse_rows_of, row_own_purse, row_finds_place, row_inbox_of, of_name}
+use Rattle.mx_purse.specs.declared.message.Message.{Message}
 use Rattle.mx_book.specs.declared.values.PurseRow.{PurseRow}
 use Rattle.mx_book.proofs.NameLemmas.{names_total, names_exact}
 use Rattle.mx_tables.specs.Schema.{office_schema, purse}
 use Rattle.mx_tables.specs.Contents.{Contents}
-use Rattle.mx_tables.specs.Cells.{purse_cells, number, status_text, details_text}
+use Rattle.mx_tables.specs.Cells.{purse_cells, number}
 use Rattle.mx_tables.specs.Holds.{Holds}
 use Rattle.mx_tables.specs.States.{Goes}
 use Rattle.mx_tables.specs.Answers.{at_key, text_shown, state_shown, state_columns, own_shown, purse_shown, purse_columns, next_shown}
@@ -48,7 +51,6 @@ use Rattle.mx_tables.proofs.Statements.{env, passes}
 use Rattle.mx_tables.proofs.StoredLemmas.{and_true, same_text, same_numbers, cast_int, cast_null}
 use Rattle.mx_tables.proofs.ReadLemmas.{answers, answers_in_order}
 use Rattle.mx_tables.proofs.WriteLemmas.{Place, adds, alters, counts, counts_in, goes_as, remake_some, one_passes, one_at, at_key_where, remake_where}
-use Rattle.mx_tables.proofs.MessageLemmas.{same_code}
 use Rattle.mx_tables.proofs.ValueLemmas.{same_number, same_words}
 use Rattle.mx_tables.proofs.KeptLemmas.{purses}
 
@@ -134,7 +136,7 @@ module _ (sql : List ℕ) (project : List Term) (text : IsUpdate sql 4 8 (is_giv
       (alters purses purse_place (λ l c. refl) sql _ _ text (Text p ∷ more) (λ e. is_name e.0 p) (λ _ x. g x) (λ id e. rw (same_text e.0 p) (and_true _)) first forms old new 1 has ran)
 
 abbrev purse_params : Purse → Row
-purse_params q = number q.balance ∷ number q.next ∷ Text (status_text q.status) ∷ Text (details_text q.status) ∷ Text (code q.log) ∷ number q.lines ∷ []
+purse_params q = number q.balance ∷ number q.next ∷ Text (status_word q.status) ∷ Text (status_details q.status) ∷ Text (code q.log) ∷ number q.lines ∷ []
 
 pub sets_purse : (q : Purse) (old new : State) → old.now.schema ≡ office_schema → Executes update_purse (Text q.name ∷ purse_params q) old new (Ok 1) → Goes (λ r. rewritten r (SetPurse q)) old new
 sets_purse q = one_purse update_purse _ update_purse_is q.name (purse_params q) (λ x. record x { purse = q }) (λ id e. refl)
@@ -177,29 +179,6 @@ module _ (p : Name) (n : ℕ) (old new : State) (has : old.now.schema ≡ office
 
 -- ---- a purse that was read
 
-abbrev with_details : Option Details → (Details → Status) → Status
-with_details None f = EaFrom
-with_details (Some d) f = f d
-
--- the status of a word's last letter and details
-abbrev status_of : ℕ → Option Details → Status
-status_of c o = if c == 109 then EaFrom else if c == 111 then EaTo else if c == 114 then with_details o Epr else if c == 118 then with_details o Epv else with_details o Epa
-
-abbrev last : List ℕ → ℕ
-last [] = 0
-last (c ∷ []) = c
-last (c ∷ d ∷ cs) = last (d ∷ cs)
-
-again : (s : Status) → IfSome (details_of s) IsDetails → status_of (last (status_text s)) (entry_of (details_text s)) ≡ s
-again EaFrom h = refl
-again EaTo h = refl
-again (Epr d) h = ap (λ o. with_details o Epr) (entry_again d h)
-again (Epv d) h = ap (λ o. with_details o Epv) (entry_again d h)
-again (Epa d) h = ap (λ o. with_details o Epa) (entry_again d h)
-
-same_status : (s u : Status) → IfSome (details_of s) IsDetails → IfSome (details_of u) IsDetails → status_text s ≡ status_text u → details_text s ≡ details_text u → s ≡ u
-same_status s u one two k t = sym (again s one) ∙ ap₂ (λ w d. status_of (last w) (entry_of d)) k t ∙ again u two
-
 -- purses of one name that show the same are the same
 same_state : (a b : Purse) → IsPurse a → IsPurse b → a.name ≡ b.name → state_shown a ≡ state_shown b → a ≡ b
 same_state a b one two named h =
@@ -226,3 +205,35 @@ holder_back x h row is shown = sym (same_words _ _ (ap (λ r. column r 0) is ∙
 
 pub next_back : (x : PurseRow) (n : ℕ) (row : Row) → next_shown x ≡ row → column row 0 ≡ number n → x.next_message ≡ n
 next_back x n row is shown = same_number x.next_message n (ap (λ r. column r 0) is ∙ shown)
+
+-- ---- what a look at one column says of a row
+
+if_some : {X : Type 0} (b : Bool) (x : X) → b ≡ is_some (if b then Some x else None)
+if_some true x = refl
+if_some false x = refl
+
+pub own_found : (r : Rows) (h p owner : Name) → Some owner ≡ option_map (λ (x : PurseRow). x.holder) (fmap.get r.purses p) → is_name h owner ≡ is_some (row_own_purse r h p)
+own_found r h p owner e = by_row (fmap.get r.purses p) e where
+  by_row : (o : Option PurseRow) → Some owner ≡ option_map (λ (x : PurseRow). x.holder) o
+      → is_name h owner ≡ is_some (option_and_then (λ (x : PurseRow). if is_name h x.holder then Some x.purse else None) o)
+  by_row None e = absurd (cc)
+  by_row (Some x) e = let same : owner ≡ x.holder = cc in rw same (if_some (is_name h x.holder) x.purse)
+
+pub row_absent : {X : Type 0} (f : PurseRow → X) (o : Option PurseRow) → None ≡ option_map f o → o ≡ None
+row_absent f None e = refl
+row_absent f (Some x) e = absurd (cc)
+
+pub member_found : (holders : fmap.FinMap name_cmp Name) (o : Option PurseRow) (h : Name) → Some h ≡ option_map (λ (x : PurseRow). x.holder) o → member_at holders o ≡ fmap.get holders h
+member_found holders None h e = absurd (cc)
+member_found holders (Some x) h e = let same : x.holder ≡ h = cc in ap (fmap.get holders) same
+
+pub place_found : (r : Rows) (p : Name) (n held : ℕ) → Some n ≡ option_map (λ (x : PurseRow). x.next_message) (fmap.get r.purses p) → held ≡ length (row_inbox_of r p)
+    → (nat_lt held most_messages && nat_lt n most_number) ≡ row_finds_place r p
+place_found r p n held e count = by_row (fmap.get r.purses p) e where
+  kept : held ≡ length (of_name p (fmap.entries r.inbox))
+  kept = count ∙ length-map (of_name p (fmap.entries r.inbox)) (λ (e : (Name × ℕ) × Message). (e.0.1, e.1))
+
+  by_row : (o : Option PurseRow) → Some n ≡ option_map (λ (x : PurseRow). x.next_message) o → (nat_lt held most_messages && nat_lt n most_number)
+      ≡ option_map_or (λ (x : PurseRow). nat_lt (length (of_name p (fmap.entries r.inbox))) most_messages && nat_lt x.next_message most_number) o false
+  by_row None e = absurd (cc)
+  by_row (Some x) e = let same : n ≡ x.next_message = cc in rw (same, kept) refl

@@ -1,5 +1,7 @@
 -- What the queries answer from the rows of a book.
-use Rattle.std.proofs.Common.{◌≡◌, ◌≤◌, ◌<◌, get_or, ℕ, ℤ, Bool, true, T, inl, inr, List, [], ◌∷◌, map, filter, length, Some, None, ap, subst, ◌∙◌, Less}
+use Rattle.std.proofs.Common.{◌≡◌, is_some, refl, ℕ, ℤ, Bool, true, T, inl, inr, List, [], ◌∷◌, map, filter, Some, None, Option, ap, sym, subst, ◌∙◌, Less}
+use Rattle.std.specs.Borrow.{Bor}
+use Rattle.std.specs.Option.{option_copied}
 use Rattle.std.specs.List.{AllByRecursion}
 use Rattle.std.specs.List.Sorted.{IsPermutation}
 use Rattle.std.proofs.lemmas.Bool.{cases_Bool}
@@ -26,7 +28,7 @@ use Rattle.mx_book.specs.Rows.{Rows}
 use Rattle.mx_tables.specs.Schema.{office_schema}
 use Rattle.mx_tables.specs.Contents.{Contents}
 use Rattle.mx_tables.specs.Holds.{Holds, HaveCells}
-use Rattle.mx_tables.specs.Answers.{at_key}
+use Rattle.mx_tables.specs.Answers.{at_key, one_or_none}
 use Rattle.mx_tables.proofs.Queries.{scan, alone}
 use Rattle.mx_tables.proofs.Texts.{IsSelect}
 use Rattle.mx_tables.proofs.Statements.{selected, picked, shown_rows, env, passes}
@@ -40,7 +42,7 @@ pub answered : {X : Type 0} (sql : List ℕ) (tree : ℕ) (terms project : List 
     → (old new : State) (rows : List Row) → Shown sql params old new rows → old.now.schema ≡ office_schema
     → (xs : List X) → HaveCells (old.now.trees tree) (map cells xs) → IsPermutation (map f (filter p xs)) rows
 answered sql tree terms project names text params cells p f tests shows old new rows h has xs have =
-    let read = reads_as sql params old new office_schema has _ text.is text.plain text.unlisted rows h in
+    let read = reads_as sql params old new office_schema has _ text.is text.query.plain text.unlisted rows h in
     let got = picked tree terms project [] names old.now params rows read in
     subst (λ all. IsPermutation all rows) (shown_rows cells (passes terms params) (λ r. eval_all project (env params r)) p f tests shows (old.now.trees tree) xs have) got
 
@@ -102,18 +104,30 @@ module _ {K V : Type 0} {R : K → K → Ordering} {cells : K × V → Row} {tre
     pub answers_in_order : (sql : List ℕ) (names : List (List ℕ)) → IsSelect sql tree terms project order names
         → (old new : State) (rows : List Row) → Shown sql params old new rows → (r : Rows) → Holds old.now r → rows ≡ map (λ e. (out e).1) (filter p (fmap.entries (map_of r)))
     answers_in_order sql names text old new rows shown r h =
-        reads_in_order names old.now rows (reads_as sql params old new office_schema h.has.schema _ text.is text.plain text.unlisted rows shown) r h
+        reads_in_order names old.now rows (reads_as sql params old new office_schema h.has.schema _ text.is text.query.plain text.unlisted rows shown) r h
+
+pub copied_is : {A : Type 0} (found : Option (Bor A)) → is_some found ≡ is_some (option_copied found)
+copied_is None = refl
+copied_is (Some x) = refl
 
 -- ---- what a query at a key answers
 
 module _ {K V A : Type 0} (R : K → K → Ordering) (show : V → A) (q : K) (m : fmap.FinMap R V) where
   -- no row: no such key
-  pub got_none : (rows : List A) → IsPermutation (map (λ (e : K × V). show e.1) (at_key R q (fmap.entries m))) rows → length rows ≡ 0 → fmap.get m q ≡ None
-  got_none rows h none = fmap.get-entries m q ∙ found_none R show q (fmap.entries m) rows h none
+  pub got_none : (rows items : List A) (found : Option A) → IsPermutation (map (λ (e : K × V). show e.1) (at_key R q (fmap.entries m))) items
+      → rows ≡ items → rows ≡ one_or_none found → found ≡ None → fmap.get m q ≡ None
+  got_none rows items found h same only none =
+      fmap.get-entries m q ∙ found_none R show q (fmap.entries m) items h (sym same ∙ only ∙ ap one_or_none none)
 
   -- one row: the key's
-  pub got_one : (rows items : List A) (x : A) → IsPermutation (map (λ (e : K × V). show e.1) (at_key R q (fmap.entries m))) items → rows ≡ items → 1 ≤ length rows → length rows < 2 → x ≡ get_or rows 0 x
-      → (v : V) × (fmap.get m q ≡ Some v) × (show v ≡ x)
-  got_one rows items x h same some few is =
-      let one = found_one R show q (fmap.entries m) rows items x h same some few is in
+  pub got_one : (rows items : List A) (found : Option A) (x : A) → IsPermutation (map (λ (e : K × V). show e.1) (at_key R q (fmap.entries m))) items
+      → rows ≡ items → rows ≡ one_or_none found → found ≡ Some x → (v : V) × (fmap.get m q ≡ Some v) × (show v ≡ x)
+  got_one rows items found x h same only some =
+      let one = found_one R show q (fmap.entries m) items x h (sym same ∙ only ∙ ap one_or_none some) in
       (one.0, fmap.get-entries m q ∙ one.1, one.2)
+
+  -- whether the key is there
+  pub got_any : (rows items : List A) (found : Option A) → IsPermutation (map (λ (e : K × V). show e.1) (at_key R q (fmap.entries m))) items
+      → rows ≡ items → rows ≡ one_or_none found → is_some (fmap.get m q) ≡ is_some found
+  got_any rows items None h same only = ap is_some (got_none rows items None h same only refl)
+  got_any rows items (Some x) h same only = ap is_some (got_one rows items (Some x) x h same only refl).1

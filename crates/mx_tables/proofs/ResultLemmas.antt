@@ -1,16 +1,15 @@
 -- The statements on the tray and the archive.
-use Rattle.std.proofs.Common.{◌≡◌, inl, inr, ℕ, zero, suc, pos, ◌+◌, ◌<◌, ◌≤◌, Bool, true, false, if◌then◌else◌, ◌&&◌, ◌||◌, List, [], ◌∷◌, ◌++◌, map, filter, take, length, get_or, codes, Ok, refl, sym, ap, ap₂, subst, ◌∙◌, arith, is_some, Option, is_eq}
+use Rattle.std.proofs.Common.{◌≡◌, inl, inr, ℕ, pos, ◌+◌, ◌<◌, Bool, true, false, if◌then◌else◌, ◌&&◌, ◌||◌, List, [], ◌∷◌, ◌++◌, map, filter, take, length, get_or, codes, Ok, refl, sym, ap, ap₂, subst, ◌∙◌, arith, is_some, Option, is_eq}
 use Rattle.std.specs.List.{AllByRecursion, list_any}
 use Rattle.std.specs.List.Sorted.{IsPermutation}
 use Rattle.std.specs.FinMap as fmap
 use Rattle.std.specs.FinSet.{FinSet}
 use Rattle.std.specs.Ordering.{eq_by_cmp, nat_cmp}
-use Rattle.std.specs.declared.cmp.Ordering.{Ordering}
 use Rattle.std.specs.Cmp.Lexicographic.{slice_cmp}
 use Rattle.std.proofs.lemmas.Cmp.{tied_itself}
 use Rattle.std.proofs.lemmas.Bool.{cases_Bool}
 use Rattle.std.proofs.lemmas.Bool.Decides.{eqb_tells}
-use Rattle.std.proofs.lemmas.List.{take_more, length-map, map-append}
+use Rattle.std.proofs.lemmas.List.{take_more, map-append}
 use Rattle.std.proofs.lemmas.List.Sorted.{list_any-IsPermutation}
 use Rattle.sqlite_value.specs.declared.value.Value.{Value}
 use Rattle.sqlite_value.specs.declared.value.Value.TheVariants.{Null, Int, Text}
@@ -18,6 +17,7 @@ use Rattle.sqlite_value.specs.Order.{Row, column}
 use Rattle.sqlite_trees.proofs.ListLemmas.{map-map, all-permutation}
 use Rattle.sqlite_schema.specs.declared.schema.Table.{Table}
 use Rattle.sqlite_sql.specs.Term.{col, lit}
+use Rattle.sqlite.specs.Effect.{Database}
 use Rattle.sqlite.specs.State.{State, Shown, Executes}
 use Rattle.sqlite.specs.Listing.{understood}
 use Rattle.sqlite_tied.specs.Compute.{everything}
@@ -43,17 +43,17 @@ use Rattle.mx_tables.specs.Schema.{office_schema, tray, archive}
 use Rattle.mx_tables.specs.Contents.{Contents}
 use Rattle.mx_tables.specs.Cells.{result_cells, number}
 use Rattle.mx_tables.specs.Holds.{Holds}
-use Rattle.mx_tables.specs.States.{Goes}
+use Rattle.mx_tables.specs.States.{Goes, Sees}
 use Rattle.mx_tables.specs.Answers.{at_key}
-use Rattle.mx_tables.specs.Results.{details_shown, first_one, AreDetails, Shows, and_details}
+use Rattle.mx_tables.specs.Results.{Archives, details_shown, first_one, AreDetails, Shows, and_details}
 use Rattle.mx_tables.proofs.MapLists.{any_mapped}
 use Rattle.mx_tables.proofs.Queries.{is_given}
 use Rattle.mx_tables.proofs.Texts.{IsInsert, IsSelect, IsDelete}
 use Rattle.mx_tables.proofs.StoredLemmas.{and_true, same_text, cast_null}
-use Rattle.mx_tables.proofs.ReadLemmas.{answers, got_one}
-use Rattle.mx_tables.proofs.WriteLemmas.{Place, adds, drops, no_actions}
+use Rattle.mx_tables.proofs.ReadLemmas.{answers}
+use Rattle.mx_tables.proofs.WriteLemmas.{Place, adds, drops, no_actions, goes_as, goes_then}
 use Rattle.mx_tables.proofs.Statements.{inserted}
-use Rattle.mx_tables.proofs.MessageLemmas.{same_entry}
+use Rattle.mx_pay.proofs.TextLemmas.{same_entry}
 use Rattle.mx_tables.proofs.Permuted.{unmapped}
 use Rattle.mx_tables.proofs.KeptLemmas as kept
 
@@ -88,14 +88,14 @@ select_tray = codes "SELECT details FROM tray WHERE purse = ?1"
 
 pub select_tray_is : IsSelect select_tray 14 (is_given 1 0 ∷ []) (col 1 2 ∷ []) [] (codes "details" ∷ [])
 unfolding understood everything
-select_tray_is = record { is = refl; plain = (refl, refl); unlisted = refl }
+select_tray_is = record { is = refl; query = record { plain = (refl, refl); silent = λ _ _. refl }; unlisted = refl }
 
 abbrev pub select_archived : List ℕ
 select_archived = codes "SELECT 1 FROM archive WHERE purse = ?1 AND details = ?2"
 
 pub select_archived_is : IsSelect select_archived 16 (is_given 1 0 ∷ is_given 2 1 ∷ []) (lit (Int (pos 1)) ∷ []) [] (codes "1" ∷ [])
 unfolding understood everything
-select_archived_is = record { is = refl; plain = (refl, refl); unlisted = refl }
+select_archived_is = record { is = refl; query = record { plain = (refl, refl); silent = λ _ _. refl }; unlisted = refl }
 
 -- ---- writes
 
@@ -137,13 +137,23 @@ pub adds_tray : (p : Name) (d : Details) (old new : State) (count : ℕ) → old
     → Goes (λ r. record r { tray = fmap.insert r.tray (p, d) tt }) old new
 adds_tray p d = adds kept.tray tray_place (λ l c. refl) insert_tray _ _ insert_tray_is (Text p ∷ Text (entry_text d) ∷ []) ((p, d), tt) (rw cast_null refl)
 
-pub adds_archive : (p : Name) (d : Details) (old new : State) (count : ℕ) → old.now.schema ≡ office_schema → Executes insert_archive (Text p ∷ Text (entry_text d) ∷ []) old new (Ok count)
+adds_archive : (p : Name) (d : Details) (old new : State) (count : ℕ) → old.now.schema ≡ office_schema → Executes insert_archive (Text p ∷ Text (entry_text d) ∷ []) old new (Ok count)
     → Goes (λ r. record r { archive = fmap.insert r.archive (p, d) tt }) old new
 adds_archive p d = adds kept.archive archive_place (λ l c. refl) insert_archive _ _ insert_archive_is (Text p ∷ Text (entry_text d) ∷ []) ((p, d), tt) (rw cast_null refl)
 
-pub adds_schema : (p text : List ℕ) (old new : State) (count : ℕ) → old.now.schema ≡ office_schema → Executes insert_archive (Text p ∷ Text text ∷ []) old new (Ok count) → new.now.schema ≡ office_schema
+adds_schema : (p text : List ℕ) (old new : State) (count : ℕ) → old.now.schema ≡ office_schema → Executes insert_archive (Text p ∷ Text text ∷ []) old new (Ok count) → new.now.schema ≡ office_schema
 adds_schema p text old new count has ran =
     (inserted office_schema 8 archive_table refl (no_actions archive_table) insert_archive (Text p ∷ Text text ∷ []) old new has insert_archive_is.plain count ran (lit Null ∷ col 0 0 ∷ col 0 1 ∷ []) 3 (Text p ∷ Text text ∷ []) insert_archive_is.is refl (rw cast_null refl)).schema_is
+
+pub archives_one : (p text : List ℕ) (old new : State) (count : ℕ) → old.now.schema ≡ office_schema → Executes insert_archive (Text p ∷ Text text ∷ []) old new (Ok count) → Archives p ((Text text ∷ []) ∷ []) old new
+archives_one p text old new count has ran = record { schema = adds_schema p text old new count has ran; goes = one }
+  where
+    one : (ds : List Details) → map details_shown ds ≡ (Text text ∷ []) ∷ [] → Goes (λ r. record r { archive = and_details p r.archive ds }) old new
+    one [] from = absurd (let k = ap length from in omega (arith, k))
+    one (d ∷ e ∷ ds) from = absurd (let k = ap length from in omega (arith, k))
+    one (d ∷ []) from =
+        let same : text ≡ entry_text d = cc in
+        adds_archive p d old new count has (subst (λ t. Executes insert_archive (Text p ∷ Text t ∷ []) old new (Ok count)) same ran)
 
 pub drops_tray : (p : Name) (old new : State) (count : ℕ) → old.now.schema ≡ office_schema → Executes delete_tray (Text p ∷ []) old new (Ok count)
     → Goes (λ r. record r { tray = results_but p r.tray }) old new
@@ -327,46 +337,46 @@ details_last : (p : Name) (s : FinSet result_cmp) (ds : List Details) (d : Detai
 details_last p s [] d = refl
 details_last p s (e ∷ ds) d = details_last p (fmap.insert s (p, e) tt) ds d
 
-abbrev nobody : Details
-nobody = record { from = []; to = []; value = 0; from_seq = 0; to_seq = 0 }
+-- no row goes to the archive
+pub archives_none : (p : Name) (s : State) → s.now.schema ≡ office_schema → Archives p [] s s
+archives_none p s has = record { schema = has; goes = none }
+  where
+    none : (ds : List Details) → map details_shown ds ≡ [] → Goes (λ r. record r { archive = and_details p r.archive ds }) s s
+    none [] from = record { schema = has; rows = λ r holds. holds }
+    none (d ∷ ds) from = absurd (let k = ap length from in omega (arith, k))
 
-at_shown : (ds : List Details) (i : ℕ) (row : Row) → i < length ds → get_or (map details_shown ds) i row ≡ details_shown (get_or ds i nobody)
-at_shown [] i row low = absurd (omega (arith, low))
-at_shown (d ∷ ds) zero row low = refl
-at_shown (d ∷ ds) (suc i) row low = at_shown ds i row (omega (arith, low))
+last_shown : (ds : List Details) (rows : List Row) (row : Row) → map details_shown ds ≡ rows ++ row ∷ []
+    → (es : List Details) × (d : Details) × (ds ≡ es ++ d ∷ []) × (map details_shown es ≡ rows) × (details_shown d ≡ row)
+last_shown [] [] row from = absurd (let k = ap length from in omega (arith, k))
+last_shown [] (x ∷ rows) row from = absurd (let k = ap length from in omega (arith, k))
+last_shown (d ∷ []) [] row from = ([], d, refl, refl, cc)
+last_shown (d ∷ e ∷ ds) [] row from = absurd (let k = ap length from in omega (arith, k))
+last_shown (d ∷ ds) (x ∷ rows) row from =
+    let first : details_shown d ≡ x = cc in
+    let more = last_shown ds rows row (cc) in
+    (d ∷ more.0, more.1, ap (λ es. d ∷ es) more.2, ap₂ (λ y ys. y ∷ ys) first more.3, more.4)
 
 -- one row more goes to the archive
-pub archive_more : (p : Name) (rows : List Row) (at : ℕ) (row : Row) (text : List ℕ) (ds : List Details) → at < length rows → row ≡ get_or rows at row → column row 0 ≡ Text text → map details_shown ds ≡ rows
-    → (d : Details) × (text ≡ entry_text d) × ((s : FinSet result_cmp) → fmap.insert (and_details p s (take at ds)) (p, d) tt ≡ and_details p s (take (at + 1) ds))
-archive_more p rows at row text ds within is shows from =
-    let size : length ds ≡ length rows = sym (length-map ds details_shown) ∙ ap length from in
-    let low : at < length ds = omega (arith, within, size) in
-    let d = get_or ds at nobody in
-    let shown : row ≡ details_shown d = is ∙ ap (λ rs. get_or rs at row) (sym from) ∙ at_shown ds at row low in
-    let cell : ◌≡◌ {A = Value} (Text text) (Text (entry_text d)) = sym shows ∙ ap (λ (r : Row). column r 0) shown in
-    (d, cc, λ s. sym (ap (and_details p s) (take_more ds at nobody low) ∙ details_last p s (take at ds) d))
+pub archives_more : (p : Name) (rows : List Row) (at : ℕ) (row : Row) (text : List ℕ) (a b c : State) → at < length rows → row ≡ get_or rows at row → column row 0 ≡ Text text
+    → Archives p (take at rows) a b → Archives p ((Text text ∷ []) ∷ []) b c → Archives p (take (at + 1) rows) a c
+archives_more p rows at row text a b c within is shows one two = record {
+  schema = two.schema;
+  goes = λ ds from.
+      let it = last_shown ds (take at rows) row (from ∙ take_more rows at row within ∙ ap (λ r. take at rows ++ r ∷ []) (sym is)) in
+      let cell : ◌≡◌ {A = Value} (Text (entry_text it.1)) (Text text) = ap (λ (r : Row). column r 0) it.4 ∙ shows in
+      goes_as _ _ a c (λ (r : Rows) holds. ap (λ s. record r { archive = s }) (sym (ap (and_details p r.archive) it.2 ∙ details_last p r.archive it.0 it.1)))
+      (goes_then _ _ a b c (one.goes it.0 it.3) (two.goes (it.1 ∷ []) (ap (λ (v : Value). (v ∷ []) ∷ []) cell)));
+}
 
 -- what is read of a tray, added to the archive and dropped from the tray, has moved
 pub archives : (p : Name) (rows items : List Row) (first read put last : State) → rows ≡ items
-    → Goes (λ r. r) first read × ((r : Rows) → Holds first.now r → IsPermutation (map (λ (e : Result). details_shown e.0.1) (of_name p (fmap.entries r.tray))) items)
-    → (put.now.schema ≡ office_schema) × ((ds : List Details) → map details_shown ds ≡ rows → Goes (λ r. record r { archive = and_details p r.archive ds }) read put)
-    → Goes (λ r. record r { tray = results_but p r.tray }) put last → Goes (λ r. rewritten r (ArchiveTray p)) first last
+    → Sees first read (λ r. IsPermutation (map (λ (e : Result). details_shown e.0.1) (of_name p (fmap.entries r.tray))) items)
+    → Archives p rows read put → Goes (λ r. record r { tray = results_but p r.tray }) put last → Goes (λ r. rewritten r (ArchiveTray p)) first last
 archives p rows items first read put last is found moved emptied = record {
   schema = emptied.schema;
   rows = λ r holds.
-      let of = unmapped (λ (e : Result). details_shown e.0.1) (of_name p (fmap.entries r.tray)) items (found.1 r holds) in
-      let moves = moved.1 (map second of.0) (map-map details_shown second of.0 ∙ of.2 ∙ sym is) in
-      let after = emptied.rows _ (moves.rows r (found.0.rows r holds)) in
+      let of = unmapped (λ (e : Result). details_shown e.0.1) (of_name p (fmap.entries r.tray)) items (found.value r holds) in
+      let moves = moved.goes (map second of.0) (map-map details_shown second of.0 ∙ of.2 ∙ sym is) in
+      let after = emptied.rows _ (moves.rows r (subst (λ (d : Database). Holds d r) (sym found.same) holds)) in
       subst (λ s. Holds last.now (record r { tray = results_but p r.tray; archive = s })) (archive_all p r.tray r.archive of.0 of.1) after;
 }
-
--- where a row is found for a key, the key is there
-pub one_there : {K V : Type 0} (R : K → K → Ordering) (shown : Row) (q : K) (m : fmap.FinMap R V) (rows items : List Row) → IsPermutation (map (λ (e : K × V). shown) (at_key R q (fmap.entries m))) items → rows ≡ items → 1 ≤ length rows → length rows < 2
-    → fmap.contains_key m q ≡ true
-one_there R shown q m rows items same is some few =
-    let one = got_one R (λ _. shown) q m rows items (get_or rows 0 []) same is some few (first rows some) in
-    ap is_some one.1
-  where
-    first : (xs : List Row) → 1 ≤ length xs → get_or xs 0 [] ≡ get_or xs 0 (get_or xs 0 [])
-    first [] h = refl
-    first (x ∷ xs) h = refl

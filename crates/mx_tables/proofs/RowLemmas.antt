@@ -1,5 +1,5 @@
 -- What is found in a list.
-use Rattle.std.proofs.Common.{◌≡◌, ◌+◌, ◌≤◌, ◌<◌, get_or, List, [], ◌∷◌, map, length, Some, None, refl, sym, ap, subst, ◌∙◌, inl, inr, arith}
+use Rattle.std.proofs.Common.{◌≡◌, ◌+◌, List, [], ◌∷◌, map, length, Some, None, refl, ap, subst, inl, inr, arith}
 use Rattle.std.specs.List.Sorted.{IsPermutation}
 use Rattle.std.proofs.lemmas.List.Sorted.{length_permutation, IsPermutation-sym}
 use Rattle.std.proofs.lemmas.List.{length-map}
@@ -9,11 +9,6 @@ use Rattle.std.specs.Ordering.{eq_by_cmp}
 use Rattle.std.specs.FinMap as fmap
 use Rattle.sqlite.proofs.Callers.{one_permutation}
 use Rattle.mx_tables.specs.Answers.{at_key}
-
-pub only : {A : Type 0} (rows : List A) (x : A) → 1 ≤ length rows → length rows < 2 → x ≡ get_or rows 0 x → rows ≡ x ∷ []
-only [] x some few is = absurd (omega arith)
-only (y ∷ []) x some few is = ap (λ z. z ∷ []) (sym is)
-only (y ∷ z ∷ rows) x some few is = absurd (omega arith)
 
 -- ---- what a query at a key answers
 
@@ -38,15 +33,12 @@ module _ {K V A : Type 0} (R : K → K → Ordering) (show : V → A) (q : K) wh
       ]
 
   -- no row: no such key
-  pub found_none : (es : List (K × V)) (rows : List A) → IsPermutation (shown es) rows → length rows ≡ 0 → fmap.find R q es ≡ None
+  pub found_none : (es : List (K × V)) (rows : List A) → IsPermutation (shown es) rows → rows ≡ [] → fmap.find R q es ≡ None
   found_none es rows h none =
       let size = length_permutation _ _ h in
       let made = length-map (at_key R q es) (λ (e : K × V). show e.1) in
-      none_at es (omega (arith, size, made, none))
+      none_at es (omega (arith, size, made, ap length none))
 
   -- one row: the key's
-  pub found_one : (es : List (K × V)) (rows items : List A) (x : A) → IsPermutation (shown es) items → rows ≡ items → 1 ≤ length rows → length rows < 2 → x ≡ get_or rows 0 x
-      → (v : V) × (fmap.find R q es ≡ Some v) × (show v ≡ x)
-  found_one es rows items x h same some few is =
-      let one : items ≡ x ∷ [] = sym same ∙ only rows x some few is in
-      one_shown es x (one_permutation x _ (IsPermutation-sym _ _ (subst (IsPermutation (shown es)) one h)))
+  pub found_one : (es : List (K × V)) (rows : List A) (x : A) → IsPermutation (shown es) rows → rows ≡ x ∷ [] → (v : V) × (fmap.find R q es ≡ Some v) × (show v ≡ x)
+  found_one es rows x h one = one_shown es x (one_permutation x _ (IsPermutation-sym _ _ (subst (IsPermutation (shown es)) one h)))

@@ -15,14 +15,18 @@ use Rattle.mx_pay.specs.Tokens.{token_of, IsToken}
 use Rattle.mx_pay.proofs.TestLemmas.{is_equal}
 use Rattle.mx_pay.specs.Details.{Details, IsDetails}
 use Rattle.mx_pay.specs.Codes.{entry_text}
+use Rattle.mx_pay.proofs.TextLemmas.{same_entry}
 use Rattle.mx_purse.specs.State.{IsPurse}
 use Rattle.mx_purse.specs.declared.message.Message.{Message}
 use Rattle.mx_purse.specs.Messages.{IsMessage}
+use Rattle.mx_purse.specs.Words.{message_word, message_details}
+use Rattle.mx_purse.proofs.WordLemmas.{same_message}
 use Rattle.mx_book.specs.World.{World, Name, Token}
 use Rattle.mx_book.specs.Spells as book
 use Rattle.mx_book.specs.Spells.{one_world}
 use Rattle.mx_book.specs.Words as words
 use Rattle.mx_book.specs.Conditions.{IsNote}
+use Rattle.mx_book.proofs.WordLemmas.{same_kind}
 use Rattle.mx_book.specs.declared.values.LineRow.{LineRow}
 use Rattle.mx_book.specs.Rows.{Rows}
 use Rattle.mx_book.specs.declared.values.Caller.{Caller}
@@ -30,16 +34,15 @@ use Rattle.mx_book.specs.declared.values.MemberRow.{MemberRow}
 use Rattle.mx_book.specs.declared.values.PurseRow.{PurseRow}
 use Rattle.mx_book.specs.declared.values.Redemption.{Redemption}
 use Rattle.mx_tables.specs.Contents.{Contents}
-use Rattle.mx_tables.specs.Cells.{number, kind_text, owner_text, token_cells, member_cells, holder_cells, purse_cells, message_cells, line_cells, result_cells, load_cells, redemption_cells, message_kind, message_details, tokens_of}
+use Rattle.mx_tables.specs.Cells.{number, kind_text, owner_text, token_cells, member_cells, holder_cells, purse_cells, message_cells, line_cells, result_cells, load_cells, redemption_cells, tokens_of}
 use Rattle.mx_tables.specs.Holds.{HaveCells, HasContents, Holds, Spells, SpellsOne}
 use Rattle.mx_tables.specs.Rows.{rows_of}
 use Rattle.mx_tables.proofs.MapLists.{AreDistinct}
 use Rattle.mx_tables.proofs.KeptLemmas.{Kept, members, token_rows, holders, purses, inbox, lines, tray, archive, loads, redemptions}
 use Rattle.mx_tables.proofs.TokenLemmas.{token_back}
-use Rattle.mx_tables.proofs.MessageLemmas.{same_entry, same_message}
 use Rattle.mx_tables.proofs.ValueLemmas.{same_number, same_words, same_caller}
 use Rattle.mx_tables.proofs.PurseLemmas.{purse_back}
-use Rattle.mx_tables.proofs.PageLemmas.{same_kind, same_note}
+use Rattle.mx_tables.proofs.PageLemmas.{same_note}
 use Rattle.mx_tables.proofs.SoundLemmas.{messages_valid, purses_valid, lines_valid, tray_valid, archive_valid}
 use Rattle.mx_tables.specs.Answers.{purse_shown}
 
@@ -125,7 +128,7 @@ tells_message : (e f : (Name × ℕ) × Message) → IsMessage e.1 → IsMessage
 tells_message e f one two h =
     let a : Text e.0.0 ≡ Text f.0.0 = cc in
     let b : number e.0.1 ≡ number f.0.1 = cc in
-    let c : Text (message_kind e.1) ≡ Text (message_kind f.1) = cc in
+    let c : Text (message_word e.1) ≡ Text (message_word f.1) = cc in
     let d : Text (message_details e.1) ≡ Text (message_details f.1) = cc in
     let purse = same_words e.0.0 f.0.0 a in
     let count = same_number e.0.1 f.0.1 b in

@@ -13,13 +13,13 @@ use Rattle.sqlite_sql.specs.declared.ops.BinaryOp.TheVariants.{Compare}
 use Rattle.sqlite_sql.specs.declared.ops.CompareOp.TheVariants.{Eq}
 use Rattle.sqlite_sql.specs.Term.{Term, lit, col, op2}
 use Rattle.mx_tables.specs.Schema.{office_schema}
-use Rattle.mx_tables.specs.States.{IsText}
+use Rattle.mx_tables.specs.States.{IsText, IsQuery}
 use Rattle.mx_tables.proofs.Queries.{scan, alone, is_given}
 
 -- the text is a query of the rows of one tree
 pub record IsSelect (sql : List ℕ) (tree : ℕ) (terms project : List Term) (order : List (Term × Key)) (names : List (List ℕ)) : Type 0 where
   pub is : command_of (understood office_schema sql) ≡ Select (alone (scan tree terms project order)) names
-  pub plain : IsText sql
+  pub query : IsQuery sql
   pub unlisted : reads_listing office_schema sql ≡ false
 
 -- the text is an INSERT of one row of the table at a place
@@ -42,14 +42,14 @@ select_token = codes "SELECT kind, name FROM token WHERE token = ?1"
 
 pub select_token_is : IsSelect select_token 3 (is_given 1 0 ∷ []) (col 1 2 ∷ col 1 3 ∷ []) [] (codes "kind" ∷ codes "name" ∷ [])
 unfolding understood everything
-select_token_is = record { is = refl; plain = (refl, refl); unlisted = refl }
+select_token_is = record { is = refl; query = record { plain = (refl, refl); silent = λ _ _. refl }; unlisted = refl }
 
 abbrev pub select_member : List ℕ
 select_member = codes "SELECT granted, unspent FROM member WHERE name = ?1"
 
 pub select_member_is : IsSelect select_member 1 (is_given 1 0 ∷ []) (col 1 2 ∷ col 1 3 ∷ []) [] (codes "granted" ∷ codes "unspent" ∷ [])
 unfolding understood everything
-select_member_is = record { is = refl; plain = (refl, refl); unlisted = refl }
+select_member_is = record { is = refl; query = record { plain = (refl, refl); silent = λ _ _. refl }; unlisted = refl }
 
 abbrev pub insert_token : List ℕ
 insert_token = codes "INSERT INTO token (token, kind, name) VALUES (?1, ?2, ?3)"
@@ -77,21 +77,21 @@ select_holder = codes "SELECT member FROM holder WHERE name = ?1"
 
 pub select_holder_is : IsSelect select_holder 6 (is_given 1 0 ∷ []) (col 1 2 ∷ []) [] (codes "member" ∷ [])
 unfolding understood everything
-select_holder_is = record { is = refl; plain = (refl, refl); unlisted = refl }
+select_holder_is = record { is = refl; query = record { plain = (refl, refl); silent = λ _ _. refl }; unlisted = refl }
 
 abbrev pub select_held : List ℕ
 select_held = codes "SELECT name FROM purse WHERE holder = ?1 ORDER BY name"
 
 pub select_held_is : IsSelect select_held 8 (is_given 2 0 ∷ []) (col 1 1 ∷ []) ((col 1 1, ascending Binary) ∷ []) (codes "name" ∷ [])
 unfolding understood everything
-select_held_is = record { is = refl; plain = (refl, refl); unlisted = refl }
+select_held_is = record { is = refl; query = record { plain = (refl, refl); silent = λ _ _. refl }; unlisted = refl }
 
 abbrev pub select_members : List ℕ
 select_members = codes "SELECT name FROM member ORDER BY name"
 
 pub select_members_is : IsSelect select_members 1 [] (col 1 1 ∷ []) ((col 1 1, ascending Binary) ∷ []) (codes "name" ∷ [])
 unfolding understood everything
-select_members_is = record { is = refl; plain = (refl, refl); unlisted = refl }
+select_members_is = record { is = refl; query = record { plain = (refl, refl); silent = λ _ _. refl }; unlisted = refl }
 
 abbrev pub update_member : List ℕ
 update_member = codes "UPDATE member SET granted = ?2, unspent = ?3 WHERE name = ?1"
@@ -116,7 +116,7 @@ select_version = codes "SELECT version FROM meta WHERE id = 1"
 
 pub select_version_is : IsSelect select_version 0 (is_first ∷ []) (col 1 2 ∷ []) [] (codes "version" ∷ [])
 unfolding understood everything
-select_version_is = record { is = refl; plain = (refl, refl); unlisted = refl }
+select_version_is = record { is = refl; query = record { plain = (refl, refl); silent = λ _ _. refl }; unlisted = refl }
 
 abbrev pub insert_purse : List ℕ
 insert_purse = codes "INSERT INTO purse (name, holder, balance, next_number, status, details, log, line_count, next_message) VALUES (?1, ?2, 0, 0, 'eaFrom', '', '', 0, 0)"
@@ -130,14 +130,14 @@ select_inbox = codes "SELECT number, kind, details FROM inbox WHERE purse = ?1 O
 
 pub select_inbox_is : IsSelect select_inbox 10 (is_given 1 0 ∷ []) (col 1 2 ∷ col 1 3 ∷ col 1 4 ∷ []) ((col 1 2, ascending Binary) ∷ []) (codes "number" ∷ codes "kind" ∷ codes "details" ∷ [])
 unfolding understood everything
-select_inbox_is = record { is = refl; plain = (refl, refl); unlisted = refl }
+select_inbox_is = record { is = refl; query = record { plain = (refl, refl); silent = λ _ _. refl }; unlisted = refl }
 
 abbrev pub select_held_numbers : List ℕ
 select_held_numbers = codes "SELECT number FROM inbox WHERE purse = ?1 ORDER BY number"
 
 pub select_held_numbers_is : IsSelect select_held_numbers 10 (is_given 1 0 ∷ []) (col 1 2 ∷ []) ((col 1 2, ascending Binary) ∷ []) (codes "number" ∷ [])
 unfolding understood everything
-select_held_numbers_is = record { is = refl; plain = (refl, refl); unlisted = refl }
+select_held_numbers_is = record { is = refl; query = record { plain = (refl, refl); silent = λ _ _. refl }; unlisted = refl }
 
 abbrev pub delete_message : List ℕ
 delete_message = codes "DELETE FROM inbox WHERE purse = ?1 AND number = ?2"
@@ -152,7 +152,7 @@ select_purse = codes "SELECT holder, balance, next_number, status, details, log,
 pub select_purse_is : IsSelect select_purse 8 (is_given 1 0 ∷ []) (col 1 2 ∷ col 1 3 ∷ col 1 4 ∷ col 1 5 ∷ col 1 6 ∷ col 1 7 ∷ col 1 8 ∷ col 1 9 ∷ []) []
     (codes "holder" ∷ codes "balance" ∷ codes "next_number" ∷ codes "status" ∷ codes "details" ∷ codes "log" ∷ codes "line_count" ∷ codes "next_message" ∷ [])
 unfolding understood everything
-select_purse_is = record { is = refl; plain = (refl, refl); unlisted = refl }
+select_purse_is = record { is = refl; query = record { plain = (refl, refl); silent = λ _ _. refl }; unlisted = refl }
 
 abbrev pub select_own : List ℕ
 select_own = codes "SELECT holder, balance, next_number, status, details, log, line_count FROM purse WHERE name = ?1"
@@ -160,7 +160,7 @@ select_own = codes "SELECT holder, balance, next_number, status, details, log, l
 pub select_own_is : IsSelect select_own 8 (is_given 1 0 ∷ []) (col 1 2 ∷ col 1 3 ∷ col 1 4 ∷ col 1 5 ∷ col 1 6 ∷ col 1 7 ∷ col 1 8 ∷ []) []
     (codes "holder" ∷ codes "balance" ∷ codes "next_number" ∷ codes "status" ∷ codes "details" ∷ codes "log" ∷ codes "line_count" ∷ [])
 unfolding understood everything
-select_own_is = record { is = refl; plain = (refl, refl); unlisted = refl }
+select_own_is = record { is = refl; query = record { plain = (refl, refl); silent = λ _ _. refl }; unlisted = refl }
 
 abbrev pub update_purse : List ℕ
 update_purse = codes "UPDATE purse SET balance = ?2, next_number = ?3, status = ?4, details = ?5, log = ?6, line_count = ?7 WHERE name = ?1"
@@ -174,14 +174,14 @@ select_next = codes "SELECT next_message FROM purse WHERE name = ?1"
 
 pub select_next_is : IsSelect select_next 8 (is_given 1 0 ∷ []) (col 1 9 ∷ []) [] (codes "next_message" ∷ [])
 unfolding understood everything
-select_next_is = record { is = refl; plain = (refl, refl); unlisted = refl }
+select_next_is = record { is = refl; query = record { plain = (refl, refl); silent = λ _ _. refl }; unlisted = refl }
 
 abbrev pub select_owner : List ℕ
 select_owner = codes "SELECT holder FROM purse WHERE name = ?1"
 
 pub select_owner_is : IsSelect select_owner 8 (is_given 1 0 ∷ []) (col 1 2 ∷ []) [] (codes "holder" ∷ [])
 unfolding understood everything
-select_owner_is = record { is = refl; plain = (refl, refl); unlisted = refl }
+select_owner_is = record { is = refl; query = record { plain = (refl, refl); silent = λ _ _. refl }; unlisted = refl }
 
 abbrev pub raise_next : List ℕ
 raise_next = codes "UPDATE purse SET next_message = ?2 WHERE name = ?1 AND next_message = ?3"
@@ -195,14 +195,14 @@ select_message = codes "SELECT kind, details FROM inbox WHERE purse = ?1 AND num
 
 pub select_message_is : IsSelect select_message 10 (is_given 1 0 ∷ is_given 2 1 ∷ []) (col 1 3 ∷ col 1 4 ∷ []) [] (codes "kind" ∷ codes "details" ∷ [])
 unfolding understood everything
-select_message_is = record { is = refl; plain = (refl, refl); unlisted = refl }
+select_message_is = record { is = refl; query = record { plain = (refl, refl); silent = λ _ _. refl }; unlisted = refl }
 
 abbrev pub select_number : List ℕ
 select_number = codes "SELECT number FROM inbox WHERE purse = ?1 AND number = ?2"
 
 pub select_number_is : IsSelect select_number 10 (is_given 1 0 ∷ is_given 2 1 ∷ []) (col 1 2 ∷ []) [] (codes "number" ∷ [])
 unfolding understood everything
-select_number_is = record { is = refl; plain = (refl, refl); unlisted = refl }
+select_number_is = record { is = refl; query = record { plain = (refl, refl); silent = λ _ _. refl }; unlisted = refl }
 
 abbrev pub insert_message : List ℕ
 insert_message = codes "INSERT INTO inbox (purse, number, kind, details) VALUES (?1, ?2, ?3, ?4)"

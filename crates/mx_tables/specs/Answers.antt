@@ -6,7 +6,7 @@ use Rattle.sqlite_value.specs.Order.{Row, column}
 use Rattle.sqlite_value.specs.declared.value.Value.TheVariants.{Text}
 use Rattle.mx_book.specs.declared.values.Caller.{Caller}
 use Rattle.mx_book.specs.declared.values.MemberRow.{MemberRow}
-use Rattle.std.specs.Prelude.{◌≡◌, ◌≤◌, Option, Some, None, if◌then◌else◌}
+use Rattle.std.specs.Prelude.{◌≡◌, ◌≤◌, ◌+◌, Option, Some, None, if◌then◌else◌, option_map}
 use Rattle.mx_pay.specs.Names.{is_name}
 use Rattle.std.specs.FinMap as fmap
 use Rattle.mx_purse.specs.declared.message.Message.{Message}
@@ -16,8 +16,13 @@ use Rattle.mx_book.specs.Rows.{Rows}
 use Rattle.mx_pay.specs.Limits.{most_number}
 use Rattle.mx_pay.specs.Codes.{code}
 use Rattle.mx_purse.specs.State.{State, IsPurse}
+use Rattle.mx_purse.specs.Words.{status_word, status_details, message_word, message_details}
 use Rattle.mx_book.specs.declared.values.PurseRow.{PurseRow}
-use Rattle.mx_tables.specs.Cells.{number, kind_text, owner_text, message_kind, message_details, status_text, details_text}
+use Rattle.sqlite.specs.State.{State as Connected}
+use Rattle.mx_book.specs.RowEdits.{on_purse}
+use Rattle.mx_tables.specs.Holds.{Holds}
+use Rattle.mx_tables.specs.States.{Goes}
+use Rattle.mx_tables.specs.Cells.{number, kind_text, owner_text}
 
 -- the entries at a key
 abbrev pub at_key : {K V : Type 0} → (K → K → Ordering) → K → List (K × V) → List (K × V)
@@ -40,7 +45,7 @@ abbrev pub first_three : Row → Row
 first_three r = column r 0 ∷ column r 1 ∷ column r 2 ∷ []
 
 abbrev pub message_row : ℕ × Message → Row
-message_row e = number e.0 ∷ Text (message_kind e.1) ∷ Text (message_details e.1) ∷ []
+message_row e = number e.0 ∷ Text (message_word e.1) ∷ Text (message_details e.1) ∷ []
 
 -- each message is within its limits
 abbrev pub AreMessages : Rows → Type 0
@@ -52,7 +57,7 @@ HaveNumbers r = (k : Name × ℕ) (m : Message) → fmap.get r.inbox k ≡ Some 
 
 -- what a row of a purse shows of the purse, but for its name
 abbrev pub state_shown : State → Row
-state_shown p = number p.balance ∷ number p.next ∷ Text (status_text p.status) ∷ Text (details_text p.status) ∷ Text (code p.log) ∷ number p.lines ∷ []
+state_shown p = number p.balance ∷ number p.next ∷ Text (status_word p.status) ∷ Text (status_details p.status) ∷ Text (code p.log) ∷ number p.lines ∷ []
 
 -- what a row of a purse shows of its holder and of the purse
 abbrev pub own_shown : PurseRow → Row
@@ -71,14 +76,24 @@ abbrev pub purse_columns : Row → Row
 purse_columns r = column r 0 ∷ column r 1 ∷ column r 2 ∷ column r 3 ∷ column r 4 ∷ column r 5 ∷ column r 6 ∷ column r 7 ∷ []
 
 abbrev pub purse_shown : PurseRow → Row
-purse_shown x = Text x.holder ∷ number x.purse.balance ∷ number x.purse.next ∷ Text (status_text x.purse.status) ∷ Text (details_text x.purse.status) ∷ Text (code x.purse.log) ∷ number x.purse.lines ∷ number x.next_message ∷ []
+purse_shown x = Text x.holder ∷ number x.purse.balance ∷ number x.purse.next ∷ Text (status_word x.purse.status) ∷ Text (status_details x.purse.status) ∷ Text (code x.purse.log) ∷ number x.purse.lines ∷ number x.next_message ∷ []
 
 abbrev pub next_shown : PurseRow → Row
 next_shown x = number x.next_message ∷ []
 
 abbrev pub message_shown : Message → Row
-message_shown m = Text (message_kind m) ∷ Text (message_details m) ∷ []
+message_shown m = Text (message_word m) ∷ Text (message_details m) ∷ []
 
 -- each purse is one, under its name
 abbrev pub ArePurses : Rows → Type 0
 ArePurses r = (p : Name) (x : PurseRow) → fmap.get r.purses p ≡ Some x → (x.purse.name ≡ p) × IsPurse x.purse
+
+-- one or none, as a list
+abbrev pub one_or_none : {X : Type 0} → Option X → List X
+one_or_none None = []
+one_or_none (Some x) = x ∷ []
+
+-- the number of a purse's next message, which is this one, is raised by one
+pub record Raises (p : Name) (next : ℕ) (old new : Connected) : Type 0 where
+  pub goes : Goes (λ r. on_purse (fmap.get r.purses p) r (λ x. record r { purses = fmap.insert r.purses p (record x { next_message = next + 1 }) })) old new
+  pub was : (r : Rows) → Holds old.now r → option_map (λ (x : PurseRow). x.next_message) (fmap.get r.purses p) ≡ Some next

@@ -10,6 +10,7 @@ use Rattle.mx_pay.specs.Details.{Details}
 use Rattle.mx_pay.specs.Log.{none_logged}
 use Rattle.mx_pay.specs.Codes.{code, entry_text}
 use Rattle.mx_pay.specs.Reading.{entry_of, entries_of}
+use Rattle.mx_purse.specs.Words.{status_details}
 use Rattle.mx_purse.specs.declared.status.Status.{Status}
 use Rattle.mx_purse.specs.declared.status.Status.TheVariants.{EaFrom, EaTo, Epr, Epv, Epa}
 use Rattle.mx_book.specs.declared.values.PurseRow.{PurseRow}
@@ -17,8 +18,9 @@ use Rattle.mx_book.specs.World.{Name, result_cmp}
 use Rattle.mx_book.specs.Rows.{Rows}
 use Rattle.mx_book.specs.Sums.{sum_entries}
 use Rattle.mx_book.specs.RowTotals.{has_left, lost_in_log, lost_in_archive}
-use Rattle.mx_tables.specs.Cells.{details_text}
-use Rattle.mx_tables.specs.Counted.{text_of}
+use Rattle.mx_tables.specs.declared.sums.Adds.{Adds}
+use Rattle.mx_tables.specs.declared.sums.Adds.TheVariants.{Counted, Waiting, Logged, Archived}
+use Rattle.mx_tables.specs.Counted.{text_of, counted_row}
 
 -- a number of a value, and 0 where there is none
 abbrev pub if_some : {X : Type 0} → (X → ℕ) → Option X → ℕ
@@ -34,7 +36,7 @@ is_epv (Epa d) = false
 
 -- what is read of a purse that waits for a value, of a purse's log, and of an archived result
 abbrev pub waiting_shown : Name × PurseRow → Row
-waiting_shown e = Text (details_text e.1.purse.status) ∷ []
+waiting_shown e = Text (status_details e.1.purse.status) ∷ []
 
 abbrev pub log_shown : Name × PurseRow → Row
 log_shown e = Text e.0 ∷ Text (code e.1.purse.log) ∷ []
@@ -63,3 +65,10 @@ logs_lost r = sum_entries (λ p (x : PurseRow). lost_in_log r.purses r.archive p
 
 abbrev pub results_lost : Rows → ℕ
 results_lost r = sum_entries (λ result _. lost_in_archive r.purses r.archive result) r.archive
+
+-- what a row adds to a sum
+abbrev pub row_adds : Rows → Adds → Row → ℕ
+row_adds r (Counted scope) row = counted_row r.purses r.holders scope row
+row_adds r Waiting row = waiting_row r.purses r.archive row
+row_adds r Logged row = log_row r.purses r.archive row
+row_adds r Archived row = result_row r.purses r.archive row

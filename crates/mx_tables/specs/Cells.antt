@@ -7,10 +7,8 @@ use Rattle.sqlite_value.specs.Order.{Row}
 use Rattle.sqlite_trees.specs.Tree.{Trees}
 use Rattle.mx_pay.specs.Details.{Details}
 use Rattle.mx_pay.specs.Codes.{entry_text, code}
-use Rattle.mx_purse.specs.declared.status.Status.{Status}
-use Rattle.mx_purse.specs.declared.status.Status.TheVariants.{EaFrom, EaTo, Epr, Epv, Epa}
 use Rattle.mx_purse.specs.declared.message.Message.{Message}
-use Rattle.mx_purse.specs.declared.message.Message.TheVariants.{Req, Val, Ack, Clear}
+use Rattle.mx_purse.specs.Words.{status_word, status_details, message_word, message_details}
 use Rattle.mx_book.specs.World.{Name, Token}
 use Rattle.mx_book.specs.declared.values.Caller.{Caller}
 use Rattle.mx_book.specs.declared.values.Caller.TheVariants.{Operator, Clerk, Holder}
@@ -43,40 +41,13 @@ member_cells e = Text e.0 ∷ number e.1.granted ∷ number e.1.float ∷ []
 abbrev pub holder_cells : Name × Name → Row
 holder_cells e = Text e.0 ∷ Text e.1 ∷ []
 
-abbrev pub status_text : Status → List ℕ
-status_text EaFrom = codes "eaFrom"
-status_text EaTo = codes "eaTo"
-status_text (Epr d) = codes "epr"
-status_text (Epv d) = codes "epv"
-status_text (Epa d) = codes "epa"
-
--- the details of the payment under way, empty at rest
-abbrev pub details_text : Status → List ℕ
-details_text EaFrom = []
-details_text EaTo = []
-details_text (Epr d) = entry_text d
-details_text (Epv d) = entry_text d
-details_text (Epa d) = entry_text d
-
 abbrev pub purse_cells : Name × PurseRow → Row
 purse_cells e =
-    Text e.0 ∷ Text e.1.holder ∷ number e.1.purse.balance ∷ number e.1.purse.next ∷ Text (status_text e.1.purse.status)
-    ∷ Text (details_text e.1.purse.status) ∷ Text (code e.1.purse.log) ∷ number e.1.purse.lines ∷ number e.1.next_message ∷ []
-
-abbrev pub message_kind : Message → List ℕ
-message_kind (Req d) = codes "req"
-message_kind (Val d) = codes "val"
-message_kind (Ack d) = codes "ack"
-message_kind (Clear set) = codes "clear"
-
-abbrev pub message_details : Message → List ℕ
-message_details (Req d) = entry_text d
-message_details (Val d) = entry_text d
-message_details (Ack d) = entry_text d
-message_details (Clear set) = code set
+    Text e.0 ∷ Text e.1.holder ∷ number e.1.purse.balance ∷ number e.1.purse.next ∷ Text (status_word e.1.purse.status)
+    ∷ Text (status_details e.1.purse.status) ∷ Text (code e.1.purse.log) ∷ number e.1.purse.lines ∷ number e.1.next_message ∷ []
 
 abbrev pub message_cells : (Name × ℕ) × Message → Row
-message_cells e = Text e.0.0 ∷ number e.0.1 ∷ Text (message_kind e.1) ∷ Text (message_details e.1) ∷ []
+message_cells e = Text e.0.0 ∷ number e.0.1 ∷ Text (message_word e.1) ∷ Text (message_details e.1) ∷ []
 
 abbrev pub line_cells : (Name × ℕ) × LineRow → Row
 line_cells e = Text e.0.0 ∷ number e.0.1 ∷ Text (words.kind_text e.1.kind) ∷ number e.1.amount ∷ number e.1.balance ∷ Text (words.note_text e.1.note) ∷ []

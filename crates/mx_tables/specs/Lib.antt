@@ -4,9 +4,11 @@ pub mod Cells
 pub mod Holds
 pub mod Rows
 pub mod States
+pub mod Settled
 pub mod Answers
 pub mod Pages
 pub mod Made
 pub mod Results
 pub mod Counted
+pub mod MemberSums
 pub mod Between

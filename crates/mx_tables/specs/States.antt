@@ -1,16 +1,30 @@
 -- What the tables keep true of their connection, and what a call does to it.
-use Rattle.std.specs.Prelude.{◌≡◌, ℕ, ◌≤◌, false, if◌then◌else◌, List}
+use Rattle.std.specs.Prelude.{◌≡◌, ℕ, ◌≤◌, ◌⊎◌, Bool, false, if◌then◌else◌, List, Result, Ok, Err, None, IfOk, OnOk, OnErr, IsTrue}
+use Rattle.sqlite_trees.specs.Tree.{Trees}
 use Rattle.sqlite_trees.specs.View.{doubt}
+use Rattle.sqlite_schema.specs.declared.schema.Schema.{Schema}
+use Rattle.sqlite_syntax.specs.declared.statement.Parsed.{Parsed}
+use Rattle.sqlite_resolve.specs.declared.error.CompileError.{CompileError}
+use Rattle.sqlite_resolve.specs.Compile.{first, returning}
+use Rattle.sqlite.specs.Effect.{Database}
 use Rattle.sqlite.specs.Given.{IsPlain}
 use Rattle.sqlite.specs.Listing.{understood}
-use Rattle.sqlite.specs.State.{State}
+use Rattle.sqlite_value.specs.Order.{Row}
+use Rattle.sqlite_trees.specs.declared.store.Store.{Ghosts}
+use Rattle.sqlite.specs.declared.transaction.Transaction.{Transaction}
+use Rattle.sqlite.specs.Held.{Held, state}
+use Rattle.sqlite.specs.State.{State, HasCleanDisk, KeepsCommit, Executes}
 use Rattle.mx_tables.specs.Schema.{office_schema}
 use Rattle.mx_book.specs.Rows.{Rows}
+use Rattle.mx_book.specs.declared.contract.StoreFault.{StoreFault}
 use Rattle.mx_tables.specs.Holds.{Holds}
 
--- 0 while the disk has returned what was written and the connection is open
+-- 0 while the disk has returned what was written and the connection is open, 1 once a fault has shut it, 2 once the disk has lied
+abbrev pub worry_at : Bool → Bool → ℕ
+worry_at live clean = if clean then (if live then 0 else 1) else 2
+
 abbrev pub worry : State → ℕ
-worry s = if s.is_open then doubt s.is_clean else 1
+worry s = worry_at s.is_open s.is_clean
 
 -- between calls no transaction is open, all is committed, and the schema is that of the office
 pub record IsOurs (s : State) : Type 0 where
@@ -18,17 +32,100 @@ pub record IsOurs (s : State) : Type 0 where
   pub settled : worry s ≡ 0 → s.committed ≡ s.now
   pub schema : worry s ≡ 0 → s.now.schema ≡ office_schema
 
--- doubt doesn't fall, and without any in the end the database is as it was
+-- what tables may find that are opened after a stop at this moment
+pub record Leaves (s : State) (db : Database) : Type 0 where
+  pub ours : IsOurs s
+  pub schema : db.schema ≡ office_schema
+  pub trees : s.may_leave db.trees
+
+-- A read: doubt doesn't fall, and without any in the end the database is as it was. While the disk didn't lie, a stop leaves what it could leave before.
 pub record Stays (old new : State) : Type 0 where
   pub ours : IsOurs new
   pub later : worry old ≤ worry new
   pub same : worry new ≡ 0 → new.now ≡ old.now
+  pub stops : worry new ≤ 1 → (db : Database) → Leaves new db → Leaves old db
+
+-- A step inside a transaction: no fault is forgotten, nothing is committed, the transaction goes on, and a stop leaves what it could leave before.
+pub record Within {T E : Type 0} (old new : State) (result : Result T E) : Type 0 where
+  pub clean : doubt old.is_clean ≤ doubt new.is_clean
+  pub kept : HasCleanDisk new → IsTrue old.in_transaction → KeepsCommit old new
+  pub inside : HasCleanDisk new → IsTrue old.in_transaction → OnOk result (IsTrue new.in_transaction)
+  pub stops : HasCleanDisk new → (db : Trees) → new.may_leave db → old.may_leave db
+
+-- the result of the steps so far
+abbrev pub going : Result (Unit {0}) StoreFault
+going = Ok tt
 
 -- the text is one query or change of rows of the office
 abbrev pub IsText : List ℕ → Type 0
 IsText sql = IsPlain (understood office_schema sql)
 
+abbrev pub ShowsNothing : Result Parsed CompileError → Type 0
+ShowsNothing (Ok p) = (schema : Schema) (base : ℕ) → returning schema base p.statement ≡ Ok None
+ShowsNothing (Err e) = Unit {0}
+
+-- the text changes nothing that it shows, whatever the schema is
+abbrev pub IsSilent : List ℕ → Type 0
+IsSilent sql = ShowsNothing (first sql)
+
 -- the schema is that of the office, and the rows of a book become those of the change
 pub record Goes (change : Rows → Rows) (old new : State) : Type 0 where
   pub schema : new.now.schema ≡ office_schema
   pub rows : (r : Rows) → Holds old.now r → Holds new.now (change r)
+
+-- the connection was open, and this change is made of the rows
+pub record Applies (change : Rows → Rows) (old new : State) : Type 0 where
+  pub live : IsTrue old.is_open
+  pub goes : old.now.schema ≡ office_schema → Goes change old new
+
+-- A stop leaves what it could leave before, or, of an open connection, the rows after the change.
+abbrev pub Stops : (Rows → Rows) → State → State → Type 0
+Stops change old new = HasCleanDisk new → (db : Database) → db.schema ≡ office_schema → new.may_leave db.trees
+    → old.may_leave db.trees ⊎ (IsTrue old.is_open × (old.now.schema ≡ office_schema → (r : Rows) → Holds old.now r → Holds db (change r)))
+
+-- the rows are as they were, and this is so of them
+pub record Sees (old new : State) (is : Rows → Type 0) : Type 0 where
+  pub same : new.now ≡ old.now
+  pub value : (r : Rows) → Holds old.now r → is r
+
+-- ---- what one call is
+
+-- A read: the connection is as it was but for a fault, and without doubt what is given is so of the rows.
+pub record Reads {S T : Type 0} (g : Ghosts S) (old new : Held S) (result : Result T StoreFault) (is : Rows → T → Type 0) : Type 0 where
+  pub stays : IsOurs (state g old) → Stays (state g old) (state g new)
+  pub value : IsOurs (state g old) → worry (state g new) ≡ 0 → (r : Rows) → Holds (state g old).now r → IfOk result (is r)
+
+-- A step inside a transaction: the same connection is lent, and where it answers Ok this is so of what it gives.
+pub record Steps {S T E : Type 0} (g : Ghosts S) (old new : Transaction S) (result : Result T E) (does : T → Type 0) : Type 0 where
+  pub same_reference : new.conn.ghost_name ≡ old.conn.ghost_name
+  pub within : Within (state g old.conn.now) (state g new.conn.now) result
+  pub ok : HasCleanDisk (state g new.conn.now) → IsTrue old.conn.now.in_transaction → IfOk result does
+
+-- a step that makes this change of the rows
+abbrev pub Writes : {S T : Type 0} → Ghosts S → Transaction S → Transaction S → Result T StoreFault → (Rows → Rows) → Type 0
+Writes g old new result change =
+    Steps g old new result (λ _. (state g old.conn.now).now.schema ≡ office_schema → Goes change (state g old.conn.now) (state g new.conn.now))
+
+-- a step that leaves the rows, and gives what is so of them
+abbrev pub Finds : {S T : Type 0} → Ghosts S → Transaction S → Transaction S → Result T StoreFault → (Rows → T → Type 0) → Type 0
+Finds g old new result is =
+    Steps g old new result (λ v. (state g old.conn.now).now.schema ≡ office_schema → Sees (state g old.conn.now) (state g new.conn.now) (λ r. is r v))
+
+-- a step that runs a statement, which changes so many rows
+abbrev pub Runs : {S T : Type 0} → Ghosts S → List ℕ → Row → Transaction S → Transaction S → Result T StoreFault → (ℕ → Type 0) → Type 0
+Runs g sql params old new result counts =
+    Steps g old new result (λ _. (count : ℕ) × counts count × Executes sql params (state g old.conn.now) (state g new.conn.now) (Ok count))
+
+-- the text is one query of the rows of the office, and changes nothing
+pub record IsQuery (sql : List ℕ) : Type 0 where
+  pub plain : IsText sql
+  pub silent : IsSilent sql
+
+-- A transaction as a whole: where it answers Ok this is done and committed, and else nothing is.
+pub record Commits {S T E : Type 0} (g : Ghosts S) (old new : Held S) (result : Result T E) (done : Type 0) : Type 0 where
+  pub all : HasCleanDisk (state g new) → OnOk result (done × ((state g new).committed ≡ (state g new).now))
+  pub none : HasCleanDisk (state g new) → OnErr result (IsTrue (state g new).is_open
+      → ((state g new).now ≡ (state g old).committed) × ((state g new).committed ≡ (state g old).committed))
+  pub ended : new.in_transaction ≡ false
+  pub opens : HasCleanDisk (state g new) → IsTrue (state g new).is_open → IsTrue (state g old).is_open
+  pub clean : doubt (state g old).is_clean ≤ doubt (state g new).is_clean

@@ -1,7 +1,7 @@
 //! The values of a row that was read.
-ghost use Rattle.std.specs.Prelude.{◌≡◌, pos, IfOk, IfSome};
+ghost use Rattle.std.specs.Prelude.{◌≡◌, IfOk, IfSome, pos};
 ghost use Rattle.sqlite_value.specs.Order.{column};
-ghost use Rattle.sqlite_value.specs.declared.value.Value.TheVariants.{Text, Int};
+ghost use Rattle.sqlite_value.specs.declared.value.Value.TheVariants.{Int, Text};
 ghost use Rattle.mx_pay.specs.Codes.{code, entry_text};
 ghost use Rattle.mx_pay.specs.Details.{IsDetails};
 ghost use Rattle.mx_pay.specs.Log.{IsLogValue};

@@ -1,7 +1,7 @@
 //! The texts of messages, statuses and logs, as they are stored.
-ghost use Rattle.std.specs.Prelude.{◌≡◌, string_bytes, IfOk};
+ghost use Rattle.std.specs.Prelude.{◌≡◌, IfOk, string_bytes};
 ghost use Rattle.mx_pay.specs.Codes.{code, entry_text};
-ghost use Rattle.mx_tables.specs.Cells.{message_kind, message_details, status_text, details_text};
+ghost use Rattle.mx_purse.specs.Words.{message_details, status_details};
 
 use mx_book::StoreFault;
 use mx_pay::{Log, PayDetails, code_text, push_entry};
@@ -34,18 +34,6 @@ pub fn entry_code(alloc: Global, details: &PayDetails) -> Result<String, StoreFa
     }
 }
 
-/// The word of a kind of message.
-pub fn message_word(message: &Message) -> &'static str
-    ensures { result.now ≡ message_kind message.now }
-{
-    match message {
-        Message::Req(_) => "req",
-        Message::Val(_) => "val",
-        Message::Ack(_) => "ack",
-        Message::Clear(_) => "clear",
-    }
-}
-
 /// The text of the details of a message, or of the set to be cleared.
 pub fn message_code(alloc: Global, message: &Message) -> Result<String, StoreFault>
     ensures { IfOk result (λ text. string_bytes text ≡ message_details message.now) }
@@ -58,22 +46,9 @@ pub fn message_code(alloc: Global, message: &Message) -> Result<String, StoreFau
     }
 }
 
-/// The word of a status.
-pub fn status_word(status: &Status) -> &'static str
-    ensures { result.now ≡ status_text status.now }
-{
-    match status {
-        Status::EaFrom => "eaFrom",
-        Status::EaTo => "eaTo",
-        Status::Epr(_) => "epr",
-        Status::Epv(_) => "epv",
-        Status::Epa(_) => "epa",
-    }
-}
-
 /// The text of the details of the payment under way, empty at rest.
 pub fn status_code(alloc: Global, status: &Status) -> Result<String, StoreFault>
-    ensures { IfOk result (λ text. string_bytes text ≡ details_text status.now) }
+    ensures { IfOk result (λ text. string_bytes text ≡ status_details status.now) }
 {
     match status {
         Status::EaFrom | Status::EaTo => Ok(String::new(alloc)),

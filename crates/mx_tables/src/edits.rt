@@ -1,11 +1,10 @@
 //! The edits, each a few statements of a transaction.
-ghost use Rattle.std.specs.Prelude.{◌≡◌, ◌≤◌, fold, false, OnOk, OnErr, IsTrue};
-ghost use Rattle.sqlite_trees.specs.View.{doubt};
+ghost use Rattle.std.specs.Prelude.{◌≡◌, IsTrue, OnOk, false, fold};
 ghost use Rattle.sqlite.specs.Held.{state};
-ghost use Rattle.sqlite.specs.State.{HasCleanDisk, KeepsCommit};
+ghost use Rattle.sqlite.specs.State.{HasCleanDisk, IsUnchanged};
 ghost use Rattle.mx_book.specs.RowEdits.{rewritten};
 ghost use Rattle.mx_tables.specs.Schema.{office_schema};
-ghost use Rattle.mx_tables.specs.States.{Goes};
+ghost use Rattle.mx_tables.specs.States.{Applies, Commits, Finds, Goes, Steps, Stops, Writes};
 
 use crate::asking::fault_of;
 use crate::collecting::collect;
@@ -31,12 +30,7 @@ fn add_member<S: Alter>(
     member: Name,
     clerk: Token,
 ) -> Result<(), StoreFault>
-    ensures same_reference { tx.new.conn.ghost_name ≡ tx.old.conn.ghost_name }
-    ensures ok { HasCleanDisk (state S.Store tx.new.conn.now) → IsTrue tx.old.conn.now.in_transaction → (state S.Store tx.old.conn.now).now.schema ≡ office_schema
-        → OnOk result (Goes (λ r. rewritten r (Edit.NewMember member clerk)) (state S.Store tx.old.conn.now) (state S.Store tx.new.conn.now)) }
-    ensures inside { HasCleanDisk (state S.Store tx.new.conn.now) → IsTrue tx.old.conn.now.in_transaction → OnOk result (IsTrue tx.new.conn.now.in_transaction) }
-    ensures kept { HasCleanDisk (state S.Store tx.new.conn.now) → KeepsCommit (state S.Store tx.old.conn.now) (state S.Store tx.new.conn.now) }
-    ensures clean { doubt (state S.Store tx.old.conn.now).is_clean ≤ doubt (state S.Store tx.new.conn.now).is_clean }
+    ensures { Writes S.Store tx.old tx.new result (λ r. rewritten r (Edit.NewMember member clerk)) }
 {
     insert_member(tx, &member)?;
     insert_token(tx, &clerk, &Caller::Clerk(member))
@@ -49,12 +43,8 @@ fn add_holder<S: Alter>(
     member: Name,
     token: Token,
 ) -> Result<(), StoreFault>
-    ensures same_reference { tx.new.conn.ghost_name ≡ tx.old.conn.ghost_name }
-    ensures ok { HasCleanDisk (state S.Store tx.new.conn.now) → IsTrue tx.old.conn.now.in_transaction → (state S.Store tx.old.conn.now).now.schema ≡ office_schema
-        → OnOk result (Goes (λ r. rewritten r (Edit.NewHolder holder member token)) (state S.Store tx.old.conn.now) (state S.Store tx.new.conn.now)) }
-    ensures inside { HasCleanDisk (state S.Store tx.new.conn.now) → IsTrue tx.old.conn.now.in_transaction → OnOk result (IsTrue tx.new.conn.now.in_transaction) }
-    ensures kept { HasCleanDisk (state S.Store tx.new.conn.now) → KeepsCommit (state S.Store tx.old.conn.now) (state S.Store tx.new.conn.now) }
-    ensures clean { doubt (state S.Store tx.old.conn.now).is_clean ≤ doubt (state S.Store tx.new.conn.now).is_clean }
+    ensures { Writes S.Store tx.old tx.new result
+        (λ r. rewritten r (Edit.NewHolder holder member token)) }
 {
     insert_holder(tx, &holder, &member)?;
     insert_token(tx, &token, &Caller::Holder(holder))
@@ -76,12 +66,7 @@ fn number_for<S: Alter>(
     expected: Option<u64>,
     purse: &Name,
 ) -> Result<u64, StoreFault>
-    ensures same_reference { tx.new.conn.ghost_name ≡ tx.old.conn.ghost_name }
-    ensures same { HasCleanDisk (state S.Store tx.new.conn.now) → (state S.Store tx.old.conn.now).now.schema ≡ office_schema
-        → OnOk result ((state S.Store tx.new.conn.now).now ≡ (state S.Store tx.old.conn.now).now) }
-    ensures inside { HasCleanDisk (state S.Store tx.new.conn.now) → IsTrue tx.old.conn.now.in_transaction → OnOk result (IsTrue tx.new.conn.now.in_transaction) }
-    ensures kept { HasCleanDisk (state S.Store tx.new.conn.now) → IsTrue tx.old.conn.now.in_transaction → KeepsCommit (state S.Store tx.old.conn.now) (state S.Store tx.new.conn.now) }
-    ensures clean { doubt (state S.Store tx.old.conn.now).is_clean ≤ doubt (state S.Store tx.new.conn.now).is_clean }
+    ensures { Finds S.Store tx.old tx.new result (λ _ _. Unit {0}) }
 {
     match expected {
         Some(number) => Ok(number),
@@ -98,12 +83,8 @@ fn add_message<S: Alter>(
     purse: &Name,
     message: &Message,
 ) -> Result<(), StoreFault>
-    ensures same_reference { tx.new.conn.ghost_name ≡ tx.old.conn.ghost_name }
-    ensures ok { HasCleanDisk (state S.Store tx.new.conn.now) → IsTrue tx.old.conn.now.in_transaction → (state S.Store tx.old.conn.now).now.schema ≡ office_schema
-        → OnOk result (Goes (λ r. rewritten r (Edit.AddMessage purse.now message.now)) (state S.Store tx.old.conn.now) (state S.Store tx.new.conn.now)) }
-    ensures inside { HasCleanDisk (state S.Store tx.new.conn.now) → IsTrue tx.old.conn.now.in_transaction → OnOk result (IsTrue tx.new.conn.now.in_transaction) }
-    ensures kept { HasCleanDisk (state S.Store tx.new.conn.now) → IsTrue tx.old.conn.now.in_transaction → KeepsCommit (state S.Store tx.old.conn.now) (state S.Store tx.new.conn.now) }
-    ensures clean { doubt (state S.Store tx.old.conn.now).is_clean ≤ doubt (state S.Store tx.new.conn.now).is_clean }
+    ensures { Writes S.Store tx.old tx.new result
+        (λ r. rewritten r (Edit.AddMessage purse.now message.now)) }
 {
     let number = number_for(tx, expected, purse)?;
     if number >= MOST_NUMBER {
@@ -120,12 +101,7 @@ fn edit_one<S: Alter>(
     expected: &mut Option<(Name, u64)>,
     edit: &Edit,
 ) -> Result<(), StoreFault>
-    ensures same_reference { tx.new.conn.ghost_name ≡ tx.old.conn.ghost_name }
-    ensures ok { HasCleanDisk (state S.Store tx.new.conn.now) → IsTrue tx.old.conn.now.in_transaction → (state S.Store tx.old.conn.now).now.schema ≡ office_schema
-        → OnOk result (Goes (λ r. rewritten r edit.now) (state S.Store tx.old.conn.now) (state S.Store tx.new.conn.now)) }
-    ensures inside { HasCleanDisk (state S.Store tx.new.conn.now) → IsTrue tx.old.conn.now.in_transaction → OnOk result (IsTrue tx.new.conn.now.in_transaction) }
-    ensures kept { HasCleanDisk (state S.Store tx.new.conn.now) → IsTrue tx.old.conn.now.in_transaction → KeepsCommit (state S.Store tx.old.conn.now) (state S.Store tx.new.conn.now) }
-    ensures clean { doubt (state S.Store tx.old.conn.now).is_clean ≤ doubt (state S.Store tx.new.conn.now).is_clean }
+    ensures { Writes S.Store tx.old tx.new result (λ r. rewritten r edit.now) }
 {
     match edit {
         Edit::NewMember { member, clerk } => add_member(tx, *member, *clerk),
@@ -163,6 +139,47 @@ fn edit_one<S: Alter>(
     }
 }
 
+/// Makes these edits in order. Of the number of a purse's next message it may be known what to expect.
+fn edit_each<S: Alter>(
+    tx: &mut Transaction<'_, S>,
+    alloc: Global,
+    expected: Option<(Name, u64)>,
+    edits: &[Edit],
+) -> Result<(), StoreFault>
+    ensures { Writes S.Store tx.old tx.new result (λ r. fold rewritten r edits.now) }
+{
+    let mut expected = expected;
+    for edit in edits {
+        edit_one(tx, alloc, &mut expected, edit)?;
+    }
+    Ok(())
+}
+
+/// Finds the connection open: one that a fault has shut is to commit nothing.
+fn find_open<S: Alter>(tx: &mut Transaction<'_, S>) -> Result<(), StoreFault>
+    ensures { Steps S.Store tx.old tx.new result
+        (λ _. IsUnchanged (state S.Store tx.old.conn.now) (state S.Store tx.new.conn.now)) }
+{
+    match tx.prepare("COMMIT") {
+        Ok(_) => Ok(()),
+        Err(error) => Err(fault_of(error)),
+    }
+}
+
+/// Makes these edits in a connection that is found open.
+fn edit_open<S: Alter>(
+    tx: &mut Transaction<'_, S>,
+    alloc: Global,
+    expected: Option<(Name, u64)>,
+    edits: &[Edit],
+) -> Result<(), StoreFault>
+    ensures { Steps S.Store tx.old tx.new result (λ _. Applies (λ r. fold rewritten r edits.now)
+        (state S.Store tx.old.conn.now) (state S.Store tx.new.conn.now)) }
+{
+    find_open(tx)?;
+    edit_each(tx, alloc, expected, edits)
+}
+
 /// Makes these edits in order, all of them or none, in one transaction. Of the number of a purse's next message it
 /// may be known what to expect, which spares a look at it; another number that is found there is Store.
 pub fn edit_all<S: Alter>(
@@ -172,19 +189,15 @@ pub fn edit_all<S: Alter>(
     edits: &[Edit],
 ) -> Result<(), StoreFault>
     requires { conn.old.in_transaction ≡ false }
-    ensures done { HasCleanDisk (state S.Store conn.new) → (state S.Store conn.old).now.schema ≡ office_schema
-        → OnOk result (Goes (λ r. fold rewritten r edits.now) (state S.Store conn.old) (state S.Store conn.new) × ((state S.Store conn.new).committed ≡ (state S.Store conn.new).now)) }
-    ensures none { HasCleanDisk (state S.Store conn.new) → OnErr result (IsTrue (state S.Store conn.new).is_open
-        → ((state S.Store conn.new).now ≡ (state S.Store conn.old).committed) × ((state S.Store conn.new).committed ≡ (state S.Store conn.old).committed)) }
-    ensures ended { conn.new.in_transaction ≡ false }
-    ensures opens { HasCleanDisk (state S.Store conn.new) → IsTrue (state S.Store conn.new).is_open → IsTrue (state S.Store conn.old).is_open }
-    ensures clean { doubt (state S.Store conn.old).is_clean ≤ doubt (state S.Store conn.new).is_clean }
+    ensures commits { Commits S.Store conn.old conn.new result ((state S.Store conn.old).now.schema ≡ office_schema
+        → Goes (λ r. fold rewritten r edits.now) (state S.Store conn.old) (state S.Store conn.new)) }
+    ensures lives { HasCleanDisk (state S.Store conn.new)
+        → OnOk result (IsTrue (state S.Store conn.new).is_open) }
+    ensures stops { Stops (λ r. fold rewritten r edits.now)
+        (state S.Store conn.old) (state S.Store conn.new) }
 {
-    let mut expected = expected;
     let mut tx = conn.transaction();
-    for edit in edits {
-        edit_one(&mut tx, alloc, &mut expected, edit)?;
-    }
+    edit_open(&mut tx, alloc, expected, edits)?;
     match tx.commit() {
         Ok(()) => Ok(()),
         Err(error) => Err(fault_of(error)),

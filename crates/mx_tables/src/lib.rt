@@ -13,6 +13,7 @@ mod inbox;
 mod lines;
 mod loads;
 mod making;
+mod member_sums;
 mod members;
 pub mod opening;
 mod purses;

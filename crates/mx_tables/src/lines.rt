@@ -1,28 +1,23 @@
 //! The lines of the statements of purses.
-ghost use Rattle.std.specs.Prelude.{◌≡◌, ◌≤◌, ◌<◌, ◌^◌, string_bytes, IfOk, IfSome, OnOk, IsTrue};
+ghost use Rattle.std.specs.Prelude.{◌≡◌, ◌<◌, ◌^◌, IfOk, IfSome, string_bytes};
 ghost use Rattle.std.specs.FinMap as fmap;
+ghost use Rattle.sqlite.specs.Held.{state};
 ghost use Rattle.sqlite_value.specs.Order.{column};
 ghost use Rattle.sqlite_value.specs.declared.value.Value.TheVariants.{Text};
-ghost use Rattle.sqlite_trees.specs.View.{doubt};
-ghost use Rattle.sqlite.specs.Held.{state};
-ghost use Rattle.sqlite.specs.State.{HasCleanDisk, KeepsCommit};
 ghost use Rattle.mx_book.specs.Conditions.{IsNote};
-ghost use Rattle.mx_book.specs.Rows.{line_row};
 ghost use Rattle.mx_book.specs.RowReads.{row_lines_of};
+ghost use Rattle.mx_book.specs.Rows.{line_row};
 ghost use Rattle.mx_book.specs.Words as words;
-ghost use Rattle.mx_tables.specs.Schema.{office_schema};
-ghost use Rattle.mx_tables.specs.States.{worry, IsOurs, Stays, Goes};
-ghost use Rattle.mx_tables.specs.Holds.{Holds};
-ghost use Rattle.mx_tables.specs.Cells.{number as cell};
-ghost use Rattle.mx_tables.specs.Pages.{line_shown, first_five, GivesLine, AreLines};
+ghost use Rattle.mx_tables.specs.Pages.{AreLines, GivesLine, first_five, line_shown};
+ghost use Rattle.mx_tables.specs.States.{IsOurs, Reads, Stays, Writes, worry};
 
 use crate::asking::{fault_of, run};
-use crate::cells::{entry_at, number_at, text_at};
+use crate::cells::{amount_at, entry_at, number_at, text_at};
 use crate::codes::MOST_ENTRY_BYTES;
 use crate::given::{self, MOST_KEPT};
-use mx_book::words::{kind_text, push_note};
+use mx_book::words::{kind_text, push_note, read_kind};
 use mx_book::{Line, LineKind, Note, StoreFault};
-use mx_pay::{Amount, Name};
+use mx_pay::Name;
 use sqlite::{Alter, Connection, Row, Rows, Transaction};
 use std::alloc::Global;
 
@@ -46,12 +41,8 @@ pub fn insert_line<S: Alter>(
     purse: &Name,
     line: &Line,
 ) -> Result<(), StoreFault>
-    ensures same_reference { tx.new.conn.ghost_name ≡ tx.old.conn.ghost_name }
-    ensures ok { HasCleanDisk (state S.Store tx.new.conn.now) → IsTrue tx.old.conn.now.in_transaction → (state S.Store tx.old.conn.now).now.schema ≡ office_schema
-        → OnOk result (Goes (λ r. record r { lines = fmap.insert r.lines (purse.now, line.now.number) (line_row line.now) }) (state S.Store tx.old.conn.now) (state S.Store tx.new.conn.now)) }
-    ensures inside { HasCleanDisk (state S.Store tx.new.conn.now) → IsTrue tx.old.conn.now.in_transaction → OnOk result (IsTrue tx.new.conn.now.in_transaction) }
-    ensures kept { HasCleanDisk (state S.Store tx.new.conn.now) → KeepsCommit (state S.Store tx.old.conn.now) (state S.Store tx.new.conn.now) }
-    ensures clean { doubt (state S.Store tx.old.conn.now).is_clean ≤ doubt (state S.Store tx.new.conn.now).is_clean }
+    ensures { Writes S.Store tx.old tx.new result
+        (λ r. record r { lines = fmap.insert r.lines (purse.now, line.now.number) (line_row line.now) }) }
 {
     if line.number > MOST_KEPT || line.balance > MOST_KEPT {
         return Err(StoreFault::Store);
@@ -75,22 +66,8 @@ pub fn insert_line<S: Alter>(
 fn kind_at(row: &Row, at: usize) -> Result<LineKind, StoreFault>
     ensures { IfOk result (λ kind. column row.now at ≡ Text (words.kind_text kind)) }
 {
-    match text_at(row, at) {
-        Some("loaded") => Ok(LineKind::Loaded),
-        Some("redeemed") => Ok(LineKind::Redeemed),
-        Some("sent") => Ok(LineKind::Sent),
-        Some("received") => Ok(LineKind::Received),
-        Some("logged") => Ok(LineKind::Logged),
-        _ => Err(StoreFault::Store),
-    }
-}
-
-/// The amount in a column. Store where another value is there.
-fn amount_at(row: &Row, at: usize) -> Result<Amount, StoreFault>
-    ensures { IfOk result (λ amount. column row.now at ≡ cell amount) }
-{
-    match Amount::new(number_at(row, at)?) {
-        Some(amount) => Ok(amount),
+    match text_at(row, at).and_then(read_kind) {
+        Some(kind) => Ok(kind),
         None => Err(StoreFault::Store),
     }
 }
@@ -131,8 +108,10 @@ fn line_in(row: &Row, note: Note) -> Result<Line, StoreFault>
 /// The next line that a query of lines gives, or None at its end.
 fn next_line<S: Alter>(rows: &mut Rows<'_, S>) -> Result<Option<Line>, StoreFault>
     ensures same_reference { rows.new.conn.ghost_name ≡ rows.old.conn.ghost_name }
-    ensures stays { IsOurs (state S.Store rows.old.conn.now) → Stays (state S.Store rows.old.conn.now) (state S.Store rows.new.conn.now) }
-    ensures shown { worry (state S.Store rows.new.conn.now) ≡ 0 → IfOk result (GivesLine S.Store rows.old.conn.now rows.new.conn.now) }
+    ensures stays { IsOurs (state S.Store rows.old.conn.now)
+        → Stays (state S.Store rows.old.conn.now) (state S.Store rows.new.conn.now) }
+    ensures shown { worry (state S.Store rows.new.conn.now) ≡ 0
+        → IfOk result (GivesLine S.Store rows.old.conn.now rows.new.conn.now) }
     ensures valid { IfOk result (λ line. IfSome line (λ l. IsNote l.note)) }
 {
     match rows.advance() {
@@ -156,8 +135,8 @@ fn select_lines<S: Alter>(
     most: u64,
 ) -> Result<Vec<Line>, StoreFault>
     requires { after < 2 ^ 63 }
-    ensures stays { IsOurs (state S.Store conn.old) → Stays (state S.Store conn.old) (state S.Store conn.new) }
-    ensures value { IsOurs (state S.Store conn.old) → worry (state S.Store conn.new) ≡ 0 → (r : _) → Holds (state S.Store conn.old).now r → AreLines r → IfOk result (λ v. v.items ≡ row_lines_of r purse.now after most) }
+    ensures { Reads S.Store conn.old conn.new result
+        (λ r v. AreLines r → v.items ≡ row_lines_of r purse.now after most) }
 {
     let mut lines = Vec::new(alloc);
     let found = conn.query(
@@ -187,8 +166,8 @@ pub fn list_lines<S: Alter>(
     after: u64,
     most: u64,
 ) -> Result<Vec<Line>, StoreFault>
-    ensures stays { IsOurs (state S.Store conn.old) → Stays (state S.Store conn.old) (state S.Store conn.new) }
-    ensures value { IsOurs (state S.Store conn.old) → worry (state S.Store conn.new) ≡ 0 → (r : _) → Holds (state S.Store conn.old).now r → AreLines r → IfOk result (λ v. v.items ≡ row_lines_of r purse.now after most) }
+    ensures { Reads S.Store conn.old conn.new result
+        (λ r v. AreLines r → v.items ≡ row_lines_of r purse.now after most) }
 {
     if after > MOST_KEPT {
         return Ok(Vec::new(alloc));

@@ -1,13 +1,11 @@
 //! The making of the tables.
-ghost use Rattle.std.specs.Prelude.{◌≡◌, ◌≤◌, OnOk, IsTrue};
-ghost use Rattle.sqlite_trees.specs.View.{doubt};
-ghost use Rattle.sqlite_catalog.specs.Change.{created};
 ghost use Rattle.sqlite.specs.Held.{state};
-ghost use Rattle.sqlite.specs.State.{HasCleanDisk, KeepsCommit};
-ghost use Rattle.mx_tables.specs.Schema.{no_schema, schema_4, schema_7, office_schema};
+ghost use Rattle.sqlite_catalog.specs.Change.{created};
 ghost use Rattle.mx_book.specs.Spells.{opening_rows};
 ghost use Rattle.mx_tables.specs.Holds.{Holds};
-ghost use Rattle.mx_tables.specs.Made.{IsCreate, Blank, Fresh};
+ghost use Rattle.mx_tables.specs.Made.{Blank, Builds, Fresh, IsCreate};
+ghost use Rattle.mx_tables.specs.Schema.{no_schema, office_schema, schema_4, schema_7};
+ghost use Rattle.mx_tables.specs.States.{Steps};
 
 use crate::asking::run;
 use crate::tokens::insert_token;
@@ -17,11 +15,10 @@ use sqlite::{Alter, Error, Transaction};
 
 /// Makes one table.
 fn make<S: Alter>(tx: &mut Transaction<'_, S>, sql: &str) -> Result<(), Error>
-    ensures same_reference { tx.new.conn.ghost_name ≡ tx.old.conn.ghost_name }
-    ensures blank { HasCleanDisk (state S.Store tx.new.conn.now) → (schema : _) (table : _) → IsCreate schema sql.now table → Blank schema (state S.Store tx.old.conn.now)
-        → OnOk result (Blank (created schema table) (state S.Store tx.new.conn.now)) }
-    ensures kept { HasCleanDisk (state S.Store tx.new.conn.now) → KeepsCommit (state S.Store tx.old.conn.now) (state S.Store tx.new.conn.now) }
-    ensures clean { doubt (state S.Store tx.old.conn.now).is_clean ≤ doubt (state S.Store tx.new.conn.now).is_clean }
+    ensures { Steps S.Store tx.old tx.new result
+        (λ _. (schema : _) (table : _) → IsCreate schema sql.now table
+        → Blank schema (state S.Store tx.old.conn.now)
+        → Blank (created schema table) (state S.Store tx.new.conn.now)) }
 {
     match tx.execute(sql, &[]) {
         Ok(_) => Ok(()),
@@ -31,10 +28,7 @@ fn make<S: Alter>(tx: &mut Transaction<'_, S>, sql: &str) -> Result<(), Error>
 
 /// Makes `meta` and the tables of members, tokens and holders.
 fn make_members<S: Alter>(tx: &mut Transaction<'_, S>) -> Result<(), Error>
-    ensures same_reference { tx.new.conn.ghost_name ≡ tx.old.conn.ghost_name }
-    ensures blank { HasCleanDisk (state S.Store tx.new.conn.now) → Blank no_schema (state S.Store tx.old.conn.now) → OnOk result (Blank schema_4 (state S.Store tx.new.conn.now)) }
-    ensures kept { HasCleanDisk (state S.Store tx.new.conn.now) → KeepsCommit (state S.Store tx.old.conn.now) (state S.Store tx.new.conn.now) }
-    ensures clean { doubt (state S.Store tx.old.conn.now).is_clean ≤ doubt (state S.Store tx.new.conn.now).is_clean }
+    ensures { Builds S.Store tx.old tx.new result no_schema schema_4 }
 {
     make(
         tx,
@@ -56,10 +50,7 @@ fn make_members<S: Alter>(tx: &mut Transaction<'_, S>) -> Result<(), Error>
 
 /// Makes the tables of purses, inboxes and lines.
 fn make_purses<S: Alter>(tx: &mut Transaction<'_, S>) -> Result<(), Error>
-    ensures same_reference { tx.new.conn.ghost_name ≡ tx.old.conn.ghost_name }
-    ensures blank { HasCleanDisk (state S.Store tx.new.conn.now) → Blank schema_4 (state S.Store tx.old.conn.now) → OnOk result (Blank schema_7 (state S.Store tx.new.conn.now)) }
-    ensures kept { HasCleanDisk (state S.Store tx.new.conn.now) → KeepsCommit (state S.Store tx.old.conn.now) (state S.Store tx.new.conn.now) }
-    ensures clean { doubt (state S.Store tx.old.conn.now).is_clean ≤ doubt (state S.Store tx.new.conn.now).is_clean }
+    ensures { Builds S.Store tx.old tx.new result schema_4 schema_7 }
 {
     make(
         tx,
@@ -77,10 +68,7 @@ fn make_purses<S: Alter>(tx: &mut Transaction<'_, S>) -> Result<(), Error>
 
 /// Makes the tables of trays, archives, loads and redemptions.
 fn make_results<S: Alter>(tx: &mut Transaction<'_, S>) -> Result<(), Error>
-    ensures same_reference { tx.new.conn.ghost_name ≡ tx.old.conn.ghost_name }
-    ensures blank { HasCleanDisk (state S.Store tx.new.conn.now) → Blank schema_7 (state S.Store tx.old.conn.now) → OnOk result (Blank office_schema (state S.Store tx.new.conn.now)) }
-    ensures kept { HasCleanDisk (state S.Store tx.new.conn.now) → KeepsCommit (state S.Store tx.old.conn.now) (state S.Store tx.new.conn.now) }
-    ensures clean { doubt (state S.Store tx.old.conn.now).is_clean ≤ doubt (state S.Store tx.new.conn.now).is_clean }
+    ensures { Builds S.Store tx.old tx.new result schema_7 office_schema }
 {
     make(
         tx,
@@ -102,10 +90,7 @@ fn make_results<S: Alter>(tx: &mut Transaction<'_, S>) -> Result<(), Error>
 
 /// Makes all tables.
 pub fn make_tables<S: Alter>(tx: &mut Transaction<'_, S>) -> Result<(), Error>
-    ensures same_reference { tx.new.conn.ghost_name ≡ tx.old.conn.ghost_name }
-    ensures blank { HasCleanDisk (state S.Store tx.new.conn.now) → Blank no_schema (state S.Store tx.old.conn.now) → OnOk result (Blank office_schema (state S.Store tx.new.conn.now)) }
-    ensures kept { HasCleanDisk (state S.Store tx.new.conn.now) → KeepsCommit (state S.Store tx.old.conn.now) (state S.Store tx.new.conn.now) }
-    ensures clean { doubt (state S.Store tx.old.conn.now).is_clean ≤ doubt (state S.Store tx.new.conn.now).is_clean }
+    ensures { Builds S.Store tx.old tx.new result no_schema office_schema }
 {
     make_members(tx)?;
     make_purses(tx)?;
@@ -114,22 +99,18 @@ pub fn make_tables<S: Alter>(tx: &mut Transaction<'_, S>) -> Result<(), Error>
 
 /// Adds the row of `meta`.
 fn insert_meta<S: Alter>(tx: &mut Transaction<'_, S>) -> Result<(), StoreFault>
-    ensures same_reference { tx.new.conn.ghost_name ≡ tx.old.conn.ghost_name }
-    ensures ok { HasCleanDisk (state S.Store tx.new.conn.now) → Blank office_schema (state S.Store tx.old.conn.now) → OnOk result (Fresh (state S.Store tx.new.conn.now)) }
-    ensures inside { HasCleanDisk (state S.Store tx.new.conn.now) → IsTrue tx.old.conn.now.in_transaction → OnOk result (IsTrue tx.new.conn.now.in_transaction) }
-    ensures kept { HasCleanDisk (state S.Store tx.new.conn.now) → KeepsCommit (state S.Store tx.old.conn.now) (state S.Store tx.new.conn.now) }
-    ensures clean { doubt (state S.Store tx.old.conn.now).is_clean ≤ doubt (state S.Store tx.new.conn.now).is_clean }
+    ensures { Steps S.Store tx.old tx.new result
+        (λ _. Blank office_schema (state S.Store tx.old.conn.now)
+        → Fresh (state S.Store tx.new.conn.now)) }
 {
     run(tx, "INSERT INTO meta (id, version) VALUES (1, 1)", &[])
 }
 
 /// Adds the row of `meta` and the operator's token.
 pub fn fill<S: Alter>(tx: &mut Transaction<'_, S>, operator: &Token) -> Result<(), StoreFault>
-    ensures same_reference { tx.new.conn.ghost_name ≡ tx.old.conn.ghost_name }
-    ensures ok { HasCleanDisk (state S.Store tx.new.conn.now) → Blank office_schema (state S.Store tx.old.conn.now) → OnOk result (Holds (state S.Store tx.new.conn.now).now (opening_rows operator.now)) }
-    ensures inside { HasCleanDisk (state S.Store tx.new.conn.now) → IsTrue tx.old.conn.now.in_transaction → OnOk result (IsTrue tx.new.conn.now.in_transaction) }
-    ensures kept { HasCleanDisk (state S.Store tx.new.conn.now) → KeepsCommit (state S.Store tx.old.conn.now) (state S.Store tx.new.conn.now) }
-    ensures clean { doubt (state S.Store tx.old.conn.now).is_clean ≤ doubt (state S.Store tx.new.conn.now).is_clean }
+    ensures { Steps S.Store tx.old tx.new result
+        (λ _. Blank office_schema (state S.Store tx.old.conn.now)
+        → Holds (state S.Store tx.new.conn.now).now (opening_rows operator.now)) }
 {
     insert_meta(tx)?;
     insert_token(tx, operator, &Caller::Operator)

@@ -1,16 +1,15 @@
 //! New tables, and tables that are there.
-ghost use Rattle.std.specs.Prelude.{◌≡◌, ◌≢◌, ◌⊎◌, None, codes, pos, map, filter, ◌≤◌, false, IfOk, IfErr, OnOk, OnErr, IsTrue};
-ghost use Rattle.sqlite_trees.specs.View.{doubt};
+ghost use Rattle.std.specs.Prelude.{◌≡◌, ◌≤◌, ◌≢◌, ◌⊎◌, IfErr, IfOk, IsTrue, OnOk, codes, false, filter, map, pos};
+ghost use Rattle.std.specs.List.Sorted.{IsPermutation};
 ghost use Rattle.sqlite.specs.Held.{state};
 ghost use Rattle.sqlite.specs.State.{HasCleanDisk};
-ghost use Rattle.mx_tables.specs.Schema.{no_schema, office_schema};
+ghost use Rattle.sqlite_schema.specs.Names.{table_named};
+ghost use Rattle.sqlite_trees.specs.Tree.{has_rowid};
 ghost use Rattle.mx_book.specs.Spells.{opening_rows};
 ghost use Rattle.mx_tables.specs.Holds.{Holds};
-ghost use Rattle.std.specs.List.Sorted.{IsPermutation};
-ghost use Rattle.sqlite_trees.specs.Tree.{has_rowid};
-ghost use Rattle.sqlite_schema.specs.Names.{table_named};
-ghost use Rattle.mx_tables.specs.States.{worry, IsOurs, Stays};
 ghost use Rattle.mx_tables.specs.Made.{IsVersion1, version_shown};
+ghost use Rattle.mx_tables.specs.Schema.{no_schema, office_schema};
+ghost use Rattle.mx_tables.specs.States.{Commits, IsOurs, Stays, worry};
 ghost use Rattle.mx_tables.specs.declared.opening.OpenFault.TheVariants.{NotThisSchema};
 
 use crate::asking::ask;
@@ -86,14 +85,12 @@ pub(crate) fn make_office<S: Alter>(
     operator: &Token,
 ) -> Result<(), OpenFault>
     requires idle { conn.old.in_transaction ≡ false }
-    requires settled { IsTrue (state S.Store conn.old).is_open → (state S.Store conn.old).now ≡ (state S.Store conn.old).committed }
-    ensures done { HasCleanDisk (state S.Store conn.new) → OnOk result (Holds (state S.Store conn.new).now (opening_rows operator.now) × ((state S.Store conn.new).committed ≡ (state S.Store conn.new).now)) }
-    ensures none { HasCleanDisk (state S.Store conn.new) → OnErr result (IsTrue (state S.Store conn.new).is_open
-        → ((state S.Store conn.new).now ≡ (state S.Store conn.old).committed) × ((state S.Store conn.new).committed ≡ (state S.Store conn.old).committed)) }
-    ensures taken { IfErr result (λ fault. fault ≡ NotThisSchema → (state S.Store conn.old).now.schema ≢ no_schema) }
-    ensures ended { conn.new.in_transaction ≡ false }
-    ensures opens { HasCleanDisk (state S.Store conn.new) → IsTrue (state S.Store conn.new).is_open → IsTrue (state S.Store conn.old).is_open }
-    ensures clean { doubt (state S.Store conn.old).is_clean ≤ doubt (state S.Store conn.new).is_clean }
+    requires settled { IsTrue (state S.Store conn.old).is_open
+        → (state S.Store conn.old).now ≡ (state S.Store conn.old).committed }
+    ensures commits { Commits S.Store conn.old conn.new result
+        (Holds (state S.Store conn.new).now (opening_rows operator.now)) }
+    ensures taken { IfErr result
+        (λ fault. fault ≡ NotThisSchema → (state S.Store conn.old).now.schema ≢ no_schema) }
 {
     let blank = is_blank(conn.schema());
     let mut tx = conn.transaction();
@@ -147,17 +144,30 @@ fn is_office(alloc: Global, schema: &Schema) -> Result<bool, OpenFault>
 
 /// The version that `meta` has, in the rows of id 1.
 fn version_rows<S: Alter>(conn: &mut Connection<S>) -> Result<Vec<Row>, StoreFault>
-    ensures stays { IsOurs (state S.Store conn.old) → Stays (state S.Store conn.old) (state S.Store conn.new) }
-    ensures rows { worry (state S.Store conn.new) ≡ 0 → (state S.Store conn.old).now.schema ≡ office_schema → IfOk result (λ rows. IsPermutation (map version_shown (filter (has_rowid (pos 1)) ((state S.Store conn.old).now.trees 0))) rows.items) }
+    ensures stays { IsOurs (state S.Store conn.old)
+        → Stays (state S.Store conn.old) (state S.Store conn.new) }
+    ensures rows { worry (state S.Store conn.new) ≡ 0
+        → (state S.Store conn.old).now.schema ≡ office_schema → IfOk result
+        (λ rows. IsPermutation
+        (map version_shown (filter (has_rowid (pos 1)) ((state S.Store conn.old).now.trees 0))) rows.items) }
+    ensures live { HasCleanDisk (state S.Store conn.new)
+        → OnOk result (IsTrue (state S.Store conn.new).is_open) }
 {
     ask(conn, "SELECT version FROM meta WHERE id = 1", &[])
 }
 
 /// Whether the version is 1; NotThisSchema exactly where it isn't, or isn't there.
 fn check_version<S: Alter>(conn: &mut Connection<S>) -> Result<(), OpenFault>
-    ensures stays { IsOurs (state S.Store conn.old) → Stays (state S.Store conn.old) (state S.Store conn.new) }
-    ensures known { worry (state S.Store conn.new) ≡ 0 → (state S.Store conn.old).now.schema ≡ office_schema → OnOk result (IsVersion1 (state S.Store conn.old).now) }
-    ensures unknown { worry (state S.Store conn.new) ≡ 0 → (state S.Store conn.old).now.schema ≡ office_schema → IfErr result (λ fault. fault ≡ NotThisSchema → ¬ IsVersion1 (state S.Store conn.old).now) }
+    ensures stays { IsOurs (state S.Store conn.old)
+        → Stays (state S.Store conn.old) (state S.Store conn.new) }
+    ensures known { worry (state S.Store conn.new) ≡ 0
+        → (state S.Store conn.old).now.schema ≡ office_schema
+        → OnOk result (IsVersion1 (state S.Store conn.old).now) }
+    ensures unknown { worry (state S.Store conn.new) ≡ 0
+        → (state S.Store conn.old).now.schema ≡ office_schema → IfErr result
+        (λ fault. fault ≡ NotThisSchema → ¬ IsVersion1 (state S.Store conn.old).now) }
+    ensures live { HasCleanDisk (state S.Store conn.new)
+        → OnOk result (IsTrue (state S.Store conn.new).is_open) }
 {
     let rows = match version_rows(conn) {
         Ok(rows) => rows,
@@ -180,13 +190,21 @@ pub(crate) fn check_office<S: Alter>(
     conn: &mut Connection<S>,
 ) -> Result<(), OpenFault>
     requires idle { conn.old.in_transaction ≡ false }
-    requires settled { IsTrue (state S.Store conn.old).is_open → (state S.Store conn.old).now ≡ (state S.Store conn.old).committed }
+    requires settled { IsTrue (state S.Store conn.old).is_open
+        → (state S.Store conn.old).now ≡ (state S.Store conn.old).committed }
     ensures ours { OnOk result (IsOurs (state S.Store conn.new)) }
     ensures later { worry (state S.Store conn.old) ≤ worry (state S.Store conn.new) }
-    ensures same { worry (state S.Store conn.new) ≡ 0 → (state S.Store conn.new).now ≡ (state S.Store conn.old).now }
+    ensures same { worry (state S.Store conn.new) ≡ 0
+        → (state S.Store conn.new).now ≡ (state S.Store conn.old).now }
     ensures idle { conn.new.in_transaction ≡ false }
-    ensures known { worry (state S.Store conn.new) ≡ 0 → OnOk result (IsVersion1 (state S.Store conn.old).now) }
-    ensures unknown { worry (state S.Store conn.new) ≡ 0 → IfErr result (λ fault. fault ≡ NotThisSchema → (table_named (state S.Store conn.old).now.schema (codes "meta") ≡ None) ⊎ ¬ IsVersion1 (state S.Store conn.old).now) }
+    ensures known { worry (state S.Store conn.new) ≡ 0
+        → OnOk result (IsVersion1 (state S.Store conn.old).now) }
+    ensures unknown { worry (state S.Store conn.new) ≡ 0 → IfErr result
+        (λ fault. fault ≡ NotThisSchema
+        → (table_named (state S.Store conn.old).now.schema (codes "meta") ≡ None)
+        ⊎ ¬ IsVersion1 (state S.Store conn.old).now) }
+    ensures live { HasCleanDisk (state S.Store conn.new)
+        → OnOk result (IsTrue (state S.Store conn.new).is_open) }
 {
     let same = match is_office(alloc, conn.schema()) {
         Ok(same) => same,

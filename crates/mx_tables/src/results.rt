@@ -1,24 +1,19 @@
 //! The results of read log in the tray and in the archive.
-ghost use Rattle.std.specs.Prelude.{◌≡◌, ◌≤◌, ◌∷◌, [], List, map, string_bytes, IfOk, OnOk, IsTrue};
-ghost use Rattle.std.specs.List.Sorted.{IsPermutation};
+ghost use Rattle.std.specs.Prelude.{◌≡◌, ◌∷◌, [], IfOk, string_bytes};
 ghost use Rattle.std.specs.FinMap as fmap;
-ghost use Rattle.sqlite_trees.specs.View.{doubt};
 ghost use Rattle.sqlite.specs.Held.{state};
-ghost use Rattle.sqlite.specs.State.{HasCleanDisk, KeepsCommit};
+ghost use Rattle.sqlite_value.specs.declared.value.Value.TheVariants.{Text};
 ghost use Rattle.mx_pay.specs.Codes.{entry_text};
-ghost use Rattle.mx_pay.specs.Details.{Details, IsDetails};
-ghost use Rattle.mx_book.specs.World.{result_cmp, results_but};
-ghost use Rattle.mx_book.specs.RowEdits.{row_tray_of, rewritten};
-ghost use Rattle.mx_book.specs.RowReads.{of_name, row_is_archived};
+ghost use Rattle.mx_pay.specs.Details.{IsDetails};
+ghost use Rattle.mx_book.specs.RowEdits.{rewritten, row_tray_of};
+ghost use Rattle.mx_book.specs.RowReads.{row_is_archived};
+ghost use Rattle.mx_book.specs.World.{results_but};
 ghost use Rattle.mx_book.specs.declared.edits.Edit.TheVariants.{ArchiveTray};
-ghost use Rattle.mx_tables.specs.Schema.{office_schema};
-ghost use Rattle.mx_tables.specs.States.{worry, IsOurs, Stays, Goes};
-ghost use Rattle.mx_tables.specs.Holds.{Holds};
-ghost use Rattle.mx_tables.specs.Cells.{number as cell};
-ghost use Rattle.mx_tables.specs.Answers.{at_key};
-ghost use Rattle.mx_tables.specs.Results.{details_shown, AreDetails, Shows, and_details};
+ghost use Rattle.mx_tables.specs.Results.{Archives, AreDetails, Shows};
+ghost use Rattle.mx_tables.specs.Schema.{office_schema, tray};
+ghost use Rattle.mx_tables.specs.States.{Reads, Steps, Writes};
 
-use crate::asking::{ask, ask_inside, run};
+use crate::asking::{ask, ask_inside, only, run};
 use crate::cells::{entry_at, text_at};
 use crate::given;
 use mx_book::StoreFault;
@@ -47,35 +42,14 @@ pub fn insert_tray<S: Alter>(
     purse: &Name,
     details: &PayDetails,
 ) -> Result<(), StoreFault>
-    ensures same_reference { tx.new.conn.ghost_name ≡ tx.old.conn.ghost_name }
-    ensures ok { HasCleanDisk (state S.Store tx.new.conn.now) → IsTrue tx.old.conn.now.in_transaction → (state S.Store tx.old.conn.now).now.schema ≡ office_schema
-        → OnOk result (Goes (λ r. record r { tray = fmap.insert r.tray (purse.now, details.now) tt }) (state S.Store tx.old.conn.now) (state S.Store tx.new.conn.now)) }
-    ensures inside { HasCleanDisk (state S.Store tx.new.conn.now) → IsTrue tx.old.conn.now.in_transaction → OnOk result (IsTrue tx.new.conn.now.in_transaction) }
-    ensures kept { HasCleanDisk (state S.Store tx.new.conn.now) → KeepsCommit (state S.Store tx.old.conn.now) (state S.Store tx.new.conn.now) }
-    ensures clean { doubt (state S.Store tx.old.conn.now).is_clean ≤ doubt (state S.Store tx.new.conn.now).is_clean }
+    ensures { Writes S.Store tx.old tx.new result
+        (λ r. record r { tray = fmap.insert r.tray (purse.now, details.now) tt }) }
 {
     let text = text_of(alloc, details)?;
     run(
         tx,
         "INSERT INTO tray (purse, details) VALUES (?1, ?2)",
         &[given::text(purse.as_str()), given::text(&text)],
-    )
-}
-
-/// The rows of a purse and this text in the archive.
-fn select_archived<S: Alter>(
-    conn: &mut Connection<S>,
-    purse: &Name,
-    text: &str,
-) -> Result<Vec<Row>, StoreFault>
-    ensures stays { IsOurs (state S.Store conn.old) → Stays (state S.Store conn.old) (state S.Store conn.new) }
-    ensures rows { worry (state S.Store conn.new) ≡ 0 → (d : Details) → IsDetails d → text.now ≡ entry_text d → (r : _) → Holds (state S.Store conn.old).now r → AreDetails r.archive
-        → IfOk result (λ rows. IsPermutation (map (λ _. cell 1 ∷ []) (at_key result_cmp (purse.now, d) (fmap.entries r.archive))) rows.items) }
-{
-    ask(
-        conn,
-        "SELECT 1 FROM archive WHERE purse = ?1 AND details = ?2",
-        &[given::text(purse.as_str()), given::text(text)],
     )
 }
 
@@ -86,28 +60,17 @@ pub fn find_archived<S: Alter>(
     purse: &Name,
     details: &PayDetails,
 ) -> Result<bool, StoreFault>
-    ensures stays { IsOurs (state S.Store conn.old) → Stays (state S.Store conn.old) (state S.Store conn.new) }
-    ensures value { worry (state S.Store conn.new) ≡ 0 → (r : _) → Holds (state S.Store conn.old).now r → AreDetails r.archive → IfOk result (λ b. b ≡ row_is_archived r purse.now details.now) }
+    ensures { Reads S.Store conn.old conn.new result
+        (λ r b. AreDetails r.archive → b ≡ row_is_archived r purse.now details.now) }
 {
     let text = text_of(alloc, details)?;
-    let rows = select_archived(conn, purse, &text)?;
-    match rows.as_slice() {
-        [] => Ok(false),
-        [_] => Ok(true),
-        _ => Err(StoreFault::Store),
-    }
-}
-
-/// What is in the tray of a purse.
-fn select_tray<S: Alter>(conn: &mut Connection<S>, purse: &Name) -> Result<Vec<Row>, StoreFault>
-    ensures stays { IsOurs (state S.Store conn.old) → Stays (state S.Store conn.old) (state S.Store conn.new) }
-    ensures rows { worry (state S.Store conn.new) ≡ 0 → (r : _) → Holds (state S.Store conn.old).now r → IfOk result (λ rows. IsPermutation (map (λ e. details_shown e.0.1) (of_name purse.now (fmap.entries r.tray))) rows.items) }
-{
-    ask(
+    let rows = ask(
         conn,
-        "SELECT details FROM tray WHERE purse = ?1",
-        &[given::text(purse.as_str())],
-    )
+        "SELECT 1 FROM archive WHERE purse = ?1 AND details = ?2",
+        &[given::text(purse.as_str()), given::text(&text)],
+    )?;
+    let found = only(&rows)?;
+    Ok(found.is_some())
 }
 
 /// The log of what rows show.
@@ -126,28 +89,15 @@ fn log_in(rows: &[Row]) -> Result<Log, StoreFault>
 
 /// The results in the tray of a purse.
 pub fn list_tray<S: Alter>(conn: &mut Connection<S>, purse: &Name) -> Result<Log, StoreFault>
-    ensures stays { IsOurs (state S.Store conn.old) → Stays (state S.Store conn.old) (state S.Store conn.new) }
-    ensures value { worry (state S.Store conn.new) ≡ 0 → (r : _) → Holds (state S.Store conn.old).now r → AreDetails r.tray → IfOk result (λ log. log ≡ row_tray_of r purse.now) }
+    ensures { Reads S.Store conn.old conn.new result
+        (λ r log. AreDetails r.tray → log ≡ row_tray_of r purse.now) }
 {
-    let rows = select_tray(conn, purse)?;
-    log_in(rows.as_slice())
-}
-
-/// What is in the tray of a purse, inside a transaction.
-fn tray_inside<S: Alter>(tx: &mut Transaction<'_, S>, purse: &Name) -> Result<Vec<Row>, StoreFault>
-    ensures same_reference { tx.new.conn.ghost_name ≡ tx.old.conn.ghost_name }
-    ensures ok { HasCleanDisk (state S.Store tx.new.conn.now) → (state S.Store tx.old.conn.now).now.schema ≡ office_schema
-        → IfOk result (λ rows. Goes (λ r. r) (state S.Store tx.old.conn.now) (state S.Store tx.new.conn.now)
-        × ((r : _) → Holds (state S.Store tx.old.conn.now).now r → IsPermutation (map (λ e. details_shown e.0.1) (of_name purse.now (fmap.entries r.tray))) rows.items)) }
-    ensures inside { HasCleanDisk (state S.Store tx.new.conn.now) → IsTrue tx.old.conn.now.in_transaction → OnOk result (IsTrue tx.new.conn.now.in_transaction) }
-    ensures kept { HasCleanDisk (state S.Store tx.new.conn.now) → IsTrue tx.old.conn.now.in_transaction → KeepsCommit (state S.Store tx.old.conn.now) (state S.Store tx.new.conn.now) }
-    ensures clean { doubt (state S.Store tx.old.conn.now).is_clean ≤ doubt (state S.Store tx.new.conn.now).is_clean }
-{
-    ask_inside(
-        tx,
+    let rows = ask(
+        conn,
         "SELECT details FROM tray WHERE purse = ?1",
         &[given::text(purse.as_str())],
-    )
+    )?;
+    log_in(&rows)
 }
 
 /// Adds the details of this text to the archive of a purse.
@@ -156,13 +106,10 @@ fn insert_archive<S: Alter>(
     purse: &Name,
     text: &str,
 ) -> Result<(), StoreFault>
-    ensures same_reference { tx.new.conn.ghost_name ≡ tx.old.conn.ghost_name }
-    ensures ok { HasCleanDisk (state S.Store tx.new.conn.now) → IsTrue tx.old.conn.now.in_transaction → (state S.Store tx.old.conn.now).now.schema ≡ office_schema
-        → OnOk result (((state S.Store tx.new.conn.now).now.schema ≡ office_schema)
-        × ((d : Details) → text.now ≡ entry_text d → Goes (λ r. record r { archive = fmap.insert r.archive (purse.now, d) tt }) (state S.Store tx.old.conn.now) (state S.Store tx.new.conn.now))) }
-    ensures inside { HasCleanDisk (state S.Store tx.new.conn.now) → IsTrue tx.old.conn.now.in_transaction → OnOk result (IsTrue tx.new.conn.now.in_transaction) }
-    ensures kept { HasCleanDisk (state S.Store tx.new.conn.now) → KeepsCommit (state S.Store tx.old.conn.now) (state S.Store tx.new.conn.now) }
-    ensures clean { doubt (state S.Store tx.old.conn.now).is_clean ≤ doubt (state S.Store tx.new.conn.now).is_clean }
+    ensures { Steps S.Store tx.old tx.new result
+        (λ _. (state S.Store tx.old.conn.now).now.schema ≡ office_schema
+        → Archives purse.now ((Text text.now ∷ []) ∷ [])
+        (state S.Store tx.old.conn.now) (state S.Store tx.new.conn.now)) }
 {
     run(
         tx,
@@ -177,13 +124,9 @@ fn archive_rows<S: Alter>(
     purse: &Name,
     rows: &[Row],
 ) -> Result<(), StoreFault>
-    ensures same_reference { tx.new.conn.ghost_name ≡ tx.old.conn.ghost_name }
-    ensures ok { HasCleanDisk (state S.Store tx.new.conn.now) → IsTrue tx.old.conn.now.in_transaction → (state S.Store tx.old.conn.now).now.schema ≡ office_schema
-        → OnOk result (((state S.Store tx.new.conn.now).now.schema ≡ office_schema)
-        × ((ds : List Details) → map details_shown ds ≡ rows.now → Goes (λ r. record r { archive = and_details purse.now r.archive ds }) (state S.Store tx.old.conn.now) (state S.Store tx.new.conn.now))) }
-    ensures inside { HasCleanDisk (state S.Store tx.new.conn.now) → IsTrue tx.old.conn.now.in_transaction → OnOk result (IsTrue tx.new.conn.now.in_transaction) }
-    ensures kept { HasCleanDisk (state S.Store tx.new.conn.now) → IsTrue tx.old.conn.now.in_transaction → KeepsCommit (state S.Store tx.old.conn.now) (state S.Store tx.new.conn.now) }
-    ensures clean { doubt (state S.Store tx.old.conn.now).is_clean ≤ doubt (state S.Store tx.new.conn.now).is_clean }
+    ensures { Steps S.Store tx.old tx.new result
+        (λ _. (state S.Store tx.old.conn.now).now.schema ≡ office_schema
+        → Archives purse.now rows.now (state S.Store tx.old.conn.now) (state S.Store tx.new.conn.now)) }
 {
     for row in rows {
         let Some(text) = text_at(row, 0) else {
@@ -196,12 +139,8 @@ fn archive_rows<S: Alter>(
 
 /// Empties the tray of a purse.
 fn delete_tray<S: Alter>(tx: &mut Transaction<'_, S>, purse: &Name) -> Result<(), StoreFault>
-    ensures same_reference { tx.new.conn.ghost_name ≡ tx.old.conn.ghost_name }
-    ensures ok { HasCleanDisk (state S.Store tx.new.conn.now) → IsTrue tx.old.conn.now.in_transaction → (state S.Store tx.old.conn.now).now.schema ≡ office_schema
-        → OnOk result (Goes (λ r. record r { tray = results_but purse.now r.tray }) (state S.Store tx.old.conn.now) (state S.Store tx.new.conn.now)) }
-    ensures inside { HasCleanDisk (state S.Store tx.new.conn.now) → IsTrue tx.old.conn.now.in_transaction → OnOk result (IsTrue tx.new.conn.now.in_transaction) }
-    ensures kept { HasCleanDisk (state S.Store tx.new.conn.now) → KeepsCommit (state S.Store tx.old.conn.now) (state S.Store tx.new.conn.now) }
-    ensures clean { doubt (state S.Store tx.old.conn.now).is_clean ≤ doubt (state S.Store tx.new.conn.now).is_clean }
+    ensures { Writes S.Store tx.old tx.new result
+        (λ r. record r { tray = results_but purse.now r.tray }) }
 {
     run(
         tx,
@@ -212,14 +151,13 @@ fn delete_tray<S: Alter>(tx: &mut Transaction<'_, S>, purse: &Name) -> Result<()
 
 /// Moves what is in the tray of a purse to the archive.
 pub fn archive_tray<S: Alter>(tx: &mut Transaction<'_, S>, purse: &Name) -> Result<(), StoreFault>
-    ensures same_reference { tx.new.conn.ghost_name ≡ tx.old.conn.ghost_name }
-    ensures ok { HasCleanDisk (state S.Store tx.new.conn.now) → IsTrue tx.old.conn.now.in_transaction → (state S.Store tx.old.conn.now).now.schema ≡ office_schema
-        → OnOk result (Goes (λ r. rewritten r (ArchiveTray purse.now)) (state S.Store tx.old.conn.now) (state S.Store tx.new.conn.now)) }
-    ensures inside { HasCleanDisk (state S.Store tx.new.conn.now) → IsTrue tx.old.conn.now.in_transaction → OnOk result (IsTrue tx.new.conn.now.in_transaction) }
-    ensures kept { HasCleanDisk (state S.Store tx.new.conn.now) → IsTrue tx.old.conn.now.in_transaction → KeepsCommit (state S.Store tx.old.conn.now) (state S.Store tx.new.conn.now) }
-    ensures clean { doubt (state S.Store tx.old.conn.now).is_clean ≤ doubt (state S.Store tx.new.conn.now).is_clean }
+    ensures { Writes S.Store tx.old tx.new result (λ r. rewritten r (ArchiveTray purse.now)) }
 {
-    let rows = tray_inside(tx, purse)?;
-    archive_rows(tx, purse, rows.as_slice())?;
+    let rows = ask_inside(
+        tx,
+        "SELECT details FROM tray WHERE purse = ?1",
+        &[given::text(purse.as_str())],
+    )?;
+    archive_rows(tx, purse, &rows)?;
     delete_tray(tx, purse)
 }

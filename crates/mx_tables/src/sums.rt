@@ -1,21 +1,19 @@
 //! What the books come to: sums over rows.
-ghost use Rattle.std.specs.Prelude.{◌≡◌, ◌+◌, not, map, filter, sum_by, IfOk};
-ghost use Rattle.std.specs.List.Sorted.{IsPermutation};
+ghost use Rattle.std.specs.Prelude.{◌≡◌, ◌+◌, IfOk, sum_by};
 ghost use Rattle.std.specs.FinMap as fmap;
-ghost use Rattle.sqlite.specs.Held.{state};
 ghost use Rattle.sqlite_value.specs.Order.{column};
-ghost use Rattle.mx_book.specs.Sums.{sum_values};
 ghost use Rattle.mx_book.specs.RowEdits.{member_at};
 ghost use Rattle.mx_book.specs.RowReads.{is_counted};
 ghost use Rattle.mx_book.specs.RowTotals.{row_member_totals_of, row_totals_of};
-ghost use Rattle.mx_tables.specs.States.{worry, IsOurs, Stays};
-ghost use Rattle.mx_tables.specs.Holds.{Holds};
-ghost use Rattle.mx_tables.specs.Answers.{member_shown, ArePurses};
+ghost use Rattle.mx_book.specs.Sums.{sum_values};
+ghost use Rattle.mx_tables.specs.Answers.{ArePurses};
+ghost use Rattle.mx_tables.specs.Between.{row_adds};
+ghost use Rattle.mx_tables.specs.Counted.{counted_row, number_of, row_sums};
 ghost use Rattle.mx_tables.specs.Results.{AreDetails};
-ghost use Rattle.mx_tables.specs.Counted.{number_of, owed_shown, counted_row, row_sums};
+ghost use Rattle.mx_tables.specs.States.{Reads};
 
 use crate::asking::ask;
-use crate::between::{sum_lost, sum_transit};
+use crate::between::{lose_result, lose_row, sum_lost, sum_transit, wait_row};
 use crate::cells::{name_at, number_at};
 use crate::holders::find_holder;
 use crate::members::find_member;
@@ -23,7 +21,7 @@ use crate::purses::find_owner;
 use mx_book::{MemberTotals, Scope, StoreFault, Totals};
 use mx_pay::Name;
 use mx_pay::names::same_name;
-use sqlite::{Alter, Connection, Row, params};
+use sqlite::{Alter, Connection, Row};
 use std::alloc::Global;
 
 /// The sum with a number more. Store where it is too large.
@@ -37,12 +35,12 @@ pub fn plus(sum: u128, more: u128) -> Result<u128, StoreFault>
 }
 
 /// The member of the holder of a purse, or None where there is no such purse or holder.
-fn find_member_at<S: Alter>(
+pub(crate) fn find_member_at<S: Alter>(
     conn: &mut Connection<S>,
     purse: &Name,
 ) -> Result<Option<Name>, StoreFault>
-    ensures stays { IsOurs (state S.Store conn.old) → Stays (state S.Store conn.old) (state S.Store conn.new) }
-    ensures value { IsOurs (state S.Store conn.old) → worry (state S.Store conn.new) ≡ 0 → (r : _) → Holds (state S.Store conn.old).now r → IfOk result (λ v. v ≡ member_at r.holders (fmap.get r.purses purse.now)) }
+    ensures { Reads S.Store conn.old conn.new result
+        (λ r v. v ≡ member_at r.holders (fmap.get r.purses purse.now)) }
 {
     match find_owner(conn, purse)? {
         None => Ok(None),
@@ -56,8 +54,8 @@ fn counts<S: Alter>(
     scope: &Scope,
     purse: &Name,
 ) -> Result<bool, StoreFault>
-    ensures stays { IsOurs (state S.Store conn.old) → Stays (state S.Store conn.old) (state S.Store conn.new) }
-    ensures value { IsOurs (state S.Store conn.old) → worry (state S.Store conn.new) ≡ 0 → (r : _) → Holds (state S.Store conn.old).now r → IfOk result (λ b. b ≡ is_counted r.holders scope.now (fmap.get r.purses purse.now)) }
+    ensures { Reads S.Store conn.old conn.new result
+        (λ r b. b ≡ is_counted r.holders scope.now (fmap.get r.purses purse.now)) }
 {
     match scope {
         Scope::Scheme => Ok(true),
@@ -74,8 +72,8 @@ fn count_row<S: Alter>(
     scope: &Scope,
     row: &Row,
 ) -> Result<u128, StoreFault>
-    ensures stays { IsOurs (state S.Store conn.old) → Stays (state S.Store conn.old) (state S.Store conn.new) }
-    ensures value { IsOurs (state S.Store conn.old) → worry (state S.Store conn.new) ≡ 0 → (r : _) → Holds (state S.Store conn.old).now r → IfOk result (λ n. n ≡ counted_row r.purses r.holders scope.now row.now) }
+    ensures { Reads S.Store conn.old conn.new result
+        (λ r n. n ≡ counted_row r.purses r.holders scope.now row.now) }
 {
     let purse = name_at(row, 0)?;
     let number = number_at(row, 1)?;
@@ -86,96 +84,109 @@ fn count_row<S: Alter>(
     }
 }
 
-/// What rows come to, of the purses that count.
-fn count_rows<S: Alter>(
+/// What each row of a query adds to a sum.
+#[derive(Clone, Copy)]
+pub enum Adds {
+    /// Its number, where the purse that it names counts.
+    Counted(Scope),
+    /// What the purse of the row waits for that has left the other purse.
+    Waiting,
+    /// What is lost by the log in the row.
+    Logged,
+    /// What is lost by the archived result in the row.
+    Archived,
+}
+
+/// What a row adds to a sum.
+fn row_adds<S: Alter>(
+    alloc: Global,
     conn: &mut Connection<S>,
-    scope: &Scope,
+    adds: &Adds,
+    row: &Row,
+) -> Result<u128, StoreFault>
+    ensures { Reads S.Store conn.old conn.new result
+        (λ r n. ArePurses r → AreDetails r.archive → n ≡ row_adds r adds.now row.now) }
+{
+    match adds {
+        Adds::Counted(scope) => count_row(conn, scope, row),
+        Adds::Waiting => wait_row(alloc, conn, row),
+        Adds::Logged => lose_row(alloc, conn, row),
+        Adds::Archived => lose_result(alloc, conn, row),
+    }
+}
+
+/// What rows add to a sum.
+pub fn sum_rows<S: Alter>(
+    alloc: Global,
+    conn: &mut Connection<S>,
+    adds: &Adds,
     rows: &[Row],
 ) -> Result<u128, StoreFault>
-    ensures stays { IsOurs (state S.Store conn.old) → Stays (state S.Store conn.old) (state S.Store conn.new) }
-    ensures value { IsOurs (state S.Store conn.old) → worry (state S.Store conn.new) ≡ 0 → (r : _) → Holds (state S.Store conn.old).now r → IfOk result (λ n. n ≡ sum_by (counted_row r.purses r.holders scope.now) rows.now) }
+    ensures { Reads S.Store conn.old conn.new result
+        (λ r n. ArePurses r → AreDetails r.archive → n ≡ sum_by (row_adds r adds.now) rows.now) }
 {
     let mut sum = 0;
     for row in rows {
-        let more = count_row(conn, scope, row)?;
+        let more = row_adds(alloc, conn, adds, row)?;
         sum = plus(sum, more)?;
     }
     Ok(sum)
 }
 
-/// The purse and the amount of each redemption that isn't collected.
-fn select_uncollected<S: Alter>(conn: &mut Connection<S>) -> Result<Vec<Row>, StoreFault>
-    ensures stays { IsOurs (state S.Store conn.old) → Stays (state S.Store conn.old) (state S.Store conn.new) }
-    ensures rows { worry (state S.Store conn.new) ≡ 0 → (r : _) → Holds (state S.Store conn.old).now r → IfOk result (λ rows. IsPermutation (map (λ e. owed_shown e.0.0 e.1.amount) (filter (λ e. not e.1.collected) (fmap.entries r.redemptions))) rows.items) }
-{
-    ask(
-        conn,
-        "SELECT purse, amount FROM redemption WHERE collected = 0",
-        &[],
-    )
-}
-
 /// What the redemptions of the purses that count come to that aren't collected.
 pub fn sum_uncollected<S: Alter>(
+    alloc: Global,
     conn: &mut Connection<S>,
     scope: &Scope,
 ) -> Result<u128, StoreFault>
-    ensures stays { IsOurs (state S.Store conn.old) → Stays (state S.Store conn.old) (state S.Store conn.new) }
-    ensures value { IsOurs (state S.Store conn.old) → worry (state S.Store conn.new) ≡ 0 → (r : _) → Holds (state S.Store conn.old).now r → IfOk result (λ n. n ≡ (row_sums r scope.now).uncollected) }
+    ensures { Reads S.Store conn.old conn.new result
+        (λ r n. ArePurses r → AreDetails r.archive → n ≡ (row_sums r scope.now).uncollected) }
 {
-    let rows = select_uncollected(conn)?;
-    count_rows(conn, scope, rows.as_slice())
-}
-
-/// The purse and the amount of each redemption.
-fn select_redeemed<S: Alter>(conn: &mut Connection<S>) -> Result<Vec<Row>, StoreFault>
-    ensures stays { IsOurs (state S.Store conn.old) → Stays (state S.Store conn.old) (state S.Store conn.new) }
-    ensures rows { worry (state S.Store conn.new) ≡ 0 → (r : _) → Holds (state S.Store conn.old).now r → IfOk result (λ rows. IsPermutation (map (λ e. owed_shown e.0.0 e.1.amount) (fmap.entries r.redemptions)) rows.items) }
-{
-    ask(conn, "SELECT purse, amount FROM redemption", &[])
+    let rows = ask(
+        conn,
+        "SELECT purse, amount FROM redemption WHERE collected = 0",
+        &[],
+    )?;
+    sum_rows(alloc, conn, &Adds::Counted(*scope), &rows)
 }
 
 /// What the redemptions of the purses that count come to.
-fn sum_redeemed<S: Alter>(conn: &mut Connection<S>, scope: &Scope) -> Result<u128, StoreFault>
-    ensures stays { IsOurs (state S.Store conn.old) → Stays (state S.Store conn.old) (state S.Store conn.new) }
-    ensures value { IsOurs (state S.Store conn.old) → worry (state S.Store conn.new) ≡ 0 → (r : _) → Holds (state S.Store conn.old).now r → IfOk result (λ n. n ≡ (row_sums r scope.now).redeemed) }
+fn sum_redeemed<S: Alter>(
+    alloc: Global,
+    conn: &mut Connection<S>,
+    scope: &Scope,
+) -> Result<u128, StoreFault>
+    ensures { Reads S.Store conn.old conn.new result
+        (λ r n. ArePurses r → AreDetails r.archive → n ≡ (row_sums r scope.now).redeemed) }
 {
-    let rows = select_redeemed(conn)?;
-    count_rows(conn, scope, rows.as_slice())
-}
-
-/// The purse and the amount of each load.
-fn select_issued<S: Alter>(conn: &mut Connection<S>) -> Result<Vec<Row>, StoreFault>
-    ensures stays { IsOurs (state S.Store conn.old) → Stays (state S.Store conn.old) (state S.Store conn.new) }
-    ensures rows { worry (state S.Store conn.new) ≡ 0 → (r : _) → Holds (state S.Store conn.old).now r → IfOk result (λ rows. IsPermutation (map (λ e. owed_shown e.0.0 e.1) (fmap.entries r.loads)) rows.items) }
-{
-    ask(conn, "SELECT purse, amount FROM load", &[])
+    let rows = ask(conn, "SELECT purse, amount FROM redemption", &[])?;
+    sum_rows(alloc, conn, &Adds::Counted(*scope), &rows)
 }
 
 /// What the loads of the purses that count come to.
-fn sum_issued<S: Alter>(conn: &mut Connection<S>, scope: &Scope) -> Result<u128, StoreFault>
-    ensures stays { IsOurs (state S.Store conn.old) → Stays (state S.Store conn.old) (state S.Store conn.new) }
-    ensures value { IsOurs (state S.Store conn.old) → worry (state S.Store conn.new) ≡ 0 → (r : _) → Holds (state S.Store conn.old).now r → IfOk result (λ n. n ≡ (row_sums r scope.now).issued) }
+fn sum_issued<S: Alter>(
+    alloc: Global,
+    conn: &mut Connection<S>,
+    scope: &Scope,
+) -> Result<u128, StoreFault>
+    ensures { Reads S.Store conn.old conn.new result
+        (λ r n. ArePurses r → AreDetails r.archive → n ≡ (row_sums r scope.now).issued) }
 {
-    let rows = select_issued(conn)?;
-    count_rows(conn, scope, rows.as_slice())
-}
-
-/// Each purse and its balance.
-fn select_balances<S: Alter>(conn: &mut Connection<S>) -> Result<Vec<Row>, StoreFault>
-    ensures stays { IsOurs (state S.Store conn.old) → Stays (state S.Store conn.old) (state S.Store conn.new) }
-    ensures rows { worry (state S.Store conn.new) ≡ 0 → (r : _) → Holds (state S.Store conn.old).now r → IfOk result (λ rows. IsPermutation (map (λ e. owed_shown e.0 e.1.purse.balance) (fmap.entries r.purses)) rows.items) }
-{
-    ask(conn, "SELECT name, balance FROM purse", &[])
+    let rows = ask(conn, "SELECT purse, amount FROM load", &[])?;
+    sum_rows(alloc, conn, &Adds::Counted(*scope), &rows)
 }
 
 /// What the balances of the purses that count come to.
-fn sum_balances<S: Alter>(conn: &mut Connection<S>, scope: &Scope) -> Result<u128, StoreFault>
-    ensures stays { IsOurs (state S.Store conn.old) → Stays (state S.Store conn.old) (state S.Store conn.new) }
-    ensures value { IsOurs (state S.Store conn.old) → worry (state S.Store conn.new) ≡ 0 → (r : _) → Holds (state S.Store conn.old).now r → IfOk result (λ n. n ≡ (row_sums r scope.now).balances) }
+fn sum_balances<S: Alter>(
+    alloc: Global,
+    conn: &mut Connection<S>,
+    scope: &Scope,
+) -> Result<u128, StoreFault>
+    ensures { Reads S.Store conn.old conn.new result
+        (λ r n. ArePurses r → AreDetails r.archive → n ≡ (row_sums r scope.now).balances) }
 {
-    let rows = select_balances(conn)?;
-    count_rows(conn, scope, rows.as_slice())
+    let rows = ask(conn, "SELECT name, balance FROM purse", &[])?;
+    sum_rows(alloc, conn, &Adds::Counted(*scope), &rows)
 }
 
 /// The sums of the purses that count.
@@ -192,14 +203,18 @@ pub struct Sums {
 }
 
 /// The sums of the purses that count.
-fn sum_all<S: Alter>(conn: &mut Connection<S>, scope: &Scope) -> Result<Sums, StoreFault>
-    ensures stays { IsOurs (state S.Store conn.old) → Stays (state S.Store conn.old) (state S.Store conn.new) }
-    ensures value { IsOurs (state S.Store conn.old) → worry (state S.Store conn.new) ≡ 0 → (r : _) → Holds (state S.Store conn.old).now r → IfOk result (λ sums. sums ≡ row_sums r scope.now) }
+fn sum_all<S: Alter>(
+    alloc: Global,
+    conn: &mut Connection<S>,
+    scope: &Scope,
+) -> Result<Sums, StoreFault>
+    ensures { Reads S.Store conn.old conn.new result
+        (λ r sums. ArePurses r → AreDetails r.archive → sums ≡ row_sums r scope.now) }
 {
-    let uncollected = sum_uncollected(conn, scope)?;
-    let issued = sum_issued(conn, scope)?;
-    let redeemed = sum_redeemed(conn, scope)?;
-    let balances = sum_balances(conn, scope)?;
+    let uncollected = sum_uncollected(alloc, conn, scope)?;
+    let issued = sum_issued(alloc, conn, scope)?;
+    let redeemed = sum_redeemed(alloc, conn, scope)?;
+    let balances = sum_balances(alloc, conn, scope)?;
     Ok(Sums {
         uncollected,
         issued,
@@ -210,16 +225,17 @@ fn sum_all<S: Alter>(conn: &mut Connection<S>, scope: &Scope) -> Result<Sums, St
 
 /// What the books come to for a member, or None where there is no such member.
 pub fn sum_member<S: Alter>(
+    alloc: Global,
     conn: &mut Connection<S>,
     member: &Name,
 ) -> Result<Option<MemberTotals>, StoreFault>
-    ensures stays { IsOurs (state S.Store conn.old) → Stays (state S.Store conn.old) (state S.Store conn.new) }
-    ensures value { IsOurs (state S.Store conn.old) → worry (state S.Store conn.new) ≡ 0 → (r : _) → Holds (state S.Store conn.old).now r → IfOk result (λ v. v ≡ row_member_totals_of r member.now) }
+    ensures { Reads S.Store conn.old conn.new result
+        (λ r v. ArePurses r → AreDetails r.archive → v ≡ row_member_totals_of r member.now) }
 {
     let Some(row) = find_member(conn, member)? else {
         return Ok(None);
     };
-    let sums = sum_all(conn, &Scope::Member(*member))?;
+    let sums = sum_all(alloc, conn, &Scope::Member(*member))?;
     Ok(Some(MemberTotals {
         granted: row.granted as u128,
         float: row.float as u128,
@@ -242,33 +258,25 @@ fn sum_column(rows: &[Row], at: usize) -> Result<u128, StoreFault>
     Ok(sum)
 }
 
-/// The grants and the float of each member.
-fn select_grants<S: Alter>(conn: &mut Connection<S>) -> Result<Vec<Row>, StoreFault>
-    ensures stays { IsOurs (state S.Store conn.old) → Stays (state S.Store conn.old) (state S.Store conn.new) }
-    ensures rows { worry (state S.Store conn.new) ≡ 0 → (r : _) → Holds (state S.Store conn.old).now r → IfOk result (λ rows. IsPermutation (map (λ e. member_shown e.1) (fmap.entries r.members)) rows.items) }
-{
-    ask(conn, "SELECT granted, unspent FROM member", &[])
-}
-
 /// The sum of all grants, and that of all floats.
 fn sum_grants<S: Alter>(conn: &mut Connection<S>) -> Result<(u128, u128), StoreFault>
-    ensures stays { IsOurs (state S.Store conn.old) → Stays (state S.Store conn.old) (state S.Store conn.new) }
-    ensures value { worry (state S.Store conn.new) ≡ 0 → (r : _) → Holds (state S.Store conn.old).now r → IfOk result (λ sums. (sums.0 ≡ sum_values (λ m. m.granted) r.members) × (sums.1 ≡ sum_values (λ m. m.float) r.members)) }
+    ensures { Reads S.Store conn.old conn.new result
+        (λ r sums. (sums.0 ≡ sum_values (λ m. m.granted) r.members)
+        × (sums.1 ≡ sum_values (λ m. m.float) r.members)) }
 {
-    let found = select_grants(conn)?;
-    let rows = found.as_slice();
-    let granted = sum_column(rows, 0)?;
-    let float = sum_column(rows, 1)?;
+    let rows = ask(conn, "SELECT granted, unspent FROM member", &[])?;
+    let granted = sum_column(&rows, 0)?;
+    let float = sum_column(&rows, 1)?;
     Ok((granted, float))
 }
 
 /// What the books come to for the whole scheme.
 pub fn sum_scheme<S: Alter>(alloc: Global, conn: &mut Connection<S>) -> Result<Totals, StoreFault>
-    ensures stays { IsOurs (state S.Store conn.old) → Stays (state S.Store conn.old) (state S.Store conn.new) }
-    ensures value { IsOurs (state S.Store conn.old) → worry (state S.Store conn.new) ≡ 0 → (r : _) → Holds (state S.Store conn.old).now r → ArePurses r → AreDetails r.archive → IfOk result (λ v. v ≡ row_totals_of r) }
+    ensures { Reads S.Store conn.old conn.new result
+        (λ r v. ArePurses r → AreDetails r.archive → v ≡ row_totals_of r) }
 {
     let (granted, float) = sum_grants(conn)?;
-    let sums = sum_all(conn, &Scope::Scheme)?;
+    let sums = sum_all(alloc, conn, &Scope::Scheme)?;
     let transit = sum_transit(alloc, conn)?;
     let lost = sum_lost(alloc, conn)?;
     Ok(Totals {

@@ -6,7 +6,8 @@ ghost use Rattle.mx_tables.specs.Schema.{no_schema};
 ghost use Rattle.mx_tables.specs.declared.opening.OpenFault.TheVariants.{NotThisSchema};
 ghost use Rattle.sqlite_schema.specs.Names.{table_named};
 ghost use Rattle.mx_tables.specs.Made.{IsVersion1};
-ghost use Rattle.mx_tables.specs.States.{worry};
+ghost use Rattle.mx_tables.specs.States.{worry, IsOurs, Leaves};
+ghost use Rattle.mx_tables.specs.Settled.{left_as_is};
 ghost use Rattle.sqlite.specs.Effect.{Database};
 ghost use Rattle.mx_tables.specs.Holds.{SpellsOne};
 
@@ -15,6 +16,7 @@ use crate::holders::read_holder;
 use crate::inbox::{find_has_message, find_message, list_inbox};
 use crate::lines::list_lines;
 use crate::loads::find_load;
+use crate::member_sums::sum_members;
 use crate::members::{find_member, list_members};
 use crate::opening::{OpenFault, OpenRefused, check_office, make_office};
 use crate::purses::{find_is_own, find_own, find_place, list_held, read_account};
@@ -63,11 +65,19 @@ impl<S: Alter> Tables<S> {
         mut store: Connection<S>,
         operator: Token,
     ) -> Result<Tables<S>, OpenRefused<S>>
-        ensures later { MatchResult result (λ t. worry (state S.Store store) ≤ worry (state S.Store t)) (λ e. worry (state S.Store store) ≤ worry (state S.Store e.store)) }
-        ensures opens { IfOk result (λ t. worry (state S.Store t) ≡ 0 → SpellsOne (state S.Store t).now (opening operator)) }
-        ensures left { IfErr result (λ e. worry (state S.Store e.store) ≡ 0 → (state S.Store e.store).now ≡ (state S.Store store).now) }
-        ensures idle { store.in_transaction ≡ false → IfErr result (λ e. e.store.in_transaction ≡ false) }
-        ensures taken { IfErr result (λ e. e.fault ≡ NotThisSchema → (state S.Store store).now.schema ≢ no_schema) }
+        ensures later { MatchResult result
+            (λ t. worry (state S.Store store) ≤ worry (state S.Store t))
+            (λ e. worry (state S.Store store) ≤ worry (state S.Store e.store)) }
+        ensures opens { IfOk result
+            (λ t. worry (state S.Store t) ≡ 0
+            → SpellsOne (state S.Store t).now (opening operator)) }
+        ensures left { IfErr result
+            (λ e. worry (state S.Store e.store) ≡ 0
+            → (state S.Store e.store).now ≡ (state S.Store store).now) }
+        ensures idle { store.in_transaction ≡ false → IfErr result
+            (λ e. e.store.in_transaction ≡ false) }
+        ensures taken { IfErr result
+            (λ e. e.fault ≡ NotThisSchema → (state S.Store store).now.schema ≢ no_schema) }
     {
         if !store.is_autocommit() {
             return Err(OpenRefused {
@@ -89,12 +99,25 @@ impl<S: Alter> Tables<S> {
     /// NotThisSchema, only where it has no table `meta`, or `meta` has no row of id 1 with version 1; or as Store,
     /// where the store refuses a statement for another cause, its tables are others, or a transaction is open on it.
     pub fn open(alloc: Global, mut store: Connection<S>) -> Result<Tables<S>, OpenRefused<S>>
-        ensures later { MatchResult result (λ t. worry (state S.Store store) ≤ worry (state S.Store t)) (λ e. worry (state S.Store store) ≤ worry (state S.Store e.store)) }
-        ensures same { IfOk result (λ t. worry (state S.Store t) ≡ 0 → (state S.Store t).now ≡ (state S.Store store).now) }
-        ensures known { IfOk result (λ t. worry (state S.Store t) ≡ 0 → IsVersion1 (state S.Store store).now) }
-        ensures left { IfErr result (λ e. worry (state S.Store e.store) ≡ 0 → (state S.Store e.store).now ≡ (state S.Store store).now) }
-        ensures idle { store.in_transaction ≡ false → IfErr result (λ e. e.store.in_transaction ≡ false) }
-        ensures unknown { IfErr result (λ e. e.fault ≡ NotThisSchema → worry (state S.Store e.store) ≡ 0 → (table_named (state S.Store store).now.schema (codes "meta") ≡ None) ⊎ ¬ IsVersion1 (state S.Store store).now) }
+        ensures later { MatchResult result
+            (λ t. worry (state S.Store store) ≤ worry (state S.Store t))
+            (λ e. worry (state S.Store store) ≤ worry (state S.Store e.store)) }
+        ensures same { IfOk result
+            (λ t. worry (state S.Store t) ≡ 0 → (state S.Store t).now ≡ (state S.Store store).now) }
+        ensures ours { IfOk result (λ t. IsOurs (state S.Store t)) }
+        ensures live { IfOk result
+            (λ t. worry (state S.Store t) ≤ 1 → worry (state S.Store t) ≡ 0) }
+        ensures known { IfOk result
+            (λ t. worry (state S.Store t) ≡ 0 → IsVersion1 (state S.Store store).now) }
+        ensures left { IfErr result
+            (λ e. worry (state S.Store e.store) ≡ 0
+            → (state S.Store e.store).now ≡ (state S.Store store).now) }
+        ensures idle { store.in_transaction ≡ false → IfErr result
+            (λ e. e.store.in_transaction ≡ false) }
+        ensures unknown { IfErr result
+            (λ e. e.fault ≡ NotThisSchema → worry (state S.Store e.store) ≡ 0
+            → (table_named (state S.Store store).now.schema (codes "meta") ≡ None)
+            ⊎ ¬ IsVersion1 (state S.Store store).now) }
     {
         if !store.is_autocommit() {
             return Err(OpenRefused {
@@ -115,6 +138,9 @@ impl<S: Alter> Tables<S> {
     /// The connection, with its rows as they are.
     pub fn into_store(self) -> Connection<S>
         ensures same { result ≡ self }
+        ensures ours { IsOurs (state S.Store result) }
+        ensures lasts { worry (state S.Store result) ≡ 0
+            → Leaves (state S.Store result) (state S.Store result).now }
         ensures idle { result.in_transaction ≡ false }
     {
         let Tables { conn, .. } = self;
@@ -130,6 +156,8 @@ impl<S: Alter> Book for Tables<S> {
     ghost spells = { SpellsOne };
 
     ghost doubt = { λ t. worry (state S.Store t) };
+
+    ghost leaves = { λ t db. Leaves (state S.Store t) db };
 
     ghost fails = { λ _. Unit {0} };
 
@@ -248,16 +276,20 @@ impl<S: Alter> Book for Tables<S> {
         find_redemption(&mut self.conn, &purse, &reference)
     }
 
-    fn uncollected(&mut self, _alloc: Global, member: Name) -> Result<u128, StoreFault> {
-        sum_uncollected(&mut self.conn, &Scope::Member(member))
+    fn uncollected(&mut self, alloc: Global, member: Name) -> Result<u128, StoreFault> {
+        sum_uncollected(alloc, &mut self.conn, &Scope::Member(member))
     }
 
     fn member_totals(
         &mut self,
-        _alloc: Global,
+        alloc: Global,
         member: Name,
     ) -> Result<Option<MemberTotals>, StoreFault> {
-        sum_member(&mut self.conn, &member)
+        sum_member(alloc, &mut self.conn, &member)
+    }
+
+    fn members_totals(&mut self, alloc: Global) -> Result<Vec<(Name, MemberTotals)>, StoreFault> {
+        sum_members(alloc, &mut self.conn)
     }
 
     fn totals(&mut self, alloc: Global) -> Result<Totals, StoreFault> {
@@ -267,4 +299,6 @@ impl<S: Alter> Book for Tables<S> {
     ghost sound = { λ db w h. h.spelled.spells.sound };
 
     ghost single = { λ db v w h g. g.only v h.spelled };
+
+    ghost settled = { λ t db. left_as_is _ (S.Store.settled t.store) db };
 }

@@ -45,6 +45,8 @@ impl<B: Book> Book for Faulty<B> {
 
     ghost doubt = { λ b. B.doubt b.book };
 
+    ghost leaves = { λ b r. B.leaves b.book r };
+
     ghost fails = { λ _. Unit {0} };
 
     fn who(&mut self, alloc: Global, token: &Token) -> Result<Option<Caller>, StoreFault> {
@@ -222,6 +224,13 @@ impl<B: Book> Book for Faulty<B> {
         self.book.member_totals(alloc, member)
     }
 
+    fn members_totals(&mut self, alloc: Global) -> Result<Vec<(Name, MemberTotals)>, StoreFault> {
+        if self.is_left_out() {
+            return Err(StoreFault::Store);
+        }
+        self.book.members_totals(alloc)
+    }
+
     fn apply(&mut self, edits: &[Edit]) -> Result<(), StoreFault> {
         if self.is_left_out() {
             return Err(StoreFault::Store);
@@ -232,4 +241,6 @@ impl<B: Book> Book for Faulty<B> {
     ghost sound = { B.sound };
 
     ghost single = { B.single };
+
+    ghost settled = { λ b r. B.settled b.book r };
 }

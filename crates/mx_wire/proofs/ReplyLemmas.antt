@@ -4,10 +4,11 @@ use Rattle.std.proofs.Math.Seq.{take-append_seam, drop-append_seam}
 use Rattle.std.specs.Fmt.{digits}
 use Rattle.std.specs.Fmt.{decimal}
 use Rattle.mx_purse.specs.declared.message.Message.{Message}
+use Rattle.mx_purse.specs.Words.{message_word, message_details}
 use Rattle.mx_book.specs.declared.values.Line.{Line}
 use Rattle.mx_book.specs.declared.values.Totals.{Totals}
 use Rattle.mx_book.specs.Words as words
-use Rattle.mx_wire.specs.Replies.{Parts, head_text, error_body, done_body, aborted_body, kind_text, details_text, message_text, line_text, reconciled_body}
+use Rattle.mx_wire.specs.Replies.{Parts, head_text, error_body, done_body, aborted_body, message_text, line_text, reconciled_body}
 
 -- what an answer unfolds to compute a response whose texts are known
 unfoldable pub reply_texts : Unit {0}
@@ -25,8 +26,8 @@ pub parts-joined : (text head body : List ℕ) (n : ℕ) → text ≡ head ++ bo
 parts-joined text head body n whole size = rw (whole, size, take-append_seam head body, drop-append_seam head body) refl
 
 -- a text to which a message was added, piece by piece
-pub message_added : (t a b c d e f g kind number : List ℕ) (n : ℕ) (m : Message) → kind ≡ kind_text m → number ≡ decimal n
-    → a ≡ t ++ codes "{\"details\":\"" → b ≡ a ++ details_text m → c ≡ b ++ codes "\",\"kind\":\"" → d ≡ c ++ kind → e ≡ d ++ codes "\",\"number\":" → f ≡ e ++ number → g ≡ f ++ codes "}"
+pub message_added : (t a b c d e f g kind number : List ℕ) (n : ℕ) (m : Message) → kind ≡ message_word m → number ≡ decimal n
+    → a ≡ t ++ codes "{\"details\":\"" → b ≡ a ++ message_details m → c ≡ b ++ codes "\",\"kind\":\"" → d ≡ c ++ kind → e ≡ d ++ codes "\",\"number\":" → f ≡ e ++ number → g ≡ f ++ codes "}"
     → g ≡ t ++ message_text (n, m)
 message_added t a b c d e f g kind number n m is_kind is_number p q r s k l o =
     rw (o, l, k, s, r, q, p, is_kind, is_number) (simp append_assoc)

@@ -2,13 +2,11 @@
 -- with its keys in byte order.
 use Rattle.std.specs.Prelude.{ℕ, List, [], ◌∷◌, ◌++◌, length, map, Bool, true, false, codes, if◌then◌else◌, Option, Some, None}
 use Rattle.std.specs.Fmt.{decimal}
-use Rattle.mx_pay.specs.Codes.{code, entry_text}
+use Rattle.mx_pay.specs.Codes.{entry_text}
 use Rattle.mx_pay.specs.Details.{Details}
 use Rattle.mx_purse.specs.State.{State}
-use Rattle.mx_purse.specs.declared.status.Status.{Status}
-use Rattle.mx_purse.specs.declared.status.Status.TheVariants as status
+use Rattle.mx_purse.specs.Words.{status_word, message_word, message_details}
 use Rattle.mx_purse.specs.declared.message.Message.{Message}
-use Rattle.mx_purse.specs.declared.message.Message.TheVariants as message
 use Rattle.mx_purse.specs.declared.message.Handled.{Handled}
 use Rattle.mx_purse.specs.declared.message.Handled.TheVariants as took
 use Rattle.mx_book.specs.declared.values.Line.{Line}
@@ -119,14 +117,6 @@ abbrev pub in_commas : List (List ℕ) → List ℕ
 in_commas [] = []
 in_commas (x ∷ xs) = x ++ after_commas xs
 
--- the word for where a purse stands in a payment
-abbrev pub status_text : Status → List ℕ
-status_text status.EaFrom = codes "eaFrom"
-status_text status.EaTo = codes "eaTo"
-status_text (status.Epr d) = codes "epr"
-status_text (status.Epv d) = codes "epv"
-status_text (status.Epa d) = codes "epa"
-
 -- the body that shows a purse
 unfoldable pub shown_text : ℕ → ℕ → List ℕ → List ℕ → List ℕ
 shown_text balance next name status =
@@ -134,7 +124,7 @@ shown_text balance next name status =
     ++ codes "\",\"status\":\"" ++ status ++ codes "\"}"
 
 abbrev pub shown_body : State → List ℕ
-shown_body p = shown_text p.balance p.next p.name (status_text p.status)
+shown_body p = shown_text p.balance p.next p.name (status_word p.status)
 
 -- the body of a payment that is started
 unfoldable pub started_body : Details → List ℕ
@@ -163,23 +153,10 @@ quoted name = codes "\"" ++ name ++ codes "\""
 unfoldable pub purses_body : List (List ℕ) → List ℕ
 purses_body names = codes "{\"purses\":[" ++ in_commas (map quoted names) ++ codes "]}"
 
--- the word for a message, and the text of its details: one entry, or the code text of the set that a clear has
-abbrev pub kind_text : Message → List ℕ
-kind_text (message.Req d) = codes "req"
-kind_text (message.Val d) = codes "val"
-kind_text (message.Ack d) = codes "ack"
-kind_text (message.Clear set) = codes "clear"
-
-abbrev pub details_text : Message → List ℕ
-details_text (message.Req d) = entry_text d
-details_text (message.Val d) = entry_text d
-details_text (message.Ack d) = entry_text d
-details_text (message.Clear set) = code set
-
 -- a message in a list, with its number, and the body of a list of messages
 abbrev pub message_text : ℕ × Message → List ℕ
 message_text m =
-    codes "{\"details\":\"" ++ details_text m.1 ++ codes "\",\"kind\":\"" ++ kind_text m.1
+    codes "{\"details\":\"" ++ message_details m.1 ++ codes "\",\"kind\":\"" ++ message_word m.1
     ++ codes "\",\"number\":" ++ decimal m.0 ++ codes "}"
 
 unfoldable pub inbox_body : List (ℕ × Message) → List ℕ

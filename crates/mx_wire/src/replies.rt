@@ -1,14 +1,16 @@
 //! The responses: a head, and a body that is one JSON object.
 ghost use Rattle.std.specs.Prelude.{◌≡◌, ◌++◌, length, map, false, IfOk, IfErr, IsTrue, codes, string_bytes};
+ghost use Rattle.mx_purse.specs.Words.{message_details};
 ghost use Rattle.mx_wire.specs.Made.{parts_of};
-ghost use Rattle.mx_wire.specs.Replies.{sent, unavailable, fixed_parts, refusal_parts, response, reply_parts, handled_fixed, is_made, status_text, kind_text, details_text, shown_text, shown_body, started_body, collected_body, archived_body, entry_or_null, entry_body, purses_body, quoted, inbox_body, message_text, line_text, statement_body, reconciled_body, after_commas};
+ghost use Rattle.mx_wire.specs.Replies.{sent, unavailable, fixed_parts, refusal_parts, response, reply_parts, handled_fixed, is_made, shown_text, shown_body, started_body, collected_body, archived_body, entry_or_null, entry_body, purses_body, quoted, inbox_body, message_text, line_text, statement_body, reconciled_body, after_commas};
 ghost use Rattle.std.specs.Fmt.{decimal};
 
 use mx_book::values::{Line, Totals};
-use mx_book::words::{kind_text as line_kind_text, push_note};
+use mx_book::words::{kind_text, push_note};
 use mx_office::{Lines, Messages, Names, Refusal, Reply};
 use mx_pay::{Name, PayDetails, code_text, push_entry};
-use mx_purse::{Handled, Message, Purse, Status};
+use mx_purse::words::{message_word, status_word};
+use mx_purse::{Handled, Message, Purse};
 use std::alloc::{AllocError, Global};
 use std::marker::Model;
 
@@ -224,19 +226,6 @@ impl Response {
     }
 }
 
-/// The word for where a purse stands in a payment.
-fn status_text(status: Status) -> &'static str
-    ensures { result.now ≡ status_text status }
-{
-    match status {
-        Status::EaFrom => "eaFrom",
-        Status::EaTo => "eaTo",
-        Status::Epr(_) => "epr",
-        Status::Epv(_) => "epv",
-        Status::Epa(_) => "epa",
-    }
-}
-
 /// The body that shows a purse of these parts.
 #[tactic(auto, unfolding(crate::specs::Replies::shown_text))]
 fn shown_text(
@@ -258,7 +247,7 @@ fn shown_body(alloc: Global, purse: &Purse) -> Result<String, AllocError>
     ensures { IfOk result (λ text. string_bytes text ≡ shown_body purse.now) }
 {
     let name = purse.name();
-    let status = status_text(purse.status());
+    let status = status_word(&purse.status());
     shown_text(
         alloc,
         purse.balance(),
@@ -363,21 +352,9 @@ fn purses_body(alloc: Global, names: &Names) -> Result<String, AllocError>
     Ok(text)
 }
 
-/// The word for a message.
-fn kind_text(message: &Message) -> &'static str
-    ensures { result.now ≡ kind_text message.now }
-{
-    match message {
-        Message::Req(_) => "req",
-        Message::Val(_) => "val",
-        Message::Ack(_) => "ack",
-        Message::Clear(_) => "clear",
-    }
-}
-
 /// Writes the details of a message at the end: those of its payment, or the code text of a clear's set.
 fn push_details(alloc: Global, text: &mut String, message: &Message) -> Result<(), AllocError>
-    ensures { IfOk result (λ _. string_bytes text.new ≡ string_bytes text.old ++ details_text message.now) }
+    ensures { IfOk result (λ _. string_bytes text.new ≡ string_bytes text.old ++ message_details message.now) }
 {
     match message {
         Message::Req(details) | Message::Val(details) | Message::Ack(details) => {
@@ -403,7 +380,7 @@ fn push_message(
     text.push_str("{\"details\":\"")?;
     push_details(alloc, text, message)?;
     text.push_str("\",\"kind\":\"")?;
-    text.push_str(kind_text(message))?;
+    text.push_str(message_word(message))?;
     text.push_str("\",\"number\":")?;
     text.push_str(buffer.format(number))?;
     text.push_str("}")?;
@@ -456,7 +433,7 @@ fn push_line(text: &mut String, line: &Line) -> Result<(), AllocError>
     push_number(text, "{\"amount\":", line.amount.get())?;
     push_number(text, ",\"balance\":", line.balance)?;
     text.push_str(",\"kind\":\"")?;
-    text.push_str(line_kind_text(line.kind))?;
+    text.push_str(kind_text(line.kind))?;
     text.push_str("\",\"note\":\"")?;
     push_note(text, &line.note)?;
     push_number(text, "\",\"number\":", line.number)?;

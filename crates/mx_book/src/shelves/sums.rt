@@ -1,6 +1,6 @@
 //! What the rows of a book come to.
-ghost use Rattle.std.specs.Prelude.{◌≡◌};
-ghost use Rattle.mx_book.specs.RowTotals.{row_totals_of, row_member_totals_of, row_lost_of, row_sums_of};
+ghost use Rattle.std.specs.Prelude.{◌≡◌, IfOk};
+ghost use Rattle.mx_book.specs.RowTotals.{row_totals_of, row_member_totals_of, row_members_totals_of, row_lost_of, row_sums_of};
 ghost use Rattle.mx_book.specs.Shelves.{rows_of};
 
 use crate::shelves::Shelves;
@@ -10,6 +10,7 @@ use crate::totals::{
 };
 use crate::values::{MemberRow, MemberTotals, Totals};
 use mx_pay::Name;
+use std::alloc::{AllocError, Global};
 
 impl Shelves {
     /// What the books come to for the whole scheme.
@@ -44,6 +45,17 @@ impl Shelves {
     {
         let row = self.members.get(member)?;
         Some(self.sums_of(member, row))
+    }
+
+    /// Each member, in order, with what the books come to for it.
+    pub fn members_totals(&self, alloc: Global) -> Result<Vec<(Name, MemberTotals)>, AllocError>
+        ensures { IfOk result (λ r. r.items ≡ row_members_totals_of (rows_of self.now)) }
+    {
+        let mut totals = Vec::new(alloc);
+        for row in self.members.rows() {
+            totals.push((row.0, self.sums_of(row.0, &row.1)))?;
+        }
+        Ok(totals)
     }
 
     /// What the books come to for a member with this row.

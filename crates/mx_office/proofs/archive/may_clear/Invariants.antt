@@ -9,6 +9,6 @@ use Rattle.mx_office.proofs.archive.may_clear.Given as goal
 
 abbrev pub invariant-loop-place : goal.invariant-loop-place
 invariant-loop-place g l = let b = g.B.Book in record {
-  keeps : Keeps b.doubt b.rows l.fn.book l.book;
+  keeps : Keeps b.doubt b.rows b.leaves l.fn.book l.book;
   all : (w : World) → b.doubt l.book ≡ 0 → b.spells (b.rows l.fn.book) w → list_all (is_archived w l.fn.purse) (take l.place (logged l.fn.details)) ≡ Bool.true;
 }

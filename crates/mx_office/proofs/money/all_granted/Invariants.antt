@@ -8,7 +8,7 @@ use Rattle.mx_office.proofs.money.all_granted.Given as goal
 
 abbrev pub invariant-loop-member : goal.invariant-loop-member
 invariant-loop-member g l = let b = g.B.Book in record {
-  keeps : Keeps b.doubt b.rows l.fn.book l.book;
+  keeps : Keeps b.doubt b.rows b.leaves l.fn.book l.book;
   items : (w : World) → b.doubt l.book ≡ 0 → b.spells (b.rows l.fn.book) w → l.member-items ≡ members_of w;
   sum : (w : World) → b.doubt l.book ≡ 0 → b.spells (b.rows l.fn.book) w → l.sum ≡ sum_by (granted_to w) (take l.member-index l.member-items);
 }

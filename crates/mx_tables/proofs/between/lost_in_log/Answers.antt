@@ -28,7 +28,10 @@ loop-place-preserved g c =
           omega (arith, before, more, next, c.in_ok-sum.ensures),
     )
 
-pub returns-clause-value : goal.returns-clause-value
-returns-clause-value g c ours sure r holds purses archive =
-    c.loop-place.invariant.2 ours sure r holds purses archive
-    ∙ sum_all (lost_by r.purses r.archive c.args.purse.now) c.args.log.now c.loop-place.place (let all = c.loop-place.invariant.1 in omega (arith, c.loop-place-test.false, all))
+pub returns : goal.returns
+returns g c = record {
+  stays = λ ours. c.loop-place.invariant.0 ours;
+  value = λ ours sure r holds purses archive.
+      c.loop-place.invariant.2 ours sure r holds purses archive
+      ∙ sum_all (lost_by r.purses r.archive c.args.purse.now) c.args.log.now c.loop-place.place (let all = c.loop-place.invariant.1 in omega (arith, c.loop-place-test.false, all));
+}

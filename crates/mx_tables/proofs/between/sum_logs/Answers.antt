@@ -1,16 +1,13 @@
 use Rattle.std.proofs.Common.{◌∙◌}
-use Rattle.std.proofs.lemmas.Result.{IfOk-weaker}
-use Rattle.sqlite.specs.Held.{state}
-use Rattle.mx_tables.proofs.StateLemmas.{sure_before}
-use Rattle.mx_tables.proofs.CountedSums.{still_holds}
+use Rattle.mx_tables.proofs.CallLemmas.{reads_more, reads_then}
+use Rattle.mx_tables.proofs.BetweenLemmas.{select_logs_is}
+use Rattle.mx_tables.proofs.BetweenLemmas.{finds_logs}
 use Rattle.mx_tables.proofs.BetweenLemmas.{logs_summed}
 use Rattle.mx_tables.proofs.between.sum_logs.Goals as goal
 
-pub returns-clause-value : goal.returns-clause-value
-returns-clause-value g c ours sure kept holds purses archive =
-    let mid = state g.S.Store c.select_logs.new.conn in
-    let first = c.in_ok-rows.ensures.stays ours in
-    let second = c.lose_rows.ensures.stays first.ours in
-    let calm = sure_before mid (state g.S.Store c.lose_rows.new.conn) second.later sure in
-    IfOk-weaker c.lose_rows.result _ _ (λ n is. is ∙ logs_summed kept c.as_slice.result.now c.in_ok-rows.rows.items c.as_slice.ensures.value purses (c.in_ok-rows.ensures.rows calm kept holds))
-    (c.lose_rows.ensures.value first.ours sure kept (still_holds (state g.S.Store c.args.conn.now) mid kept first calm holds) purses archive)
+pub ask-requires : goal.ask-requires
+ask-requires g c = select_logs_is.query
+
+pub returns : goal.returns
+returns g c = reads_more g.S.Store (reads_then g.S.Store c.in_ok-rows.ensures.reads c.sum_rows.ensures) (λ rows holds n both purses archive.
+    both.1 purses archive ∙ logs_summed rows c.deref.result.now c.in_ok-rows.rows.items c.deref.ensures.value purses (finds_logs _ _ _ both.0 rows holds))

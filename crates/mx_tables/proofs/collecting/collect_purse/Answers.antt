@@ -1,8 +1,7 @@
-use Rattle.sqlite.specs.Held.{state}
-use Rattle.std.proofs.lemmas.Result.{on_ok_weaker}
+use Rattle.mx_tables.proofs.CallLemmas.{runs_to}
 use Rattle.mx_tables.proofs.CollectLemmas.{collects_purse}
 use Rattle.mx_tables.proofs.collecting.collect_purse.Goals as goal
 
-pub returns-clause-ok : goal.returns-clause-ok
-returns-clause-ok g c clean inside has =
-    on_ok_weaker c.run.result (λ ran. collects_purse c.args.purse.now (state g.S.Store c.args.tx.now.conn.now) (state g.S.Store c.run.new.tx.conn.now) ran.0 has (rw (c.params-to_sql.ensures, c.as_str-purse.ensures.text) at ran.1)) (c.run.ensures.ran clean inside)
+pub returns : goal.returns
+returns g c =
+    runs_to g.S.Store _ _ c.run.ensures (λ count one has ran. collects_purse c.args.purse.now _ _ count has (rw (c.text.ensures, c.as_str.ensures.text) at ran))

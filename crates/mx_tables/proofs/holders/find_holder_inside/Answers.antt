@@ -1,16 +1,24 @@
-use Rattle.std.proofs.Common.{sym, ap, ◌∙◌, arith, length, Some}
+use Rattle.std.proofs.Common.{Some, sym, ap, ◌∙◌}
+use Rattle.std.specs.Option.{option_copied}
 use Rattle.mx_pay.specs.Names.{name_cmp}
 use Rattle.mx_tables.specs.Answers.{text_shown}
+use Rattle.mx_tables.proofs.CallLemmas.{finds_to}
+use Rattle.mx_tables.proofs.HolderLemmas.{finds_holder}
+use Rattle.mx_tables.proofs.Texts.{select_holder_is}
 use Rattle.mx_tables.proofs.ReadLemmas.{got_none, got_one}
 use Rattle.mx_tables.proofs.ValueLemmas.{text_back}
 use Rattle.mx_tables.proofs.holders.find_holder_inside.Goals as goal
 
-pub returns-in-empty-clause-value : goal.returns-in-empty-clause-value
-returns-in-empty-clause-value g c sure kept holds =
-    sym (got_none name_cmp text_shown c.args.name.now kept.holders c.in_ok-rows.rows.items (c.in_ok-rows.ensures.rows sure kept holds) (omega (arith, c.in-empty.len_below, ap length c.as_slice.ensures.value)))
+pub ask_inside-requires : goal.ask_inside-requires
+ask_inside-requires g c = select_holder_is.query
 
-pub returns-in-len1-clause-value : goal.returns-in-len1-clause-value
-returns-in-len1-clause-value g c sure kept holds =
-    let one = got_one name_cmp text_shown c.args.name.now kept.holders c.as_slice.result.now c.in_ok-rows.rows.items c.row-item.result (c.in_ok-rows.ensures.rows sure kept holds) c.as_slice.ensures.value c.in-len1.len_at_least c.in-len1.len_below c.row-item.is in
-    let read = c.in_ok-name_at-in-len1.ensures in
-    ap Some (text_back one.0 c.in_ok-name_at-in-len1.field-0 c.row-item.result one.2 read) ∙ sym one.1
+pub returns : goal.returns
+returns g c = finds_to g.S.Store _ c.in_ok-rows.ensures (λ r holds shown.
+    let found = finds_holder c.args.name.now _ _ _ (rw (c.text.ensures, c.as_str.ensures.text) at shown) r holds in
+    sym (got_none name_cmp text_shown c.args.name.now r.holders _ _ _ found c.deref.ensures.value c.in_ok-row.ensures (ap option_copied c.in-None.is)))
+
+pub returns-in-Some : goal.returns-in-Some
+returns-in-Some g c = finds_to g.S.Store _ c.in_ok-rows.ensures (λ r holds shown.
+    let found = finds_holder c.args.name.now _ _ _ (rw (c.text.ensures, c.as_str.ensures.text) at shown) r holds in
+    let one = got_one name_cmp text_shown c.args.name.now r.holders _ _ _ c.in-Some.row.now found c.deref.ensures.value c.in_ok-row.ensures (ap option_copied c.in-Some.is) in
+    ap Some (text_back one.0 c.in_ok-name_at-in-Some.field-0 c.in-Some.row.now one.2 c.in_ok-name_at-in-Some.ensures) ∙ sym one.1)

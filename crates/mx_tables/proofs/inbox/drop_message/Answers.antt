@@ -1,9 +1,8 @@
-use Rattle.sqlite.specs.Held.{state}
-use Rattle.std.proofs.lemmas.Result.{on_ok_weaker}
+use Rattle.mx_tables.proofs.CallLemmas.{runs_to}
 use Rattle.mx_tables.proofs.InboxLemmas.{drops_message}
 use Rattle.mx_tables.proofs.inbox.drop_message.Goals as goal
 
-pub returns-clause-ok : goal.returns-clause-ok
-returns-clause-ok g c clean inside has =
-    on_ok_weaker c.delete_message.result (λ ran. drops_message c.args.purse.now c.args.number (state g.S.Store c.args.tx.now.conn.now) (state g.S.Store c.delete_message.new.tx.conn.now) 1 has
-    (rw c.as_str.ensures.text at ran)) (c.delete_message.ensures.ran clean inside)
+pub returns : goal.returns
+returns g c =
+    runs_to g.S.Store _ _ c.run_one.ensures (λ count one has ran. drops_message c.args.purse.now c.args.number _ _ count has
+    (rw (c.text.ensures, c.as_str.ensures.text, c.number.ensures) at ran))

@@ -1,21 +1,28 @@
-use Rattle.std.proofs.Common.{sym, ap, ◌∙◌, arith, length, Some}
+use Rattle.std.proofs.Common.{Some, sym, ap, ◌∙◌}
+use Rattle.std.specs.Option.{option_copied}
 use Rattle.std.specs.Ordering.{nat_cmp}
-use Rattle.sqlite.specs.Held.{state}
 use Rattle.mx_pay.specs.Names.{name_cmp}
 use Rattle.mx_book.specs.Under.{pair_cmp}
 use Rattle.mx_tables.specs.Answers.{message_shown}
+use Rattle.mx_tables.proofs.InboxLemmas.{message_back}
+use Rattle.mx_tables.proofs.CallLemmas.{reads_to}
+use Rattle.mx_tables.proofs.InboxLemmas.{finds_message}
+use Rattle.mx_tables.proofs.Texts.{select_message_is}
 use Rattle.mx_tables.proofs.ReadLemmas.{got_none, got_one}
-use Rattle.mx_tables.proofs.InboxLemmas.{finds_message, message_back}
 use Rattle.mx_tables.proofs.inbox.find_message.Goals as goal
 
-pub returns-in-empty-clause-value : goal.returns-in-empty-clause-value
-returns-in-empty-clause-value g c sure kept holds valid low =
-    let found = finds_message c.args.purse.now c.args.number (state g.S.Store c.args.conn.now) (state g.S.Store c.select_message.new.conn) c.in_ok-rows.rows.items (rw c.as_str.ensures.text at (c.in_ok-rows.ensures.shown sure)) kept holds in
-    sym (got_none (pair_cmp name_cmp nat_cmp) message_shown (c.args.purse.now, c.args.number) kept.inbox c.in_ok-rows.rows.items found (omega (arith, c.in-empty.len_below, ap length c.as_slice.ensures.value)))
+pub ask-requires : goal.ask-requires
+ask-requires g c = select_message_is.query
 
-pub returns-in-len1-clause-value : goal.returns-in-len1-clause-value
-returns-in-len1-clause-value g c sure kept holds valid low =
-    let found = finds_message c.args.purse.now c.args.number (state g.S.Store c.args.conn.now) (state g.S.Store c.select_message.new.conn) c.in_ok-rows.rows.items (rw c.as_str.ensures.text at (c.in_ok-rows.ensures.shown sure)) kept holds in
-    let one = got_one (pair_cmp name_cmp nat_cmp) message_shown (c.args.purse.now, c.args.number) kept.inbox c.as_slice.result.now c.in_ok-rows.rows.items c.row-item.result found c.as_slice.ensures.value c.in-len1.len_at_least c.in-len1.len_below c.row-item.is in
-    let read = c.in_ok-message-in-len1.ensures in
-    ap Some (message_back one.0 c.in_ok-message-in-len1.message c.row-item.result (valid (c.args.purse.now, c.args.number) one.0 one.1) read.valid one.2 read.shown.0 read.shown.1) ∙ sym one.1
+pub returns : goal.returns
+returns g c = reads_to g.S.Store c.in_ok-rows.ensures.reads (λ rows holds shown valid low.
+    let found = finds_message c.args.purse.now c.args.number _ _ _ (rw (c.text.ensures, c.as_str.ensures.text, c.number.ensures) at shown) rows holds in
+    let gone = got_none (pair_cmp name_cmp nat_cmp) message_shown (c.args.purse.now, c.args.number) rows.inbox _ _ _ found c.deref.ensures.value c.in_ok-row.ensures (ap option_copied c.in-None.is) in
+    sym gone)
+
+pub returns-in-Some : goal.returns-in-Some
+returns-in-Some g c = reads_to g.S.Store c.in_ok-rows.ensures.reads (λ rows holds shown valid low.
+    let found = finds_message c.args.purse.now c.args.number _ _ _ (rw (c.text.ensures, c.as_str.ensures.text, c.number.ensures) at shown) rows holds in
+    let one = got_one (pair_cmp name_cmp nat_cmp) message_shown (c.args.purse.now, c.args.number) rows.inbox _ _ _ c.in-Some.row.now found c.deref.ensures.value c.in_ok-row.ensures (ap option_copied c.in-Some.is) in
+    let read = c.in_ok-message_at-in-Some in
+    ap Some (message_back one.0 read.field-0 c.in-Some.row.now (valid (c.args.purse.now, c.args.number) one.0 one.1) read.ensures.valid one.2 read.ensures.shown.0 read.ensures.shown.1) ∙ sym one.1)

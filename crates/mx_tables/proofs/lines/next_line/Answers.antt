@@ -6,24 +6,24 @@ use Rattle.mx_tables.proofs.lines.next_line.Goals as goal
 
 pub returns-in-Err-clause-stays : goal.returns-in-Err-clause-stays
 returns-in-Err-clause-stays g c ours =
-    step_stays (state g.S.Store c.args.rows.now.conn.now) (state g.S.Store c.advance.new.self.conn.now) ours c.in-Err.ensures.mode c.in-Err.ensures.survives.clean
+    step_stays (state g.S.Store c.args.rows.now.conn.now) (state g.S.Store c.advance.new.self.conn.now) ours c.in-Err.ensures.mode c.in-Err.ensures.survives
     (λ clean. failed_quits _ _ _ (c.in-Err.ensures.kept clean))
 
 pub returns-in_default-clause-stays : goal.returns-in_default-clause-stays
 returns-in_default-clause-stays g c ours =
-    step_stays (state g.S.Store c.args.rows.now.conn.now) (state g.S.Store c.advance.new.self.conn.now) ours c.in-Ok.ensures.mode c.in-Ok.ensures.survives.clean (λ clean. inl (c.in-Ok.ensures.same clean))
+    step_stays (state g.S.Store c.args.rows.now.conn.now) (state g.S.Store c.advance.new.self.conn.now) ours c.in-Ok.ensures.mode c.in-Ok.ensures.survives (λ clean. inl (c.in-Ok.ensures.same clean))
 
 pub returns-in_err-note-clause-stays : goal.returns-in_err-note-clause-stays
 returns-in_err-note-clause-stays g c ours =
-    step_stays (state g.S.Store c.args.rows.now.conn.now) (state g.S.Store c.advance.new.self.conn.now) ours c.in-Ok.ensures.mode c.in-Ok.ensures.survives.clean (λ clean. inl (c.in-Ok.ensures.same clean))
+    step_stays (state g.S.Store c.args.rows.now.conn.now) (state g.S.Store c.advance.new.self.conn.now) ours c.in-Ok.ensures.mode c.in-Ok.ensures.survives (λ clean. inl (c.in-Ok.ensures.same clean))
 
 pub returns-in_err-line-clause-stays : goal.returns-in_err-line-clause-stays
 returns-in_err-line-clause-stays g c ours =
-    step_stays (state g.S.Store c.args.rows.now.conn.now) (state g.S.Store c.advance.new.self.conn.now) ours c.in-Ok.ensures.mode c.in-Ok.ensures.survives.clean (λ clean. inl (c.in-Ok.ensures.same clean))
+    step_stays (state g.S.Store c.args.rows.now.conn.now) (state g.S.Store c.advance.new.self.conn.now) ours c.in-Ok.ensures.mode c.in-Ok.ensures.survives (λ clean. inl (c.in-Ok.ensures.same clean))
 
 pub returns-clause-stays : goal.returns-clause-stays
 returns-clause-stays g c ours =
-    step_stays (state g.S.Store c.args.rows.now.conn.now) (state g.S.Store c.advance.new.self.conn.now) ours c.in-Ok.ensures.mode c.in-Ok.ensures.survives.clean (λ clean. inl (c.in-Ok.ensures.same clean))
+    step_stays (state g.S.Store c.args.rows.now.conn.now) (state g.S.Store c.advance.new.self.conn.now) ours c.in-Ok.ensures.mode c.in-Ok.ensures.survives (λ clean. inl (c.in-Ok.ensures.same clean))
 
 pub returns-in_default-clause-shown : goal.returns-in_default-clause-shown
 returns-in_default-clause-shown g c sound =

@@ -1,16 +1,26 @@
-use Rattle.std.proofs.Common.{sym, ap, ◌∙◌, arith, length, Some}
+use Rattle.std.proofs.Common.{Some, sym, ap, ◌∙◌}
+use Rattle.std.specs.Option.{option_copied}
 use Rattle.mx_pay.specs.Names.{name_cmp}
 use Rattle.mx_tables.specs.Answers.{member_shown}
-use Rattle.mx_tables.proofs.ReadLemmas.{got_none, got_one}
 use Rattle.mx_tables.proofs.ValueLemmas.{member_back}
+use Rattle.mx_tables.proofs.CallLemmas.{reads_to}
+use Rattle.mx_tables.proofs.MemberLemmas.{finds_member}
+use Rattle.mx_tables.proofs.Texts.{select_member_is}
+use Rattle.mx_tables.proofs.ReadLemmas.{got_none, got_one}
 use Rattle.mx_tables.proofs.members.find_member.Goals as goal
 
-pub returns-in-empty-clause-value : goal.returns-in-empty-clause-value
-returns-in-empty-clause-value g c sure kept holds =
-    sym (got_none name_cmp member_shown c.args.name.now kept.members c.in_ok-rows.rows.items (c.in_ok-rows.ensures.rows sure kept holds) (omega (arith, c.in-empty.len_below, ap length c.as_slice.ensures.value)))
+pub ask-requires : goal.ask-requires
+ask-requires g c = select_member_is.query
 
-pub returns-in-len1-clause-value : goal.returns-in-len1-clause-value
-returns-in-len1-clause-value g c sure kept holds =
-    let one = got_one name_cmp member_shown c.args.name.now kept.members c.as_slice.result.now c.in_ok-rows.rows.items c.row-item.result (c.in_ok-rows.ensures.rows sure kept holds) c.as_slice.ensures.value c.in-len1.len_at_least c.in-len1.len_below c.row-item.is in
-    let read = c.in_ok-member_in-in-len1.ensures in
-    ap Some (member_back one.0 c.in_ok-member_in-in-len1.field-0 c.row-item.result one.2 read.0 read.1) ∙ sym one.1
+pub returns : goal.returns
+returns g c = reads_to g.S.Store c.in_ok-rows.ensures.reads (λ rows holds shown.
+    let found = finds_member c.args.name.now _ _ _ (rw (c.text.ensures, c.as_str.ensures.text) at shown) rows holds in
+    let gone = got_none name_cmp member_shown c.args.name.now rows.members _ _ _ found c.deref.ensures.value c.in_ok-row.ensures (ap option_copied c.in-None.is) in
+    sym gone)
+
+pub returns-in-Some : goal.returns-in-Some
+returns-in-Some g c = reads_to g.S.Store c.in_ok-rows.ensures.reads (λ rows holds shown.
+    let found = finds_member c.args.name.now _ _ _ (rw (c.text.ensures, c.as_str.ensures.text) at shown) rows holds in
+    let one = got_one name_cmp member_shown c.args.name.now rows.members _ _ _ c.in-Some.row.now found c.deref.ensures.value c.in_ok-row.ensures (ap option_copied c.in-Some.is) in
+    let read = c.in_ok-member_in-in-Some.ensures in
+    ap Some (member_back one.0 c.in_ok-member_in-in-Some.field-0 c.in-Some.row.now one.2 read.0 read.1) ∙ sym one.1)

@@ -1,8 +1,14 @@
-use Rattle.mx_tables.proofs.MemberLemmas.{names_read}
 use Rattle.std.proofs.lemmas.Result.{IfOk-weaker}
+use Rattle.mx_tables.proofs.CallLemmas.{reads_to}
 use Rattle.std.proofs.Common.{◌∙◌}
+use Rattle.mx_tables.proofs.Texts.{select_members_is}
+use Rattle.mx_tables.proofs.MemberLemmas.{lists_members, names_read}
 use Rattle.mx_tables.proofs.members.list_members.Goals as goal
 
-pub returns-clause-value : goal.returns-clause-value
-returns-clause-value g c sure kept holds =
-    IfOk-weaker c.names_in.result _ _ (λ names read. names_read c.as_slice.result.now names.items _ read (c.as_slice.ensures.value ∙ c.in_ok-rows.ensures.rows sure kept holds)) c.names_in.ensures
+pub ask-requires : goal.ask-requires
+ask-requires g c = select_members_is.query
+
+pub returns : goal.returns
+returns g c = reads_to g.S.Store c.in_ok-rows.ensures.reads (λ rows holds shown.
+    let found = lists_members _ _ _ shown rows holds in
+    IfOk-weaker c.names_in.result _ _ (λ names read. names_read c.deref.result.now names.items _ read (c.deref.ensures.value ∙ found)) c.names_in.ensures)

@@ -1,17 +1,27 @@
-use Rattle.std.proofs.Common.{sym, ap, ◌∙◌, arith, length}
+use Rattle.std.proofs.Common.{sym, ap, ◌∙◌}
+use Rattle.std.specs.Option.{option_copied}
 use Rattle.std.specs.Prelude.{option_and_then}
 use Rattle.std.proofs.lemmas.Result.{IfOk-weaker}
 use Rattle.mx_pay.specs.Names.{name_cmp}
 use Rattle.mx_tables.specs.Answers.{own_shown, own_state}
+use Rattle.mx_tables.proofs.CallLemmas.{reads_to, reads_if}
+use Rattle.mx_tables.proofs.PurseLemmas.{finds_own}
+use Rattle.mx_tables.proofs.Texts.{select_own_is}
 use Rattle.mx_tables.proofs.ReadLemmas.{got_none, got_one}
 use Rattle.mx_tables.proofs.purses.find_own.Goals as goal
 
-pub returns-in-empty-clause-value : goal.returns-in-empty-clause-value
-returns-in-empty-clause-value g c sure kept holds sound =
-    sym (ap (option_and_then (own_state c.args.holder.now)) (got_none name_cmp own_shown c.args.name.now kept.purses c.in_ok-rows.rows.items (c.in_ok-rows.ensures.rows sure kept holds) (omega (arith, c.in-empty.len_below, ap length c.as_slice.ensures.value))))
+pub ask-requires : goal.ask-requires
+ask-requires g c = select_own_is.query
 
-pub returns-in-len1-clause-value : goal.returns-in-len1-clause-value
-returns-in-len1-clause-value g c sure kept holds sound =
-    let one = got_one name_cmp own_shown c.args.name.now kept.purses c.as_slice.result.now c.in_ok-rows.rows.items c.row-item.result (c.in_ok-rows.ensures.rows sure kept holds) c.as_slice.ensures.value c.in-len1.len_at_least c.in-len1.len_below c.row-item.is in
+pub returns : goal.returns
+returns g c = reads_to g.S.Store c.in_ok-rows.ensures.reads (λ rows holds shown sound.
+    let found = finds_own c.args.name.now _ _ _ (rw (c.text.ensures, c.as_str.ensures.text) at shown) rows holds in
+    let gone = got_none name_cmp own_shown c.args.name.now rows.purses _ _ _ found c.deref.ensures.value c.in_ok-row.ensures (ap option_copied c.in-None.is) in
+    sym (ap (option_and_then (own_state c.args.holder.now)) gone))
+
+pub returns-in-Some : goal.returns-in-Some
+returns-in-Some g c = reads_if g.S.Store c.in_ok-rows.ensures.reads (λ rows holds shown sound.
+    let found = finds_own c.args.name.now _ _ _ (rw (c.text.ensures, c.as_str.ensures.text) at shown) rows holds in
+    let one = got_one name_cmp own_shown c.args.name.now rows.purses _ _ _ c.in-Some.row.now found c.deref.ensures.value c.in_ok-row.ensures (ap option_copied c.in-Some.is) in
     let kept_as = sound c.args.name.now one.0 one.1 in
-    IfOk-weaker c.own_in.result _ _ (λ v is. is ∙ sym (ap (option_and_then (own_state c.args.holder.now)) one.1)) (c.own_in.ensures one.0 one.2 kept_as.0 kept_as.1)
+    IfOk-weaker c.own_in.result _ _ (λ v is. is ∙ sym (ap (option_and_then (own_state c.args.holder.now)) one.1)) (c.own_in.ensures one.0 one.2 kept_as.0 kept_as.1))

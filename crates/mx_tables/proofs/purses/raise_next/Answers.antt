@@ -1,14 +1,12 @@
-use Rattle.sqlite.specs.Held.{state}
-use Rattle.std.proofs.lemmas.Result.{on_ok_weaker}
+use Rattle.mx_tables.proofs.CallLemmas.{runs_one}
 use Rattle.mx_tables.proofs.PurseLemmas.{raises_next, was_next}
 use Rattle.mx_tables.proofs.purses.raise_next.Goals as goal
 
-pub returns-clause-ok : goal.returns-clause-ok
-returns-clause-ok g c clean inside has =
-    on_ok_weaker c.change_next.result (λ ran. raises_next c.args.name.now c.args.next (state g.S.Store c.args.tx.now.conn.now) (state g.S.Store c.change_next.new.tx.conn.now) has
-    (rw c.as_str.ensures.text at ran)) (c.change_next.ensures.ran clean inside)
-
-pub returns-clause-value : goal.returns-clause-value
-returns-clause-value g c clean inside has =
-    on_ok_weaker c.change_next.result (λ ran. was_next c.args.name.now c.args.next (state g.S.Store c.args.tx.now.conn.now) (state g.S.Store c.change_next.new.tx.conn.now) has
-    (rw c.as_str.ensures.text at ran)) (c.change_next.ensures.ran clean inside)
+pub returns : goal.returns
+returns g c =
+    runs_one g.S.Store _ _ c.run_one.ensures (λ has ran.
+    let it = rw (c.text.ensures, c.as_str.ensures.text, c.number.ensures, c.number-2.ensures) at ran in
+    record {
+      goes = raises_next c.args.name.now c.args.next _ _ has it;
+      was = was_next c.args.name.now c.args.next _ _ has it;
+    })

@@ -1,13 +1,30 @@
-use Rattle.std.proofs.Common.{◌∙◌, ap}
-use Rattle.sqlite.specs.Held.{state}
-use Rattle.mx_pay.specs.Codes.{code}
-use Rattle.mx_tables.specs.Cells.{details_text}
-use Rattle.std.proofs.lemmas.Result.{on_ok_weaker}
+use Rattle.mx_tables.proofs.CallLemmas.{runs_one}
 use Rattle.mx_tables.proofs.PurseLemmas.{sets_purse}
 use Rattle.mx_tables.proofs.purses.set_purse.Goals as goal
 
-pub returns-clause-ok : goal.returns-clause-ok
-returns-clause-ok g c clean inside has =
-    let details = c.as_str.ensures.value ∙ c.in_ok-details.ensures ∙ ap details_text c.status.ensures in
-    let log = c.as_str-2.ensures.value ∙ c.in_ok-log.ensures ∙ ap code c.log.ensures in
-    on_ok_weaker c.change_purse.result (λ ran. sets_purse c.args.purse.now (state g.S.Store c.args.tx.now.conn.now) (state g.S.Store c.change_purse.new.tx.conn.now) has (rw (details, log) at ran)) (c.change_purse.ensures.ran clean inside)
+pub returns : goal.returns
+returns g c =
+    runs_one g.S.Store _ _ c.run_one.ensures (λ has ran. sets_purse c.args.purse.now _ _ has
+    (rw (
+      c.text.ensures,
+      c.as_str.ensures.text,
+      c.name.ensures.value,
+      c.number.ensures,
+      c.balance.ensures.value,
+      c.number-2.ensures,
+      c.get.ensures.value,
+      c.next.ensures,
+      c.text-2.ensures,
+      c.status_word.ensures,
+      c.status-2.ensures,
+      c.text-3.ensures,
+      c.deref.ensures,
+      c.in_ok-details.ensures,
+      c.status.ensures,
+      c.text-4.ensures,
+      c.deref-2.ensures,
+      c.in_ok-log.ensures,
+      c.log.ensures,
+      c.number-3.ensures,
+      c.lines.ensures.value,
+    ) at ran))

@@ -1,20 +1,29 @@
-use Rattle.std.proofs.Common.{◌∙◌, sym, ap, arith, length, Some}
+use Rattle.std.proofs.Common.{Some, sym, ap, ◌∙◌}
+use Rattle.std.specs.Option.{option_copied}
 use Rattle.std.specs.Prelude.{option_map}
 use Rattle.mx_pay.specs.Names.{name_cmp}
 use Rattle.mx_book.specs.Under.{pair_cmp}
 use Rattle.mx_book.specs.declared.values.Redemption.{Redemption}
 use Rattle.mx_tables.specs.Answers.{amount_shown}
-use Rattle.mx_tables.proofs.ReadLemmas.{got_none, got_one}
 use Rattle.mx_tables.proofs.ValueLemmas.{amount_back}
+use Rattle.mx_tables.proofs.CallLemmas.{reads_to}
+use Rattle.mx_tables.proofs.RedemptionLemmas.{finds_redemption}
+use Rattle.mx_tables.proofs.MoneyTexts.{select_redemption_is}
+use Rattle.mx_tables.proofs.ReadLemmas.{got_none, got_one}
 use Rattle.mx_tables.proofs.redemptions.find_redemption.Goals as goal
 
-pub returns-in-empty-clause-value : goal.returns-in-empty-clause-value
-returns-in-empty-clause-value g c sure kept holds =
-    sym (ap (option_map (λ (x : Redemption). x.amount)) (got_none (pair_cmp name_cmp name_cmp) (λ (x : Redemption). amount_shown x.amount) (c.args.purse.now, c.args.reference.now) kept.redemptions c.in_ok-rows.rows.items (c.in_ok-rows.ensures.rows sure kept holds)
-    (omega (arith, c.in-empty.len_below, ap length c.as_slice.ensures.value))))
+pub ask-requires : goal.ask-requires
+ask-requires g c = select_redemption_is.query
 
-pub returns-in-len1-clause-value : goal.returns-in-len1-clause-value
-returns-in-len1-clause-value g c sure kept holds =
-    let one = got_one (pair_cmp name_cmp name_cmp) (λ (x : Redemption). amount_shown x.amount) (c.args.purse.now, c.args.reference.now) kept.redemptions c.as_slice.result.now c.in_ok-rows.rows.items c.row-item.result (c.in_ok-rows.ensures.rows sure kept holds) c.as_slice.ensures.value c.in-len1.len_at_least c.in-len1.len_below c.row-item.is in
-    let read = c.in_ok-amount_at-in-len1.ensures in
-    ap Some (amount_back one.0.amount c.in_ok-amount_at-in-len1.field-0 c.row-item.result one.2 read) ∙ sym (ap (option_map (λ (x : Redemption). x.amount)) one.1)
+pub returns : goal.returns
+returns g c = reads_to g.S.Store c.in_ok-rows.ensures.reads (λ rows holds shown.
+    let found = finds_redemption c.args.purse.now c.args.reference.now _ _ _ (rw (c.text.ensures, c.as_str.ensures.text, c.text-2.ensures, c.as_str-2.ensures.text) at shown) rows holds in
+    let gone = got_none (pair_cmp name_cmp name_cmp) (λ (x : Redemption). amount_shown x.amount) (c.args.purse.now, c.args.reference.now) rows.redemptions _ _ _ found c.deref.ensures.value c.in_ok-row.ensures (ap option_copied c.in-None.is) in
+    sym (ap (option_map (λ (x : Redemption). x.amount)) gone))
+
+pub returns-in-Some : goal.returns-in-Some
+returns-in-Some g c = reads_to g.S.Store c.in_ok-rows.ensures.reads (λ rows holds shown.
+    let found = finds_redemption c.args.purse.now c.args.reference.now _ _ _ (rw (c.text.ensures, c.as_str.ensures.text, c.text-2.ensures, c.as_str-2.ensures.text) at shown) rows holds in
+    let one = got_one (pair_cmp name_cmp name_cmp) (λ (x : Redemption). amount_shown x.amount) (c.args.purse.now, c.args.reference.now) rows.redemptions _ _ _ c.in-Some.row.now found c.deref.ensures.value c.in_ok-row.ensures (ap option_copied c.in-Some.is) in
+    ap Some (amount_back one.0.amount c.in_ok-amount_at-in-Some.field-0 c.in-Some.row.now one.2 c.in_ok-amount_at-in-Some.ensures)
+    ∙ sym (ap (option_map (λ (x : Redemption). x.amount)) one.1))

@@ -1,33 +1,24 @@
-use Rattle.std.proofs.Common.{◌<◌, ◌∙◌, ap, arith, rules, length}
-use Rattle.sqlite.specs.State.{HasCleanDisk}
+use Rattle.std.proofs.Common.{◌<◌, ◌≤◌, subst, length, rules, List}
+use Rattle.std.proofs.lemmas.List.{take_all}
 use Rattle.sqlite.specs.Held.{state}
-use Rattle.mx_book.specs.Rows.{Rows}
-use Rattle.mx_tables.proofs.StateLemmas.{keeps_then}
-use Rattle.mx_tables.proofs.WriteLemmas.{goes_then, goes_as}
-use Rattle.mx_tables.proofs.ResultLemmas.{archive_more}
+use Rattle.sqlite_value.specs.Order.{Row}
+use Rattle.mx_tables.specs.Results.{Archives}
+use Rattle.mx_tables.proofs.CallLemmas.{steps_none, steps_then, steps_to}
+use Rattle.mx_tables.proofs.ResultLemmas.{archives_none, archives_more}
 use Rattle.mx_tables.proofs.results.archive_rows.Goals as goal
+
+pub loop-row-init : goal.loop-row-init
+loop-row-init g c = steps_none g.S.Store _ tt (λ has. archives_none c.args.purse.now _ has)
 
 pub loop-row-preserved : goal.loop-row-preserved
 loop-row-preserved g c =
-    let first = state g.S.Store c.args.tx.now.conn.now in
-    let old = state g.S.Store c.loop-row.tx.conn.now in
-    let new = state g.S.Store c.insert_archive.new.tx.conn.now in
-    let before = c.loop-row.invariant in
-    let made = c.in_ok-insert_archive.ensures in
-    let within : c.loop-row.row-index < length c.args.rows.now = search rules in (
-      made.same_reference ∙ before.0,
-      omega (arith, made.clean, before.1),
-      λ clean inside.
-          let was = before.2 (omega (arith, made.clean)) inside in
-          (keeps_then first old new was.0 (made.kept clean), made.inside clean was.1),
-      λ clean inside has.
-          let early : HasCleanDisk old = omega (arith, made.clean) in
-          let was = before.2 early inside in
-          let begun = before.3 early inside has in
-          let put = made.ok clean was.1 begun.0 in (
-            put.0,
-            λ ds is.
-                let more = archive_more c.args.purse.now c.args.rows.now c.loop-row.row-index c.row-item.result c.in-Some.text.now ds within c.row-item.is c.in-Some.ensures is in
-                goes_as _ _ first new (λ (r : Rows) holds. ap (λ s. record r { archive = s }) (more.2 r.archive)) (goes_then _ _ first old new (begun.1 ds is) (put.1 more.0 more.1)),
-          ),
-    )
+    let within : c.loop-row.row-index < length c.args.rows.now = search rules in
+    steps_to g.S.Store (steps_then g.S.Store c.loop-row.invariant c.in_ok-insert_archive.ensures) (λ x both has.
+    let before = both.0 has in
+    archives_more c.args.purse.now c.args.rows.now c.loop-row.row-index c.row-item.result c.in-Some.text.now _ _ _ within c.row-item.is c.in-Some.ensures before (both.1 before.schema))
+
+pub returns : goal.returns
+returns g c =
+    let past : length c.args.rows.now ≤ c.loop-row.row-index = search rules in
+    steps_to g.S.Store c.loop-row.invariant (λ x before has.
+    subst (λ (rows : List Row). Archives c.args.purse.now rows (state g.S.Store c.args.tx.now.conn.now) (state g.S.Store c.loop-row.tx.conn.now)) (take_all c.loop-row.row-index c.args.rows.now past) (before has))

@@ -1,16 +1,15 @@
-use Rattle.std.proofs.Common.{sym, ap, ◌∙◌, arith, length, is_some, [], ◌∷◌}
+use Rattle.std.proofs.Common.{◌∙◌, sym, [], ◌∷◌}
 use Rattle.mx_book.specs.World.{result_cmp}
 use Rattle.mx_tables.specs.Cells.{number}
-use Rattle.mx_tables.proofs.ReadLemmas.{got_none}
-use Rattle.mx_tables.proofs.ResultLemmas.{one_there}
+use Rattle.mx_tables.proofs.CallLemmas.{reads_to}
+use Rattle.mx_tables.proofs.ReadLemmas.{copied_is, got_any}
+use Rattle.mx_tables.proofs.ResultLemmas.{finds_archived, select_archived_is}
 use Rattle.mx_tables.proofs.results.find_archived.Goals as goal
 
-pub returns-in-empty-clause-value : goal.returns-in-empty-clause-value
-returns-in-empty-clause-value g c sure kept holds each =
-    let found = c.in_ok-rows.ensures.rows sure c.args.details.now c.in_ok-text.ensures.valid (c.deref.ensures ∙ c.in_ok-text.ensures.text) kept holds each in
-    sym (ap is_some (got_none result_cmp (λ _. number 1 ∷ []) (c.args.purse.now, c.args.details.now) kept.archive c.in_ok-rows.rows.items found (omega (arith, c.in-empty.len_below, ap length c.as_slice.ensures.value))))
+pub ask-requires : goal.ask-requires
+ask-requires g c = select_archived_is.query
 
-pub returns-in-len1-clause-value : goal.returns-in-len1-clause-value
-returns-in-len1-clause-value g c sure kept holds each =
-    let found = c.in_ok-rows.ensures.rows sure c.args.details.now c.in_ok-text.ensures.valid (c.deref.ensures ∙ c.in_ok-text.ensures.text) kept holds each in
-    sym (one_there result_cmp (number 1 ∷ []) (c.args.purse.now, c.args.details.now) kept.archive c.as_slice.result.now c.in_ok-rows.rows.items found c.as_slice.ensures.value c.in-len1.len_at_least c.in-len1.len_below)
+pub returns : goal.returns
+returns g c = reads_to g.S.Store c.in_ok-rows.ensures.reads (λ r holds shown each.
+    let found = finds_archived c.args.purse.now c.args.details.now c.in_ok-text.ensures.valid _ _ _ (rw (c.text.ensures, c.as_str.ensures.text, c.text-2.ensures, c.deref.ensures, c.in_ok-text.ensures.text) at shown) r holds each in
+    c.is_some.ensures ∙ copied_is c.in_ok-found.found ∙ sym (got_any result_cmp (λ _. number 1 ∷ []) (c.args.purse.now, c.args.details.now) r.archive _ _ _ found c.deref-2.ensures.value c.in_ok-found.ensures))

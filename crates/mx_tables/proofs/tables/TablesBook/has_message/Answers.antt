@@ -9,4 +9,4 @@ use Rattle.mx_tables.proofs.tables.TablesBook.has_message.Goals as goal
 pub returns-clause-value : goal.returns-clause-value
 returns-clause-value g c w sure h =
     let holds : Holds (state g.S.Store c.self.inside.conn).now h.spelled.rows = rw c.self.view_is h.spelled.holds in
-    IfOk-weaker c.find_has_message.result _ _ (λ b is. is ∙ ap is_some (message_at h.spelled.rows w c.args.purse c.args.number h.spelled.spells)) (c.find_has_message.ensures.value sure h.spelled.rows holds (numbers_valid h.spelled.rows w h.spelled.spells))
+    IfOk-weaker c.find_has_message.result _ _ (λ b is. is (numbers_valid h.spelled.rows w h.spelled.spells) ∙ ap is_some (message_at h.spelled.rows w c.args.purse c.args.number h.spelled.spells)) (c.find_has_message.ensures.value c.self.invariant sure h.spelled.rows holds)

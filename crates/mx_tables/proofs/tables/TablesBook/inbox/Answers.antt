@@ -9,4 +9,4 @@ use Rattle.mx_tables.proofs.tables.TablesBook.inbox.Goals as goal
 pub returns-clause-value : goal.returns-clause-value
 returns-clause-value g c w sure h =
     let holds : Holds (state g.S.Store c.self.inside.conn).now h.spelled.rows = rw c.self.view_is h.spelled.holds in
-    IfOk-weaker c.list_inbox.result _ _ (λ r is. is ∙ inbox_at h.spelled.rows w c.args.purse h.spelled.spells) (c.list_inbox.ensures.value sure h.spelled.rows holds (messages_valid h.spelled.rows w h.spelled.spells))
+    IfOk-weaker c.list_inbox.result _ _ (λ r is. is (messages_valid h.spelled.rows w h.spelled.spells) ∙ inbox_at h.spelled.rows w c.args.purse h.spelled.spells) (c.list_inbox.ensures.value c.self.invariant sure h.spelled.rows holds)

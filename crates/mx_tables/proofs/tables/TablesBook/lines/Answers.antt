@@ -9,4 +9,4 @@ use Rattle.mx_tables.proofs.tables.TablesBook.lines.Goals as goal
 pub returns-clause-value : goal.returns-clause-value
 returns-clause-value g c w sure h =
     let holds : Holds (state g.S.Store c.self.inside.conn).now h.spelled.rows = rw c.self.view_is h.spelled.holds in
-    IfOk-weaker c.list_lines.result _ _ (λ r is. is ∙ lines_at h.spelled.rows w c.args.purse c.args.after c.args.most h.spelled.spells) (c.list_lines.ensures.value c.self.invariant sure h.spelled.rows holds (lines_valid h.spelled.rows w h.spelled.spells))
+    IfOk-weaker c.list_lines.result _ _ (λ r is. is (lines_valid h.spelled.rows w h.spelled.spells) ∙ lines_at h.spelled.rows w c.args.purse c.args.after c.args.most h.spelled.spells) (c.list_lines.ensures.value c.self.invariant sure h.spelled.rows holds)

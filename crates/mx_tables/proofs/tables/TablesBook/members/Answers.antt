@@ -8,4 +8,4 @@ use Rattle.mx_tables.proofs.tables.TablesBook.members.Goals as goal
 pub returns-clause-value : goal.returns-clause-value
 returns-clause-value g c w sure h =
     let holds : Holds (state g.S.Store c.self.inside.conn).now h.spelled.rows = rw c.self.view_is h.spelled.holds in
-    IfOk-weaker c.list_members.result _ _ (λ r is. is ∙ members_at h.spelled.rows w h.spelled.spells) (c.list_members.ensures.value sure h.spelled.rows holds)
+    IfOk-weaker c.list_members.result _ _ (λ r is. is ∙ members_at h.spelled.rows w h.spelled.spells) (c.list_members.ensures.value c.self.invariant sure h.spelled.rows holds)

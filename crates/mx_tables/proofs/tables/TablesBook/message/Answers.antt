@@ -9,4 +9,4 @@ use Rattle.mx_tables.proofs.tables.TablesBook.message.Goals as goal
 pub returns-clause-value : goal.returns-clause-value
 returns-clause-value g c w sure h =
     let holds : Holds (state g.S.Store c.self.inside.conn).now h.spelled.rows = rw c.self.view_is h.spelled.holds in
-    IfOk-weaker c.find_message.result _ _ (λ r is. is ∙ message_at h.spelled.rows w c.args.purse c.args.number h.spelled.spells) (c.find_message.ensures.value sure h.spelled.rows holds (messages_valid h.spelled.rows w h.spelled.spells) (numbers_valid h.spelled.rows w h.spelled.spells))
+    IfOk-weaker c.find_message.result _ _ (λ r is. is (messages_valid h.spelled.rows w h.spelled.spells) (numbers_valid h.spelled.rows w h.spelled.spells) ∙ message_at h.spelled.rows w c.args.purse c.args.number h.spelled.spells) (c.find_message.ensures.value c.self.invariant sure h.spelled.rows holds)

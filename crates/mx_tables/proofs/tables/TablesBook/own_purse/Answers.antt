@@ -9,4 +9,4 @@ use Rattle.mx_tables.proofs.tables.TablesBook.own_purse.Goals as goal
 pub returns-clause-value : goal.returns-clause-value
 returns-clause-value g c w sure h =
     let holds : Holds (state g.S.Store c.self.inside.conn).now h.spelled.rows = rw c.self.view_is h.spelled.holds in
-    IfOk-weaker c.find_own.result _ _ (λ r is. is ∙ own_at h.spelled.rows w c.args.holder c.args.purse h.spelled.spells) (c.find_own.ensures.value sure h.spelled.rows holds (purses_valid h.spelled.rows w h.spelled.spells))
+    IfOk-weaker c.find_own.result _ _ (λ r is. is (purses_valid h.spelled.rows w h.spelled.spells) ∙ own_at h.spelled.rows w c.args.holder c.args.purse h.spelled.spells) (c.find_own.ensures.value c.self.invariant sure h.spelled.rows holds)

@@ -8,4 +8,4 @@ use Rattle.mx_tables.proofs.tables.TablesBook.purses_of.Goals as goal
 pub returns-clause-value : goal.returns-clause-value
 returns-clause-value g c w sure h =
     let holds : Holds (state g.S.Store c.self.inside.conn).now h.spelled.rows = rw c.self.view_is h.spelled.holds in
-    IfOk-weaker c.list_held.result _ _ (λ r is. is ∙ purses_at h.spelled.rows w c.args.holder h.spelled.spells) (c.list_held.ensures.value sure h.spelled.rows holds)
+    IfOk-weaker c.list_held.result _ _ (λ r is. is ∙ purses_at h.spelled.rows w c.args.holder h.spelled.spells) (c.list_held.ensures.value c.self.invariant sure h.spelled.rows holds)

@@ -9,4 +9,4 @@ use Rattle.mx_tables.proofs.tables.TablesBook.totals.Goals as goal
 pub returns-clause-value : goal.returns-clause-value
 returns-clause-value g c w sure h =
     let holds : Holds (state g.S.Store c.self.inside.conn).now h.spelled.rows = rw c.self.view_is h.spelled.holds in
-    IfOk-weaker c.sum_scheme.result _ _ (λ r is. is ∙ totals_at h.spelled.rows w h.spelled.spells) (c.sum_scheme.ensures.value c.self.invariant sure h.spelled.rows holds (purses_valid h.spelled.rows w h.spelled.spells) (archive_valid h.spelled.rows w h.spelled.spells))
+    IfOk-weaker c.sum_scheme.result _ _ (λ r is. is (purses_valid h.spelled.rows w h.spelled.spells) (archive_valid h.spelled.rows w h.spelled.spells) ∙ totals_at h.spelled.rows w h.spelled.spells) (c.sum_scheme.ensures.value c.self.invariant sure h.spelled.rows holds)

@@ -1,0 +1,161 @@
+-- Calls one after another: what each of them is gives what all are.
+use Rattle.std.proofs.Common.{◌≡◌, ℕ, List, Ok, Err, Result, IfOk, sym, ap, subst, ◌∙◌, arith, refl}
+use Rattle.std.proofs.lemmas.Result.{IfOk-weaker}
+use Rattle.sqlite_value.specs.Order.{Row}
+use Rattle.sqlite_trees.specs.declared.store.Store.{Ghosts}
+use Rattle.sqlite.specs.declared.transaction.Transaction.{Transaction}
+use Rattle.sqlite.specs.Effect.{Database}
+use Rattle.sqlite.specs.Held.{Held, state}
+use Rattle.sqlite.specs.State.{HasCleanDisk, Executes}
+use Rattle.mx_book.specs.Rows.{Rows}
+use Rattle.mx_book.specs.declared.contract.StoreFault.{StoreFault}
+use Rattle.mx_tables.specs.Schema.{office_schema}
+use Rattle.mx_tables.specs.Holds.{Holds}
+use Rattle.mx_tables.specs.States.{Goes, Reads, Steps, Runs, Writes, Finds, going}
+use Rattle.mx_tables.proofs.StateLemmas.{stays_same, stays_then, sure_before, within_none, within_then}
+use Rattle.mx_tables.proofs.WriteLemmas.{goes_as, goes_then}
+
+module _ {S : Type 0} (g : Ghosts S) where
+  -- ---- reads
+
+  -- no read at all
+  pub reads_none : {T : Type 0} {old : Held S} {r : Result T StoreFault} {is : Rows → T → Type 0}
+      → ((rows : Rows) → Holds (state g old).now rows → IfOk r (is rows)) → Reads g old old r is
+  reads_none {old = old} f = record { stays = λ ours. stays_same (state g old) ours; value = λ ours calm rows holds. f rows holds }
+
+  -- a fault after a read
+  pub reads_fault : {T U : Type 0} {old new : Held S} {r : Result T StoreFault} {is : Rows → T → Type 0} {other : Rows → U → Type 0} {e : StoreFault}
+      → Reads g old new r is → Reads g old new (Err e) other
+  reads_fault h = record { stays = h.stays; value = λ ours calm r holds. tt }
+
+  -- what follows from what was read
+  pub reads_to : {T U : Type 0} {old new : Held S} {x : T} {r : Result U StoreFault} {is : Rows → T → Type 0} {other : Rows → U → Type 0}
+      → Reads g old new (Ok x) is → ((rows : Rows) → Holds (state g old).now rows → is rows x → IfOk r (other rows)) → Reads g old new r other
+  reads_to h f = record { stays = h.stays; value = λ ours calm rows holds. f rows holds (h.value ours calm rows holds) }
+
+  -- the same, where a premise on the rows goes first
+  pub reads_if : {T U : Type 0} {old new : Held S} {x : T} {r : Result U StoreFault} {is : Rows → T → Type 0} {If : Rows → Type 0} {other : Rows → U → Type 0}
+      → Reads g old new (Ok x) is → ((rows : Rows) → Holds (state g old).now rows → is rows x → If rows → IfOk r (other rows)) → Reads g old new r (λ rows y. If rows → other rows y)
+  reads_if {r = Ok y} h f = reads_to h (λ rows holds is premise. f rows holds is premise)
+  reads_if {r = Err e} h f = reads_fault h
+
+  -- what follows from what a read gives
+  pub reads_more : {T : Type 0} {old new : Held S} {r : Result T StoreFault} {is other : Rows → T → Type 0}
+      → Reads g old new r is → ((rows : Rows) → Holds (state g old).now rows → (x : T) → is rows x → other rows x) → Reads g old new r other
+  reads_more {r = r} h f = record { stays = h.stays; value = λ ours calm rows holds. IfOk-weaker r _ _ (f rows holds) (h.value ours calm rows holds) }
+
+  -- a read after a read
+  pub reads_then : {T U : Type 0} {a b c : Held S} {x : T} {r : Result U StoreFault} {is : Rows → T → Type 0} {other : Rows → U → Type 0}
+      → Reads g a b (Ok x) is → Reads g b c r other → Reads g a c r (λ rows y. is rows x × other rows y)
+  reads_then {a = a} {b = b} {c = c} {r = r} one two = record {
+    stays = λ ours. stays_then (state g a) (state g b) (state g c) (one.stays ours) (two.stays (one.stays ours).ours);
+    value = λ ours calm rows holds.
+        let kept = one.stays ours in
+        let before = sure_before (state g b) (state g c) (two.stays kept.ours).later calm in
+        let same : Holds (state g b).now rows = subst (λ (d : Database). Holds d rows) (sym (kept.same before)) holds in
+        IfOk-weaker r _ _ (λ y is. (one.value ours before rows holds, is)) (two.value kept.ours calm rows same);
+  }
+
+  -- ---- steps inside a transaction
+
+  -- a fault after a step
+  pub steps_fault : {T U E F : Type 0} {old new : Transaction S} {r : Result T E} {does : T → Type 0} {other : U → Type 0} {e : F}
+      → Steps g old new r does → Steps g old new (Err e) other
+  steps_fault h = record {
+    same_reference = h.same_reference;
+    within = record { clean = h.within.clean; kept = h.within.kept; inside = λ clean inside. tt; stops = h.within.stops };
+    ok = λ clean inside. tt;
+  }
+
+  -- what follows from what a step did
+  pub steps_to : {T E : Type 0} {old new : Transaction S} {r : Result T E} {does other : T → Type 0}
+      → Steps g old new r does → ((x : T) → does x → other x) → Steps g old new r other
+  steps_to {r = r} h f = record { same_reference = h.same_reference; within = h.within; ok = λ clean inside. IfOk-weaker r _ _ f (h.ok clean inside) }
+
+  -- no step yet
+  pub steps_none : {T E : Type 0} {does : T → Type 0} (a : Transaction S) (x : T) → does x → Steps {E = E} g a a (Ok x) does
+  steps_none a x it = record { same_reference = refl; within = within_none (state g a.conn.now) x; ok = λ clean inside. it }
+
+  -- what follows from a step that answered Ok
+  pub steps_as : {T U E F : Type 0} {old new : Transaction S} {x : T} (r : Result U F) {does : T → Type 0} {other : U → Type 0}
+      → Steps {E = E} g old new (Ok x) does → (does x → IfOk r other) → Steps g old new r other
+  steps_as {old = old} {new = new} (Ok y) h f = record {
+    same_reference = h.same_reference;
+    within = record { clean = h.within.clean; kept = h.within.kept; inside = h.within.inside; stops = h.within.stops };
+    ok = λ clean inside. f (h.ok clean inside);
+  }
+  steps_as (Err e) h f = steps_fault h
+
+  -- a step after a step
+  pub steps_then : {T U E F : Type 0} {a b c : Transaction S} {x : T} {r : Result U F} {does : T → Type 0} {other : U → Type 0}
+      → Steps {E = E} g a b (Ok x) does → Steps g b c r other → Steps g a c r (λ y. does x × other y)
+  steps_then {a = a} {b = b} {c = c} {x = x} {r = r} one two = record {
+    same_reference = two.same_reference ∙ one.same_reference;
+    within = within_then (state g a.conn.now) (state g b.conn.now) (state g c.conn.now) x r one.within two.within;
+    ok = λ clean inside.
+        let early : HasCleanDisk (state g b.conn.now) = (let e = two.within.clean in omega arith) in
+        IfOk-weaker r _ _ (λ y is. (one.ok early inside, is)) (two.ok clean (one.within.inside early inside));
+  }
+
+  -- what a statement does to the rows
+  pub runs_to : {T : Type 0} (sql : List ℕ) (params : Row) {old new : Transaction S} {r : Result T StoreFault} {counts : ℕ → Type 0} {change : Rows → Rows}
+      → Runs g sql params old new r counts
+      → ((count : ℕ) → counts count → (state g old.conn.now).now.schema ≡ office_schema
+      → Executes sql params (state g old.conn.now) (state g new.conn.now) (Ok count) → Goes change (state g old.conn.now) (state g new.conn.now))
+      → Writes g old new r change
+  runs_to sql params h f = steps_to h (λ x it has. f it.0 it.1 has it.2)
+
+  -- what a statement does that changed one row
+  pub runs_one : {T : Type 0} (sql : List ℕ) (params : Row) {old new : Transaction S} {r : Result T StoreFault} {does : Type 0}
+      → Runs g sql params old new r (λ count. count ≡ 1)
+      → ((state g old.conn.now).now.schema ≡ office_schema → Executes sql params (state g old.conn.now) (state g new.conn.now) (Ok 1) → does)
+      → Steps g old new r (λ _. (state g old.conn.now).now.schema ≡ office_schema → does)
+  runs_one sql params {old = old} {new = new} h f =
+      steps_to h (λ x it has. f has (subst (λ n. Executes sql params (state g old.conn.now) (state g new.conn.now) (Ok n)) it.1 it.2))
+
+  -- what follows from what was found
+  pub finds_to : {T U : Type 0} {old new : Transaction S} {x : T} (r : Result U StoreFault) {is : Rows → T → Type 0} {other : Rows → U → Type 0}
+      → Finds g old new (Ok x) is → ((rows : Rows) → Holds (state g old.conn.now).now rows → is rows x → IfOk r (other rows)) → Finds g old new r other
+  finds_to (Ok y) h f = steps_as (Ok y) h (λ seen has. record { same = (seen has).same; value = λ rows holds. f rows holds ((seen has).value rows holds) })
+  finds_to (Err e) h f = steps_fault h
+
+  -- a change as another that gives the same
+  pub writes_as : {T : Type 0} {old new : Transaction S} {r : Result T StoreFault} {one two : Rows → Rows}
+      → Writes g old new r one → ((rows : Rows) → Holds (state g old.conn.now).now rows → one rows ≡ two rows) → Writes g old new r two
+  writes_as {old = old} {new = new} {one = one} {two = two} h same =
+      steps_to h (λ x went has. goes_as one two (state g old.conn.now) (state g new.conn.now) same (went has))
+
+  -- no change yet
+  pub writes_none : (a : Transaction S) → Writes g a a going (λ rows. rows)
+  writes_none a = steps_none a tt (λ has. record { schema = has; rows = λ r holds. holds })
+
+  -- no change after a look
+  pub finds_none : {T U : Type 0} {a b : Transaction S} {x : T} {y : U} {is : Rows → T → Type 0} {change : Rows → Rows}
+      → Finds g a b (Ok x) is → ((rows : Rows) → Holds (state g a.conn.now).now rows → is rows x → rows ≡ change rows) → Writes g a b (Ok y) change
+  finds_none {a = a} {b = b} {y = y} found f =
+      steps_as (Ok y) found (λ seen has.
+      let at = seen has in
+      record {
+        schema = ap (λ (d : Database). d.schema) at.same ∙ has;
+        rows = λ r holds. subst (Holds (state g b.conn.now).now) (f r holds (at.value r holds)) (subst (λ (d : Database). Holds d r) (sym at.same) holds);
+      })
+
+  -- a change after a look
+  pub finds_then : {T U : Type 0} {a b c : Transaction S} {x : T} {r : Result U StoreFault} {is : Rows → T → Type 0} {one two : Rows → Rows}
+      → Finds g a b (Ok x) is → Writes g b c r one → ((rows : Rows) → Holds (state g a.conn.now).now rows → is rows x → one rows ≡ two rows) → Writes g a c r two
+  finds_then {a = a} {b = b} {c = c} found wrote f =
+      steps_to (steps_then found wrote) (λ y both has.
+      let seen = both.0 has in
+      let went = both.1 (ap (λ (d : Database). d.schema) seen.same ∙ has) in
+      record {
+        schema = went.schema;
+        rows = λ r holds. subst (Holds (state g c.conn.now).now) (f r holds (seen.value r holds)) (went.rows r (subst (λ (d : Database). Holds d r) (sym seen.same) holds));
+      })
+
+  -- a change after a change
+  pub writes_then : {T U : Type 0} {a b c : Transaction S} {x : T} {r : Result U StoreFault} {one two : Rows → Rows}
+      → Writes g a b (Ok x) one → Writes g b c r two → Writes g a c r (λ rows. two (one rows))
+  writes_then {a = a} {b = b} {c = c} {one = one} {two = two} first second =
+      steps_to (steps_then first second) (λ y both has.
+      let went = both.0 has in
+      goes_then one two (state g a.conn.now) (state g b.conn.now) (state g c.conn.now) went (both.1 went.schema))
