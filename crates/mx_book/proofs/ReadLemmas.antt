@@ -1,5 +1,5 @@
 -- What is read of the rows is what the World has.
-use Rattle.std.proofs.Common.{◌≡◌, ℕ, ◌&&◌, List, [], ◌∷◌, map, length, take, arith, refl, sym, ◌∙◌, ap, Option, Some, None}
+use Rattle.std.proofs.Common.{is_some, ◌≡◌, ℕ, ◌&&◌, List, [], ◌∷◌, map, length, take, arith, refl, sym, ◌∙◌, ap, Option, Some, None}
 use Rattle.std.specs.Prelude.{option_map, filter, nat_lt}
 use Rattle.std.specs.List.{take-map}
 use Rattle.std.specs.Ordering.{nat_cmp}
@@ -15,7 +15,7 @@ use Rattle.mx_book.specs.declared.values.PurseRow.{PurseRow}
 use Rattle.mx_book.specs.declared.values.LineRow.{LineRow}
 use Rattle.mx_book.specs.Under.{under, those, remade}
 use Rattle.mx_book.specs.Rows.{Rows, world_of, row_of, line_at, amount_of, IsProper}
-use Rattle.mx_book.specs.Reads.{of_purse, from_row, purses_of, holder_of, account_of, own_purse, finds_place, inbox_of, message_of, lines_of, members_of, load_of, redemption_of}
+use Rattle.mx_book.specs.Reads.{of_purse, from_row, purses_of, holder_of, account_of, has_purse, own_purse, finds_place, inbox_of, message_of, lines_of, members_of, load_of, redemption_of}
 use Rattle.mx_book.specs.RowReads.{of_name, purse_rows_of, row_purses_of, row_holder_of, row_account_of, row_own_purse, row_finds_place, row_inbox_of, row_lines_of, row_members_of, row_load_of, row_redemption_of, line_of_row}
 use Rattle.mx_book.proofs.UnderLemmas.{get-under, entries-under, len-under, entries-remake, under-none, entries_empty}
 use Rattle.mx_book.proofs.RowLemmas.{get_rows}
@@ -52,6 +52,9 @@ held_is r p = len-under name_cmp nat_cmp names_total p r.inbox ∙ ap length (th
 
 pub account_is : (r : Rows) (p : Name) → account_of (world_of r) p ≡ row_account_of r p
 account_is r p = grind (arith, get_rows r p, held_is r p)
+
+pub there_is : (r : Rows) (p : Name) → has_purse (world_of r) p ≡ is_some (fmap.get r.purses p)
+there_is r p = grind (arith, get_rows r p)
 
 pub own_is : (r : Rows) (h p : Name) → own_purse (world_of r) h p ≡ row_own_purse r h p
 own_is r h p = grind (arith, get_rows r p)

@@ -1,17 +1,17 @@
 -- Reads and edits of rows that spell a World.
-use Rattle.std.proofs.Common.{◌≡◌, ℕ, IsTrue, List, ap, ◌∙◌, sym, subst, refl}
+use Rattle.std.proofs.Common.{is_some, ◌≡◌, ℕ, IsTrue, List, ap, ◌∙◌, sym, subst, refl}
 use Rattle.std.specs.FinMap as fmap
 use Rattle.mx_pay.specs.Details.{Details}
 use Rattle.mx_book.specs.declared.edits.Edit.{Edit}
 use Rattle.mx_book.specs.World.{World, Name, Token}
 use Rattle.mx_book.specs.Rows.{Rows, world_of}
-use Rattle.mx_book.specs.Reads.{who_of, member_of, holder_of, purses_of, account_of, own_purse, finds_place, message_of, inbox_of, lines_of, members_of, load_of, redemption_of, is_archived, tray_of, uncollected_of}
+use Rattle.mx_book.specs.Reads.{who_of, member_of, holder_of, purses_of, account_of, has_purse, own_purse, finds_place, message_of, inbox_of, lines_of, members_of, load_of, redemption_of, is_archived, tray_of, uncollected_of}
 use Rattle.mx_book.specs.RowReads.{row_who_of, row_holder_of, row_purses_of, row_account_of, row_own_purse, row_finds_place, row_inbox_of, row_lines_of, row_members_of, row_load_of, row_redemption_of, row_is_archived, row_uncollected_of}
 use Rattle.mx_book.specs.Edits.{all_edited, Fits}
 use Rattle.mx_book.specs.RowEdits.{all_rewritten, all_able, row_laid_of}
 use Rattle.std.proofs.Props.{props}
 use mathlib.Core.Logic.{∥∥₁_elim, ∥∥₁_map}
-use Rattle.mx_book.proofs.ReadLemmas.{purses_are, holder_is, account_is, own_is, place_is, message_is, inbox_is, lines_are, members_are, load_is, redemption_is}
+use Rattle.mx_book.proofs.ReadLemmas.{purses_are, holder_is, account_is, there_is, own_is, place_is, message_is, inbox_is, lines_are, members_are, load_is, redemption_is}
 use Rattle.mx_book.proofs.CountedLemmas.{uncollected_is}
 use Rattle.mx_book.proofs.TotalLemmas.{totals_are, member_totals_are, members_totals_are}
 use Rattle.mx_book.specs.Totals.{totals_of, member_totals_of, members_totals_of}
@@ -42,6 +42,9 @@ purses_at r w p h = read_at (λ z. purses_of z p) r w _ h (purses_are r p)
 
 pub account_at : (r : Rows) (w : World) (p : Name) → Spells r w → row_account_of r p ≡ account_of w p
 account_at r w p h = read_at (λ z. account_of z p) r w _ h (account_is r p)
+
+pub there_at : (r : Rows) (w : World) (p : Name) → Spells r w → is_some (fmap.get r.purses p) ≡ has_purse w p
+there_at r w p h = read_at (λ z. has_purse z p) r w _ h (there_is r p)
 
 pub own_at : (r : Rows) (w : World) (h p : Name) → Spells r w → row_own_purse r h p ≡ own_purse w h p
 own_at r w h p is = read_at (λ z. own_purse z h p) r w _ is (own_is r h p)

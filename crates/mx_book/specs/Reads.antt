@@ -1,5 +1,5 @@
 -- What the reads of a book give of a World.
-use Rattle.std.specs.Prelude.{ℕ, Bool, List, [], map, filter, take, length, Option, Some, None, option_map, option_and_then, nat_lt, if◌then◌else◌}
+use Rattle.std.specs.Prelude.{ℕ, Bool, List, [], map, filter, take, length, Option, Some, None, is_some, option_map, option_and_then, nat_lt, if◌then◌else◌}
 use Rattle.std.specs.FinMap as fmap
 use Rattle.mx_pay.specs.Names.{name_cmp, is_name}
 use Rattle.mx_pay.specs.Details.{Details, details_cmp}
@@ -49,6 +49,10 @@ from_row x f (Some r) = f r
 -- what f says of a purse that is there, or x where it isn't
 abbrev pub of_purse : {X : Type 0} → X → (Row → X) → World → Name → X
 of_purse x f w p = from_row x f (fmap.get w.rows p)
+
+-- whether there is a purse of that name
+abbrev pub has_purse : World → Name → Bool
+has_purse w p = is_some (fmap.get w.rows p)
 
 -- the purse of that name, where it is the holder's
 abbrev pub own_purse : World → Name → Name → Option State

@@ -1,11 +1,11 @@
 //! The trait that every book meets.
-ghost use Rattle.std.specs.Prelude.{◌≡◌, ℕ, ◌≤◌, is_some, IfOk, IfErr, OnOk, OnErr, ◌⊎◌};
+ghost use Rattle.std.specs.Prelude.{◌≡◌, ℕ, ◌≤◌, is_some, IfErr, OnOk, OnErr, ◌⊎◌};
 ghost use Rattle.mx_book.specs.World.{World};
 ghost use Rattle.mx_book.specs.Conditions.{IsWorld};
-ghost use Rattle.mx_book.specs.Reads.{who_of, member_of, holder_of, account_of, own_purse, finds_place, purses_of, inbox_of, message_of, lines_of, members_of, load_of, redemption_of, is_archived, tray_of, uncollected_of};
+ghost use Rattle.mx_book.specs.Reads.{who_of, member_of, holder_of, account_of, has_purse, own_purse, finds_place, purses_of, inbox_of, message_of, lines_of, members_of, load_of, redemption_of, is_archived, tray_of, uncollected_of};
 ghost use Rattle.mx_book.specs.Totals.{totals_of, member_totals_of, members_totals_of};
 ghost use Rattle.mx_book.specs.Edits.{Fits, all_edited};
-ghost use Rattle.mx_book.specs.Keeps.{Keeps};
+ghost use Rattle.mx_book.specs.Keeps.{Keeps, Gives, MayLeave};
 ghost use Rattle.mx_book.specs.declared.contract.StoreFault.{StoreFault};
 ghost use Rattle.mx_book.specs.declared.contract.StoreFault.TheVariants.{Memory};
 
@@ -55,26 +55,36 @@ pub trait Book {
     /// Whose token it is, or None where it is nobody's.
     fn who(&mut self, alloc: Global, token: &Token) -> Result<Option<Caller>, StoreFault>
         ensures keeps { Keeps doubt rows leaves self.old self.new }
-        ensures value { (w : World) → doubt self.new ≡ 0 → spells (rows self.old) w → IfOk result (λ r. r ≡ who_of w token.now) }
+        ensures value { Gives doubt rows spells self.old self.new result
+            (λ w r. r ≡ who_of w token.now) }
         ensures fault { IfErr result fails };
 
     /// The grants and the float of a member, or None where there is no such member.
     fn member(&mut self, alloc: Global, name: Name) -> Result<Option<MemberRow>, StoreFault>
         ensures keeps { Keeps doubt rows leaves self.old self.new }
-        ensures value { (w : World) → doubt self.new ≡ 0 → spells (rows self.old) w → IfOk result (λ r. r ≡ member_of w name) }
+        ensures value { Gives doubt rows spells self.old self.new result
+            (λ w r. r ≡ member_of w name) }
         ensures fault { IfErr result fails };
 
     /// The member of a holder and how many purses the holder has, or None where there is no such holder.
     fn holder(&mut self, alloc: Global, name: Name) -> Result<Option<HolderRow>, StoreFault>
         ensures keeps { Keeps doubt rows leaves self.old self.new }
-        ensures value { (w : World) → doubt self.new ≡ 0 → spells (rows self.old) w → IfOk result (λ r. r ≡ holder_of w name) }
+        ensures value { Gives doubt rows spells self.old self.new result
+            (λ w r. r ≡ holder_of w name) }
         ensures fault { IfErr result fails };
 
     /// A purse with its holder and the holder's member, how many messages it holds and the number of its next
     /// one, or None where there is no such purse.
     fn purse(&mut self, alloc: Global, name: Name) -> Result<Option<Account>, StoreFault>
         ensures keeps { Keeps doubt rows leaves self.old self.new }
-        ensures value { (w : World) → doubt self.new ≡ 0 → spells (rows self.old) w → IfOk result (λ r. r ≡ account_of w name) }
+        ensures value { Gives doubt rows spells self.old self.new result
+            (λ w r. r ≡ account_of w name) }
+        ensures fault { IfErr result fails };
+
+    /// Whether there is a purse of that name.
+    fn has_purse(&mut self, alloc: Global, name: Name) -> Result<bool, StoreFault>
+        ensures keeps { Keeps doubt rows leaves self.old self.new }
+        ensures value { Gives doubt rows spells self.old self.new result (λ w b. b ≡ has_purse w name) }
         ensures fault { IfErr result fails };
 
     /// The purse of that name where it is this holder's, or None where it is another's or there is none.
@@ -85,32 +95,37 @@ pub trait Book {
         purse: Name,
     ) -> Result<Option<Purse>, StoreFault>
         ensures keeps { Keeps doubt rows leaves self.old self.new }
-        ensures value { (w : World) → doubt self.new ≡ 0 → spells (rows self.old) w → IfOk result (λ r. r ≡ own_purse w holder purse) }
+        ensures value { Gives doubt rows spells self.old self.new result
+            (λ w r. r ≡ own_purse w holder purse) }
         ensures fault { IfErr result fails };
 
     /// Whether the purse of that name is there and is this holder's.
     fn is_own(&mut self, alloc: Global, holder: Name, purse: Name) -> Result<bool, StoreFault>
         ensures keeps { Keeps doubt rows leaves self.old self.new }
-        ensures value { (w : World) → doubt self.new ≡ 0 → spells (rows self.old) w → IfOk result (λ b. b ≡ is_some (own_purse w holder purse)) }
+        ensures value { Gives doubt rows spells self.old self.new result
+            (λ w b. b ≡ is_some (own_purse w holder purse)) }
         ensures fault { IfErr result fails };
 
     /// Whether a message to a purse finds a place: the purse is there, its inbox has fewer than 32, and the number of
     /// its next message is below 10^15.
     fn finds_place(&mut self, alloc: Global, purse: Name) -> Result<bool, StoreFault>
         ensures keeps { Keeps doubt rows leaves self.old self.new }
-        ensures value { (w : World) → doubt self.new ≡ 0 → spells (rows self.old) w → IfOk result (λ b. b ≡ finds_place w purse) }
+        ensures value { Gives doubt rows spells self.old self.new result
+            (λ w b. b ≡ finds_place w purse) }
         ensures fault { IfErr result fails };
 
     /// The names of a holder's purses, in order; none where there is no such holder.
     fn purses_of(&mut self, alloc: Global, holder: Name) -> Result<Vec<Name>, StoreFault>
         ensures keeps { Keeps doubt rows leaves self.old self.new }
-        ensures value { (w : World) → doubt self.new ≡ 0 → spells (rows self.old) w → IfOk result (λ r. r.items ≡ purses_of w holder) }
+        ensures value { Gives doubt rows spells self.old self.new result
+            (λ w r. r.items ≡ purses_of w holder) }
         ensures fault { IfErr result (λ e. (e ≡ Memory) ⊎ fails e) };
 
     /// The messages in the inbox of a purse with their numbers, by number; none where there is no such purse.
     fn inbox(&mut self, alloc: Global, purse: Name) -> Result<Vec<(u64, Message)>, StoreFault>
         ensures keeps { Keeps doubt rows leaves self.old self.new }
-        ensures value { (w : World) → doubt self.new ≡ 0 → spells (rows self.old) w → IfOk result (λ r. r.items ≡ inbox_of w purse) }
+        ensures value { Gives doubt rows spells self.old self.new result
+            (λ w r. r.items ≡ inbox_of w purse) }
         ensures fault { IfErr result (λ e. (e ≡ Memory) ⊎ fails e) };
 
     /// The message of that number in the inbox of a purse, or None where there is none.
@@ -121,13 +136,15 @@ pub trait Book {
         number: u64,
     ) -> Result<Option<Message>, StoreFault>
         ensures keeps { Keeps doubt rows leaves self.old self.new }
-        ensures value { (w : World) → doubt self.new ≡ 0 → spells (rows self.old) w → IfOk result (λ r. r ≡ message_of w purse number) }
+        ensures value { Gives doubt rows spells self.old self.new result
+            (λ w r. r ≡ message_of w purse number) }
         ensures fault { IfErr result fails };
 
     /// Whether a message of that number lies in the inbox of a purse.
     fn has_message(&mut self, alloc: Global, purse: Name, number: u64) -> Result<bool, StoreFault>
         ensures keeps { Keeps doubt rows leaves self.old self.new }
-        ensures value { (w : World) → doubt self.new ≡ 0 → spells (rows self.old) w → IfOk result (λ b. b ≡ is_some (message_of w purse number)) }
+        ensures value { Gives doubt rows spells self.old self.new result
+            (λ w b. b ≡ is_some (message_of w purse number)) }
         ensures fault { IfErr result fails };
 
     /// The first `most` lines of a purse that are numbered above `after`, by number; all of them where there
@@ -140,13 +157,15 @@ pub trait Book {
         most: u64,
     ) -> Result<Vec<Line>, StoreFault>
         ensures keeps { Keeps doubt rows leaves self.old self.new }
-        ensures value { (w : World) → doubt self.new ≡ 0 → spells (rows self.old) w → IfOk result (λ r. r.items ≡ lines_of w purse after most) }
+        ensures value { Gives doubt rows spells self.old self.new result
+            (λ w r. r.items ≡ lines_of w purse after most) }
         ensures fault { IfErr result (λ e. (e ≡ Memory) ⊎ fails e) };
 
     /// The names of the members, in order.
     fn members(&mut self, alloc: Global) -> Result<Vec<Name>, StoreFault>
         ensures keeps { Keeps doubt rows leaves self.old self.new }
-        ensures value { (w : World) → doubt self.new ≡ 0 → spells (rows self.old) w → IfOk result (λ r. r.items ≡ members_of w) }
+        ensures value { Gives doubt rows spells self.old self.new result
+            (λ w r. r.items ≡ members_of w) }
         ensures fault { IfErr result (λ e. (e ≡ Memory) ⊎ fails e) };
 
     /// The amount of the load of a purse with that reference, or None where there is none.
@@ -157,7 +176,8 @@ pub trait Book {
         reference: Name,
     ) -> Result<Option<Amount>, StoreFault>
         ensures keeps { Keeps doubt rows leaves self.old self.new }
-        ensures value { (w : World) → doubt self.new ≡ 0 → spells (rows self.old) w → IfOk result (λ r. r ≡ load_of w purse reference) }
+        ensures value { Gives doubt rows spells self.old self.new result
+            (λ w r. r ≡ load_of w purse reference) }
         ensures fault { IfErr result fails };
 
     /// The amount of the redemption of a purse with that reference, or None where there is none.
@@ -168,7 +188,8 @@ pub trait Book {
         reference: Name,
     ) -> Result<Option<Amount>, StoreFault>
         ensures keeps { Keeps doubt rows leaves self.old self.new }
-        ensures value { (w : World) → doubt self.new ≡ 0 → spells (rows self.old) w → IfOk result (λ r. r ≡ redemption_of w purse reference) }
+        ensures value { Gives doubt rows spells self.old self.new result
+            (λ w r. r ≡ redemption_of w purse reference) }
         ensures fault { IfErr result fails };
 
     /// Whether details are archived for a purse; false where there is no such purse.
@@ -179,26 +200,29 @@ pub trait Book {
         details: &PayDetails,
     ) -> Result<bool, StoreFault>
         ensures keeps { Keeps doubt rows leaves self.old self.new }
-        ensures value { (w : World) → doubt self.new ≡ 0 → spells (rows self.old) w → IfOk result (λ b. b ≡ is_archived w purse details.now) }
+        ensures value { Gives doubt rows spells self.old self.new result
+            (λ w b. b ≡ is_archived w purse details.now) }
         ensures fault { IfErr result fails };
 
     /// The results of read log of a purse that were sent and aren't archived; none where there is no such purse.
     fn tray(&mut self, alloc: Global, purse: Name) -> Result<Log, StoreFault>
         ensures keeps { Keeps doubt rows leaves self.old self.new }
-        ensures value { (w : World) → doubt self.new ≡ 0 → spells (rows self.old) w → IfOk result (λ log. log ≡ tray_of w purse) }
+        ensures value { Gives doubt rows spells self.old self.new result
+            (λ w log. log ≡ tray_of w purse) }
         ensures fault { IfErr result fails };
 
     /// The sum of the redemptions of the purses of a member's holders that aren't collected; 0 where there is
     /// no such member.
     fn uncollected(&mut self, alloc: Global, member: Name) -> Result<u128, StoreFault>
         ensures keeps { Keeps doubt rows leaves self.old self.new }
-        ensures value { (w : World) → doubt self.new ≡ 0 → spells (rows self.old) w → IfOk result (λ r. r ≡ uncollected_of w member) }
+        ensures value { Gives doubt rows spells self.old self.new result
+            (λ w r. r ≡ uncollected_of w member) }
         ensures fault { IfErr result fails };
 
     /// What the books come to for the whole scheme.
     fn totals(&mut self, alloc: Global) -> Result<Totals, StoreFault>
         ensures keeps { Keeps doubt rows leaves self.old self.new }
-        ensures value { (w : World) → doubt self.new ≡ 0 → spells (rows self.old) w → IfOk result (λ r. r ≡ totals_of w) }
+        ensures value { Gives doubt rows spells self.old self.new result (λ w r. r ≡ totals_of w) }
         ensures fault { IfErr result fails };
 
     /// What the books come to for a member and the purses of the member's holders, or None where there is no such
@@ -209,13 +233,15 @@ pub trait Book {
         member: Name,
     ) -> Result<Option<MemberTotals>, StoreFault>
         ensures keeps { Keeps doubt rows leaves self.old self.new }
-        ensures value { (w : World) → doubt self.new ≡ 0 → spells (rows self.old) w → IfOk result (λ r. r ≡ member_totals_of w member) }
+        ensures value { Gives doubt rows spells self.old self.new result
+            (λ w r. r ≡ member_totals_of w member) }
         ensures fault { IfErr result fails };
 
     /// Each member, in order, with what the books come to for it.
     fn members_totals(&mut self, alloc: Global) -> Result<Vec<(Name, MemberTotals)>, StoreFault>
         ensures keeps { Keeps doubt rows leaves self.old self.new }
-        ensures value { (w : World) → doubt self.new ≡ 0 → spells (rows self.old) w → IfOk result (λ r. r.items ≡ members_totals_of w) }
+        ensures value { Gives doubt rows spells self.old self.new result
+            (λ w r. r.items ≡ members_totals_of w) }
         ensures fault { IfErr result (λ e. (e ≡ Memory) ⊎ fails e) };
 
     /// Makes these edits in order, all of them, or none where it answers a fault. Where a World is spelled
@@ -223,11 +249,12 @@ pub trait Book {
     fn apply(&mut self, edits: &[Edit]) -> Result<(), StoreFault>
         requires { (w : World) → doubt self.old ≡ 0 → spells (rows self.old) w → Fits w edits.now }
         ensures later { doubt self.old ≤ doubt self.new }
-        ensures ok { (w : World) → doubt self.new ≡ 0 → spells (rows self.old) w → OnOk result (spells (rows self.new) (all_edited w edits.now)) }
+        ensures ok { (w : World) → doubt self.new ≡ 0 → spells (rows self.old) w
+            → OnOk result (spells (rows self.new) (all_edited w edits.now)) }
         ensures err { doubt self.new ≡ 0 → OnErr result (rows self.new ≡ rows self.old) }
         ensures answered { doubt self.new ≤ 1 → OnOk result (doubt self.new ≡ 0) }
-        ensures stops { doubt self.new ≤ 1 → (r : Rows) → leaves self.new r
-            → leaves self.old r ⊎ ((doubt self.old ≡ 0) × ((w : World) → spells (rows self.old) w → spells r (all_edited w edits.now))) }
+        ensures stops { MayLeave doubt rows spells leaves self.old self.new
+            (λ w. all_edited w edits.now) }
         ensures fault { IfErr result (λ e. (e ≡ Memory) ⊎ fails e) };
 
     /// What is spelled meets the conditions of a World.

@@ -64,6 +64,10 @@ impl Book for PlainBook {
         self.shelves.account(name)
     }
 
+    fn has_purse(&mut self, _alloc: Global, name: Name) -> Result<bool, StoreFault> {
+        Ok(self.shelves.purses.get(name).is_some())
+    }
+
     fn own_purse(
         &mut self,
         _alloc: Global,

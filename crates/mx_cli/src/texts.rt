@@ -1,6 +1,6 @@
 //! What the program prints of an import, and of the books.
-ghost use Rattle.std.specs.Prelude.{◌≡◌, ◌≢◌, ◌++◌, IfOk, Some, None, Err, length, string_bytes};
-ghost use Rattle.mx_book.specs.Keeps.{Keeps};
+ghost use Rattle.std.specs.Prelude.{◌≡◌, ◌≢◌, ◌++◌, IfOk, Some, None, Err, string_bytes};
+ghost use Rattle.mx_book.specs.Keeps.{Keeps, Gives};
 ghost use Rattle.mx_book.specs.World.{World};
 ghost use Rattle.mx_cli.specs.Texts.{counts_text, import_text, numbered_line, reason_text, report_of, row_line};
 
@@ -60,7 +60,8 @@ pub fn import_text(alloc: Global, report: &RollReport) -> Result<String, AllocEr
 /// The text of the reconciliation.
 fn reconciliation<B: Book>(alloc: Global, book: &mut B) -> Result<Vec<u8>, CliFault>
     ensures keeps { Keeps B.doubt B.rows B.leaves book.old book.new }
-    ensures value { (w : World) → B.doubt book.new ≡ 0 → B.spells (B.rows book.old) w → IfOk result (λ text. report_of w None ≡ Some text.items) }
+    ensures value { Gives B.doubt B.rows B.spells book.old book.new result
+        (λ w text. report_of w None ≡ Some text.items) }
     ensures fault { result ≢ Err CliFault.NoSuchPurse }
 {
     let report = reconcile(alloc, book)?;
@@ -71,7 +72,8 @@ fn reconciliation<B: Book>(alloc: Global, book: &mut B) -> Result<Vec<u8>, CliFa
 /// The text of a purse's statement.
 fn purse_statement<B: Book>(alloc: Global, book: &mut B, purse: Name) -> Result<Vec<u8>, CliFault>
     ensures keeps { Keeps B.doubt B.rows B.leaves book.old book.new }
-    ensures value { (w : World) → B.doubt book.new ≡ 0 → B.spells (B.rows book.old) w → IfOk result (λ text. report_of w (Some purse) ≡ Some text.items) }
+    ensures value { Gives B.doubt B.rows B.spells book.old book.new result
+        (λ w text. report_of w (Some purse) ≡ Some text.items) }
     ensures none { (w : World) → B.doubt book.new ≡ 0 → B.spells (B.rows book.old) w → result ≡ Err CliFault.NoSuchPurse → report_of w (Some purse) ≡ None }
 {
     let Some(lines) = statement(alloc, book, purse)? else {
@@ -92,7 +94,8 @@ pub fn report_text<B: Book>(
     purse: Option<Name>,
 ) -> Result<Vec<u8>, CliFault>
     ensures keeps { Keeps B.doubt B.rows B.leaves book.old book.new }
-    ensures value { (w : World) → B.doubt book.new ≡ 0 → B.spells (B.rows book.old) w → IfOk result (λ text. report_of w purse ≡ Some text.items) }
+    ensures value { Gives B.doubt B.rows B.spells book.old book.new result
+        (λ w text. report_of w purse ≡ Some text.items) }
     ensures none { (w : World) → B.doubt book.new ≡ 0 → B.spells (B.rows book.old) w → result ≡ Err CliFault.NoSuchPurse → report_of w purse ≡ None }
 {
     match purse {

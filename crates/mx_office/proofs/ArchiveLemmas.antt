@@ -20,7 +20,7 @@ use Rattle.mx_book.specs.declared.edits.Edit.TheVariants.{SetPurse, AddTray, Arc
 use Rattle.mx_book.specs.declared.values.Line.{Line}
 use Rattle.mx_book.specs.World.{World, Name, set_row, with_archived}
 use Rattle.mx_book.specs.Conditions.{IsWorld, IsEntry, MayClear}
-use Rattle.mx_book.specs.Reads.{account_of, own_purse, is_archived, tray_of}
+use Rattle.mx_book.specs.Reads.{has_purse, own_purse, is_archived, tray_of}
 use Rattle.mx_book.specs.Edits.{AllSuit, Suits, edited, all_edited}
 use Rattle.mx_book.proofs.NameLemmas.{get-inserted}
 use Rattle.mx_book.proofs.PurseLemmas.{with_lines, line_edits, edits_append, suits_append, purse_leads, purse_suits, purse_stays, put_stays}
@@ -30,49 +30,39 @@ use Rattle.mx_office.specs.declared.values.Refusal.TheVariants.{NoSuchPurse, Not
 use Rattle.mx_office.specs.declared.values.Reply.TheVariants as reply
 use Rattle.mx_office.specs.Step.{Deed, tell, unless, in_place, on_own, abort_line, listed, with_aborted, read_log, archive, archive_refusal, may_clear, clear, clear_refusal, is_kept}
 use Rattle.mx_office.specs.Decides.{Decides, placed, put_edits, not_kept, read_edits}
-use Rattle.mx_office.proofs.DecideLemmas.{edits_decide, told_decides, edit_decides, refused_decides, purse_given}
+use Rattle.mx_office.proofs.DecideLemmas.{edits_decide, told_decides, edit_decides, refused_decides}
 use Rattle.mx_office.proofs.AccountLemmas.{IsOwn, IsNext, Follows, in_tray, is_own, own_there, is_next, puts}
 use Rattle.mx_office.proofs.CommandLemmas.{abort_follows, whole}
 use Rattle.mx_office.proofs.OwnLemmas.{first, next, none_left}
 
 -- ---- a purse that is there
 
-none_is : {X : Type 0} (o : Option X) (b : Bool) → is_none o ≡ b → is_some o ≡ not b
+none_is : {X : Type 0} (o : Option X) (b : Bool) → is_some o ≡ b → is_none o ≡ not b
 none_is None b is = ap not is
 none_is (Some x) b is = ap not is
 
-some_is : {X : Type 0} (o : Option X) (b : Bool) → is_some o ≡ not b → is_none o ≡ b
-some_is None true is = refl
-some_is None false is = cc
-some_is (Some x) true is = cc
-some_is (Some x) false is = refl
-
--- a purse is not given exactly where it isn't there
-not_given : (w : World) (p : Name) (b : Bool) → IsWorld w → is_none (account_of w p) ≡ b → is_none (fmap.get w.rows p) ≡ b
-not_given w p b h is = some_is (fmap.get w.rows p) b (purse_given w p (not b) h (none_is (account_of w p) b is))
-
-there : {X : Type 0} (o : Option X) → is_none o ≡ false → IsSome o
+there : {X : Type 0} (o : Option X) → is_some o ≡ true → IsSome o
 there None f = cc
 there (Some x) f = refl
 
 -- ---- archives
 
 module _ (w : World) (p : Name) (d : Decided) (is : IsWorld w) where
-  pub archive_refused : is_none (account_of w p) ≡ true → d.reply ≡ reply.Refused NoSuchPurse → d.edits ≡ [] → Decides w (archive w p) d
-  archive_refused none = refused_decides w (archive_refusal w p) _ NoSuchPurse d is (first _ _ _ (not_given w p true is none))
+  pub archive_refused : has_purse w p ≡ false → d.reply ≡ reply.Refused NoSuchPurse → d.edits ≡ [] → Decides w (archive w p) d
+  archive_refused none = refused_decides w (archive_refusal w p) _ NoSuchPurse d is (first _ _ _ (none_is _ _ none))
 
-  may_archive : is_none (account_of w p) ≡ false → archive_refusal w p ≡ None
-  may_archive found = next _ _ _ _ (not_given w p false is found) none_left
+  may_archive : has_purse w p ≡ true → archive_refusal w p ≡ None
+  may_archive found = next _ _ _ _ (none_is _ _ found) none_left
 
-  pub nothing_archived : is_none (account_of w p) ≡ false → log_len (tray_of w p) ≡ 0 → d.reply ≡ reply.Archived 0 → d.edits ≡ [] → Decides w (archive w p) d
+  pub nothing_archived : has_purse w p ≡ true → log_len (tray_of w p) ≡ 0 → d.reply ≡ reply.Archived 0 → d.edits ≡ [] → Decides w (archive w p) d
   nothing_archived found none = told_decides w (archive w p) (reply.Archived 0) d is
       (ap (λ o. unless w o (tell (with_archived w p) (reply.Archived (log_len (tray_of w p))))) (may_archive found) ∙ (λ i. tell (empty_tray w p none i) (reply.Archived (none i))))
 
-  pub archive_decides : (n : ℕ) → is_none (account_of w p) ≡ false → n ≡ log_len (tray_of w p) → d.reply ≡ reply.Archived n → d.edits ≡ ArchiveTray p ∷ [] → Decides w (archive w p) d
+  pub archive_decides : (n : ℕ) → has_purse w p ≡ true → n ≡ log_len (tray_of w p) → d.reply ≡ reply.Archived n → d.edits ≡ ArchiveTray p ∷ [] → Decides w (archive w p) d
   archive_decides n found n_is reply_is edits_is =
       edit_decides w (archive w p) (ArchiveTray p) (reply.Archived (log_len (tray_of w p))) d
       (ap (λ o. unless w o (tell (with_archived w p) (reply.Archived (log_len (tray_of w p))))) (may_archive found))
-      (archive_suits w p is (there _ (not_given w p false is found))) (archived_stays w p is) (reply_is ∙ ap reply.Archived n_is) edits_is
+      (archive_suits w p is (there _ found)) (archived_stays w p is) (reply_is ∙ ap reply.Archived n_is) edits_is
 
 -- ---- clears
 
@@ -120,17 +110,17 @@ all_archived w p set n n_is all =
     some k is = grind (arith, nat_tests, is)
 
 module _ (w : World) (p : Name) (set : Entries) (d : Decided) (is : IsWorld w) where
-  pub no_clear : is_none (account_of w p) ≡ true → d.reply ≡ reply.Refused NoSuchPurse → d.edits ≡ [] → Decides w (clear w p set) d
-  no_clear none = refused_decides w (clear_refusal w p set) _ NoSuchPurse d is (first _ _ _ (not_given w p true is none))
+  pub no_clear : has_purse w p ≡ false → d.reply ≡ reply.Refused NoSuchPurse → d.edits ≡ [] → Decides w (clear w p set) d
+  no_clear none = refused_decides w (clear_refusal w p set) _ NoSuchPurse d is (first _ _ _ (none_is _ _ none))
 
-  pub not_archived : is_none (account_of w p) ≡ false → may_clear w p set ≡ false → d.reply ≡ reply.Refused NotArchived → d.edits ≡ [] → Decides w (clear w p set) d
-  not_archived found lacks = refused_decides w (clear_refusal w p set) _ NotArchived d is (next _ _ _ _ (not_given w p false is found) (first _ _ _ (ap not lacks)))
+  pub not_archived : has_purse w p ≡ true → may_clear w p set ≡ false → d.reply ≡ reply.Refused NotArchived → d.edits ≡ [] → Decides w (clear w p set) d
+  not_archived found lacks = refused_decides w (clear_refusal w p set) _ NotArchived d is (next _ _ _ _ (none_is _ _ found) (first _ _ _ (ap not lacks)))
 
-  pub clear_decides : IsLogValue set → is_none (account_of w p) ≡ false → may_clear w p set ≡ true → d.reply ≡ reply.Sent → d.edits ≡ put_edits (placed w (Some (p, Clear set))) → Decides w (clear w p set) d
+  pub clear_decides : IsLogValue set → has_purse w p ≡ true → may_clear w p set ≡ true → d.reply ≡ reply.Sent → d.edits ≡ put_edits (placed w (Some (p, Clear set))) → Decides w (clear w p set) d
   clear_decides valid found may =
       let x : Deed World = record { state = w; reply = reply.Sent; sent = Some (p, Clear set); result = None } in
       let edits = puts w (Some (p, Clear set)) in
-      let free : clear_refusal w p set ≡ None = next _ _ _ _ (not_given w p false is found) (next _ _ _ _ (ap not may) none_left) in
+      let free : clear_refusal w p set ≡ None = next _ _ _ _ (none_is _ _ found) (next _ _ _ _ (ap not may) none_left) in
       edits_decide w (clear w p set) x (put_edits (placed w (Some (p, Clear set)))) d (ap (λ o. unless w o x) free)
       edits.suits edits.leads (put_stays w p (Clear set) valid (clear_means w p set may) is)
 

@@ -1,5 +1,5 @@
 -- A decision is the step's: its reply, and edits that fit and lead to its World.
-use Rattle.std.proofs.Common.{◌≡◌, ℕ, ◌<◌, Bool, true, false, cond, List, [], ◌∷◌, Option, Some, None, refl, sym, ◌∙◌, ap, subst, arith, length, IsSome, IsTrue, is_some, is_none, not, option_map, option_and_then}
+use Rattle.std.proofs.Common.{◌≡◌, ℕ, ◌<◌, Bool, true, false, cond, List, [], ◌∷◌, Option, Some, None, refl, sym, ◌∙◌, ap, subst, arith, length, IsTrue, is_some, is_none, not, option_map}
 use Rattle.mx_book.specs.Limits.{most_purses}
 use Rattle.std.specs.Prelude.{nat_le}
 use Rattle.std.proofs.lemmas.Bool.Decides.{nat_tests}
@@ -10,9 +10,9 @@ use Rattle.mx_pay.specs.Names.{is_name_text}
 use Rattle.mx_book.specs.declared.edits.Edit.{Edit}
 use Rattle.mx_book.specs.declared.edits.Edit.TheVariants.{NewMember, NewHolder, NewPurse}
 use Rattle.mx_book.specs.declared.values.HolderRow.{HolderRow}
-use Rattle.mx_book.specs.World.{World, Row, Name, Token, is_of}
+use Rattle.mx_book.specs.World.{World, Name, Token, is_of}
 use Rattle.mx_book.specs.Conditions.{IsWorld}
-use Rattle.mx_book.specs.Reads.{who_of, purses_of, holder_of, account_of, account_with}
+use Rattle.mx_book.specs.Reads.{who_of, purses_of, holder_of}
 use Rattle.mx_book.specs.Edits.{Fits, Suits, AllSuit, edited, all_edited}
 use Rattle.mx_book.proofs.KeepLemmas.{member_stays, holder_stays, new_purse_stays}
 use Rattle.mx_office.specs.declared.values.Decided.{Decided}
@@ -87,18 +87,6 @@ held_count w m h n e = sym (cond_some _ _ n e).1
 
 pub many_held : (w : World) (m h : Name) (n : ℕ) (b : Bool) → purse_count w m h ≡ Some n → nat_le most_purses n ≡ b → nat_le most_purses (length (purses_of w h)) ≡ b
 many_held w m h n b e is = ap (nat_le most_purses) (sym (held_count w m h n e)) ∙ is
-
--- a purse is given exactly where it is there, since its holder is
-account_case : (w : World) (p : Name) (o : Option Row) → fmap.get w.rows p ≡ o → IsWorld w → is_some (option_and_then (λ (r : Row). option_map (account_with r) (fmap.get w.holders r.holder)) o) ≡ is_some o
-account_case w p None at h = refl
-account_case w p (Some r) at h = holder_there r (fmap.get w.holders r.holder) (h.purses.each p r at).holder
-  where
-    holder_there : (r : Row) (o : Option Name) → IsSome o → is_some (option_map (account_with r) o) ≡ true
-    holder_there r None there = absurd (cc)
-    holder_there r (Some m) there = refl
-
-pub purse_given : (w : World) (p : Name) (b : Bool) → IsWorld w → is_some (account_of w p) ≡ b → is_some (fmap.get w.rows p) ≡ b
-purse_given w p b h is = sym (account_case w p (fmap.get w.rows p) refl h) ∙ is
 
 pub new_purse_decides : (w : World) (m p h : Name) (d : Decided) → IsWorld w → IsTrue (is_name_text p) → not (is_of m (fmap.get w.holders h)) ≡ false → is_some (fmap.get w.rows p) ≡ false → nat_le most_purses (length (purses_of w h)) ≡ false → d.reply ≡ Added → d.edits ≡ NewPurse p h ∷ [] → Decides w (new_purse w m p h) d
 new_purse_decides w m p h d is text holder no_purse few reply edits =

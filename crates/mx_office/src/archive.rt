@@ -1,6 +1,6 @@
 //! The operator's commands on the results of read log: archives and clears.
-ghost use Rattle.std.specs.Prelude.{◌≡◌, IfOk, OnOk, IfErr};
-ghost use Rattle.mx_book.specs.Keeps.{Keeps};
+ghost use Rattle.std.specs.Prelude.{◌≡◌, OnOk, IfErr};
+ghost use Rattle.mx_book.specs.Keeps.{Keeps, Gives};
 ghost use Rattle.mx_book.specs.World.{World};
 ghost use Rattle.mx_office.specs.Commands.{IsCommand};
 ghost use Rattle.mx_office.specs.Decides.{Decides};
@@ -27,7 +27,7 @@ pub(crate) fn archive<B: Book>(
     ensures decides { (w : World) → B.doubt book.new ≡ 0 → B.spells (B.rows book.old) w → OnOk result (Decides w (archive w purse) decided.new) }
     ensures fault { IfErr result B.fails }
 {
-    if book.purse(alloc, purse)?.is_none() {
+    if !book.has_purse(alloc, purse)? {
         refuse(decided, Refusal::NoSuchPurse);
         return Ok(());
     }
@@ -53,7 +53,8 @@ fn may_clear<B: Book>(
     details: &Log,
 ) -> Result<bool, StoreFault>
     ensures keeps { Keeps B.doubt B.rows B.leaves book.old book.new }
-    ensures value { (w : World) → B.doubt book.new ≡ 0 → B.spells (B.rows book.old) w → IfOk result (λ b. b ≡ may_clear w purse details.now) }
+    ensures value { Gives B.doubt B.rows B.spells book.old book.new result
+        (λ w b. b ≡ may_clear w purse details.now) }
     ensures fault { IfErr result B.fails }
 {
     for place in 0..details.len() {
@@ -78,7 +79,7 @@ pub(crate) fn clear<B: Book>(
     ensures decides { (w : World) → IsCommand (Command.Clear purse details.now) → B.doubt book.new ≡ 0 → B.spells (B.rows book.old) w → OnOk result (Decides w (clear w purse details.now) decided.new) }
     ensures fault { IfErr result B.fails }
 {
-    if book.purse(alloc, purse)?.is_none() {
+    if !book.has_purse(alloc, purse)? {
         refuse(decided, Refusal::NoSuchPurse);
         return Ok(());
     }

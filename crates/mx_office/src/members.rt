@@ -1,6 +1,6 @@
 //! The commands of the operator and of clerks.
-ghost use Rattle.std.specs.Prelude.{◌≡◌, IfOk, OnOk, IfErr};
-ghost use Rattle.mx_book.specs.Keeps.{Keeps};
+ghost use Rattle.std.specs.Prelude.{◌≡◌, OnOk, IfErr};
+ghost use Rattle.mx_book.specs.Keeps.{Keeps, Gives};
 ghost use Rattle.mx_book.specs.World.{World};
 ghost use Rattle.mx_office.specs.Commands.{IsCommand};
 ghost use Rattle.mx_office.specs.Decides.{Decides, purse_count};
@@ -86,7 +86,8 @@ fn purse_count<B: Book>(
     holder: Name,
 ) -> Result<Option<usize>, StoreFault>
     ensures keeps { Keeps B.doubt B.rows B.leaves book.old book.new }
-    ensures value { (w : World) → B.doubt book.new ≡ 0 → B.spells (B.rows book.old) w → IfOk result (λ o. o ≡ purse_count w member holder) }
+    ensures value { Gives B.doubt B.rows B.spells book.old book.new result
+        (λ w o. o ≡ purse_count w member holder) }
     ensures fault { IfErr result B.fails }
 {
     match book.holder(alloc, holder)? {
@@ -112,7 +113,7 @@ pub(crate) fn new_purse<B: Book>(
         refuse(decided, Refusal::NoSuchHolder);
         return Ok(());
     };
-    if book.purse(alloc, purse)?.is_some() {
+    if book.has_purse(alloc, purse)? {
         refuse(decided, Refusal::NameTaken);
         return Ok(());
     }

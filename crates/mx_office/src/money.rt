@@ -1,8 +1,8 @@
 //! The commands that bring value into the office and settle what left it: grants, loads and collects.
-ghost use Rattle.std.specs.Prelude.{◌≡◌, ◌≤◌, ◌⊎◌, [], IfOk, OnOk, IfErr};
+ghost use Rattle.std.specs.Prelude.{◌≡◌, ◌≤◌, ◌⊎◌, [], OnOk, IfErr};
 ghost use Rattle.mx_book.specs.declared.contract.StoreFault.TheVariants.{Memory};
 ghost use Rattle.mx_book.specs.Conditions.{all_granted};
-ghost use Rattle.mx_book.specs.Keeps.{Keeps};
+ghost use Rattle.mx_book.specs.Keeps.{Keeps, Gives};
 ghost use Rattle.mx_book.specs.World.{World};
 ghost use Rattle.mx_office.specs.Commands.{IsCommand};
 ghost use Rattle.mx_office.specs.Decides.{Decides, granted_to, load_edits, member_purse};
@@ -26,7 +26,8 @@ const MOST: u128 = MOST_NUMBER as u128;
 /// How much a member was granted; 0 where there is no such member.
 fn granted_of<B: Book>(book: &mut B, alloc: Global, member: Name) -> Result<u64, StoreFault>
     ensures keeps { Keeps B.doubt B.rows B.leaves book.old book.new }
-    ensures value { (w : World) → B.doubt book.new ≡ 0 → B.spells (B.rows book.old) w → IfOk result (λ n. n ≡ granted_to w member) }
+    ensures value { Gives B.doubt B.rows B.spells book.old book.new result
+        (λ w n. n ≡ granted_to w member) }
     ensures fault { IfErr result B.fails }
 {
     match book.member(alloc, member)? {
@@ -38,7 +39,8 @@ fn granted_of<B: Book>(book: &mut B, alloc: Global, member: Name) -> Result<u64,
 /// The sum of all grants.
 fn all_granted<B: Book>(book: &mut B, alloc: Global) -> Result<u128, StoreFault>
     ensures keeps { Keeps B.doubt B.rows B.leaves book.old book.new }
-    ensures value { (w : World) → B.doubt book.new ≡ 0 → B.spells (B.rows book.old) w → IfOk result (λ n. n ≡ all_granted w) }
+    ensures value { Gives B.doubt B.rows B.spells book.old book.new result
+        (λ w n. n ≡ all_granted w) }
     ensures fault { IfErr result (λ e. (e ≡ Memory) ⊎ B.fails e) }
 {
     let members = book.members(alloc)?;
@@ -161,7 +163,8 @@ fn member_purse<B: Book>(
     purse: Name,
 ) -> Result<Option<Purse>, StoreFault>
     ensures keeps { Keeps B.doubt B.rows B.leaves book.old book.new }
-    ensures value { (w : World) → B.doubt book.new ≡ 0 → B.spells (B.rows book.old) w → IfOk result (λ o. o ≡ member_purse w member purse) }
+    ensures value { Gives B.doubt B.rows B.spells book.old book.new result
+        (λ w o. o ≡ member_purse w member purse) }
     ensures fault { IfErr result B.fails }
 {
     match book.purse(alloc, purse)? {

@@ -1,7 +1,7 @@
 //! The commands of holders.
-ghost use Rattle.std.specs.Prelude.{◌≡◌, ◌⊎◌, [], IfOk, OnOk, IfErr, option_map};
+ghost use Rattle.std.specs.Prelude.{◌≡◌, ◌⊎◌, [], OnOk, IfErr, option_map};
 ghost use Rattle.mx_book.specs.declared.contract.StoreFault.TheVariants.{Memory};
-ghost use Rattle.mx_book.specs.Keeps.{Keeps};
+ghost use Rattle.mx_book.specs.Keeps.{Keeps, Gives};
 ghost use Rattle.mx_book.specs.World.{World};
 ghost use Rattle.mx_book.specs.Reads.{purses_of};
 ghost use Rattle.mx_office.specs.Commands.{IsCommand};
@@ -28,7 +28,8 @@ pub(crate) fn placed<B: Book>(
     sent: Option<(Name, Message)>,
 ) -> Result<Option<(Name, Message)>, StoreFault>
     ensures keeps { Keeps B.doubt B.rows B.leaves book.old book.new }
-    ensures value { (w : World) → B.doubt book.new ≡ 0 → B.spells (B.rows book.old) w → IfOk result (λ o. o ≡ placed w sent) }
+    ensures value { Gives B.doubt B.rows B.spells book.old book.new result
+        (λ w o. o ≡ placed w sent) }
     ensures fault { IfErr result B.fails }
 {
     let Some((peer, message)) = sent else {
@@ -296,7 +297,8 @@ fn not_kept<B: Book>(
     entry: Option<&PayDetails>,
 ) -> Result<Option<PayDetails>, StoreFault>
     ensures keeps { Keeps B.doubt B.rows B.leaves book.old book.new }
-    ensures value { (w : World) → B.doubt book.new ≡ 0 → B.spells (B.rows book.old) w → IfOk result (λ o. o ≡ not_kept w purse (option_map (λ d. d.now) entry.entry)) }
+    ensures value { Gives B.doubt B.rows B.spells book.old book.new result
+        (λ w o. o ≡ not_kept w purse (option_map (λ d. d.now) entry.entry)) }
     ensures fault { IfErr result B.fails }
 {
     let Some(details) = entry else {

@@ -1,10 +1,9 @@
 -- The import of records, one more at a time.
-use Rattle.std.proofs.Common.{◌≡◌, ◌≢◌, ◌≤◌, ◌<◌, ◌+◌, ◌-◌, ◌^◌, ℕ, Bool, true, false, List, [], ◌∷◌, ◌++◌, length, length-append, append_assoc, Option, Some, None, refl, sym, ◌∙◌, ap, subst, arith, inl, inr}
+use Rattle.std.proofs.Common.{◌≡◌, ◌≤◌, ◌<◌, ◌+◌, ◌-◌, ◌^◌, ℕ, Bool, true, false, List, [], ◌∷◌, ◌++◌, length, length-append, append_assoc, Option, Some, None, refl, sym, ◌∙◌, ap, subst, arith, inr}
 use Rattle.std.proofs.lemmas.List.{append-nil}
 use Rattle.std.specs.List.{AllByRecursion}
-use Rattle.csv.specs.Reading.{ExplainsRead, RowStep, default_config, owned_rows_left}
+use Rattle.csv.specs.Reading.{ExplainsRead, RowStep, owned_rows_left}
 use Rattle.csv.specs.declared.error.ErrorKind.{ErrorKind}
-use Rattle.csv.specs.Machine.{next_record}
 use Rattle.mx_book.proofs.PartLemmas.{all_append}
 use Rattle.mx_book.specs.declared.values.Caller.{Caller}
 use Rattle.mx_book.specs.World.{World}
@@ -18,7 +17,7 @@ use Rattle.mx_office.proofs.ReachLemmas.{reachable_after}
 use Rattle.mx_office.proofs.StepLemmas.{reachable_world}
 use Rattle.mx_report.specs.declared.roll_rows.RollRow.{RollRow}
 use Rattle.mx_report.specs.Roll.{Fields, roll_header, is_same, asker, row_of}
-use Rattle.mx_report.specs.Import.{AreFirst, BeginsRoll, HasOddRecord, Import, IsBroken, IsImported, IsRecordImported, IsRoll, StandsImported, Tally, after_record, after_records, import, no_rows, record_asks, record_imported, roll_asks, row_imported, rows_counted, spelled_asks, spelled_imported, tallied}
+use Rattle.mx_report.specs.Import.{AreFirst, BeginsRoll, HasOddRecord, Import, IsBroken, IsRecordImported, IsRoll, StandsImported, Tally, after_record, after_records, import, no_rows, record_asks, record_imported, roll_asks, row_imported, rows_counted, spelled_asks, spelled_imported, tallied}
 use Rattle.mx_report.specs.declared.rolls.RollFaultKind.TheVariants.{NotRoll}
 use Rattle.mx_report.specs.Reading.{HasGiven, Records, record_fault}
 use Rattle.mx_report.proofs.KeptLemmas.{all_standing}

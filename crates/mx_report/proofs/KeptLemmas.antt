@@ -16,7 +16,6 @@ use Rattle.mx_office.specs.Step.{step, new_member_refusal, new_holder_refusal, n
 use Rattle.mx_office.proofs.OwnLemmas.{absent, none_refused}
 use Rattle.mx_report.specs.declared.roll_rows.RollRow.{RollRow}
 use Rattle.mx_report.specs.declared.roll_rows.RollRow.TheVariants.{Member, Holder, Purse}
-use Rattle.mx_report.specs.declared.rolls.RollReason.TheVariants as reason
 use Rattle.mx_report.specs.declared.rolls.RowOutcome.{RowOutcome}
 use Rattle.mx_report.specs.declared.rolls.RowOutcome.TheVariants.{Added, Same, Refused}
 use Rattle.mx_report.specs.Roll.{Fields, is_clerk, is_holder, is_holders, is_same, asker, command_of, row_of}

@@ -1,10 +1,8 @@
 -- What a step of a reader's records makes of the records that it has given.
-use Rattle.std.proofs.Common.{◌≡◌, ◌≢◌, ◌<◌, ℕ, Bool, true, false, List, [], ◌∷◌, ◌++◌, length, Option, Some, None, Ok, Err, refl, sym, ◌∙◌, ap, subst, Bor, inl, inr, ◌⊎◌}
-use Rattle.std.specs.Prelude.{IfSome}
+use Rattle.std.proofs.Common.{◌≡◌, ◌≢◌, ◌<◌, ℕ, true, false, List, [], ◌∷◌, ◌++◌, length, Option, Some, None, Ok, refl, sym, ◌∙◌, ap, Bor, inl, inr}
 use Rattle.csv.specs.Machine.{Read, next_record}
 use Rattle.csv.specs.Reading.{ExplainsRead, FlexibleStep, NextIs, Reached, ReadRecord, ReadsNext, RowStep, default_config, source_of, strip_bom}
 use Rattle.csv.specs.Records.{Row, fields_of}
-use Rattle.csv.specs.declared.error.Error.{Error}
 use Rattle.csv.specs.declared.error.ErrorKind.{ErrorKind}
 use Rattle.csv.specs.declared.error.ErrorKind.TheVariants as error
 use Rattle.csv.specs.declared.parser.Config.{Config}
@@ -13,7 +11,7 @@ use Rattle.csv.specs.declared.parser.State.TheVariants as st
 use Rattle.csv.specs.declared.reader.Reader.{Reader}
 use Rattle.csv.specs.declared.reader.Trim.TheVariants as trim
 use Rattle.csv.proofs.ReadFacts.{rows-end, rows-more}
-use Rattle.mx_report.specs.declared.rolls.RollFaultKind.TheVariants.{NotRoll, Memory, Store}
+use Rattle.mx_report.specs.declared.rolls.RollFaultKind.TheVariants.{NotRoll}
 use Rattle.mx_report.specs.Roll.{Fields, roll_header}
 use Rattle.mx_report.specs.Import.{HasNoHeader}
 use Rattle.mx_report.specs.Reading.{HasGiven, Records, record_fault}

@@ -1,6 +1,5 @@
 -- The fields of a record, and the row that they spell.
-use Rattle.std.proofs.Common.{◌≡◌, ◌≢◌, ℕ, ◌<◌, Bool, true, false, cond, List, [], ◌∷◌, length, Option, Some, None, refl, sym, ◌∙◌, ap, arith}
-use Rattle.std.specs.Prelude.{◌==◌, IfNone, IfSome}
+use Rattle.std.proofs.Common.{◌≡◌, ◌≢◌, ℕ, Bool, true, false, List, [], ◌∷◌, length, Some, None, refl, arith}
 use Rattle.csv.specs.Records.{field_at}
 use Rattle.mx_pay.specs.Names.{is_name_text}
 use Rattle.mx_report.specs.Roll.{Fields, name_in, row_in, row_of}

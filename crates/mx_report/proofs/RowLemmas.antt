@@ -1,5 +1,5 @@
 -- What comes of a row, by what it is in a World.
-use Rattle.std.proofs.Common.{◌≡◌, ◌≢◌, Bool, true, false, cond, List, [], ◌∷◌, Option, Some, None, refl, sym, ◌∙◌, ap, subst, option_map, IsSome}
+use Rattle.std.proofs.Common.{◌≡◌, true, false, Option, Some, None, refl, ◌∙◌, ap, option_map, IsSome}
 use Rattle.std.specs.Prelude.{option_and_then}
 use Rattle.std.specs.FinMap as fmap
 use Rattle.mx_book.specs.declared.values.Account.{Account}
@@ -14,7 +14,7 @@ use Rattle.mx_office.specs.Step.{step}
 use Rattle.mx_report.specs.declared.roll_rows.RollRow.{RollRow}
 use Rattle.mx_report.specs.declared.rolls.RollReason.TheVariants as reason
 use Rattle.mx_report.specs.declared.rolls.RowOutcome.{RowOutcome}
-use Rattle.mx_report.specs.declared.rolls.RowOutcome.TheVariants.{Added, Same, Refused}
+use Rattle.mx_report.specs.declared.rolls.RowOutcome.TheVariants.{Same, Refused}
 use Rattle.mx_report.specs.Roll.{is_same, asker, command_of}
 use Rattle.mx_report.specs.Import.{IsRowImported, outcome_of, row_imported}
 

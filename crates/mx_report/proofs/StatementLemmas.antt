@@ -1,13 +1,13 @@
 -- Pages of lines that are read one after the other are the lines of a purse.
 use Rattle.std.proofs.Common.{◌≡◌, ℕ, zero, suc, ◌+◌, ◌<◌, true, false, List, [], ◌∷◌, ◌++◌, Option, Some, None, refl, sym, ◌∙◌, ap, arith, append_assoc, length, take, drop, option_map}
-use Rattle.std.specs.Prelude.{filter, nat_lt, is_none, option_and_then}
+use Rattle.std.specs.Prelude.{filter, nat_lt, is_some}
 use Rattle.std.proofs.lemmas.List.{length-take, take_all, take-append-drop}
 use Rattle.std.proofs.Math.Seq.{drop-append_seam}
 use Rattle.std.specs.FinMap as fmap
 use Rattle.mx_book.specs.Conditions.{IsWorld, AreNumbered}
 use Rattle.mx_book.specs.Limits.{most_lines}
 use Rattle.mx_book.specs.declared.values.Line.{Line}
-use Rattle.mx_book.specs.Reads.{account_of, account_with, from_row, lines_of, page}
+use Rattle.mx_book.specs.Reads.{has_purse, from_row, lines_of, page}
 use Rattle.mx_book.specs.World.{World, Row, Name}
 use Rattle.mx_report.specs.Statement.{own_lines, statement_of}
 
@@ -74,10 +74,10 @@ all_read w p read more now n is so_far count page last few =
     let same : more ≡ lines_of w p (length read) most_lines = rw (← count) page in
     last ∙ rw same (last_page (own_lines w p) read (own_numbered w p is) so_far (rw same at few))
 
-statement_case : (w : World) (p : Name) (o : Option Row) → is_none (option_and_then (λ (r : Row). option_map (account_with r) (fmap.get w.holders r.holder)) o) ≡ false → Some (from_row [] (λ r. r.holding.lines) o) ≡ option_map (λ (r : Row). r.holding.lines) o
-statement_case w p None there = cc
-statement_case w p (Some r) there = refl
+statement_case : (o : Option Row) → is_some o ≡ true → Some (from_row [] (λ r. r.holding.lines) o) ≡ option_map (λ (r : Row). r.holding.lines) o
+statement_case None there = cc
+statement_case (Some r) there = refl
 
 -- the lines of a purse that is there are its statement
-pub whole_statement : (w : World) (p : Name) → is_none (account_of w p) ≡ false → Some (own_lines w p) ≡ statement_of w p
-whole_statement w p there = statement_case w p (fmap.get w.rows p) there
+pub whole_statement : (w : World) (p : Name) → has_purse w p ≡ true → Some (own_lines w p) ≡ statement_of w p
+whole_statement w p there = statement_case (fmap.get w.rows p) there

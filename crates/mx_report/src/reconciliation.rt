@@ -1,11 +1,10 @@
 //! The reconciliation of the scheme.
-ghost use Rattle.std.specs.Prelude.{◌≡◌, ◌⊎◌, ◌++◌, IfOk, IfErr, OnOk};
+ghost use Rattle.std.specs.Prelude.{◌≡◌, ◌⊎◌, ◌++◌, IfOk, IfErr};
 ghost use Rattle.mx_book.specs.declared.contract.StoreFault.TheVariants.{Memory};
-ghost use Rattle.mx_book.specs.Keeps.{Keeps};
+ghost use Rattle.mx_book.specs.Keeps.{Keeps, Gives};
 ghost use Rattle.mx_book.specs.Totals.{members_totals_of, totals_of};
-ghost use Rattle.mx_book.specs.World.{World};
 ghost use Rattle.mx_report.specs.Statement.{record_text};
-ghost use Rattle.mx_report.specs.Reconciliation.{member_text, members_text, reconciliation_text, scheme_text, six, sums_fields};
+ghost use Rattle.mx_report.specs.Reconciliation.{members_text, reconciliation_text, scheme_text, six, sums_fields};
 
 use crate::texts::Text;
 use mx_book::values::{MemberTotals, Totals};
@@ -25,7 +24,8 @@ pub struct Report {
 /// What the books come to. A fault is one of the book's reads, or `Memory`.
 pub fn reconcile<B: Book>(alloc: Global, book: &mut B) -> Result<Report, StoreFault>
     ensures keeps { Keeps B.doubt B.rows B.leaves book.old book.new }
-    ensures value { (w : World) → B.doubt book.new ≡ 0 → B.spells (B.rows book.old) w → IfOk result (λ report. (report.members.items ≡ members_totals_of w) × (report.scheme ≡ totals_of w)) }
+    ensures value { Gives B.doubt B.rows B.spells book.old book.new result
+        (λ w report. (report.members.items ≡ members_totals_of w) × (report.scheme ≡ totals_of w)) }
     ensures fault { IfErr result (λ e. (e ≡ Memory) ⊎ B.fails e) }
 {
     let members = book.members_totals(alloc)?;

@@ -4,7 +4,7 @@ ghost use Rattle.std.specs.Vec.{vec_len, vec_capacity};
 ghost use Rattle.csv.specs.Reading.{error_kind};
 ghost use Rattle.csv.specs.Records.{fields_of};
 ghost use Rattle.mx_book.specs.declared.contract.StoreFault.TheVariants as fault;
-ghost use Rattle.mx_book.specs.Keeps.{Keeps};
+ghost use Rattle.mx_book.specs.Keeps.{Keeps, Gives};
 ghost use Rattle.mx_book.specs.World.{World, is_of};
 ghost use Rattle.mx_office.specs.Reachable.{IsReachable, StandsBalanced};
 ghost use Rattle.mx_report.specs.declared.rolls.RollFaultKind.TheVariants.{NotRoll, Memory, Store};
@@ -183,7 +183,8 @@ fn is_holders(holder: &Name, purse: &Option<Account>) -> bool
 #[tactic(auto, unfolding(crate::specs::Roll::is_same))]
 fn is_same<B: Book>(book: &mut B, alloc: Global, row: &RollRow) -> Result<bool, StoreFault>
     ensures keeps { Keeps B.doubt B.rows B.leaves book.old book.new }
-    ensures value { (w : World) → B.doubt book.new ≡ 0 → B.spells (B.rows book.old) w → IfOk result (λ b. b ≡ is_same w row.now) }
+    ensures value { Gives B.doubt B.rows B.spells book.old book.new result
+        (λ w b. b ≡ is_same w row.now) }
     ensures fault { IfErr result B.fails }
 {
     match row {
@@ -212,7 +213,8 @@ fn is_same<B: Book>(book: &mut B, alloc: Global, row: &RollRow) -> Result<bool, 
 #[tactic(auto, unfolding(crate::specs::Roll::asker))]
 fn asker<B: Book>(book: &mut B, alloc: Global, row: &RollRow) -> Result<Option<Caller>, StoreFault>
     ensures keeps { Keeps B.doubt B.rows B.leaves book.old book.new }
-    ensures value { (w : World) → B.doubt book.new ≡ 0 → B.spells (B.rows book.old) w → IfOk result (λ o. o ≡ asker w row.now) }
+    ensures value { Gives B.doubt B.rows B.spells book.old book.new result
+        (λ w o. o ≡ asker w row.now) }
     ensures fault { IfErr result B.fails }
 {
     match row {

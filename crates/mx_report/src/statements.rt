@@ -1,8 +1,7 @@
 //! The statement of a purse.
-ghost use Rattle.std.specs.Prelude.{◌≡◌, ◌⊎◌, ◌++◌, IfOk, IfErr, OnOk, option_map};
+ghost use Rattle.std.specs.Prelude.{◌≡◌, ◌⊎◌, ◌++◌, IfOk, IfErr, option_map};
 ghost use Rattle.mx_book.specs.declared.contract.StoreFault.TheVariants.{Memory};
-ghost use Rattle.mx_book.specs.Keeps.{Keeps};
-ghost use Rattle.mx_book.specs.World.{World};
+ghost use Rattle.mx_book.specs.Keeps.{Keeps, Gives};
 ghost use Rattle.mx_report.specs.Statement.{record_text, line_fields, own_lines, statement_of, statement_text};
 
 use crate::texts::Text;
@@ -15,7 +14,8 @@ use std::alloc::{AllocError, Global};
 /// The lines of a purse, by number, read page by page.
 fn read_lines<B: Book>(alloc: Global, book: &mut B, purse: Name) -> Result<Vec<Line>, StoreFault>
     ensures keeps { Keeps B.doubt B.rows B.leaves book.old book.new }
-    ensures value { (w : World) → B.doubt book.new ≡ 0 → B.spells (B.rows book.old) w → IfOk result (λ lines. lines.items ≡ own_lines w purse) }
+    ensures value { Gives B.doubt B.rows B.spells book.old book.new result
+        (λ w lines. lines.items ≡ own_lines w purse) }
     ensures fault { IfErr result (λ e. (e ≡ Memory) ⊎ B.fails e) }
 {
     let mut lines = Vec::new(alloc);
@@ -40,10 +40,11 @@ pub fn statement<B: Book>(
     purse: Name,
 ) -> Result<Option<Vec<Line>>, StoreFault>
     ensures keeps { Keeps B.doubt B.rows B.leaves book.old book.new }
-    ensures value { (w : World) → B.doubt book.new ≡ 0 → B.spells (B.rows book.old) w → IfOk result (λ o. option_map (λ lines. lines.items) o ≡ statement_of w purse) }
+    ensures value { Gives B.doubt B.rows B.spells book.old book.new result
+        (λ w o. option_map (λ lines. lines.items) o ≡ statement_of w purse) }
     ensures fault { IfErr result (λ e. (e ≡ Memory) ⊎ B.fails e) }
 {
-    if book.purse(alloc, purse)?.is_none() {
+    if !book.has_purse(alloc, purse)? {
         return Ok(None);
     }
     let lines = read_lines(alloc, book, purse)?;

@@ -223,6 +223,10 @@ pub row_absent : {X : Type 0} (f : PurseRow → X) (o : Option PurseRow) → Non
 row_absent f None e = refl
 row_absent f (Some x) e = absurd (cc)
 
+pub owner_there : (o : Option PurseRow) → is_some (option_map (λ (x : PurseRow). x.holder) o) ≡ is_some o
+owner_there None = refl
+owner_there (Some x) = refl
+
 pub member_found : (holders : fmap.FinMap name_cmp Name) (o : Option PurseRow) (h : Name) → Some h ≡ option_map (λ (x : PurseRow). x.holder) o → member_at holders o ≡ fmap.get holders h
 member_found holders None h e = absurd (cc)
 member_found holders (Some x) h e = let same : x.holder ≡ h = cc in ap (fmap.get holders) same

@@ -222,6 +222,14 @@ pub fn find_owner<S: Alter>(
     }
 }
 
+/// Whether there is a purse of that name.
+pub fn find_has_purse<S: Alter>(conn: &mut Connection<S>, name: &Name) -> Result<bool, StoreFault>
+    ensures { Reads S.Store conn.old conn.new result
+        (λ r b. b ≡ is_some (fmap.get r.purses name.now)) }
+{
+    Ok(find_owner(conn, name)?.is_some())
+}
+
 /// Whether the purse of that name is there and is the holder's.
 pub fn find_is_own<S: Alter>(
     conn: &mut Connection<S>,

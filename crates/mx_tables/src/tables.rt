@@ -19,7 +19,7 @@ use crate::loads::find_load;
 use crate::member_sums::sum_members;
 use crate::members::{find_member, list_members};
 use crate::opening::{OpenFault, OpenRefused, check_office, make_office};
-use crate::purses::{find_is_own, find_own, find_place, list_held, read_account};
+use crate::purses::{find_has_purse, find_is_own, find_own, find_place, list_held, read_account};
 use crate::redemptions::find_redemption;
 use crate::results::{find_archived, list_tray};
 use crate::sums::{sum_member, sum_scheme, sum_uncollected};
@@ -184,6 +184,10 @@ impl<S: Alter> Book for Tables<S> {
 
     fn purse(&mut self, _alloc: Global, name: Name) -> Result<Option<Account>, StoreFault> {
         read_account(&mut self.conn, &name)
+    }
+
+    fn has_purse(&mut self, _alloc: Global, name: Name) -> Result<bool, StoreFault> {
+        find_has_purse(&mut self.conn, &name)
     }
 
     fn own_purse(

@@ -77,6 +77,13 @@ impl<B: Book> Book for Faulty<B> {
         self.book.purse(alloc, name)
     }
 
+    fn has_purse(&mut self, alloc: Global, name: Name) -> Result<bool, StoreFault> {
+        if self.is_left_out() {
+            return Err(StoreFault::Store);
+        }
+        self.book.has_purse(alloc, name)
+    }
+
     fn own_purse(
         &mut self,
         alloc: Global,

@@ -1,4 +1,4 @@
-use Rattle.std.proofs.Common.{◌<◌, ◌≡◌, length, arith, refl, sym}
+use Rattle.std.proofs.Common.{arith, sym}
 use Rattle.csv.specs.Records.{fields_of}
 use Rattle.csv.proofs.RecordFacts.{field-there}
 use Rattle.mx_report.proofs.RollLemmas.{four_at}

@@ -1,11 +1,10 @@
-use Rattle.std.proofs.Common.{rules, ◌≡◌, ◌≤◌, ◌<◌, ◌+◌, ◌^◌, ◌-◌, ◌∷◌, ◌++◌, [], ℕ, Some, None, inl, inr, refl, sym, ◌∙◌, arith}
+use Rattle.std.proofs.Common.{rules, ◌≡◌, ◌≤◌, ◌<◌, ◌+◌, ◌^◌, ◌-◌, ◌∷◌, ◌++◌, [], Some, inl, refl, sym, ◌∙◌, arith}
 use Rattle.csv.specs.Reading.{owned_rows_left}
 use Rattle.csv.specs.Records.{fields_of}
-use Rattle.mx_report.specs.Import.{import, tally_of}
-use Rattle.mx_report.specs.Reading.{HasGiven}
+use Rattle.mx_report.specs.Import.{import}
 use Rattle.mx_report.specs.Roll.{roll_header}
 use Rattle.mx_report.proofs.ReadingLemmas.{as_many, given_more, started}
-use Rattle.mx_report.proofs.ImportLemmas.{Going, broken, counts_more, going_more, odd_record, stands_balanced, stands_more, stands_none, whole_roll}
+use Rattle.mx_report.proofs.ImportLemmas.{counts_more, going_more, stands_balanced, stands_more, stands_none, whole_roll}
 use Rattle.mx_report.proofs.rolls.import_roll_telling.Goals as goal
 
 pub returns-in-Err-clause-not_roll : goal.returns-in-Err-clause-not_roll

@@ -1,6 +1,5 @@
-use Rattle.std.proofs.Common.{◌∙◌, ◌≡◌, rules, sym, subst, true, false, Some, None}
-use Rattle.mx_book.specs.World.{World}
-use Rattle.mx_report.specs.Roll.{is_same, asker, command_of}
+use Rattle.std.proofs.Common.{◌∙◌, ◌≡◌, rules, sym, subst, false, Some, None}
+use Rattle.mx_report.specs.Roll.{is_same, asker}
 use Rattle.mx_report.proofs.RowLemmas.{row_same, row_unasked, row_asked}
 use Rattle.mx_report.proofs.rolls.import_row.Goals as goal
 

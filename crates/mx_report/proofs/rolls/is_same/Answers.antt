@@ -1,5 +1,5 @@
 use Rattle.std.proofs.Common.{refl}
-use Rattle.mx_report.specs.Roll.{is_same, is_holders}
+use Rattle.mx_report.specs.Roll.{is_same}
 use Rattle.mx_report.proofs.RowLemmas.{purse_holder}
 use Rattle.mx_report.proofs.rolls.is_same.Goals as goal
 

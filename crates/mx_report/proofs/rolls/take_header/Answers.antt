@@ -1,6 +1,5 @@
-use Rattle.std.proofs.Common.{◌∙◌, ◌≡◌, ◌∷◌, [], None, length, ap, subst, sym}
+use Rattle.std.proofs.Common.{[], None}
 use Rattle.csv.specs.Records.{fields_of}
-use Rattle.mx_report.specs.Reading.{HasGiven}
 use Rattle.mx_report.proofs.ReadingLemmas.{given_more, other_header, none_left, no_header}
 use Rattle.mx_report.proofs.rolls.take_header.Goals as goal
 

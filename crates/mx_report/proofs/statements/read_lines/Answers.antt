@@ -1,4 +1,4 @@
-use Rattle.std.proofs.Common.{◌≡◌, ◌++◌, rules, arith, refl}
+use Rattle.std.proofs.Common.{◌≡◌, rules, arith, refl}
 use Rattle.mx_report.proofs.StatementLemmas.{all_read, more_read}
 use Rattle.mx_report.specs.Statement.{own_lines}
 use Rattle.mx_report.proofs.statements.read_lines.Goals as goal
