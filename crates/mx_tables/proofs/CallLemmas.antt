@@ -33,12 +33,6 @@ module _ {S : Type 0} (g : Ghosts S) where
       → Reads g old new (Ok x) is → ((rows : Rows) → Holds (state g old).now rows → is rows x → IfOk r (other rows)) → Reads g old new r other
   reads_to h f = record { stays = h.stays; value = λ ours calm rows holds. f rows holds (h.value ours calm rows holds) }
 
-  -- the same, where a premise on the rows goes first
-  pub reads_if : {T U : Type 0} {old new : Held S} {x : T} {r : Result U StoreFault} {is : Rows → T → Type 0} {If : Rows → Type 0} {other : Rows → U → Type 0}
-      → Reads g old new (Ok x) is → ((rows : Rows) → Holds (state g old).now rows → is rows x → If rows → IfOk r (other rows)) → Reads g old new r (λ rows y. If rows → other rows y)
-  reads_if {r = Ok y} h f = reads_to h (λ rows holds is premise. f rows holds is premise)
-  reads_if {r = Err e} h f = reads_fault h
-
   -- what follows from what a read gives
   pub reads_more : {T : Type 0} {old new : Held S} {r : Result T StoreFault} {is other : Rows → T → Type 0}
       → Reads g old new r is → ((rows : Rows) → Holds (state g old).now rows → (x : T) → is rows x → other rows x) → Reads g old new r other

@@ -1,31 +1,32 @@
 -- The statements on inboxes.
-use Rattle.std.proofs.Common.{◌≡◌, inl, inr, ℕ, ℤ, pos, ◌+◌, Bool, true, false, not, cond, None, Some, Option, Err, Result, IfOk, ◌&&◌, List, [], ◌∷◌, map, codes, Ok, refl, sym, ap, ap₂, subst, ◌∙◌, arith, Less, Equal, Greater}
+use Rattle.std.proofs.Common.{◌≡◌, ℕ, List, [], ◌∷◌, map, refl, ap, inl, inr, ℤ, pos, ◌+◌, Bool, true, false, not, cond, None, Some, Option, Err, Result, IfOk, ◌&&◌, codes, Ok, sym, ap₂, subst, ◌∙◌, Less, Equal, Greater, arith, length}
+use Rattle.std.specs.List.{AllByRecursion}
+use Rattle.sqlite_value.specs.declared.value.Value.TheVariants.{Text, Int}
+use Rattle.mx_purse.specs.declared.message.Message.{Message}
+use Rattle.mx_purse.specs.Messages.{IsMessage}
+use Rattle.mx_purse.specs.Words.{message_word, message_details}
+use Rattle.mx_purse.proofs.WordLemmas.{same_message}
+use Rattle.mx_tables.specs.Schema.{number, message_cells, office_schema}
+use Rattle.mx_tables.specs.Answers.{message_row, at_key, message_shown, first_three, AreMessages, Raises, one_or_none}
+use Rattle.mx_tables.proofs.ValueLemmas.{told, same_made, same_words}
 use Rattle.std.specs.Prelude.{option_map}
 use Rattle.std.specs.List.Sorted.{IsPermutation}
-use Rattle.std.specs.List.{AllByRecursion}
 use Rattle.std.specs.FinMap as fmap
 use Rattle.std.specs.declared.cmp.Ordering.{Ordering}
 use Rattle.std.specs.Ordering.{nat_cmp, is_eq, eq_by_cmp, ordering_then}
 use Rattle.std.specs.Cmp.{eq_by_cmp_equiv, nat_cmp_total, tied_then}
 use Rattle.std.proofs.lemmas.Bool.{cases_Bool}
-use Rattle.std.proofs.lemmas.Bool.Decides.{eqb_tells}
-use Rattle.sqlite_value.specs.declared.value.Value.TheVariants.{Int, Text}
 use Rattle.sqlite_value.specs.declared.keys.Collation.TheVariants.{Binary}
 use Rattle.sqlite_value.specs.Keys.{ascending}
 use Rattle.sqlite_value.specs.Order.{Row, column}
 use Rattle.sqlite_value.proofs.OrderLemmas.{value_cmp-Int, then-Equal}
 use Rattle.sqlite_trees.proofs.ListLemmas.{map-map}
-use Rattle.sqlite_schema.specs.declared.schema.Table.{Table}
 use Rattle.sqlite_sql.specs.Term.{col}
 use Rattle.sqlite.specs.Effect.{Database}
 use Rattle.sqlite.specs.State.{State, Shown, Executes}
 use Rattle.mx_pay.proofs.SameLemmas.{names_turned}
 use Rattle.mx_pay.specs.Names.{name_cmp, is_name}
 use Rattle.mx_pay.proofs.TestLemmas.{is_equal}
-use Rattle.mx_purse.specs.declared.message.Message.{Message}
-use Rattle.mx_purse.specs.Messages.{IsMessage}
-use Rattle.mx_purse.specs.Words.{message_word, message_details}
-use Rattle.mx_purse.proofs.WordLemmas.{same_message}
 use Rattle.mx_book.specs.World.{Name}
 use Rattle.mx_book.specs.Rows.{Rows}
 use Rattle.mx_book.specs.RowEdits.{rewritten, on_purse}
@@ -35,21 +36,32 @@ use Rattle.mx_book.specs.RowReads.{row_inbox_of, of_name}
 use Rattle.mx_book.specs.Under.{pair_cmp}
 use Rattle.mx_book.proofs.NameLemmas.{same_name}
 use Rattle.mx_book.proofs.MapLemmas.{AllEntries, all_entries}
-use Rattle.mx_tables.specs.Schema.{office_schema, inbox}
-use Rattle.mx_tables.specs.Contents.{Contents}
-use Rattle.mx_tables.specs.Cells.{message_cells, number}
 use Rattle.mx_tables.specs.Holds.{Holds}
 use Rattle.mx_tables.specs.States.{Goes}
-use Rattle.mx_tables.specs.Answers.{at_key, message_row, message_shown, first_three, AreMessages, Raises}
-use Rattle.mx_tables.proofs.Queries.{is_given}
-use Rattle.mx_tables.proofs.Texts.{select_inbox, select_inbox_is, select_held_numbers, select_held_numbers_is, select_message, select_message_is, select_number, select_number_is, insert_message, insert_message_is, delete_message, delete_message_is}
+use Rattle.mx_tables.proofs.Texts.{is_given, select_inbox, select_inbox_is, select_held_numbers, select_held_numbers_is, select_message, select_message_is, select_number, select_number_is, insert_message, insert_message_is, delete_message, delete_message_is}
 use Rattle.mx_tables.proofs.Statements.{passes}
 use Rattle.mx_tables.proofs.StoredLemmas.{and_true, same_text, same_numbers, numbers_cmp, cast_int, cast_null}
-use Rattle.mx_tables.proofs.ReadLemmas.{answers, answers_in_order}
-use Rattle.mx_tables.proofs.WriteLemmas.{Place, adds, drops, goes_as}
+use Rattle.mx_tables.proofs.ReadLemmas.{answers, answers_in_order, keyed}
+use Rattle.mx_tables.proofs.WriteLemmas.{adds, drops, goes_as}
 use Rattle.mx_tables.proofs.KeptLemmas as kept
-use Rattle.mx_tables.proofs.MessageLemmas.{same_message_rows}
-use Rattle.mx_tables.proofs.ValueLemmas.{same_words}
+
+-- messages that show the same row are the same
+same_message_row : (m n : ℕ × Message) → IsMessage m.1 → IsMessage n.1 → message_row m ≡ message_row n → m ≡ n
+same_message_row m n one two h =
+    let (count, (word, (text, _))) = told (message_row m) (message_row n) h in
+    let message = same_message m.1 n.1 one two word text in
+    λ i. (count i, message i)
+
+-- messages that show the same rows are the same
+pub same_message_rows : (ms ns : List (ℕ × Message)) → AllByRecursion (λ m. IsMessage m.1) ms → AllByRecursion (λ m. IsMessage m.1) ns → map message_row ms ≡ map message_row ns → ms ≡ ns
+same_message_rows [] [] one two h = refl
+same_message_rows [] (n ∷ ns) one two h = absurd (let k = ap length h in omega (arith, k))
+same_message_rows (m ∷ ms) [] one two h = absurd (let k = ap length h in omega (arith, k))
+same_message_rows (m ∷ ms) (n ∷ ns) one two h =
+    let rest : map message_row ms ≡ map message_row ns = cc in
+    let count : m.0 ≡ n.0 = cc in
+    let message = same_message m.1 n.1 one.0 two.0 (cc) (cc) in
+    λ i. (count i, message i) ∷ same_message_rows ms ns one.1 two.1 rest i
 
 -- under one first key, pairs are in the order of their second keys
 pub second_less : (a b : Ordering) → is_eq a ≡ true → ordering_then a b ≡ Less → b ≡ Less
@@ -93,7 +105,7 @@ all_of_purse p (e ∷ es) h = elim (cases_Bool (is_name p e.0.0)) [
 
 pub inbox_read : (p : Name) (r : Rows) → AreMessages r → (rows : List Row) (ms : List (ℕ × Message)) → map first_three rows ≡ map message_row ms → AllMessages ms → rows ≡ map message_row (row_inbox_of r p) → ms ≡ row_inbox_of r p
 inbox_read p r valid rows ms read mine is =
-    same_message_rows ms (row_inbox_of r p) mine (all_of_purse p (fmap.entries r.inbox) (all_entries kept.pairs_total (λ _ m. IsMessage m) r.inbox valid))
+    same_made (λ m. IsMessage m.1) message_row same_message_row ms (row_inbox_of r p) mine (all_of_purse p (fmap.entries r.inbox) (all_entries kept.pairs_key.total (λ _ m. IsMessage m) r.inbox valid))
     (sym read ∙ ap (map first_three) is ∙ map-map first_three message_row (row_inbox_of r p))
 
 pub both_turned : (a b c d e f : Bool) → a ≡ c → b ≡ d → c ≡ e → d ≡ f → (a && (b && true)) ≡ (e && f)
@@ -105,11 +117,9 @@ at_message p n id e =
     both_turned _ _ (is_name e.0.0 p) (eq_by_cmp nat_cmp e.0.1 n) (is_name p e.0.0) (eq_by_cmp nat_cmp n e.0.1) (same_text e.0.0 p) (same_numbers e.0.1 n) (names_turned e.0.0 p) ((eq_by_cmp_equiv nat_cmp_total).symm e.0.1 n)
     ∙ tied_then (name_cmp p e.0.0) (nat_cmp n e.0.1)
 
-pub finds_message : (p : Name) (n : ℕ) (old new : State) (rows : List Row) → Shown select_message (Text p ∷ number n ∷ []) old new rows → (r : Rows) → Holds old.now r
-    → IsPermutation (map (λ (e : (Name × ℕ) × Message). message_shown e.1) (at_key (pair_cmp name_cmp nat_cmp) (p, n) (fmap.entries r.inbox))) rows
-finds_message p n =
-    answers kept.inbox select_message _ _ _ select_message_is (Text p ∷ number n ∷ []) (λ (e : (Name × ℕ) × Message). eq_by_cmp (pair_cmp name_cmp nat_cmp) (p, n) e.0) (λ (e : (Name × ℕ) × Message). message_shown e.1)
-    (at_message p n) (λ id e. refl)
+pub message_is : (p : Name) (n : ℕ) (old new : State) (rows : List Row) → Shown select_message (Text p ∷ number n ∷ []) old new rows → (r : Rows) → Holds old.now r
+    → (found : Option Row) → rows ≡ one_or_none found → found ≡ option_map message_shown (fmap.get r.inbox (p, n))
+message_is p n = keyed kept.inbox (p, n) select_message _ _ _ select_message_is (Text p ∷ number n ∷ []) message_shown (at_message p n) (λ id e. refl)
 
 -- the rows at a key have its number
 same_numbers_shown : (p : Name) (n : ℕ) (es : List ((Name × ℕ) × Message))
@@ -118,7 +128,7 @@ same_numbers_shown p n [] = refl
 same_numbers_shown p n (e ∷ es) =
     let more = same_numbers_shown p n es in
     elim (cases_Bool (eq_by_cmp (pair_cmp name_cmp nat_cmp) (p, n) e.0)) [
-      | inl t ↦ let same : n ≡ e.0.1 = ap (λ (k : Name × ℕ). k.1) (kept.pairs_exact (p, n) e.0 (is_equal _ t)) in rw t (λ i. (number (sym same i) ∷ []) ∷ more i)
+      | inl t ↦ let same : n ≡ e.0.1 = ap (λ (k : Name × ℕ). k.1) (kept.pairs_key.exact (p, n) e.0 (is_equal _ t)) in rw t (λ i. (number (sym same i) ∷ []) ∷ more i)
       | inr f ↦ rw f more
     ]
 
@@ -134,28 +144,11 @@ message_back v m row one two is a b = sym (same_message v m one two (same_words 
 
 -- ---- writes
 
-abbrev inbox_table : Table
-inbox_table = record inbox { tree = 10 }
-
-abbrev with_inbox : List ((Name × ℕ) × Message) → Contents → Contents
-with_inbox l c = record c { inbox = l }
-
-inbox_place : Place (pair_cmp name_cmp nat_cmp) message_cells 5 inbox_table with_inbox (λ m r. record r { inbox = m })
-inbox_place = record {
-  found = refl;
-  uncounted = refl;
-  not_meta = λ e. omega (arith, e);
-  others = λ l c t other. elim (eqb_tells t 10) [ inl same ↦ absurd (other same.1) | inr differs ↦ rw differs.0 refl ];
-  placed = λ l c. refl;
-  tokens = λ l c h. record { operator = h.operator; tokens = h.tokens };
-  spelled = λ l c. refl;
-}
-
 -- what is kept but one key is what is left where it is removed
 remove_is : (m : fmap.FinMap (pair_cmp name_cmp nat_cmp) Message) (k : Name × ℕ) → fmap.retain_keys m (λ j. not (eq_by_cmp (pair_cmp name_cmp nat_cmp) k j)) ≡ fmap.remove m k
-remove_is m k = fmap.same_map kept.pairs_total kept.pairs_exact _ _ (λ q.
-    fmap.get-retain_keys m (λ j. not (eq_by_cmp (pair_cmp name_cmp nat_cmp) k j)) q (λ x tie. ap (λ j. not (eq_by_cmp (pair_cmp name_cmp nat_cmp) k j)) (sym (kept.pairs_exact q x tie)))
-    ∙ either (eq_by_cmp (pair_cmp name_cmp nat_cmp) k q) (fmap.get m q) ∙ ap (λ b. cond b None (fmap.get m q)) ((eq_by_cmp_equiv kept.pairs_total).symm k q) ∙ sym (fmap.get-remove kept.pairs_total m k q))
+remove_is m k = fmap.same_map kept.pairs_key.total kept.pairs_key.exact _ _ (λ q.
+    fmap.get-retain_keys m (λ j. not (eq_by_cmp (pair_cmp name_cmp nat_cmp) k j)) q (λ x tie. ap (λ j. not (eq_by_cmp (pair_cmp name_cmp nat_cmp) k j)) (sym (kept.pairs_key.exact q x tie)))
+    ∙ either (eq_by_cmp (pair_cmp name_cmp nat_cmp) k q) (fmap.get m q) ∙ ap (λ b. cond b None (fmap.get m q)) ((eq_by_cmp_equiv kept.pairs_key.total).symm k q) ∙ sym (fmap.get-remove kept.pairs_key.total m k q))
   where
     either : (b : Bool) (o : Option Message) → cond (not b) o None ≡ cond b None o
     either true o = refl
@@ -169,13 +162,13 @@ pub drops_message : (p : Name) (n : ℕ) (old new : State) (count : ℕ) → old
     → Goes (λ r. record r { inbox = fmap.remove r.inbox (p, n) }) old new
 drops_message p n old new count has ran =
     goes_as _ _ old new (λ r h. ap (λ m. record r { inbox = m }) (remove_is r.inbox (p, n)))
-    (drops kept.inbox inbox_place (λ l c. refl) delete_message _ _ delete_message_is (Text p ∷ number n ∷ []) (eq_by_cmp (pair_cmp name_cmp nat_cmp) (p, n))
+    (drops kept.inbox delete_message _ _ delete_message_is (Text p ∷ number n ∷ []) (eq_by_cmp (pair_cmp name_cmp nat_cmp) (p, n))
     (at_message p n) (λ id e. refl) old new count has ran)
 
 pub adds_message : (p : Name) (n : ℕ) (m : Message) (old new : State) (count : ℕ) → old.now.schema ≡ office_schema
     → Executes insert_message (Text p ∷ number n ∷ Text (message_word m) ∷ Text (message_details m) ∷ []) old new (Ok count) → Goes (λ r. record r { inbox = fmap.insert r.inbox (p, n) m }) old new
 adds_message p n m =
-    adds kept.inbox inbox_place (λ l c. refl) insert_message _ _ insert_message_is (Text p ∷ number n ∷ Text (message_word m) ∷ Text (message_details m) ∷ []) ((p, n), m) (rw (cast_null, cast_int (pos n)) refl)
+    adds kept.inbox insert_message _ _ insert_message_is (Text p ∷ number n ∷ Text (message_word m) ∷ Text (message_details m) ∷ []) ((p, n), m) (rw (cast_null, cast_int (pos n)) refl)
 
 -- a message under the next number of its purse, which rises
 pub delivers : (p : Name) (m : Message) (n : ℕ) (a b c d : State) → b.now ≡ a.now → Raises p n b c → Goes (λ r. record r { inbox = fmap.insert r.inbox (p, n) m }) c d

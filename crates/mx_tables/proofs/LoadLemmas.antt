@@ -1,35 +1,70 @@
--- The statements on loads.
-use Rattle.std.proofs.Common.{◌≡◌, inl, inr, ℕ, pos, List, [], ◌∷◌, map, Ok, refl, ◌∙◌, arith, true, ◌&&◌}
+-- The statements on loads and redemptions, and redemptions that are collected purse by purse.
+use Rattle.std.proofs.Common.{◌≡◌, inl, inr, ℕ, pos, List, [], ◌∷◌, map, Ok, refl, ◌∙◌, arith, true, ◌&&◌, false, ◌+◌, ◌<◌, ◌≤◌, Bool, T, cond, ◌||◌, ◌++◌, take, length, get_or, Option, Some, None, sym, ap, codes, subst}
 use Rattle.std.specs.List.Sorted.{IsPermutation}
 use Rattle.std.specs.Cmp.{tied_then}
 use Rattle.std.specs.FinMap as fmap
 use Rattle.std.specs.Ordering.{eq_by_cmp}
-use Rattle.std.proofs.lemmas.Bool.Decides.{eqb_tells}
-use Rattle.sqlite_value.specs.declared.value.Value.TheVariants.{Text}
+use Rattle.sqlite_value.specs.declared.value.Value.TheVariants.{Text, Null, Int}
+use Rattle.std.specs.Prelude.{option_map}
 use Rattle.sqlite_value.specs.declared.keys.Collation.TheVariants.{Binary}
-use Rattle.sqlite_value.specs.Order.{Row}
-use Rattle.sqlite_schema.specs.declared.schema.Table.{Table}
+use Rattle.sqlite_value.specs.Order.{Row, column}
 use Rattle.sqlite_sql.specs.declared.ops.BinaryOp.TheVariants.{Compare}
 use Rattle.sqlite_sql.specs.declared.ops.CompareOp.TheVariants.{Eq}
 use Rattle.sqlite_sql.specs.Ops.{binary, is_true}
 use Rattle.sqlite.specs.State.{State, Shown, Executes}
 use Rattle.mx_pay.proofs.SameLemmas.{names_turned}
 use Rattle.mx_pay.specs.Names.{name_cmp, is_name}
-use Rattle.mx_book.specs.World.{Name}
+use Rattle.mx_book.specs.World.{Name, is_of}
 use Rattle.mx_book.specs.Rows.{Rows}
-use Rattle.mx_book.specs.Under.{pair_cmp}
-use Rattle.mx_tables.specs.Schema.{office_schema, load}
-use Rattle.mx_tables.specs.Contents.{Contents}
-use Rattle.mx_tables.specs.Cells.{load_cells, number}
+use Rattle.mx_book.specs.Under.{pair_cmp, remake}
+use Rattle.mx_tables.specs.Schema.{office_schema, number}
 use Rattle.mx_tables.specs.Holds.{Holds}
 use Rattle.mx_tables.specs.States.{Goes}
-use Rattle.mx_tables.specs.Answers.{at_key, amount_shown}
-use Rattle.mx_tables.proofs.MoneyTexts.{select_load, select_load_is, insert_load, insert_load_is}
-use Rattle.mx_tables.proofs.StoredLemmas.{same_text, cast_int, cast_null}
-use Rattle.mx_tables.proofs.ReadLemmas.{answers}
-use Rattle.mx_tables.proofs.WriteLemmas.{Place, adds}
+use Rattle.mx_tables.specs.Answers.{amount_shown, one_or_none}
+use Rattle.mx_tables.proofs.StoredLemmas.{same_text, cast_int, cast_null, and_true}
+use Rattle.mx_tables.proofs.ReadLemmas.{answers, keyed}
+use Rattle.mx_tables.proofs.WriteLemmas.{adds, alters, goes_as}
 use Rattle.mx_tables.proofs.InboxLemmas.{both_turned}
-use Rattle.mx_tables.proofs.KeptLemmas.{loads}
+use Rattle.mx_tables.proofs.KeptLemmas.{loads, redemptions, purses}
+use Rattle.mx_book.specs.declared.values.Redemption.{Redemption}
+use Rattle.std.specs.List.{list_any}
+use Rattle.std.specs.FinMap.Entries.{is_sorted, below_all}
+use Rattle.std.specs.declared.cmp.Ordering.TheVariants.{Equal}
+use Rattle.std.proofs.lemmas.Bool.{cases_Bool}
+use Rattle.std.proofs.Math.Bool.{or-true, or-false, and-false}
+use Rattle.std.proofs.lemmas.List.{take_more, take_all}
+use Rattle.std.proofs.lemmas.List.Sorted.{list_any-IsPermutation}
+use Rattle.mx_pay.proofs.TestLemmas.{or_assoc}
+use Rattle.mx_book.specs.RowEdits.{marked, member_at}
+use Rattle.mx_book.specs.declared.values.PurseRow.{PurseRow}
+use Rattle.mx_book.proofs.NameLemmas.{names_total}
+use Rattle.mx_book.proofs.UnderLemmas.{get-remake}
+use Rattle.mx_book.proofs.DueLemmas.{keys_total, keys_exact}
+use Rattle.mx_tables.specs.Counted.{owned_shown, is_owned, collected_where}
+use Rattle.mx_tables.proofs.MapLists.{any_mapped}
+use Rattle.sqlite_tied.specs.Compute.{everything}
+use Rattle.sqlite.specs.Listing.{understood}
+use Rattle.sqlite_sql.specs.Term.{lit, col}
+use Rattle.mx_tables.proofs.Texts.{is_given, IsSelect, IsInsert, IsUpdate}
+use Rattle.std.specs.FinMap as fmap
+use Rattle.std.specs.FinMap as fmap
+use Rattle.mx_tables.proofs.MemberLemmas.{filter_everything}
+
+-- ---- loads
+
+abbrev pub insert_load : List ℕ
+insert_load = codes "INSERT INTO load (purse, reference, amount) VALUES (?1, ?2, ?3)"
+
+pub insert_load_is : IsInsert insert_load 9 (lit Null ∷ col 0 0 ∷ col 0 1 ∷ col 0 2 ∷ []) 4
+unfolding understood everything
+insert_load_is = record { is = refl; plain = (refl, refl) }
+
+abbrev pub select_load : List ℕ
+select_load = codes "SELECT amount FROM load WHERE purse = ?1 AND reference = ?2"
+
+pub select_load_is : IsSelect select_load 18 (is_given 1 0 ∷ is_given 2 1 ∷ []) (col 1 3 ∷ []) [] (codes "amount" ∷ [])
+unfolding understood everything
+select_load_is = record { is = refl; query = record { plain = (refl, refl); silent = λ _ _. refl }; unlisted = refl }
 
 -- two texts that are compared with those of a purse and a reference
 pub reference_passes : (p reference : Name) (k : Name × Name)
@@ -38,30 +73,183 @@ reference_passes p reference k =
     both_turned _ _ (is_name k.0 p) (is_name k.1 reference) (is_name p k.0) (is_name reference k.1) (same_text k.0 p) (same_text k.1 reference) (names_turned k.0 p) (names_turned k.1 reference)
     ∙ tied_then (name_cmp p k.0) (name_cmp reference k.1)
 
-pub finds_load : (p reference : Name) (old new : State) (rows : List Row) → Shown select_load (Text p ∷ Text reference ∷ []) old new rows → (r : Rows) → Holds old.now r
-    → IsPermutation (map (λ (e : (Name × Name) × ℕ). amount_shown e.1) (at_key (pair_cmp name_cmp name_cmp) (p, reference) (fmap.entries r.loads))) rows
-finds_load p reference =
-    answers loads select_load _ _ _ select_load_is (Text p ∷ Text reference ∷ []) (λ (e : (Name × Name) × ℕ). eq_by_cmp (pair_cmp name_cmp name_cmp) (p, reference) e.0) (λ (e : (Name × Name) × ℕ). amount_shown e.1)
-    (λ id e. reference_passes p reference e.0) (λ id e. refl)
-
-abbrev load_table : Table
-load_table = record load { tree = 18 }
-
-abbrev with_loads : List ((Name × Name) × ℕ) → Contents → Contents
-with_loads l c = record c { loads = l }
-
-load_place : Place (pair_cmp name_cmp name_cmp) load_cells 9 load_table with_loads (λ m r. record r { loads = m })
-load_place = record {
-  found = refl;
-  uncounted = refl;
-  not_meta = λ e. omega (arith, e);
-  others = λ l c t other. elim (eqb_tells t 18) [ inl same ↦ absurd (other same.1) | inr differs ↦ rw differs.0 refl ];
-  placed = λ l c. refl;
-  tokens = λ l c h. record { operator = h.operator; tokens = h.tokens };
-  spelled = λ l c. refl;
-}
+pub load_is : (p reference : Name) (old new : State) (rows : List Row) → Shown select_load (Text p ∷ Text reference ∷ []) old new rows → (r : Rows) → Holds old.now r
+    → (found : Option Row) → rows ≡ one_or_none found → found ≡ option_map amount_shown (fmap.get r.loads (p, reference))
+load_is p reference = keyed loads (p, reference) select_load _ _ _ select_load_is (Text p ∷ Text reference ∷ []) amount_shown (λ id e. reference_passes p reference e.0) (λ id e. refl)
 
 pub adds_load : (p reference : Name) (amount : ℕ) (old new : State) (count : ℕ) → old.now.schema ≡ office_schema → Executes insert_load (Text p ∷ Text reference ∷ number amount ∷ []) old new (Ok count)
     → Goes (λ r. record r { loads = fmap.insert r.loads (p, reference) amount }) old new
 adds_load p reference amount =
-    adds loads load_place (λ l c. refl) insert_load _ _ insert_load_is (Text p ∷ Text reference ∷ number amount ∷ []) ((p, reference), amount) (rw (cast_null, cast_int (pos amount)) refl)
+    adds loads insert_load _ _ insert_load_is (Text p ∷ Text reference ∷ number amount ∷ []) ((p, reference), amount) (rw (cast_null, cast_int (pos amount)) refl)
+
+-- ---- redemptions
+
+abbrev pub insert_redemption : List ℕ
+insert_redemption = codes "INSERT INTO redemption (purse, reference, amount, collected) VALUES (?1, ?2, ?3, 0)"
+
+pub insert_redemption_is : IsInsert insert_redemption 10 (lit Null ∷ col 0 0 ∷ col 0 1 ∷ col 0 2 ∷ lit (Int (pos 0)) ∷ []) 5
+unfolding understood everything
+insert_redemption_is = record { is = refl; plain = (refl, refl) }
+
+abbrev pub select_redemption : List ℕ
+select_redemption = codes "SELECT amount FROM redemption WHERE purse = ?1 AND reference = ?2"
+
+pub select_redemption_is : IsSelect select_redemption 20 (is_given 1 0 ∷ is_given 2 1 ∷ []) (col 1 3 ∷ []) [] (codes "amount" ∷ [])
+unfolding understood everything
+select_redemption_is = record { is = refl; query = record { plain = (refl, refl); silent = λ _ _. refl }; unlisted = refl }
+
+abbrev pub mark_purse : List ℕ
+mark_purse = codes "UPDATE redemption SET collected = 1 WHERE purse = ?1"
+
+pub mark_purse_is : IsUpdate mark_purse 10 20 (is_given 1 0 ∷ []) (col 1 0 ∷ col 1 0 ∷ col 1 1 ∷ col 1 2 ∷ col 1 3 ∷ lit (Int (pos 1)) ∷ [])
+unfolding understood everything
+mark_purse_is = record { is = refl; plain = (refl, refl) }
+
+pub redemption_is : (p reference : Name) (old new : State) (rows : List Row) → Shown select_redemption (Text p ∷ Text reference ∷ []) old new rows → (r : Rows) → Holds old.now r
+    → (found : Option Row) → rows ≡ one_or_none found → found ≡ option_map (λ (x : Redemption). amount_shown x.amount) (fmap.get r.redemptions (p, reference))
+redemption_is p reference =
+    keyed redemptions (p, reference) select_redemption _ _ _ select_redemption_is (Text p ∷ Text reference ∷ []) (λ (x : Redemption). amount_shown x.amount) (λ id e. reference_passes p reference e.0) (λ id e. refl)
+
+pub adds_redemption : (p reference : Name) (amount : ℕ) (old new : State) (count : ℕ) → old.now.schema ≡ office_schema → Executes insert_redemption (Text p ∷ Text reference ∷ number amount ∷ []) old new (Ok count)
+    → Goes (λ r. record r { redemptions = fmap.insert r.redemptions (p, reference) (record { amount = amount; collected = false }) }) old new
+adds_redemption p reference amount =
+    adds redemptions insert_redemption _ _ insert_redemption_is (Text p ∷ Text reference ∷ number amount ∷ []) ((p, reference), record { amount = amount; collected = false })
+    (rw (cast_null, cast_int (pos amount), cast_int (pos 0)) refl)
+
+-- ---- collecting
+
+abbrev Redemptions : Type 0
+Redemptions = fmap.FinMap (pair_cmp name_cmp name_cmp) Redemption
+
+-- ---- the UPDATE
+
+set_or_left : (b : Bool) (x : Redemption) → cond b (record x { collected = true }) x ≡ record x { collected = x.collected || b }
+set_or_left true x = λ i. record x { collected = sym (or-true x.collected) i }
+set_or_left false x = λ i. record x { collected = sym (or-false x.collected) i }
+
+pub collects_purse : (p : Name) (old new : State) (count : ℕ) → old.now.schema ≡ office_schema → Executes mark_purse (Text p ∷ []) old new (Ok count)
+    → Goes (λ r. record r { redemptions = remake (collected_where (λ q. is_name q p)) r.redemptions }) old new
+collects_purse p old new count has ran =
+    goes_as _ _ old new (λ r h. λ i. record r { redemptions = remake (λ k x. set_or_left (is_name k.0 p) x i) r.redemptions })
+    (alters redemptions mark_purse _ _ mark_purse_is (Text p ∷ []) (λ e. is_name e.0.0 p) (λ k x. record x { collected = true }) (λ id e. rw (same_text e.0.0 p) (and_true _)) (λ id e. refl)
+    (λ id e. rw (cast_int id, cast_int (pos e.1.amount), cast_int (pos 1)) refl) old new count has ran)
+
+-- ---- one after the other
+
+module _ (p q : Name → Bool) (m : Redemptions) where
+  twice : (k : Name × Name) (o : Option Redemption) → option_map (collected_where q k) (option_map (collected_where p k) o) ≡ option_map (collected_where (λ n. p n || q n) k) o
+  twice k None = refl
+  twice k (Some x) = λ i. Some (record x { collected = or_assoc x.collected (p k.0) (q k.0) i })
+
+  pub collected_twice : remake (collected_where q) (remake (collected_where p) m) ≡ remake (collected_where (λ n. p n || q n)) m
+  collected_twice = fmap.same_map keys_total keys_exact _ _ (λ k.
+      get-remake _ (collected_where q) keys_exact (remake (collected_where p) m) k ∙ ap (option_map (collected_where q k)) (get-remake _ (collected_where p) keys_exact m k)
+      ∙ twice k (fmap.get m k) ∙ sym (get-remake _ (collected_where (λ n. p n || q n)) keys_exact m k))
+
+  pub collected_same : ((n : Name) → p n ≡ q n) → remake (collected_where p) m ≡ remake (collected_where q) m
+  collected_same same = λ i. remake {K = Name × Name} {X = Redemption} {Y = Redemption} {R = pair_cmp name_cmp name_cmp} (λ k x. record x { collected = x.collected || same k.0 i }) m
+
+as_it_was : (k : Name × Name) (o : Option Redemption) → option_map (collected_where (λ _. false) k) o ≡ o
+as_it_was k None = refl
+as_it_was k (Some x) = λ i. Some (record x { collected = or-false x.collected i })
+
+pub collected_none : (m : Redemptions) → remake (collected_where (λ _. false)) m ≡ m
+collected_none m = fmap.same_map keys_total keys_exact _ _ (λ k. get-remake _ (collected_where (λ _. false)) keys_exact m k ∙ as_it_was k (fmap.get m k))
+
+any_last : {X : Type 0} (p : X → Bool) (xs : List X) (x : X) → (list_any p xs || p x) ≡ list_any p (xs ++ x ∷ [])
+any_last p [] x = sym (or-false (p x))
+any_last p (y ∷ xs) x = elim (cases_Bool (p y)) [ inl t ↦ rw t refl | inr e ↦ rw e (any_last p xs x) ]
+
+-- the rows so far, and one more
+abbrev pub so_far : fmap.FinMap name_cmp Name → Name → List Row → Name → Bool
+so_far holders m rows n = list_any (λ row. is_owned holders m row n) rows
+
+one_row_more : (holders : fmap.FinMap name_cmp Name) (m : Name) (rows : List Row) (at : ℕ) (row : Row) → at < length rows → row ≡ get_or rows at row → (e : Redemptions)
+    → remake (collected_where (is_owned holders m row)) (remake (collected_where (so_far holders m (take at rows))) e) ≡ remake (collected_where (so_far holders m (take (at + 1) rows))) e
+one_row_more holders m rows at row within is e =
+    collected_twice _ _ e
+    ∙ collected_same _ _ e (λ n. any_last (λ row. is_owned holders m row n) (take at rows) row ∙ ap (list_any (λ row. is_owned holders m row n)) (ap (λ r. take at rows ++ r ∷ []) is ∙ sym (take_more rows at row within)))
+
+-- ---- all of them
+
+module _ (g : PurseRow → Bool) (p : Name) where
+  abbrev named : Name × PurseRow → Bool
+  named e = is_name p e.0 && g e.1
+
+  abbrev if_there : Option PurseRow → Bool
+  if_there None = false
+  if_there (Some x) = g x
+
+  missed : (q : Name) (es : List (Name × PurseRow)) → name_cmp p q ≡ Equal → T (below_all name_cmp q es) → list_any named es ≡ false
+  missed q [] t h = refl
+  missed q (e ∷ es) t h = grind (arith, missed q es, names_total.congr p q e.0)
+
+  named_listed : (es : List (Name × PurseRow)) → T (is_sorted name_cmp es) → list_any named es ≡ if_there (fmap.find name_cmp p es)
+  named_listed [] h = refl
+  named_listed (e ∷ es) h = grind (arith, named_listed es, missed e.0 es, or-false (g e.1))
+
+  pub any_named : (m : fmap.FinMap name_cmp PurseRow) → list_any named (fmap.entries m) ≡ if_there (fmap.get m p)
+  any_named m = named_listed (fmap.entries m) (fmap.entries_sorted m) ∙ ap if_there (sym (fmap.get-entries m p))
+
+member_there : (holders : fmap.FinMap name_cmp Name) (m : Name) (o : Option PurseRow) → if_there (λ x. is_of m (fmap.get holders x.holder)) [] o ≡ is_of m (member_at holders o)
+member_there holders m None = refl
+member_there holders m (Some x) = refl
+
+-- after the last row each purse of a holder of the member is collected
+all_collected : (r : Rows) (m : Name) (rows items : List Row) (at : ℕ) → length rows ≤ at → rows ≡ items → IsPermutation (map owned_shown (fmap.entries r.purses)) items
+    → remake (collected_where (so_far r.holders m (take at rows))) r.redemptions ≡ remake (marked r.purses r.holders m) r.redemptions
+all_collected r m rows items at past is same = λ i. remake {K = Name × Name} {X = Redemption} {Y = Redemption} {R = pair_cmp name_cmp name_cmp} (λ k x. record x { collected = x.collected || each k.0 i }) r.redemptions
+  where
+    each : (n : Name) → so_far r.holders m (take at rows) n ≡ is_of m (member_at r.holders (fmap.get r.purses n))
+    each n =
+        let f : Row → Bool = λ row. is_owned r.holders m row n in
+        ap (list_any f) (take_all at rows past ∙ is) ∙ sym (list_any-IsPermutation f _ _ same) ∙ any_mapped f owned_shown (fmap.entries r.purses)
+        ∙ any_named (λ x. is_of m (fmap.get r.holders x.holder)) n r.purses ∙ member_there r.holders m (fmap.get r.purses n)
+
+-- ---- one row
+
+module _ (m purse holder : Name) (row : Row) (first : column row 0 ≡ Text purse) (second : column row 1 ≡ Text holder) where
+  owned_as : (holders : fmap.FinMap name_cmp Name) (o : Option Name) → fmap.get holders holder ≡ o → (n : Name) → is_owned holders m row n ≡ (is_name n purse && is_of m o)
+  owned_as holders o at n = rw (first, second, at) refl
+
+  -- the holder isn't one of the member
+  pub row_left : (o : Option Name) → is_of m o ≡ false → (r : Rows) → o ≡ fmap.get r.holders holder → r ≡ record r { redemptions = remake (collected_where (is_owned r.holders m row)) r.redemptions }
+  row_left o other r found =
+      λ i. record r { redemptions = (sym (collected_none r.redemptions) ∙ sym (collected_same _ _ r.redemptions (λ n. owned_as r.holders o (sym found) n ∙ ap (λ b. is_name n purse && b) other ∙ and-false (is_name n purse)))) i }
+
+  -- the holder is one of the member
+  pub row_taken : (o : Option Name) → is_of m o ≡ true → (r : Rows) → o ≡ fmap.get r.holders holder
+      → record r { redemptions = remake (collected_where (λ n. is_name n purse)) r.redemptions } ≡ record r { redemptions = remake (collected_where (is_owned r.holders m row)) r.redemptions }
+  row_taken o mine r found =
+      λ i. record r { redemptions = sym (collected_same _ _ r.redemptions (λ n. owned_as r.holders o (sym found) n ∙ ap (λ b. is_name n purse && b) mine ∙ and_true (is_name n purse))) i }
+
+-- ---- the loop
+
+abbrev pub collects_so_far : Name → List Row → Rows → Rows
+collects_so_far m rows r = record r { redemptions = remake (collected_where (so_far r.holders m rows)) r.redemptions }
+
+pub none_so_far : (m : Name) (r : Rows) → r ≡ collects_so_far m [] r
+none_so_far m r = λ i. record r { redemptions = sym (collected_none r.redemptions) i }
+
+pub one_row_so_far : (m : Name) (rows : List Row) (at : ℕ) (row : Row) → at < length rows → row ≡ get_or rows at row → (r : Rows)
+    → record r { redemptions = remake (collected_where (is_owned r.holders m row)) (remake (collected_where (so_far r.holders m (take at rows))) r.redemptions) } ≡ collects_so_far m (take (at + 1) rows) r
+one_row_so_far m rows at row within is r = λ i. record r { redemptions = one_row_more r.holders m rows at row within is r.redemptions i }
+
+pub all_so_far : (m : Name) (rows items : List Row) (at : ℕ) → length rows ≤ at → rows ≡ items → (r : Rows) → IsPermutation (map owned_shown (fmap.entries r.purses)) items
+    → collects_so_far m (take at rows) r ≡ record r { redemptions = remake (marked r.purses r.holders m) r.redemptions }
+all_so_far m rows items at past is r same = λ i. record r { redemptions = all_collected r m rows items at past is same i }
+
+-- ---- the query
+
+abbrev pub select_owned : List ℕ
+select_owned = codes "SELECT name, holder FROM purse"
+
+pub select_owned_is : IsSelect select_owned 8 [] (col 1 1 ∷ col 1 2 ∷ []) [] (codes "name" ∷ codes "holder" ∷ [])
+unfolding understood everything
+select_owned_is = record { is = refl; query = record { plain = (refl, refl); silent = λ _ _. refl }; unlisted = refl }
+
+pub finds_owned : (old new : State) (rows : List Row) → Shown select_owned [] old new rows → (r : Rows) → Holds old.now r
+    → IsPermutation (map owned_shown (fmap.entries r.purses)) rows
+finds_owned old new rows shown r h =
+    subst (λ es. IsPermutation (map owned_shown es) rows) (filter_everything (fmap.entries r.purses))
+    (answers purses select_owned _ _ _ select_owned_is [] (λ _. true) owned_shown (λ id e. refl) (λ id e. refl) old new rows shown r h)

@@ -1,9 +1,9 @@
--- A map's entries are those of the list that it was made of, in order.
-use Rattle.std.proofs.Common.{◌≡◌, inl, inr, Bool, true, cond, ◌||◌, List, [], ◌∷◌, ◌++◌, map, Some, None, refl, sym, ap, subst, ◌∙◌}
-use Rattle.std.specs.List.{list_any}
+-- Lists of rows and the maps that they make.
+use Rattle.std.proofs.Common.{◌≡◌, inl, inr, Bool, true, cond, ◌||◌, List, [], ◌∷◌, ◌++◌, map, Some, None, refl, sym, ap, subst, ◌∙◌, false, not, filter, Option, ℕ, zero, suc, length, get_or, set, ap₂, arith}
+use Rattle.std.specs.List.{list_any, swap}
 use Rattle.std.specs.List.Sorted.{IsPermutation}
 use Rattle.std.proofs.lemmas.Bool.{cases_Bool}
-use Rattle.std.proofs.lemmas.List.Sorted.{IsPermutation-refl, IsPermutation-cons, IsPermutation-trans, IsPermutation-append_comm}
+use Rattle.std.proofs.lemmas.List.Sorted.{IsPermutation-refl, IsPermutation-cons, IsPermutation-trans, IsPermutation-append_comm, IsPermutation-swap, IsPermutation-keeps}
 use Rattle.std.specs.declared.cmp.Ordering.{Ordering}
 use Rattle.std.specs.declared.cmp.Ordering.TheVariants.{Less, Equal, Greater}
 use Rattle.std.specs.Ordering.{is_eq, eq_by_cmp}
@@ -11,7 +11,11 @@ use Rattle.std.specs.Cmp.{IsTotalOrder, eq_by_cmp_equiv}
 use Rattle.std.specs.FinMap as fmap
 use Rattle.std.specs.FinMap.{IsAntisymmetric}
 use Rattle.std.specs.FinMap.Entries.{put, by_order}
-use Rattle.mx_book.proofs.UnderLemmas.{entries_empty}
+use Rattle.mx_book.proofs.UnderLemmas.{entries_empty, get-remake}
+use Rattle.std.specs.Prelude.{option_map}
+use Rattle.mx_pay.proofs.TestLemmas.{is_equal}
+use Rattle.mx_book.specs.Under.{remake}
+use Rattle.std.proofs.lemmas.List.{length-map, map-set}
 
 -- each key stands once
 abbrev pub AreDistinct : {K V : Type 0} → (K → K → Ordering) → List (K × V) → Type 0
@@ -64,3 +68,76 @@ module _ {K V : Type 0} (R : K → K → Ordering) where
   -- a row more, whose key no other row has, is an insert
   pub map_push : IsTotalOrder R → IsAntisymmetric R → (es : List (K × V)) (k : K) (v : V) → AreDistinct R (es ++ (k, v) ∷ []) → fmap.from_entries {R = R} (es ++ (k, v) ∷ []) ≡ fmap.insert (fmap.from_entries es) k v
   map_push o exact es k v h = fmap.from_entries_push o exact es k v (last_new o es k v h)
+
+-- ---- rows that are changed or taken out, in the map of the rows
+
+module _ {K V : Type 0} {R : K → K → Ordering} (o : IsTotalOrder R) (exact : IsAntisymmetric R) where
+  -- a row with another value, made from its key and the old one
+  abbrev pub anew : (K → V → V) → K × V → K × V
+  anew f e = (e.0, f e.0 e.1)
+
+  find_anew : (f : K → V → V) (q : K) (es : List (K × V)) → fmap.find R q (map (anew f) es) ≡ option_map (f q) (fmap.find R q es)
+  find_anew f q [] = refl
+  find_anew f q (e ∷ es) = elim (cases_Bool (eq_by_cmp R q e.0)) [
+    | inl t ↦ rw t (ap (λ k. Some (f k e.1)) (sym (exact q e.0 (is_equal _ t))))
+    | inr n ↦ rw n (find_anew f q es)
+  ]
+
+  -- values made anew are the map's made anew
+  pub map_anew : (f : K → V → V) (es : List (K × V)) → fmap.from_entries {R = R} (map (anew f) es) ≡ remake f (fmap.from_entries es)
+  map_anew f es = fmap.same_map o exact _ _ (λ q.
+      fmap.get-from_entries o (map (anew f) es) q ∙ find_anew f q es ∙ ap (option_map (f q)) (sym (fmap.get-from_entries o es q)) ∙ sym (get-remake R f exact (fmap.from_entries es) q))
+
+  find_left : (gone : K → Bool) (q : K) (es : List (K × V)) → fmap.find R q (filter (λ (e : K × V). not (gone e.0)) es) ≡ cond (gone q) None (fmap.find R q es)
+  find_left gone q [] = either (gone q)
+    where
+      either : (b : Bool) → ◌≡◌ {A = Option V} None (cond b None None)
+      either true = refl
+      either false = refl
+  find_left gone q (e ∷ es) =
+      let more = find_left gone q es in
+      elim (cases_Bool (eq_by_cmp R q e.0)) [
+        | inl t ↦
+            let at : gone q ≡ gone e.0 = ap gone (exact q e.0 (is_equal _ t)) in
+            elim (cases_Bool (gone e.0)) [
+              | inl out ↦ rw (out, at, out) (more ∙ rw (at, out) refl)
+              | inr kept ↦ rw (kept, at, kept, t) refl
+            ]
+        | inr n ↦ elim (cases_Bool (gone e.0)) [
+          | inl out ↦ rw (out, n) more
+          | inr kept ↦ rw (kept, n) more
+        ]
+      ]
+
+  cond_turned : (b : Bool) (x : Option V) → cond b None x ≡ cond (not b) x None
+  cond_turned true x = refl
+  cond_turned false x = refl
+
+  -- what is left of a list is what the map keeps
+  pub map_left : (gone : K → Bool) (es : List (K × V)) → fmap.from_entries {R = R} (filter (λ (e : K × V). not (gone e.0)) es) ≡ fmap.retain_keys (fmap.from_entries es) (λ k. not (gone k))
+  map_left gone es = fmap.same_map o exact _ _ (λ q.
+      fmap.get-from_entries o (filter (λ (e : K × V). not (gone e.0)) es) q ∙ find_left gone q es ∙ ap (cond (gone q) None) (sym (fmap.get-from_entries o es q))
+      ∙ cond_turned (gone q) (fmap.get (fmap.from_entries es) q)
+      ∙ sym (fmap.get-retain_keys (fmap.from_entries es) (λ k. not (gone k)) q (λ x tie. ap (λ k. not (gone k)) (sym (exact q x tie)))))
+
+-- ---- a permutation of shown values shows a permutation of them
+
+module _ {X Y : Type 0} (f : X → Y) where
+  at_map : (xs : List X) (i : ℕ) (d : X) → f (get_or xs i d) ≡ get_or (map f xs) i (f d)
+  at_map [] i d = refl
+  at_map (x ∷ xs) zero d = refl
+  at_map (x ∷ xs) (suc i) d = at_map xs i d
+
+  swap_map : (xs : List X) (i j : ℕ) → map f (swap xs i j) ≡ swap (map f xs) i j
+  swap_map [] i j = refl
+  swap_map (x ∷ xs) i j =
+      map-set f (set (x ∷ xs) i (get_or (x ∷ xs) j x)) j (get_or (x ∷ xs) i x)
+      ∙ ap₂ (λ l y. set l j y) (map-set f (x ∷ xs) i (get_or (x ∷ xs) j x) ∙ ap (set (map f (x ∷ xs)) i) (at_map (x ∷ xs) j x)) (at_map (x ∷ xs) i x)
+
+  pub unmapped : (xs : List X) (ys : List Y) → IsPermutation (map f xs) ys → (zs : List X) × IsPermutation xs zs × (map f zs ≡ ys)
+  unmapped xs ys =
+      IsPermutation-keeps (map f xs) (λ l. (zs : List X) × IsPermutation xs zs × (map f zs ≡ l)) (xs, IsPermutation-refl xs, refl)
+      (λ l i j p q h.
+      let long = length-map h.0 f in
+      let same = ap length h.2 in
+      (swap h.0 i j, IsPermutation-trans xs h.0 (swap h.0 i j) h.1 (IsPermutation-swap h.0 (swap h.0 i j) i j (omega (arith, long, same)) (omega (arith, long, same)) refl), swap_map h.0 i j ∙ ap (λ m. swap m i j) h.2)) ys

@@ -1,8 +1,8 @@
--- The statements on members.
-use Rattle.std.proofs.Common.{◌≡◌, inl, inr, ℕ, pos, true, List, [], ◌∷◌, map, filter, codes, Ok, refl, sym, ap, ◌∙◌, arith}
+-- The statements on members, holders and tokens.
+use Rattle.std.proofs.Common.{◌≡◌, ℕ, pos, true, List, [], ◌∷◌, map, filter, codes, Ok, refl, sym, ap, ◌∙◌, Bool, cond, ◌++◌, Some, Option, subst}
 use Rattle.std.specs.List.Sorted.{IsPermutation}
 use Rattle.std.specs.FinMap as fmap
-use Rattle.std.proofs.lemmas.Bool.Decides.{eqb_tells}
+use Rattle.std.specs.Prelude.{◌&&◌}
 use Rattle.sqlite_value.specs.declared.value.Value.{Value}
 use Rattle.sqlite_value.specs.declared.value.Value.TheVariants.{Text}
 use Rattle.sqlite_value.specs.declared.keys.Collation.TheVariants.{Binary}
@@ -10,32 +10,40 @@ use Rattle.sqlite_value.specs.Keys.{ascending}
 use Rattle.sqlite_value.specs.Order.{Row, column}
 use Rattle.sqlite_value.proofs.OrderLemmas.{value_cmp-Text, then-Equal}
 use Rattle.sqlite_trees.proofs.ListLemmas.{map-map}
-use Rattle.sqlite_schema.specs.declared.schema.Table.{Table}
 use Rattle.sqlite_sql.specs.Term.{col}
 use Rattle.sqlite.specs.State.{State, Shown, Executes}
-use Rattle.mx_pay.proofs.SameLemmas.{names_turned}
-use Rattle.mx_pay.specs.Names.{name_cmp, is_name}
-use Rattle.mx_book.specs.World.{Name}
+use Rattle.mx_pay.specs.Names.{is_name}
+use Rattle.mx_book.specs.World.{Name, Token}
 use Rattle.mx_book.specs.Rows.{Rows}
 use Rattle.mx_book.specs.declared.values.MemberRow.{MemberRow}
-use Rattle.mx_book.proofs.NameLemmas.{names_total, names_exact}
-use Rattle.mx_tables.specs.Schema.{office_schema, member}
-use Rattle.mx_tables.specs.Contents.{Contents}
-use Rattle.mx_tables.specs.Cells.{member_cells, number}
-use Rattle.mx_tables.specs.Holds.{Holds}
+use Rattle.mx_book.proofs.NameLemmas.{names_total, names_exact, same_name, name_itself}
+use Rattle.mx_tables.specs.Schema.{office_schema, Contents, number, token_cells, tokens_of, rows_of, AreTokens}
+use Rattle.mx_tables.specs.Holds.{Holds, HasContents, Stores}
 use Rattle.mx_tables.specs.States.{Goes}
-use Rattle.mx_tables.specs.Answers.{at_key, member_shown, text_shown}
-use Rattle.mx_tables.proofs.Texts.{select_member, select_member_is, select_members, select_members_is, insert_member, insert_member_is, update_member, update_member_is}
-use Rattle.mx_tables.proofs.StoredLemmas.{and_true, same_text, cast_int, cast_null}
-use Rattle.mx_tables.proofs.ReadLemmas.{answers, answers_in_order}
-use Rattle.mx_tables.proofs.WriteLemmas.{Place, adds, alters, counts, goes_as, remake_some, one_passes}
-use Rattle.mx_tables.proofs.KeptLemmas.{members}
+use Rattle.mx_tables.specs.Answers.{at_key, text_shown, caller_shown}
+use Rattle.mx_tables.proofs.Texts.{select_members, select_members_is, insert_member, insert_member_is, update_member, update_member_is, insert_holder, insert_holder_is, select_token, select_token_is, insert_token, insert_token_is}
+use Rattle.mx_tables.proofs.StoredLemmas.{and_true, same_text, cast_int, cast_null, stores_put}
+use Rattle.mx_tables.proofs.ReadLemmas.{answers_in_order, answered}
+use Rattle.mx_tables.proofs.WriteLemmas.{adds, alters_one, has_then, no_actions, goes}
+use Rattle.mx_tables.proofs.KeptLemmas.{members, holders, token_place, token_rows}
+use Rattle.mx_tables.proofs.Places.{stored, distinct}
+use Rattle.std.specs.List.{AllByRecursion}
+use Rattle.std.specs.Cmp.{both_ways}
+use Rattle.std.proofs.ByRecursion.{All-push}
+use Rattle.std.proofs.lemmas.List.{map-append}
+use Rattle.std.proofs.lemmas.List.Sorted.{IsPermutation-sym, IsPermutation-trans, IsPermutation-map, IsPermutation-cons}
+use Rattle.hex.specs.Hex.{encode_lower}
+use Rattle.sqlite_keyed.proofs.ListLemmas.{IsPermutation-filter}
+use Rattle.mx_pay.specs.Tokens.{token_cmp, is_token, token_of, IsToken}
+use Rattle.mx_book.specs.declared.values.Caller.{Caller}
+use Rattle.mx_book.specs.declared.values.Caller.TheVariants.{Operator}
+use Rattle.sqlite.specs.Effect.{Database}
+use Rattle.mx_tables.proofs.Statements.{inserted}
+use Rattle.mx_tables.proofs.MapLists.{entries_of, map_push}
+use Rattle.mx_tables.proofs.ValueLemmas.{token_back}
+use Rattle.mx_pay.proofs.SameLemmas.{names_turned}
 
-pub finds_member : (name : Name) (old new : State) (rows : List Row) → Shown select_member (Text name ∷ []) old new rows → (r : Rows) → Holds old.now r
-    → IsPermutation (map (λ (e : Name × MemberRow). member_shown e.1) (at_key name_cmp name (fmap.entries r.members))) rows
-finds_member name =
-    answers members select_member _ _ _ select_member_is (Text name ∷ []) (λ (e : Name × MemberRow). is_name name e.0) (λ (e : Name × MemberRow). member_shown e.1)
-    (λ id e. rw (same_text e.0 name) (and_true _ ∙ names_turned e.0 name)) (λ id e. refl)
+-- ---- members
 
 pub filter_everything : {X : Type 0} (xs : List X) → filter (λ _. true) xs ≡ xs
 filter_everything [] = refl
@@ -65,26 +73,9 @@ names_read rows names keys read is =
 
 -- ---- writes
 
-abbrev member_table : Table
-member_table = record member { tree = 1 }
-
-abbrev with_members : List (Name × MemberRow) → Contents → Contents
-with_members l c = record c { members = l }
-
-member_place : Place name_cmp member_cells 1 member_table with_members (λ m r. record r { members = m })
-member_place = record {
-  found = refl;
-  uncounted = refl;
-  not_meta = λ e. omega (arith, e);
-  others = λ l c t other. elim (eqb_tells t 1) [ inl same ↦ absurd (other same.1) | inr differs ↦ rw differs.0 refl ];
-  placed = λ l c. refl;
-  tokens = λ l c h. record { operator = h.operator; tokens = h.tokens };
-  spelled = λ l c. refl;
-}
-
 pub adds_member : (name : Name) (old new : State) (count : ℕ) → old.now.schema ≡ office_schema → Executes insert_member (Text name ∷ []) old new (Ok count)
     → Goes (λ r. record r { members = fmap.insert r.members name (record { granted = 0; float = 0 }) }) old new
-adds_member name = adds members member_place (λ l c. refl) insert_member _ _ insert_member_is (Text name ∷ []) (name, record { granted = 0; float = 0 }) (rw (cast_null, cast_int (pos 0)) refl)
+adds_member name = adds members insert_member _ _ insert_member_is (Text name ∷ []) (name, record { granted = 0; float = 0 }) (rw (cast_null, cast_int (pos 0)) refl)
 
 module _ (m : Name) (row : MemberRow) (old new : State) (has : old.now.schema ≡ office_schema)
     (ran : Executes update_member (Text m ∷ number row.granted ∷ number row.float ∷ []) old new (Ok 1)) where
@@ -93,10 +84,67 @@ module _ (m : Name) (row : MemberRow) (old new : State) (has : old.now.schema �
 
   pub resets : Goes (λ r. record r { members = fmap.insert r.members m row }) old new
   resets =
-      goes_as _ _ old new
-      (λ r h.
-      let there = one_passes name_cmp names_total m r.members (counts members member_place (λ l c. refl) update_member _ _ update_member_is params (λ e. is_name e.0 m) (λ _ _. row) (λ id e. rw (same_text e.0 m) (and_true _)) (λ id e. refl)
-      (λ id e. rw (cast_int id, cast_int (pos row.granted), cast_int (pos row.float)) refl) old new 1 has ran r h) in
-      ap (λ t. record r { members = t }) (remake_some names_total names_exact r.members m (λ _. row) there.0 there.1))
-      (alters members member_place (λ l c. refl) update_member _ _ update_member_is params (λ e. is_name e.0 m) (λ _ _. row) (λ id e. rw (same_text e.0 m) (and_true _)) (λ id e. refl)
-      (λ id e. rw (cast_int id, cast_int (pos row.granted), cast_int (pos row.float)) refl) old new 1 has ran)
+      alters_one members update_member _ _ update_member_is params m (λ _. true) (λ _. row) (λ id e. ap (λ b. b && true) (same_text e.0 m)) (λ id e. refl)
+      (λ id e. rw (cast_int id, cast_int (pos row.granted), cast_int (pos row.float)) refl) old new has ran _ (λ r v at. refl)
+
+-- ---- holders
+
+pub adds_holder : (name member : Name) (old new : State) (count : ℕ) → old.now.schema ≡ office_schema → Executes insert_holder (Text name ∷ Text member ∷ []) old new (Ok count)
+    → Goes (λ r. record r { holders = fmap.insert r.holders name member }) old new
+adds_holder name member = adds holders insert_holder _ _ insert_holder_is (Text name ∷ Text member ∷ []) (name, member) (rw cast_null refl)
+
+-- ---- tokens
+
+same_tests : {X : Type 0} (p q : X → Bool) (xs : List X) → AllByRecursion (λ x. p x ≡ q x) xs → filter p xs ≡ filter q xs
+same_tests p q [] h = refl
+same_tests p q (x ∷ xs) h = rw h.0 (ap (λ ys. cond (q x) (x ∷ ys) ys) (same_tests p q xs h.1))
+
+-- texts of tokens are the same where the tokens are
+same_token_texts : (a b : Token) → IsToken a → IsToken b → is_name (encode_lower a) (encode_lower b) ≡ is_token a b
+same_token_texts a b one two = both_ways _ _
+    (λ t. let e : a ≡ b = let i : ◌≡◌ {A = Option Token} (Some a) (Some b) = sym (token_back a one) ∙ ap token_of {x = encode_lower a} {y = encode_lower b} (same_name (encode_lower a) (encode_lower b) t) ∙ token_back b two in cc in rw e (name_itself b))
+    (λ t. rw (same_name a b t) (name_itself (encode_lower b)))
+
+all_tokens : (t : Token) → IsToken t → (es : List (Token × Caller)) → AllByRecursion (λ (e : Token × Caller). IsToken e.0) es → AllByRecursion (λ (e : Token × Caller). is_name (encode_lower t) (encode_lower e.0) ≡ is_token t e.0) es
+all_tokens t one [] h = tt
+all_tokens t one (e ∷ es) h = (same_token_texts t e.0 one h.0, all_tokens t one es h.1)
+
+-- the tokens of a book, the operator's first
+abbrev pub book_tokens : Rows → List (Token × Caller)
+book_tokens r = (r.operator, Operator) ∷ fmap.entries r.tokens
+
+listed_tokens : (db : Database) (c : Contents) (r : Rows) → HasContents db c → rows_of c ≡ r → IsPermutation (tokens_of c) (book_tokens r)
+listed_tokens db c r has is =
+    let apart = (distinct token_rows db c has).1 in
+    subst (λ (s : Rows). IsPermutation (tokens_of c) (book_tokens s)) is (IsPermutation-cons (c.operator, Operator) c.tokens _ (entries_of token_cmp names_total c.tokens apart))
+
+pub finds_token : (t : Token) (old new : State) (rows : List Row) → Shown select_token (Text (encode_lower t) ∷ []) old new rows → IsToken t → (r : Rows) → Holds old.now r
+    → IsPermutation (map (λ (e : Token × Caller). caller_shown e.1) (at_key token_cmp t (book_tokens r))) rows
+finds_token t old new rows shown one r h =
+    let text = encode_lower t in
+    let c = h.contents in
+    let show = λ (e : Token × Caller). caller_shown e.1 in
+    let mine = λ (e : Token × Caller). is_token t e.0 in
+    let got = answered select_token 3 _ _ _ select_token_is (Text text ∷ []) token_cells (λ (e : Token × Caller). is_name text (encode_lower e.0)) show
+    (λ id e. rw (same_text (encode_lower e.0) text) (and_true _ ∙ names_turned (encode_lower e.0) text)) (λ id e. refl) old new rows shown h.has.schema (tokens_of c) (stored token_rows old.now c h.has).have in
+    let told = subst (λ es. IsPermutation (map show es) rows) (same_tests _ mine (tokens_of c) (all_tokens t one (tokens_of c) h.has.tokens)) got in
+    let same = IsPermutation-map show _ _ (IsPermutation-filter mine _ _ (listed_tokens old.now c r h.has h.rows)) in
+    IsPermutation-trans _ _ _ (IsPermutation-sym _ _ same) told
+
+-- ---- writes
+
+abbrev with_token : Token × Caller → Contents → Contents
+with_token e c = record c { tokens = c.tokens ++ e ∷ [] }
+
+pub adds_token : (t : Token) (caller : Caller) (old new : State) (count : ℕ) → IsToken t → old.now.schema ≡ office_schema → Executes insert_token (token_cells (t, caller)) old new (Ok count)
+    → Goes (λ r. record r { tokens = fmap.insert r.tokens t caller }) old new
+adds_token t caller old new count one has h =
+    let e : Token × Caller = (t, caller) in
+    let wrote = inserted office_schema 2 token_place.table refl (no_actions token_place.table) insert_token (token_cells e) old new has insert_token_is.plain count h _ _ (token_cells e) insert_token_is.is refl (rw cast_null refl) in
+    goes (λ r. record r { tokens = fmap.insert r.tokens t caller }) old new wrote.schema_is (λ c holds.
+    let d = with_token e c in
+    let stores = stores_put (old.now.trees 3) (map token_cells (tokens_of c)) (token_cells e) (stored token_rows old.now c holds) in
+    let tokens : AreTokens d = All-push (λ (x : Token × Caller). IsToken x.0) (tokens_of c) e holds.tokens one in
+    let after = has_then 1 token_place.table refl old new _ _ c d wrote holds refl (subst (Stores _) (sym (map-append token_cells (tokens_of c) (e ∷ []))) stores) tokens in
+    let pushed = map_push token_cmp names_total names_exact c.tokens t caller (distinct token_rows new.now d after).1 in
+    (d, after, λ i. record (rows_of c) { tokens = pushed i }))

@@ -1,5 +1,5 @@
 -- The statements on purses, and what they show.
-use Rattle.std.proofs.Common.{◌≡◌, inl, inr, ℕ, ◌+◌, ℤ, pos, Bool, true, false, length, is_some, List, [], ◌∷◌, map, drop, codes, Ok, Option, Some, None, refl, sym, ap, ap₂, ◌∙◌, arith, if◌then◌else◌}
+use Rattle.std.proofs.Common.{◌≡◌, ℕ, ◌+◌, ℤ, pos, Bool, true, false, length, is_some, List, [], ◌∷◌, map, drop, codes, Ok, Option, Some, None, refl, sym, ap, ap₂, ◌∙◌, if◌then◌else◌, arith}
 use Rattle.std.specs.Prelude.{◌&&◌, option_map, option_and_then, nat_lt}
 use Rattle.std.specs.Option.{option_map_or}
 use Rattle.std.proofs.lemmas.List.{length-map}
@@ -7,7 +7,6 @@ use Rattle.mx_pay.specs.Limits.{most_number}
 use Rattle.mx_book.specs.Limits.{most_messages}
 use Rattle.std.specs.Ordering.{eq_by_cmp, nat_cmp}
 use Rattle.std.specs.FinMap.{nat_cmp-IsAntisymmetric}
-use Rattle.std.specs.List.Sorted.{IsPermutation}
 use Rattle.std.specs.FinMap as fmap
 use Rattle.sqlite_value.specs.declared.value.Value.TheVariants.{Null, Int, Text}
 use Rattle.sqlite_value.specs.declared.keys.Collation.TheVariants.{Binary}
@@ -18,41 +17,33 @@ use Rattle.sqlite_trees.specs.Tree.{rowid}
 use Rattle.sqlite_trees.proofs.ListLemmas.{map-map}
 use Rattle.sqlite_rules.specs.Cast.{cast_row}
 use Rattle.sqlite_sql.specs.Term.{Term, col, eval_all}
-use Rattle.std.proofs.lemmas.Bool.Decides.{eqb_tells}
-use Rattle.sqlite_schema.specs.declared.schema.Table.{Table}
 use Rattle.sqlite.specs.State.{State, Shown, Executes}
 use Rattle.mx_pay.proofs.SameLemmas.{names_turned}
 use Rattle.mx_pay.specs.Names.{name_cmp, is_name}
 use Rattle.mx_pay.specs.Codes.{code, entry_texts}
 use Rattle.mx_pay.specs.Log.{none_logged}
 use Rattle.mx_pay.proofs.CodeLemmas.{none_is}
-use Rattle.mx_pay.proofs.TextLemmas.{same_code}
 use Rattle.mx_purse.specs.State.{new_purse, IsPurse, State as Purse}
 use Rattle.mx_purse.specs.Words.{status_word, status_details}
-use Rattle.mx_purse.proofs.WordLemmas.{same_status}
-use Rattle.mx_book.specs.World.{Name}
+use Rattle.mx_book.specs.World.{Name, is_of}
 use Rattle.mx_book.specs.RowEdits.{rewritten, on_purse, member_at}
 use Rattle.mx_book.specs.declared.edits.Edit.TheVariants.{NewPurse, SetPurse}
 use Rattle.mx_book.specs.Rows.{Rows}
 use Rattle.mx_book.specs.RowReads.{row_purses_of, purse_rows_of, row_own_purse, row_finds_place, row_inbox_of, of_name}
 use Rattle.mx_purse.specs.declared.message.Message.{Message}
 use Rattle.mx_book.specs.declared.values.PurseRow.{PurseRow}
-use Rattle.mx_book.proofs.NameLemmas.{names_total, names_exact}
-use Rattle.mx_tables.specs.Schema.{office_schema, purse}
-use Rattle.mx_tables.specs.Contents.{Contents}
-use Rattle.mx_tables.specs.Cells.{purse_cells, number}
+use Rattle.mx_tables.specs.Schema.{office_schema, purse_cells, number}
 use Rattle.mx_tables.specs.Holds.{Holds}
 use Rattle.mx_tables.specs.States.{Goes}
-use Rattle.mx_tables.specs.Answers.{at_key, text_shown, state_shown, state_columns, own_shown, purse_shown, purse_columns, next_shown}
-use Rattle.mx_tables.proofs.Queries.{is_given}
-use Rattle.mx_tables.proofs.Texts.{IsUpdate, select_held, select_held_is, insert_purse, insert_purse_is, select_purse, select_purse_is, select_own, select_own_is, update_purse, update_purse_is, select_next, select_next_is, select_owner, select_owner_is, raise_next, raise_next_is}
+use Rattle.mx_tables.specs.Answers.{text_shown, state_shown, state_columns, own_shown, next_shown}
+use Rattle.mx_tables.proofs.Texts.{is_given, IsUpdate, select_held, select_held_is, insert_purse, insert_purse_is, update_purse, update_purse_is, raise_next, raise_next_is}
 use Rattle.mx_pay.proofs.TestLemmas.{is_equal}
 use Rattle.mx_tables.proofs.Statements.{env, passes}
 use Rattle.mx_tables.proofs.StoredLemmas.{and_true, same_text, same_numbers, cast_int, cast_null}
-use Rattle.mx_tables.proofs.ReadLemmas.{answers, answers_in_order}
-use Rattle.mx_tables.proofs.WriteLemmas.{Place, adds, alters, counts, counts_in, goes_as, remake_some, one_passes, one_at, at_key_where, remake_where}
-use Rattle.mx_tables.proofs.ValueLemmas.{same_number, same_words}
-use Rattle.mx_tables.proofs.KeptLemmas.{purses}
+use Rattle.mx_tables.proofs.ReadLemmas.{answers_in_order}
+use Rattle.mx_tables.proofs.WriteLemmas.{adds, alters_one, was_there}
+use Rattle.mx_tables.proofs.ValueLemmas.{same_words, same_state}
+use Rattle.mx_tables.proofs.KeptLemmas.{purse_place, purses}
 
 pub finds_held : (holder : Name) (old new : State) (rows : List Row) → Shown select_held (Text holder ∷ []) old new rows → (r : Rows) → Holds old.now r
     → rows ≡ map text_shown (row_purses_of r holder)
@@ -62,48 +53,7 @@ finds_held holder old new rows shown r h =
     (λ a b _ _ low. then-Equal _ ∙ value_cmp-Text a.0 b.0 ∙ low) select_held (codes "name" ∷ []) select_held_is old new rows shown r h
     ∙ sym (map-map text_shown (λ (e : Name × PurseRow). e.0) (purse_rows_of holder (fmap.entries r.purses)))
 
-pub finds_purse : (p : Name) (old new : State) (rows : List Row) → Shown select_purse (Text p ∷ []) old new rows → (r : Rows) → Holds old.now r
-    → IsPermutation (map (λ (e : Name × PurseRow). purse_shown e.1) (at_key name_cmp p (fmap.entries r.purses))) rows
-finds_purse p =
-    answers purses select_purse _ _ _ select_purse_is (Text p ∷ []) (λ (e : Name × PurseRow). is_name p e.0) (λ (e : Name × PurseRow). purse_shown e.1)
-    (λ id e. rw (same_text e.0 p) (and_true _ ∙ names_turned e.0 p)) (λ id e. refl)
-
-pub finds_own : (p : Name) (old new : State) (rows : List Row) → Shown select_own (Text p ∷ []) old new rows → (r : Rows) → Holds old.now r
-    → IsPermutation (map (λ (e : Name × PurseRow). own_shown e.1) (at_key name_cmp p (fmap.entries r.purses))) rows
-finds_own p =
-    answers purses select_own _ _ _ select_own_is (Text p ∷ []) (λ (e : Name × PurseRow). is_name p e.0) (λ (e : Name × PurseRow). own_shown e.1)
-    (λ id e. rw (same_text e.0 p) (and_true _ ∙ names_turned e.0 p)) (λ id e. refl)
-
-pub finds_owner : (p : Name) (old new : State) (rows : List Row) → Shown select_owner (Text p ∷ []) old new rows → (r : Rows) → Holds old.now r
-    → IsPermutation (map (λ (e : Name × PurseRow). text_shown e.1.holder) (at_key name_cmp p (fmap.entries r.purses))) rows
-finds_owner p =
-    answers purses select_owner _ _ _ select_owner_is (Text p ∷ []) (λ (e : Name × PurseRow). is_name p e.0) (λ (e : Name × PurseRow). text_shown e.1.holder)
-    (λ id e. rw (same_text e.0 p) (and_true _ ∙ names_turned e.0 p)) (λ id e. refl)
-
-pub finds_next : (p : Name) (old new : State) (rows : List Row) → Shown select_next (Text p ∷ []) old new rows → (r : Rows) → Holds old.now r
-    → IsPermutation (map (λ (e : Name × PurseRow). next_shown e.1) (at_key name_cmp p (fmap.entries r.purses))) rows
-finds_next p =
-    answers purses select_next _ _ _ select_next_is (Text p ∷ []) (λ (e : Name × PurseRow). is_name p e.0) (λ (e : Name × PurseRow). next_shown e.1)
-    (λ id e. rw (same_text e.0 p) (and_true _ ∙ names_turned e.0 p)) (λ id e. refl)
-
 -- ---- writes
-
-abbrev purse_table : Table
-purse_table = record purse { tree = 8 }
-
-abbrev with_purses : List (Name × PurseRow) → Contents → Contents
-with_purses l c = record c { purses = l }
-
-purse_place : Place name_cmp purse_cells 4 purse_table with_purses (λ m r. record r { purses = m })
-purse_place = record {
-  found = refl;
-  uncounted = refl;
-  not_meta = λ e. omega (arith, e);
-  others = λ l c t other. elim (eqb_tells t 8) [ inl same ↦ absurd (other same.1) | inr differs ↦ rw differs.0 refl ];
-  placed = λ l c. refl;
-  tokens = λ l c h. record { operator = h.operator; tokens = h.tokens };
-  spelled = λ l c. refl;
-}
 
 -- a row of a purse at rest with nothing in it, but for the text of its log
 abbrev blank_cells : Name → Name → List ℕ → List Row
@@ -116,24 +66,20 @@ none_coded = ap entry_texts none_is
 pub adds_purse : (p h : Name) (old new : State) (count : ℕ) → old.now.schema ≡ office_schema → Executes insert_purse (Text p ∷ Text h ∷ []) old new (Ok count)
     → Goes (λ r. rewritten r (NewPurse p h)) old new
 adds_purse p h =
-    adds purses purse_place (λ l c. refl) insert_purse _ _ insert_purse_is (Text p ∷ Text h ∷ []) (p, record { holder = h; purse = new_purse p; next_message = 0 })
+    adds purses insert_purse _ _ insert_purse_is (Text p ∷ Text h ∷ []) (p, record { holder = h; purse = new_purse p; next_message = 0 })
     (rw (cast_null, cast_int (pos 0)) (ap (blank_cells p h) (sym none_coded)))
 
 -- an UPDATE of one purse
 module _ (sql : List ℕ) (project : List Term) (text : IsUpdate sql 4 8 (is_given 1 0 ∷ []) project) (p : Name) (more : Row) (g : PurseRow → PurseRow)
     (first : (id : ℤ) (e : Name × PurseRow) → rowid (eval_all project (env (Text p ∷ more) (Int id ∷ purse_cells e))) ≡ Int id)
-    (forms : (id : ℤ) (e : Name × PurseRow) → cast_row purse_table (drop 1 (eval_all project (env (Text p ∷ more) (Int id ∷ purse_cells e)))) ≡ Int id ∷ purse_cells (e.0, g e.1))
+    (forms : (id : ℤ) (e : Name × PurseRow) → cast_row purse_place.table (drop 1 (eval_all project (env (Text p ∷ more) (Int id ∷ purse_cells e)))) ≡ Int id ∷ purse_cells (e.0, g e.1))
     (old new : State) (has : old.now.schema ≡ office_schema) (ran : Executes sql (Text p ∷ more) old new (Ok 1)) where
   abbrev change : PurseRow → Rows → Rows
   change x r = record r { purses = fmap.insert r.purses p (g x) }
 
   one_purse : Goes (λ r. on_purse (fmap.get r.purses p) r (λ x. change x r)) old new
-  one_purse =
-      goes_as _ _ old new
-      (λ r h.
-      let there = one_passes name_cmp names_total p r.purses (counts purses purse_place (λ l c. refl) sql _ _ text (Text p ∷ more) (λ e. is_name e.0 p) (λ _ x. g x) (λ id e. rw (same_text e.0 p) (and_true _)) first forms old new 1 has ran r h) in
-      ap (λ t. record r { purses = t }) (remake_some names_total names_exact r.purses p g there.0 there.1) ∙ ap (λ o. on_purse o r (λ x. change x r)) (sym there.1))
-      (alters purses purse_place (λ l c. refl) sql _ _ text (Text p ∷ more) (λ e. is_name e.0 p) (λ _ x. g x) (λ id e. rw (same_text e.0 p) (and_true _)) first forms old new 1 has ran)
+  one_purse = alters_one purses sql _ _ text (Text p ∷ more) p (λ _. true) g (λ id e. ap (λ b. b && true) (same_text e.0 p)) first forms old new has ran _
+      (λ r x at. ap (λ o. on_purse o r (λ x. change x r)) at)
 
 abbrev purse_params : Purse → Row
 purse_params q = number q.balance ∷ number q.next ∷ Text (status_word q.status) ∷ Text (status_details q.status) ∷ Text (code q.log) ∷ number q.lines ∷ []
@@ -150,52 +96,23 @@ module _ (p : Name) (n : ℕ) (old new : State) (has : old.now.schema ≡ office
   abbrev is_next : PurseRow → Bool
   is_next x = eq_by_cmp nat_cmp x.next_message n
 
-  tests : (id : ℤ) (e : Name × PurseRow) → passes (is_given 1 0 ∷ is_given 9 2 ∷ []) (Text p ∷ number (n + 1) ∷ number n ∷ []) (Int id ∷ purse_cells e) ≡ at_key_where name_cmp names_total names_exact p is_next e
+  tests : (id : ℤ) (e : Name × PurseRow) → passes (is_given 1 0 ∷ is_given 9 2 ∷ []) (Text p ∷ number (n + 1) ∷ number n ∷ []) (Int id ∷ purse_cells e) ≡ (is_name e.0 p && is_next e.1)
   tests id e = ap₂ (λ x y. x && y) (same_text e.0 p) (and_true _ ∙ same_numbers e.1.next_message n)
 
-  forms : (id : ℤ) (e : Name × PurseRow) → cast_row purse_table (drop 1 (eval_all (col 1 0 ∷ col 1 0 ∷ col 1 1 ∷ col 1 2 ∷ col 1 3 ∷ col 1 4 ∷ col 1 5 ∷ col 1 6 ∷ col 1 7 ∷ col 1 8 ∷ col 0 1 ∷ []) (env (Text p ∷ number (n + 1) ∷ number n ∷ []) (Int id ∷ purse_cells e)))) ≡ Int id ∷ purse_cells (e.0, raised e.1)
+  forms : (id : ℤ) (e : Name × PurseRow) → cast_row purse_place.table (drop 1 (eval_all (col 1 0 ∷ col 1 0 ∷ col 1 1 ∷ col 1 2 ∷ col 1 3 ∷ col 1 4 ∷ col 1 5 ∷ col 1 6 ∷ col 1 7 ∷ col 1 8 ∷ col 0 1 ∷ []) (env (Text p ∷ number (n + 1) ∷ number n ∷ []) (Int id ∷ purse_cells e)))) ≡ Int id ∷ purse_cells (e.0, raised e.1)
   forms id e = rw (cast_int id, cast_int (pos e.1.purse.balance), cast_int (pos e.1.purse.next), cast_int (pos e.1.purse.lines), cast_int (pos (n + 1))) refl
-
-  -- it was n
-  raised_from : (r : Rows) → Holds old.now r → (x : PurseRow) × (fmap.get r.purses p ≡ Some x) × (is_next x ≡ true)
-  raised_from r h =
-      let c = h.contents in
-      let one = counts_in purses purse_place (λ l c. refl) raise_next _ _ raise_next_is _ (at_key_where name_cmp names_total names_exact p is_next) (λ _ x. raised x) tests (λ id e. refl) forms old new 1 has ran c h.has in
-      let it = one_at name_cmp names_total names_exact p is_next c.purses (purses.distinct old.now c h.has) one in
-      (it.0, ap (λ (s : Rows). fmap.get s.purses p) (sym h.rows) ∙ fmap.get-from_entries names_total c.purses p ∙ it.1, it.2)
 
   pub was_next : (r : Rows) → Holds old.now r → option_map (λ (x : PurseRow). x.next_message) (fmap.get r.purses p) ≡ Some n
   was_next r h =
-      let it = raised_from r h in
+      let it = was_there purses raise_next _ _ raise_next_is _ p is_next raised tests (λ id e. refl) forms old new has ran r h in
       ap (option_map (λ (x : PurseRow). x.next_message)) it.1 ∙ ap Some (nat_cmp-IsAntisymmetric it.0.next_message n (is_equal _ it.2))
 
   pub raises_next : Goes (λ r. on_purse (fmap.get r.purses p) r (λ x. record r { purses = fmap.insert r.purses p (raised x) })) old new
   raises_next =
-      goes_as _ _ old new
-      (λ r h.
-      let it = raised_from r h in
-      ap (λ t. record r { purses = t }) (remake_where name_cmp names_total names_exact p is_next r.purses raised it.0 it.1 it.2) ∙ ap (λ o. on_purse o r (λ x. record r { purses = fmap.insert r.purses p (raised x) })) (sym it.1))
-      (alters purses purse_place (λ l c. refl) raise_next _ _ raise_next_is _ (at_key_where name_cmp names_total names_exact p is_next) (λ _ x. raised x) tests (λ id e. refl) forms old new 1 has ran)
+      alters_one purses raise_next _ _ raise_next_is _ p is_next raised tests (λ id e. refl) forms old new has ran _
+      (λ r x at. ap (λ o. on_purse o r (λ x. record r { purses = fmap.insert r.purses p (raised x) })) at)
 
 -- ---- a purse that was read
-
--- purses of one name that show the same are the same
-same_state : (a b : Purse) → IsPurse a → IsPurse b → a.name ≡ b.name → state_shown a ≡ state_shown b → a ≡ b
-same_state a b one two named h =
-    let balance = same_number a.balance b.balance (ap (λ r. column r 0) h) in
-    let next = same_number a.next b.next (ap (λ r. column r 1) h) in
-    let status = same_status a.status b.status one.details two.details (same_words _ _ (ap (λ r. column r 2) h)) (same_words _ _ (ap (λ r. column r 3) h)) in
-    let log = same_code a.log b.log one.log two.log (same_words _ _ (ap (λ r. column r 4) h)) in
-    let lines = same_number a.lines b.lines (ap (λ r. column r 5) h) in
-    λ i. record { name = named i; balance = balance i; next = next i; status = status i; log = log i; lines = lines i }
-
-pub purse_back : (v x : PurseRow) (row : Row) → IsPurse v.purse → IsPurse x.purse → v.purse.name ≡ x.purse.name → purse_shown v ≡ row → purse_columns row ≡ purse_shown x → x ≡ v
-purse_back v x row one two named is shown =
-    let h : purse_shown v ≡ purse_shown x = ap purse_columns is ∙ shown in
-    let holder = same_words _ _ (ap (λ r. column r 0) h) in
-    let purse = same_state v.purse x.purse one two named (ap state_columns h) in
-    let next = same_number v.next_message x.next_message (ap (λ r. column r 7) h) in
-    λ i. record { holder = sym holder i; purse = sym purse i; next_message = sym next i }
 
 pub own_back : (x : PurseRow) (p : Purse) (row : Row) → IsPurse x.purse → IsPurse p → x.purse.name ≡ p.name → own_shown x ≡ row → state_columns row ≡ state_shown p → p ≡ x.purse
 own_back x p row one two named is shown = sym (same_state x.purse p one two named (ap state_columns is ∙ shown))
@@ -203,29 +120,24 @@ own_back x p row one two named is shown = sym (same_state x.purse p one two name
 pub holder_back : (x : PurseRow) (h : Name) (row : Row) → own_shown x ≡ row → column row 0 ≡ Text h → h ≡ x.holder
 holder_back x h row is shown = sym (same_words _ _ (ap (λ r. column r 0) is ∙ shown))
 
-pub next_back : (x : PurseRow) (n : ℕ) (row : Row) → next_shown x ≡ row → column row 0 ≡ number n → x.next_message ≡ n
-next_back x n row is shown = same_number x.next_message n (ap (λ r. column r 0) is ∙ shown)
-
 -- ---- what a look at one column says of a row
 
-if_some : {X : Type 0} (b : Bool) (x : X) → b ≡ is_some (if b then Some x else None)
+if_some : {X : Type 0} (b : Bool) (x : X) → is_some (if b then Some x else None) ≡ b
 if_some true x = refl
 if_some false x = refl
 
-pub own_found : (r : Rows) (h p owner : Name) → Some owner ≡ option_map (λ (x : PurseRow). x.holder) (fmap.get r.purses p) → is_name h owner ≡ is_some (row_own_purse r h p)
-own_found r h p owner e = by_row (fmap.get r.purses p) e where
-  by_row : (o : Option PurseRow) → Some owner ≡ option_map (λ (x : PurseRow). x.holder) o
-      → is_name h owner ≡ is_some (option_and_then (λ (x : PurseRow). if is_name h x.holder then Some x.purse else None) o)
-  by_row None e = absurd (cc)
-  by_row (Some x) e = let same : owner ≡ x.holder = cc in rw same (if_some (is_name h x.holder) x.purse)
+pub own_found : (r : Rows) (h p : Name) → is_some (row_own_purse r h p) ≡ is_of h (option_map (λ (x : PurseRow). x.holder) (fmap.get r.purses p))
+own_found r h p = by_row (fmap.get r.purses p) where
+  by_row : (o : Option PurseRow) → is_some (option_and_then (λ (x : PurseRow). if is_name h x.holder then Some x.purse else None) o) ≡ is_of h (option_map (λ (x : PurseRow). x.holder) o)
+  by_row None = refl
+  by_row (Some x) = if_some (is_name h x.holder) x.purse
+
+pub next_found : (o : Option PurseRow) (row : Option Row) (n : Option ℕ) → row ≡ option_map next_shown o → option_map (λ r. column r 0) row ≡ option_map number n → n ≡ option_map (λ (x : PurseRow). x.next_message) o
+next_found o row n is read = grind (arith, is, read)
 
 pub row_absent : {X : Type 0} (f : PurseRow → X) (o : Option PurseRow) → None ≡ option_map f o → o ≡ None
 row_absent f None e = refl
 row_absent f (Some x) e = absurd (cc)
-
-pub owner_there : (o : Option PurseRow) → is_some (option_map (λ (x : PurseRow). x.holder) o) ≡ is_some o
-owner_there None = refl
-owner_there (Some x) = refl
 
 pub member_found : (holders : fmap.FinMap name_cmp Name) (o : Option PurseRow) (h : Name) → Some h ≡ option_map (λ (x : PurseRow). x.holder) o → member_at holders o ≡ fmap.get holders h
 member_found holders None h e = absurd (cc)

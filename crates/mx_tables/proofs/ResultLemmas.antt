@@ -8,27 +8,25 @@ use Rattle.std.specs.Ordering.{eq_by_cmp, nat_cmp}
 use Rattle.std.specs.Cmp.Lexicographic.{slice_cmp}
 use Rattle.std.proofs.lemmas.Cmp.{tied_itself}
 use Rattle.std.proofs.lemmas.Bool.{cases_Bool}
-use Rattle.std.proofs.lemmas.Bool.Decides.{eqb_tells}
+use Rattle.std.proofs.Math.Bool.{and-true, and-false}
 use Rattle.std.proofs.lemmas.List.{take_more, map-append}
 use Rattle.std.proofs.lemmas.List.Sorted.{list_any-IsPermutation}
 use Rattle.sqlite_value.specs.declared.value.Value.{Value}
 use Rattle.sqlite_value.specs.declared.value.Value.TheVariants.{Null, Int, Text}
 use Rattle.sqlite_value.specs.Order.{Row, column}
 use Rattle.sqlite_trees.proofs.ListLemmas.{map-map, all-permutation}
-use Rattle.sqlite_schema.specs.declared.schema.Table.{Table}
 use Rattle.sqlite_sql.specs.Term.{col, lit}
 use Rattle.sqlite.specs.Effect.{Database}
 use Rattle.sqlite.specs.State.{State, Shown, Executes}
 use Rattle.sqlite.specs.Listing.{understood}
 use Rattle.sqlite_tied.specs.Compute.{everything}
-use Rattle.mx_pay.proofs.SameLemmas.{names_turned}
+use Rattle.mx_pay.proofs.SameLemmas.{names_turned, has-none_logged}
 use Rattle.mx_pay.specs.Names.{is_name}
 use Rattle.mx_pay.specs.Details.{Details, IsDetails, is_details}
 use Rattle.mx_pay.specs.Codes.{entry_text}
 use Rattle.mx_pay.specs.Log.{Entries, has_logged, none_logged, with_entry}
 use Rattle.mx_pay.specs.Orders.{details_exact}
 use Rattle.mx_pay.proofs.LogLemmas.{details_total}
-use Rattle.mx_pay.proofs.SameLemmas.{has-none_logged}
 use Rattle.mx_pay.proofs.TestLemmas.{is_equal}
 use Rattle.mx_book.specs.World.{Name, result_cmp, results_of, results_but, and_results}
 use Rattle.mx_book.specs.Rows.{Rows}
@@ -39,22 +37,19 @@ use Rattle.mx_book.proofs.NameLemmas.{same_name, name_itself}
 use Rattle.mx_book.proofs.MapLemmas.{AllEntries, all_entries}
 use Rattle.mx_book.proofs.LogLemmas.{same_members, has_kept, under_has}
 use Rattle.mx_book.proofs.ResultLemmas.{has-both, results_total, results_exact}
-use Rattle.mx_tables.specs.Schema.{office_schema, tray, archive}
-use Rattle.mx_tables.specs.Contents.{Contents}
-use Rattle.mx_tables.specs.Cells.{result_cells, number}
+use Rattle.mx_tables.specs.Schema.{office_schema, number}
 use Rattle.mx_tables.specs.Holds.{Holds}
 use Rattle.mx_tables.specs.States.{Goes, Sees}
 use Rattle.mx_tables.specs.Answers.{at_key}
 use Rattle.mx_tables.specs.Results.{Archives, details_shown, first_one, AreDetails, Shows, and_details}
-use Rattle.mx_tables.proofs.MapLists.{any_mapped}
-use Rattle.mx_tables.proofs.Queries.{is_given}
-use Rattle.mx_tables.proofs.Texts.{IsInsert, IsSelect, IsDelete}
+use Rattle.mx_tables.proofs.ValueLemmas.{told, same_made}
+use Rattle.mx_tables.proofs.MapLists.{any_mapped, unmapped}
+use Rattle.mx_tables.proofs.Texts.{is_given, IsInsert, IsSelect, IsDelete}
 use Rattle.mx_tables.proofs.StoredLemmas.{and_true, same_text, cast_null}
 use Rattle.mx_tables.proofs.ReadLemmas.{answers}
-use Rattle.mx_tables.proofs.WriteLemmas.{Place, adds, drops, no_actions, goes_as, goes_then}
+use Rattle.mx_tables.proofs.WriteLemmas.{adds, drops, no_actions, goes_as, goes_then}
 use Rattle.mx_tables.proofs.Statements.{inserted}
 use Rattle.mx_pay.proofs.TextLemmas.{same_entry}
-use Rattle.mx_tables.proofs.Permuted.{unmapped}
 use Rattle.mx_tables.proofs.KeptLemmas as kept
 
 abbrev Result : Type 0
@@ -99,51 +94,17 @@ select_archived_is = record { is = refl; query = record { plain = (refl, refl); 
 
 -- ---- writes
 
-abbrev tray_table : Table
-tray_table = record tray { tree = 14 }
-
-abbrev with_tray : List Result → Contents → Contents
-with_tray l c = record c { tray = l }
-
-tray_place : Place result_cmp result_cells 7 tray_table with_tray (λ m r. record r { tray = m })
-tray_place = record {
-  found = refl;
-  uncounted = refl;
-  not_meta = λ e. omega (arith, e);
-  others = λ l c t other. elim (eqb_tells t 14) [ inl same ↦ absurd (other same.1) | inr differs ↦ rw differs.0 refl ];
-  placed = λ l c. refl;
-  tokens = λ l c h. record { operator = h.operator; tokens = h.tokens };
-  spelled = λ l c. refl;
-}
-
-abbrev archive_table : Table
-archive_table = record archive { tree = 16 }
-
-abbrev with_archive : List Result → Contents → Contents
-with_archive l c = record c { archive = l }
-
-archive_place : Place result_cmp result_cells 8 archive_table with_archive (λ m r. record r { archive = m })
-archive_place = record {
-  found = refl;
-  uncounted = refl;
-  not_meta = λ e. omega (arith, e);
-  others = λ l c t other. elim (eqb_tells t 16) [ inl same ↦ absurd (other same.1) | inr differs ↦ rw differs.0 refl ];
-  placed = λ l c. refl;
-  tokens = λ l c h. record { operator = h.operator; tokens = h.tokens };
-  spelled = λ l c. refl;
-}
-
 pub adds_tray : (p : Name) (d : Details) (old new : State) (count : ℕ) → old.now.schema ≡ office_schema → Executes insert_tray (Text p ∷ Text (entry_text d) ∷ []) old new (Ok count)
     → Goes (λ r. record r { tray = fmap.insert r.tray (p, d) tt }) old new
-adds_tray p d = adds kept.tray tray_place (λ l c. refl) insert_tray _ _ insert_tray_is (Text p ∷ Text (entry_text d) ∷ []) ((p, d), tt) (rw cast_null refl)
+adds_tray p d = adds kept.tray insert_tray _ _ insert_tray_is (Text p ∷ Text (entry_text d) ∷ []) ((p, d), tt) (rw cast_null refl)
 
 adds_archive : (p : Name) (d : Details) (old new : State) (count : ℕ) → old.now.schema ≡ office_schema → Executes insert_archive (Text p ∷ Text (entry_text d) ∷ []) old new (Ok count)
     → Goes (λ r. record r { archive = fmap.insert r.archive (p, d) tt }) old new
-adds_archive p d = adds kept.archive archive_place (λ l c. refl) insert_archive _ _ insert_archive_is (Text p ∷ Text (entry_text d) ∷ []) ((p, d), tt) (rw cast_null refl)
+adds_archive p d = adds kept.archive insert_archive _ _ insert_archive_is (Text p ∷ Text (entry_text d) ∷ []) ((p, d), tt) (rw cast_null refl)
 
 adds_schema : (p text : List ℕ) (old new : State) (count : ℕ) → old.now.schema ≡ office_schema → Executes insert_archive (Text p ∷ Text text ∷ []) old new (Ok count) → new.now.schema ≡ office_schema
 adds_schema p text old new count has ran =
-    (inserted office_schema 8 archive_table refl (no_actions archive_table) insert_archive (Text p ∷ Text text ∷ []) old new has insert_archive_is.plain count ran (lit Null ∷ col 0 0 ∷ col 0 1 ∷ []) 3 (Text p ∷ Text text ∷ []) insert_archive_is.is refl (rw cast_null refl)).schema_is
+    (inserted office_schema 8 kept.archive_place.table refl (no_actions kept.archive_place.table) insert_archive (Text p ∷ Text text ∷ []) old new has insert_archive_is.plain count ran (lit Null ∷ col 0 0 ∷ col 0 1 ∷ []) 3 (Text p ∷ Text text ∷ []) insert_archive_is.is refl (rw cast_null refl)).schema_is
 
 pub archives_one : (p text : List ℕ) (old new : State) (count : ℕ) → old.now.schema ≡ office_schema → Executes insert_archive (Text p ∷ Text text ∷ []) old new (Ok count) → Archives p ((Text text ∷ []) ∷ []) old new
 archives_one p text old new count has ran = record { schema = adds_schema p text old new count has ran; goes = one }
@@ -157,7 +118,7 @@ archives_one p text old new count has ran = record { schema = adds_schema p text
 
 pub drops_tray : (p : Name) (old new : State) (count : ℕ) → old.now.schema ≡ office_schema → Executes delete_tray (Text p ∷ []) old new (Ok count)
     → Goes (λ r. record r { tray = results_but p r.tray }) old new
-drops_tray p = drops kept.tray tray_place (λ l c. refl) delete_tray _ _ delete_tray_is (Text p ∷ []) (λ (k : Name × Details). is_name p k.0)
+drops_tray p = drops kept.tray delete_tray _ _ delete_tray_is (Text p ∷ []) (λ (k : Name × Details). is_name p k.0)
     (λ id e. rw (same_text e.0.0 p) (and_true _ ∙ names_turned e.0.0 p)) (λ id e. refl)
 
 -- ---- reads
@@ -231,14 +192,10 @@ module _ (p : Name) (k : Name × Details) where
           | inl u ↦
               let at : k ≡ e.0 = results_exact k e.0 (is_equal _ u) in
               let other : is_name p k.0 ≡ false = ap (λ (x : Name × Details). is_name p x.0) at ∙ n in
-              rw (n, u) (more ∙ rw other (none (is_some (fmap.find result_cmp k es)) ∙ refl))
+              rw (n, u) (more ∙ rw other (and-false (is_some (fmap.find result_cmp k es)) ∙ refl))
           | inr f ↦ rw (n, f) more
         ]
       ]
-    where
-      none : (b : Bool) → (b && false) ≡ false
-      none true = refl
-      none false = refl
 
   pub among_tray : (s : FinSet result_cmp) (zs : List Result) → IsPermutation (of_name p (fmap.entries s)) zs → list_any of_purse zs ≡ (fmap.contains_key s k && is_name p k.0)
   among_tray s zs same =
@@ -274,15 +231,8 @@ shows_more rows at row old new d within is shown valid made h = record {
     added : (e : Details) → has_logged (with_entry old d) e ≡ (is_details e d || has_logged old e)
     added e = grind (arith, fmap.get-insert details_total old d tt e)
 
-same_details : (ds es : List Details) → AllByRecursion IsDetails ds → AllByRecursion IsDetails es → map details_shown ds ≡ map details_shown es → ds ≡ es
-same_details [] [] one two h = refl
-same_details [] (e ∷ es) one two h = absurd (let k = ap length h in omega (arith, k))
-same_details (d ∷ ds) [] one two h = absurd (let k = ap length h in omega (arith, k))
-same_details (d ∷ ds) (e ∷ es) one two h =
-    let here : ◌≡◌ {A = Value} (Text (entry_text d)) (Text (entry_text e)) = cc in
-    let rest : map details_shown ds ≡ map details_shown es = cc in
-    let text : entry_text d ≡ entry_text e = cc in
-    ap₂ ◌∷◌ (same_entry d e one.0 two.0 text) (same_details ds es one.1 two.1 rest)
+same_shown : (d e : Details) → IsDetails d → IsDetails e → details_shown d ≡ details_shown e → d ≡ e
+same_shown d e one two h = let (text, _) = told (details_shown d) (details_shown e) h in same_entry d e one two text
 
 abbrev second : Result → Details
 second e = e.0.1
@@ -310,14 +260,10 @@ tray_read p r each rows items log h is same =
     let valid = all_mapped zs (all-permutation (λ (e : Result). IsDetails (second e)) (of_name p (fmap.entries r.tray)) zs of.1 (all_second p (fmap.entries r.tray) (all_entries results_total Valid r.tray each))) in
     let again : map first_one rows ≡ map details_shown (map second zs) =
     ap (map first_one) (is ∙ sym of.2) ∙ map-map first_one (λ (e : Result). details_shown e.0.1) zs ∙ sym (map-map details_shown second zs) in
-    let found : h.details ≡ map second zs = same_details h.details (map second zs) h.valid valid (sym h.shown ∙ again) in
+    let found : h.details ≡ map second zs = same_made IsDetails details_shown same_shown h.details (map second zs) h.valid valid (sym h.shown ∙ again) in
     same_members details_total details_exact log (row_tray_of r p) (λ d.
     h.has d ∙ ap (list_any (is_details d)) found ∙ any_second p d zs ∙ among_tray p (p, d) r.tray zs of.1
-    ∙ ap (λ b. fmap.contains_key r.tray (p, d) && b) (name_itself p) ∙ with_true (fmap.contains_key r.tray (p, d)) ∙ sym (under_has p r.tray d))
-  where
-    with_true : (b : Bool) → (b && true) ≡ b
-    with_true true = refl
-    with_true false = refl
+    ∙ ap (λ b. fmap.contains_key r.tray (p, d) && b) (name_itself p) ∙ and-true (fmap.contains_key r.tray (p, d)) ∙ sym (under_has p r.tray d))
 
 -- ---- the tray in the archive
 

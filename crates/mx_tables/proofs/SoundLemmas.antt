@@ -3,15 +3,15 @@ use Rattle.std.proofs.Common.{◌≡◌, inl, inr, ℕ, ◌+◌, ◌<◌, ◌≤
 use Rattle.std.specs.Prelude.{option_map}
 use Rattle.std.specs.FinMap as fmap
 use Rattle.mx_purse.specs.Messages.{IsMessage}
-use Rattle.std.specs.Ordering.{nat_cmp}
+use Rattle.std.specs.Ordering.{nat_cmp, eq_by_cmp}
 use Rattle.mx_pay.specs.Limits.{most_number}
 use Rattle.mx_pay.specs.Names.{name_cmp}
 use Rattle.mx_book.specs.World.{World, Name}
 use Rattle.mx_book.specs.Reads.{tray_of}
 use Rattle.mx_book.specs.RowEdits.{row_tray_of}
 use Rattle.mx_tables.specs.Results.{AreDetails}
-use Rattle.mx_book.specs.Rows.{Rows, world_of, row_of}
-use Rattle.mx_book.specs.Conditions.{IsWorld}
+use Rattle.mx_book.specs.Rows.{Rows, world_of, row_of, line_at}
+use Rattle.mx_book.specs.Conditions.{IsWorld, IsLine, IsNote, AreNumbered}
 use Rattle.mx_book.specs.Spells.{Spells}
 use Rattle.mx_book.specs.declared.values.PurseRow.{PurseRow}
 use Rattle.mx_book.proofs.NameLemmas.{names_total}
@@ -20,16 +20,13 @@ use Rattle.mx_book.proofs.FoundLemmas.{some_of, none_found}
 use Rattle.mx_book.proofs.UnderLemmas.{get-under}
 use Rattle.mx_tables.specs.Answers.{AreMessages, HaveNumbers, ArePurses}
 use Rattle.std.specs.List.{AllByRecursion}
-use Rattle.std.specs.Ordering.{eq_by_cmp}
 use Rattle.std.proofs.lemmas.Bool.{cases_Bool}
 use Rattle.std.proofs.lemmas.List.{length-map}
 use Rattle.mx_pay.proofs.TestLemmas.{is_equal}
 use Rattle.mx_purse.specs.State.{State, IsInStatus}
 use Rattle.mx_purse.specs.declared.status.Status.{Status}
 use Rattle.mx_purse.specs.declared.status.Status.TheVariants.{EaFrom, EaTo, Epr, Epv, Epa}
-use Rattle.mx_book.specs.Rows.{line_at}
 use Rattle.mx_book.specs.Under.{under}
-use Rattle.mx_book.specs.Conditions.{IsLine, IsNote, AreNumbered}
 use Rattle.mx_book.specs.declared.values.LineRow.{LineRow}
 use Rattle.mx_tables.specs.Pages.{AreLines}
 

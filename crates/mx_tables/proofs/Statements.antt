@@ -1,8 +1,6 @@
 -- What the statements over one table do, from the meaning of their texts.
-use Rattle.std.proofs.Common.{ℤ, ◌≡◌, ◌≢◌, ◌⊎◌, inl, inr, ℕ, List, [], ◌∷◌, length, map, filter, drop, fold, flat_map, slice_get, Bool, true, false, Option, Some, None, Ok, Err, Result, refl, sym, ap, subst, ◌∙◌}
-use Rattle.std.specs.Prelude.{nat_le, ◌^◌, ◌/◌, if◌then◌else◌}
-use Rattle.std.proofs.Common.{subst₂}
-use Rattle.std.specs.Prelude.{unwrap_or}
+use Rattle.std.proofs.Common.{ℤ, ◌≡◌, ◌≢◌, ◌⊎◌, inl, inr, ℕ, List, [], ◌∷◌, length, map, filter, drop, fold, flat_map, slice_get, Bool, true, false, Option, Some, None, Ok, Err, Result, refl, sym, ap, subst, ◌∙◌, subst₂}
+use Rattle.std.specs.Prelude.{nat_le, ◌^◌, ◌/◌, if◌then◌else◌, unwrap_or, MatchBool}
 use Rattle.std.proofs.lemmas.List.{length-map}
 use Rattle.std.proofs.lemmas.List.Sorted.{IsPermutation-map}
 use Rattle.sqlite_trees.proofs.ListLemmas.{map-map}
@@ -12,17 +10,16 @@ use Rattle.std.proofs.lemmas.Bool.{cases_Bool}
 use Rattle.sqlite_value.specs.declared.value.Value.TheVariants.{Null, Int}
 use Rattle.sqlite_value.specs.declared.keys.Key.{Key}
 use Rattle.sqlite_value.specs.Order.{Row}
-use Rattle.sqlite_trees.specs.Tree.{Trees}
+use Rattle.sqlite_trees.specs.Tree.{Trees, put_row}
 use Rattle.sqlite_sql.specs.Term.{Term, Env, holds, eval_all}
 use Rattle.sqlite_sql.specs.Query.{IsAnswer, Output, output, output_cmp}
 use Rattle.sqlite_sql.specs.Program.{overlay}
 use Rattle.sqlite_schema.specs.declared.program.Program.{Program}
-use Rattle.sqlite_schema.specs.declared.command.Command.TheVariants.{Select}
-use Rattle.sqlite.specs.Effect.{Database, Reads, Answers}
+use Rattle.sqlite_schema.specs.declared.command.Command.TheVariants.{Select, Insert, Update, Delete}
+use Rattle.sqlite.specs.Effect.{Database, Reads, Answers, value_rows}
 use Rattle.sqlite_schema.specs.declared.schema.Schema.{Schema}
 use Rattle.sqlite_schema.specs.declared.schema.Table.{Table}
 use Rattle.sqlite_schema.specs.declared.schema.Keys.TheVariants.{Enforced}
-use Rattle.sqlite_schema.specs.declared.command.Command.TheVariants.{Insert, Update, Delete}
 use Rattle.sqlite_rules.specs.Calls.{ids_of}
 use Rattle.sqlite_rules.proofs.PlaceLemmas.{given}
 use Rattle.sqlite_rules.specs.Cast.{cast_row}
@@ -30,19 +27,16 @@ use Rattle.sqlite_rules.specs.Action.{works, Writes as Writes_rows}
 use Rattle.sqlite_rules.specs.Edit.{Edit, edit_of, edited, put_all, without_all, next_rowid, numbered, taken_by, left_by, are_fresh, Applies}
 use Rattle.sqlite_rules.specs.declared.error.Rowids.TheVariants.{Above, Chosen, Given}
 use Rattle.sqlite_rules.specs.declared.error.Rowids.{Rowids}
-use Rattle.sqlite_trees.specs.Tree.{put_row}
 use Rattle.sqlite.specs.Source.TheVariants.{Values}
 use Rattle.sqlite.specs.Rows.{Written, stamped, Task, Inserts, Gives, rowids_for, count_of}
-use Rattle.sqlite.specs.Effect.{value_rows}
 use Rattle.sqlite.specs.Does.{Tally, Does, Concludes, OnRows}
 use Rattle.sqlite.specs.declared.run.Mode.{Mode}
-use Rattle.std.specs.Prelude.{MatchBool}
 use Rattle.sqlite.specs.Listing.{understood}
 use Rattle.sqlite.specs.State.{State, mode_of, Writes, Executes}
 use Rattle.sqlite.proofs.Callers.{IsPlain, command_of, statement_of, runs_as, one_step}
 use Rattle.sqlite_schema.specs.Rules.{Fits}
 use Rattle.mx_tables.specs.Holds.{HaveCells}
-use Rattle.mx_tables.proofs.Queries.{scan, alone}
+use Rattle.mx_tables.proofs.Texts.{scan, alone}
 
 abbrev pub env : Row → Row → Env
 env params r = params ∷ r ∷ []
@@ -165,10 +159,11 @@ module _ (schema : Schema) (at : ℕ) (table : Table) (found : slice_get schema.
       let a : Applies schema Enforced old.now.trees edit new.now.trees = one_step schema Enforced old.now.trees new.now.trees edit (ap (λ (t : Table). works schema Enforced 0 t.tree (taken_by old.now.trees edit) edit.news) of ∙ quiet _ _) (rw trees h) in
       (record { schema_is = ap (λ (d : Database). d.schema) now; rows_are = ap (λ (t : Table). new.now.trees t.tree) (sym of) ∙ a.rows; others = rw of at a.tables; fits = a.fits }, a.fresh)
 
-  pub inserted : (terms : List Term) (width : ℕ) (row : Row) → command_of (understood schema sql) ≡ Insert at (Values terms width) → table.is_counted ≡ false
-      → map (cast_row table) (value_rows (stamped table params) width (length terms / width) terms) ≡ (Null ∷ row) ∷ []
-      → Wrote schema table old new (put_row (Int (next_rowid (old.now.trees table.tree)) ∷ row) (old.now.trees table.tree))
-  inserted terms width row is uncounted source =
+  -- the rows that an INSERT makes are put in with their numbers
+  puts : (terms : List Term) (width : ℕ) (rows : List Row) → command_of (understood schema sql) ≡ Insert at (Values terms width) → table.is_counted ≡ false
+      → map (cast_row table) (value_rows (stamped table params) width (length terms / width) terms) ≡ rows
+      → Wrote schema table old new (fold (λ all r. put_row r all) (old.now.trees table.tree) (numbered Chosen (old.now.trees table.tree) rows))
+  puts terms width rows is uncounted source =
       let db = old.now.trees in
       let text = statement_of sql (understood schema sql) in
       let command = Insert at (Values terms width) in
@@ -180,21 +175,16 @@ module _ (schema : Schema) (at : ℕ) (table : Table) (found : slice_get schema.
       let it = (wrote edit done.0 refl now (put task uncounted terms width db done.0 done.1)).0 in
       subst (Wrote schema table old new) (ap (λ (all : List Row). fold (λ rows r. put_row r rows) (db table.tree) (numbered Chosen (db table.tree) all)) source) it
 
+  pub inserted : (terms : List Term) (width : ℕ) (row : Row) → command_of (understood schema sql) ≡ Insert at (Values terms width) → table.is_counted ≡ false
+      → map (cast_row table) (value_rows (stamped table params) width (length terms / width) terms) ≡ (Null ∷ row) ∷ []
+      → Wrote schema table old new (put_row (Int (next_rowid (old.now.trees table.tree)) ∷ row) (old.now.trees table.tree))
+  inserted terms width row = puts terms width ((Null ∷ row) ∷ [])
+
   -- the same where the row gives its number
   pub inserted_at : (terms : List Term) (width : ℕ) (id : ℤ) (row : Row) → command_of (understood schema sql) ≡ Insert at (Values terms width) → table.is_counted ≡ false
       → map (cast_row table) (value_rows (stamped table params) width (length terms / width) terms) ≡ (Int id ∷ row) ∷ []
       → Wrote schema table old new (put_row (Int id ∷ row) (old.now.trees table.tree))
-  inserted_at terms width id row is uncounted source =
-      let db = old.now.trees in
-      let text = statement_of sql (understood schema sql) in
-      let command = Insert at (Values terms width) in
-      let w : Writes old new None command text params count = runs_as sql params old new schema has command is plain count ran in
-      let did : OnRows task (mode_of old) None command db (Ok (w.tally, new.now)) = rw found at (subst (λ s. Does old.step_limit (mode_of old) params (record old.now { schema = s }) text None command (Ok (w.tally, new.now))) has w.changed) in
-      let done = went did in
-      let now = concluded task (mode_of old) done.0 w.tally new.now done.2 in
-      let edit = edit_of db table [] Chosen 0 (sources task uncounted terms width db done.0) in
-      let it = (wrote edit done.0 refl now (put task uncounted terms width db done.0 done.1)).0 in
-      subst (Wrote schema table old new) (ap (λ (all : List Row). fold (λ rows r. put_row r rows) (db table.tree) (numbered Chosen (db table.tree) all)) source) it
+  inserted_at terms width id row = puts terms width ((Int id ∷ row) ∷ [])
 
   pub deleted : (q : Program) → command_of (understood schema sql) ≡ Delete at q
       → (rows : List Row) × Answers (record old.now { schema = schema }) q params rows × Wrote schema table old new (without_all (old.now.trees table.tree) (ids_of rows))

@@ -1,20 +1,42 @@
--- The texts of the statements on members, tokens and holders, and their meaning.
-use Rattle.std.proofs.Common.{◌≡◌, ℕ, pos, List, [], ◌∷◌, codes, refl, false}
+-- The forms of the queries, and the texts of the statements with their meaning.
+use Rattle.std.proofs.Common.{ℕ, List, [], None, pos, negsuc, false, ◌≡◌, ◌∷◌, codes, refl}
+use Rattle.sqlite_value.specs.declared.value.Value.TheVariants.{Int, Null, Text}
+use Rattle.sqlite_value.specs.declared.keys.Key.{Key}
+use Rattle.sqlite_value.specs.declared.keys.Collation.TheVariants.{Binary}
+use Rattle.sqlite_sql.specs.declared.ops.BinaryOp.TheVariants.{Compare}
+use Rattle.sqlite_sql.specs.declared.ops.CompareOp.TheVariants.{Eq}
+use Rattle.sqlite_sql.specs.Term.{Term, lit, col, op2}
+use Rattle.sqlite_sql.specs.Query.{Query, inner, end}
+use Rattle.sqlite_schema.specs.declared.program.Program.{Program}
 use Rattle.sqlite_schema.specs.declared.command.Command.TheVariants.{Insert, Select, Update, Delete}
 use Rattle.sqlite_schema.specs.declared.command.Source.TheVariants.{Values}
 use Rattle.sqlite_tied.specs.Compute.{everything}
 use Rattle.sqlite.specs.Listing.{understood, reads_listing}
 use Rattle.sqlite.proofs.Callers.{command_of}
-use Rattle.sqlite_value.specs.declared.value.Value.TheVariants.{Null, Int, Text}
-use Rattle.sqlite_value.specs.declared.keys.Key.{Key}
-use Rattle.sqlite_value.specs.declared.keys.Collation.TheVariants.{Binary}
 use Rattle.sqlite_value.specs.Keys.{ascending}
-use Rattle.sqlite_sql.specs.declared.ops.BinaryOp.TheVariants.{Compare}
-use Rattle.sqlite_sql.specs.declared.ops.CompareOp.TheVariants.{Eq}
-use Rattle.sqlite_sql.specs.Term.{Term, lit, col, op2}
 use Rattle.mx_tables.specs.Schema.{office_schema}
 use Rattle.mx_tables.specs.States.{IsText, IsQuery}
-use Rattle.mx_tables.proofs.Queries.{scan, alone, is_given}
+
+-- the rows of one tree that pass the terms, in this order
+abbrev pub scan : ℕ → List Term → List Term → List (Term × Key) → Query
+scan tree filter project order = record {
+  from = inner tree end;
+  filter = filter;
+  group = None;
+  project = project;
+  distinct = false;
+  collations = [];
+  order = order;
+  limit = lit (Int (negsuc 0));
+  offset = lit (Int (pos 0));
+}
+
+abbrev pub alone : Query → Program
+alone q = record { lets = []; body = q }
+
+-- the column of the row equals the parameter
+abbrev pub is_given : ℕ → ℕ → Term
+is_given column parameter = op2 (Compare Eq Binary) (col 1 column) (col 0 parameter)
 
 -- the text is a query of the rows of one tree
 pub record IsSelect (sql : List ℕ) (tree : ℕ) (terms project : List Term) (order : List (Term × Key)) (names : List (List ℕ)) : Type 0 where
@@ -44,13 +66,6 @@ pub select_token_is : IsSelect select_token 3 (is_given 1 0 ∷ []) (col 1 2 ∷
 unfolding understood everything
 select_token_is = record { is = refl; query = record { plain = (refl, refl); silent = λ _ _. refl }; unlisted = refl }
 
-abbrev pub select_member : List ℕ
-select_member = codes "SELECT granted, unspent FROM member WHERE name = ?1"
-
-pub select_member_is : IsSelect select_member 1 (is_given 1 0 ∷ []) (col 1 2 ∷ col 1 3 ∷ []) [] (codes "granted" ∷ codes "unspent" ∷ [])
-unfolding understood everything
-select_member_is = record { is = refl; query = record { plain = (refl, refl); silent = λ _ _. refl }; unlisted = refl }
-
 abbrev pub insert_token : List ℕ
 insert_token = codes "INSERT INTO token (token, kind, name) VALUES (?1, ?2, ?3)"
 
@@ -71,13 +86,6 @@ insert_holder = codes "INSERT INTO holder (name, member) VALUES (?1, ?2)"
 pub insert_holder_is : IsInsert insert_holder 3 (lit Null ∷ col 0 0 ∷ col 0 1 ∷ []) 3
 unfolding understood everything
 insert_holder_is = record { is = refl; plain = (refl, refl) }
-
-abbrev pub select_holder : List ℕ
-select_holder = codes "SELECT member FROM holder WHERE name = ?1"
-
-pub select_holder_is : IsSelect select_holder 6 (is_given 1 0 ∷ []) (col 1 2 ∷ []) [] (codes "member" ∷ [])
-unfolding understood everything
-select_holder_is = record { is = refl; query = record { plain = (refl, refl); silent = λ _ _. refl }; unlisted = refl }
 
 abbrev pub select_held : List ℕ
 select_held = codes "SELECT name FROM purse WHERE holder = ?1 ORDER BY name"
@@ -146,42 +154,12 @@ pub delete_message_is : IsDelete delete_message 5 10 (is_given 1 0 ∷ is_given 
 unfolding understood everything
 delete_message_is = record { is = refl; plain = (refl, refl) }
 
-abbrev pub select_purse : List ℕ
-select_purse = codes "SELECT holder, balance, next_number, status, details, log, line_count, next_message FROM purse WHERE name = ?1"
-
-pub select_purse_is : IsSelect select_purse 8 (is_given 1 0 ∷ []) (col 1 2 ∷ col 1 3 ∷ col 1 4 ∷ col 1 5 ∷ col 1 6 ∷ col 1 7 ∷ col 1 8 ∷ col 1 9 ∷ []) []
-    (codes "holder" ∷ codes "balance" ∷ codes "next_number" ∷ codes "status" ∷ codes "details" ∷ codes "log" ∷ codes "line_count" ∷ codes "next_message" ∷ [])
-unfolding understood everything
-select_purse_is = record { is = refl; query = record { plain = (refl, refl); silent = λ _ _. refl }; unlisted = refl }
-
-abbrev pub select_own : List ℕ
-select_own = codes "SELECT holder, balance, next_number, status, details, log, line_count FROM purse WHERE name = ?1"
-
-pub select_own_is : IsSelect select_own 8 (is_given 1 0 ∷ []) (col 1 2 ∷ col 1 3 ∷ col 1 4 ∷ col 1 5 ∷ col 1 6 ∷ col 1 7 ∷ col 1 8 ∷ []) []
-    (codes "holder" ∷ codes "balance" ∷ codes "next_number" ∷ codes "status" ∷ codes "details" ∷ codes "log" ∷ codes "line_count" ∷ [])
-unfolding understood everything
-select_own_is = record { is = refl; query = record { plain = (refl, refl); silent = λ _ _. refl }; unlisted = refl }
-
 abbrev pub update_purse : List ℕ
 update_purse = codes "UPDATE purse SET balance = ?2, next_number = ?3, status = ?4, details = ?5, log = ?6, line_count = ?7 WHERE name = ?1"
 
 pub update_purse_is : IsUpdate update_purse 4 8 (is_given 1 0 ∷ []) (col 1 0 ∷ col 1 0 ∷ col 1 1 ∷ col 1 2 ∷ col 0 1 ∷ col 0 2 ∷ col 0 3 ∷ col 0 4 ∷ col 0 5 ∷ col 0 6 ∷ col 1 9 ∷ [])
 unfolding understood everything
 update_purse_is = record { is = refl; plain = (refl, refl) }
-
-abbrev pub select_next : List ℕ
-select_next = codes "SELECT next_message FROM purse WHERE name = ?1"
-
-pub select_next_is : IsSelect select_next 8 (is_given 1 0 ∷ []) (col 1 9 ∷ []) [] (codes "next_message" ∷ [])
-unfolding understood everything
-select_next_is = record { is = refl; query = record { plain = (refl, refl); silent = λ _ _. refl }; unlisted = refl }
-
-abbrev pub select_owner : List ℕ
-select_owner = codes "SELECT holder FROM purse WHERE name = ?1"
-
-pub select_owner_is : IsSelect select_owner 8 (is_given 1 0 ∷ []) (col 1 2 ∷ []) [] (codes "holder" ∷ [])
-unfolding understood everything
-select_owner_is = record { is = refl; query = record { plain = (refl, refl); silent = λ _ _. refl }; unlisted = refl }
 
 abbrev pub raise_next : List ℕ
 raise_next = codes "UPDATE purse SET next_message = ?2 WHERE name = ?1 AND next_message = ?3"

@@ -1,13 +1,11 @@
 -- What the statements that read answer from the typed rows.
-use Rattle.std.specs.Prelude.{ℕ, List, [], ◌∷◌, filter}
+use Rattle.std.specs.Prelude.{ℕ, List, [], ◌∷◌, codes, filter, ◌≡◌, ◌≤◌, ◌+◌, Option, Some, None, option_map}
 use Rattle.std.specs.Ordering.{eq_by_cmp}
 use Rattle.std.specs.declared.cmp.Ordering.{Ordering}
 use Rattle.sqlite_value.specs.Order.{Row, column}
 use Rattle.sqlite_value.specs.declared.value.Value.TheVariants.{Text}
 use Rattle.mx_book.specs.declared.values.Caller.{Caller}
 use Rattle.mx_book.specs.declared.values.MemberRow.{MemberRow}
-use Rattle.std.specs.Prelude.{◌≡◌, ◌≤◌, ◌+◌, Option, Some, None, if◌then◌else◌, option_map}
-use Rattle.mx_pay.specs.Names.{is_name}
 use Rattle.std.specs.FinMap as fmap
 use Rattle.mx_purse.specs.declared.message.Message.{Message}
 use Rattle.mx_purse.specs.Messages.{IsMessage}
@@ -20,9 +18,11 @@ use Rattle.mx_purse.specs.Words.{status_word, status_details, message_word, mess
 use Rattle.mx_book.specs.declared.values.PurseRow.{PurseRow}
 use Rattle.sqlite.specs.State.{State as Connected}
 use Rattle.mx_book.specs.RowEdits.{on_purse}
+use Rattle.mx_tables.specs.declared.asking.About.{About}
+use Rattle.mx_tables.specs.declared.asking.About.TheVariants.{Member, Holder, Purse, Own, Owner, Next}
 use Rattle.mx_tables.specs.Holds.{Holds}
 use Rattle.mx_tables.specs.States.{Goes}
-use Rattle.mx_tables.specs.Cells.{number, kind_text, owner_text}
+use Rattle.mx_tables.specs.Schema.{number, kind_text, owner_text}
 
 -- the entries at a key
 abbrev pub at_key : {K V : Type 0} → (K → K → Ordering) → K → List (K × V) → List (K × V)
@@ -40,7 +40,10 @@ text_shown t = Text t ∷ []
 abbrev pub amount_shown : ℕ → Row
 amount_shown n = number n ∷ []
 
--- the first three columns of a row
+-- the first columns of a row
+abbrev pub first_two : Row → Row
+first_two r = column r 0 ∷ column r 1 ∷ []
+
 abbrev pub first_three : Row → Row
 first_three r = column r 0 ∷ column r 1 ∷ column r 2 ∷ []
 
@@ -62,10 +65,6 @@ state_shown p = number p.balance ∷ number p.next ∷ Text (status_word p.statu
 -- what a row of a purse shows of its holder and of the purse
 abbrev pub own_shown : PurseRow → Row
 own_shown x = Text x.holder ∷ state_shown x.purse
-
--- the purse of a row, where it is the holder's
-abbrev pub own_state : Name → PurseRow → Option State
-own_state h x = if is_name h x.holder then Some x.purse else None
 
 -- the columns of the purse in a row of a purse
 abbrev pub state_columns : Row → Row
@@ -97,3 +96,20 @@ one_or_none (Some x) = x ∷ []
 pub record Raises (p : Name) (next : ℕ) (old new : Connected) : Type 0 where
   pub goes : Goes (λ r. on_purse (fmap.get r.purses p) r (λ x. record r { purses = fmap.insert r.purses p (record x { next_message = next + 1 }) })) old new
   pub was : (r : Rows) → Holds old.now r → option_map (λ (x : PurseRow). x.next_message) (fmap.get r.purses p) ≡ Some next
+
+-- what is asked about a name, and the row that answers
+abbrev pub about_text : About → List ℕ
+about_text Member = codes "SELECT granted, unspent FROM member WHERE name = ?1"
+about_text Holder = codes "SELECT member FROM holder WHERE name = ?1"
+about_text Purse = codes "SELECT holder, balance, next_number, status, details, log, line_count, next_message FROM purse WHERE name = ?1"
+about_text Own = codes "SELECT holder, balance, next_number, status, details, log, line_count FROM purse WHERE name = ?1"
+about_text Owner = codes "SELECT holder FROM purse WHERE name = ?1"
+about_text Next = codes "SELECT next_message FROM purse WHERE name = ?1"
+
+abbrev pub shown_about : About → Rows → Name → Option Row
+shown_about Member r p = option_map member_shown (fmap.get r.members p)
+shown_about Holder r p = option_map text_shown (fmap.get r.holders p)
+shown_about Purse r p = option_map purse_shown (fmap.get r.purses p)
+shown_about Own r p = option_map own_shown (fmap.get r.purses p)
+shown_about Owner r p = option_map (λ (x : PurseRow). text_shown x.holder) (fmap.get r.purses p)
+shown_about Next r p = option_map next_shown (fmap.get r.purses p)

@@ -1,19 +1,37 @@
--- What rows that were read add to sums, and which purses they are of.
-use Rattle.std.specs.Prelude.{ℕ, pos, negsuc, Bool, ◌&&◌, ◌||◌, List, [], ◌∷◌, if◌then◌else◌}
+-- What rows that were read add to sums, which purses they are of, and what the sums are.
+use Rattle.std.specs.Prelude.{ℕ, pos, negsuc, Bool, ◌&&◌, ◌||◌, List, [], ◌∷◌, codes, if◌then◌else◌, unwrap_or, Option, Some, None, true, false}
 use Rattle.std.specs.FinMap as fmap
 use Rattle.sqlite_value.specs.declared.value.Value.{Value}
 use Rattle.sqlite_value.specs.declared.value.Value.TheVariants.{Null, Int, Real, Text, Blob}
 use Rattle.sqlite_value.specs.Order.{Row, column}
 use Rattle.mx_pay.specs.Names.{name_cmp, is_name}
-use Rattle.mx_book.specs.World.{Name, is_of}
+use Rattle.mx_book.specs.World.{Name, is_of, result_cmp}
 use Rattle.mx_book.specs.Rows.{Rows}
 use Rattle.mx_book.specs.RowReads.{is_counted, row_uncollected_of}
-use Rattle.mx_book.specs.RowTotals.{row_issued_of, row_redeemed_of, row_balances_of}
+use Rattle.mx_book.specs.RowTotals.{row_issued_of, row_redeemed_of, row_balances_of, has_left, lost_in_log, lost_in_archive, row_transit_of}
 use Rattle.mx_book.specs.declared.values.PurseRow.{PurseRow}
 use Rattle.mx_book.specs.declared.values.Redemption.{Redemption}
 use Rattle.mx_book.specs.declared.totals.Scope.{Scope}
 use Rattle.mx_tables.specs.declared.sums.Sums.{Sums}
-use Rattle.mx_tables.specs.Cells.{number}
+use Rattle.mx_tables.specs.Schema.{number}
+use Rattle.mx_tables.specs.declared.sums.Amounts.{Amounts}
+use Rattle.mx_tables.specs.declared.sums.Amounts.TheVariants.{Uncollected, Issued, Redeemed, Balances}
+use Rattle.mx_book.specs.Slots.{map_of}
+use Rattle.mx_book.specs.declared.values.MemberRow.{MemberRow}
+use Rattle.mx_book.specs.declared.values.MemberTotals.{MemberTotals}
+use Rattle.mx_tables.specs.declared.member_sums.MemberSums.{MemberSums}
+use Rattle.std.specs.FinSet.{FinSet}
+use Rattle.mx_pay.specs.Limits.{most_entries}
+use Rattle.mx_pay.specs.Details.{Details}
+use Rattle.mx_pay.specs.Log.{none_logged}
+use Rattle.mx_pay.specs.Codes.{code, entry_text}
+use Rattle.mx_pay.specs.Reading.{entry_of, entries_of}
+use Rattle.mx_purse.specs.Words.{status_details}
+use Rattle.mx_purse.specs.declared.status.Status.{Status}
+use Rattle.mx_purse.specs.declared.status.Status.TheVariants.{EaFrom, EaTo, Epr, Epv, Epa}
+use Rattle.mx_book.specs.Sums.{sum_entries}
+use Rattle.mx_tables.specs.declared.sums.Adds.{Adds}
+use Rattle.mx_tables.specs.declared.sums.Adds.TheVariants.{Counted, Waiting, Logged, Archived}
 
 -- a name and a number
 abbrev pub owed_shown : Name → ℕ → Row
@@ -51,6 +69,20 @@ is_owned holders m row p = is_name p (text_of (column row 0)) && is_of m (fmap.g
 abbrev pub collected_where : (Name → Bool) → Name × Name → Redemption → Redemption
 collected_where passes key x = record x { collected = x.collected || passes key.0 }
 
+-- the query of amounts
+abbrev pub amounts_text : Amounts → List ℕ
+amounts_text Uncollected = codes "SELECT purse, amount FROM redemption WHERE collected = 0"
+amounts_text Issued = codes "SELECT purse, amount FROM load"
+amounts_text Redeemed = codes "SELECT purse, amount FROM redemption"
+amounts_text Balances = codes "SELECT name, balance FROM purse"
+
+-- what the amounts of the purses that count come to
+abbrev pub amounts_of : Rows → Scope → Amounts → ℕ
+amounts_of r scope Uncollected = row_uncollected_of r scope
+amounts_of r scope Issued = row_issued_of r scope
+amounts_of r scope Redeemed = row_redeemed_of r scope
+amounts_of r scope Balances = row_balances_of r scope
+
 -- the sums of the purses that count
 abbrev pub row_sums : Rows → Scope → Sums
 row_sums r scope = record {
@@ -59,3 +91,100 @@ row_sums r scope = record {
   redeemed = row_redeemed_of r scope;
   balances = row_balances_of r scope;
 }
+
+-- the sum of a member, which is 0 where none is kept
+abbrev pub sum_at : fmap.FinMap name_cmp ℕ → Name → ℕ
+sum_at sums m = unwrap_or (fmap.get sums m) 0
+
+-- the sums of a member
+abbrev pub sums_at : MemberSums → Name → Sums
+sums_at sums m = record {
+  uncollected = sum_at (map_of name_cmp sums.uncollected) m;
+  issued = sum_at (map_of name_cmp sums.issued) m;
+  redeemed = sum_at (map_of name_cmp sums.redeemed) m;
+  balances = sum_at (map_of name_cmp sums.balances) m;
+}
+
+-- a member, its grants and its float
+abbrev pub member_listed : Name × MemberRow → Row
+member_listed e = Text e.0 ∷ number e.1.granted ∷ number e.1.float ∷ []
+
+-- the sums of a member with its grants and its float
+abbrev pub totals_with : Sums → ℕ → ℕ → MemberTotals
+totals_with sums granted float = record {
+  granted = granted;
+  float = float;
+  uncollected = sums.uncollected;
+  issued = sums.issued;
+  redeemed = sums.redeemed;
+  balances = sums.balances;
+}
+
+-- the member of a row with its sums
+abbrev pub totals_row : MemberSums → Row → Name × MemberTotals
+totals_row sums row = (text_of (column row 0), totals_with (sums_at sums (text_of (column row 0))) (number_of (column row 1)) (number_of (column row 2)))
+
+-- a number of a value, and 0 where there is none
+abbrev pub if_some : {X : Type 0} → (X → ℕ) → Option X → ℕ
+if_some f None = 0
+if_some f (Some x) = f x
+
+abbrev pub is_epv : Status → Bool
+is_epv EaFrom = false
+is_epv EaTo = false
+is_epv (Epr d) = false
+is_epv (Epv d) = true
+is_epv (Epa d) = false
+
+-- what is read of a purse that waits for a value, of a purse's log, and of an archived result
+abbrev pub waiting_shown : Name × PurseRow → Row
+waiting_shown e = Text (status_details e.1.purse.status) ∷ []
+
+abbrev pub log_shown : Name × PurseRow → Row
+log_shown e = Text e.0 ∷ Text (code e.1.purse.log) ∷ []
+
+abbrev pub result_shown : (Name × Details) × Unit {0} → Row
+result_shown e = Text e.0.0 ∷ Text (entry_text e.0.1) ∷ []
+
+module _ (purses : fmap.FinMap name_cmp PurseRow) (archive : FinSet result_cmp) where
+  -- the value of details that has left the purse that pays
+  abbrev pub left_value : Details → ℕ
+  left_value d = if has_left purses archive d then d.value else 0
+
+  -- what these rows add to the value on its way, and to what is lost
+  abbrev pub waiting_row : Row → ℕ
+  waiting_row row = if_some left_value (entry_of (text_of (column row 0)))
+
+  abbrev pub log_row : Row → ℕ
+  log_row row = if_some (lost_in_log purses archive (text_of (column row 0))) (entries_of most_entries (text_of (column row 1)) none_logged)
+
+  abbrev pub result_row : Row → ℕ
+  result_row row = if_some (λ d. lost_in_archive purses archive (text_of (column row 0), d)) (entry_of (text_of (column row 1)))
+
+-- what is lost by all logs, and by all archived results
+abbrev pub logs_lost : Rows → ℕ
+logs_lost r = sum_entries (λ p (x : PurseRow). lost_in_log r.purses r.archive p x.purse.log) r.purses
+
+abbrev pub results_lost : Rows → ℕ
+results_lost r = sum_entries (λ result _. lost_in_archive r.purses r.archive result) r.archive
+
+-- the query of what is summed
+abbrev pub adds_text : Adds → List ℕ
+adds_text (Counted amounts scope) = amounts_text amounts
+adds_text Waiting = codes "SELECT details FROM purse WHERE status = 'epv'"
+adds_text Logged = codes "SELECT name, log FROM purse"
+adds_text Archived = codes "SELECT purse, details FROM archive"
+
+-- what a row adds to a sum
+abbrev pub row_adds : Rows → Adds → Row → ℕ
+row_adds r (Counted amounts scope) row = counted_row r.purses r.holders scope row
+row_adds r Waiting row = waiting_row r.purses r.archive row
+row_adds r Logged row = log_row r.purses r.archive row
+row_adds r Archived row = result_row r.purses r.archive row
+
+-- the sum
+abbrev pub sum_of : Rows → Adds → ℕ
+sum_of r (Counted amounts scope) = amounts_of r scope amounts
+sum_of r Waiting = row_transit_of r
+sum_of r Logged = logs_lost r
+sum_of r Archived = results_lost r

@@ -1,9 +1,8 @@
 -- When a database holds typed rows, and when these spell a World.
 use Rattle.std.specs.Prelude.{◌≡◌, ℤ, pos, List, [], ◌∷◌}
-use Rattle.std.specs.List.{AllByRecursion}
 use Rattle.sqlite_value.specs.declared.value.Value.TheVariants.{Null, Int}
 use Rattle.sqlite_value.specs.Order.{Row}
-use Rattle.sqlite_trees.specs.Tree.{IsTable}
+use Rattle.sqlite_trees.specs.Tree.{Trees, IsTable}
 use Rattle.sqlite_schema.specs.declared.schema.Table.{Table}
 use Rattle.sqlite_schema.specs.declared.schema.Constraint.TheVariants.{Unique}
 use Rattle.sqlite_schema.specs.Rules.{Keeps}
@@ -11,10 +10,7 @@ use Rattle.sqlite.specs.Effect.{Database}
 use Rattle.mx_book.specs.World.{World}
 use Rattle.mx_book.specs.Rows.{Rows}
 use Rattle.mx_book.specs.Spells as book
-use Rattle.mx_tables.specs.Schema.{office_schema}
-use Rattle.mx_tables.specs.Contents.{Contents}
-use Rattle.mx_tables.specs.Cells.{cells_of, number}
-use Rattle.mx_tables.specs.Rows.{rows_of, AreTokens}
+use Rattle.mx_tables.specs.Schema.{office_schema, Contents, cells_of, number, rows_of, AreTokens}
 
 -- the rows have these cells, each after a row number
 abbrev pub HaveCells : List Row → List Row → Type 0
@@ -28,6 +24,13 @@ pub record Stores (tree : List Row) (cells : List Row) : Type 0 where
   pub rise : IsTable tree
   pub have : HaveCells tree cells
 
+-- each of these tables stores its own of these cells
+abbrev pub AllStore : Trees → List Table → List (List Row) → Type 0
+AllStore db [] [] = Unit {0}
+AllStore db [] (c ∷ cs) = ⊥
+AllStore db (t ∷ ts) [] = ⊥
+AllStore db (t ∷ ts) (c ∷ cs) = Stores (db t.tree) c × AllStore db ts cs
+
 -- the one row of `meta`: number 1, version 1
 abbrev pub meta_rows : List Row
 meta_rows = (Int (pos 1) ∷ Null ∷ number 1 ∷ []) ∷ []
@@ -36,7 +39,7 @@ meta_rows = (Int (pos 1) ∷ Null ∷ number 1 ∷ []) ∷ []
 pub record HasContents (db : Database) (c : Contents) : Type 0 where
   pub schema : db.schema ≡ office_schema
   pub meta : db.trees 0 ≡ meta_rows
-  pub tables : AllByRecursion (λ (t : Table). Stores (db.trees t.tree) (cells_of c t.tree)) office_schema.tables
+  pub tables : AllStore db.trees office_schema.tables (cells_of c)
   pub tokens : AreTokens c
   pub unique : Keeps Unique office_schema db.trees
 

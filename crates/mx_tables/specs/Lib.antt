@@ -1,8 +1,5 @@
-pub mod Schema
-pub mod Contents
-pub mod Cells
 pub mod Holds
-pub mod Rows
+pub mod Schema
 pub mod States
 pub mod Settled
 pub mod Answers
@@ -10,5 +7,3 @@ pub mod Pages
 pub mod Made
 pub mod Results
 pub mod Counted
-pub mod MemberSums
-pub mod Between

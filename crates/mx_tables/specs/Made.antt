@@ -1,12 +1,12 @@
 -- How the tables are made.
-use Rattle.mx_tables.specs.Schema.{office_schema}
-use Rattle.mx_tables.specs.Holds.{meta_rows}
-use Rattle.mx_tables.specs.Cells.{number}
+use Rattle.mx_tables.specs.Schema.{office_schema, number}
+use Rattle.mx_tables.specs.Holds.{meta_rows, AllStore}
 use Rattle.sqlite_value.specs.Order.{Row, column}
+use Rattle.sqlite_value.specs.declared.value.Value.TheVariants.{Null}
 use Rattle.sqlite_trees.specs.Tree.{has_rowid}
 use Rattle.sqlite_rules.specs.Lists.{Has}
 use Rattle.sqlite.specs.Effect.{Database}
-use Rattle.std.specs.Prelude.{◌≡◌, ◌≢◌, pos, true, false, ◌∷◌, Ok, List, [], ℕ, IsTrue}
+use Rattle.std.specs.Prelude.{◌≡◌, map, drop, pos, true, false, ◌∷◌, Ok, List, [], ℕ, IsTrue, Result, Err, slice_range}
 use Rattle.std.specs.List.{AllByRecursion}
 use Rattle.sqlite_schema.specs.declared.schema.Schema.{Schema}
 use Rattle.sqlite_schema.specs.declared.schema.Table.{Table}
@@ -23,7 +23,6 @@ use Rattle.mx_tables.specs.States.{Steps}
 use Rattle.sqlite_resolve.specs.Compile.{table_defined_by}
 use Rattle.sqlite_resolve.specs.declared.compiled.Compiled.{Compiled}
 use Rattle.sqlite_resolve.specs.declared.error.CompileError.{CompileError}
-use Rattle.std.specs.Prelude.{Result, Err, slice_range}
 
 -- the text is that of one CREATE TABLE, and of nothing else
 abbrev pub Creates : List ℕ → Result Compiled CompileError → Type 0
@@ -36,17 +35,26 @@ pub record IsCreate (schema : Schema) (sql : List ℕ) (table : Table) : Type 0 
   pub defined : table_defined_by sql ≡ Ok table
   pub uncounted : lacks_sequence (created schema table) ≡ false
 
+-- the texts make the tables that lead from one schema to another
+pub data Makes : Schema → List (List ℕ) → Schema → Type 0 where
+  made : {schema : Schema} → Makes schema [] schema
+  also : {before after : Schema} {sql : List ℕ} {more : List (List ℕ)} (table : Table) → IsCreate before sql table → Makes (created before table) more after → Makes before (sql ∷ more) after
+
 -- a transaction is open, and sees the schema with no rows
 pub record Blank (schema : Schema) (s : State) : Type 0 where
   pub schema_is : s.now.schema ≡ schema
   pub empty : AllByRecursion (λ t. s.now.trees t.tree ≡ []) schema.tables
   pub inside : IsTrue s.in_transaction
 
+-- the cells of new tables, which have no row but that of `meta`
+abbrev pub new_cells : List (List Row)
+new_cells = ((Null ∷ number 1 ∷ []) ∷ []) ∷ map (λ _. []) (drop 1 office_schema.tables)
+
 -- a transaction is open, and sees the tables with no row but that of `meta`
 pub record Fresh (s : State) : Type 0 where
   pub schema : s.now.schema ≡ office_schema
   pub meta : s.now.trees 0 ≡ meta_rows
-  pub empty : AllByRecursion (λ (t : Table). t.tree ≢ 0 → s.now.trees t.tree ≡ []) office_schema.tables
+  pub tables : AllStore s.now.trees office_schema.tables new_cells
 
 -- `meta` has a row of number 1 with version 1
 abbrev pub IsVersion1 : Database → Type 0

@@ -14,7 +14,7 @@ use Rattle.mx_book.specs.Conditions.{IsNote}
 use Rattle.mx_book.specs.Words.{kind_text, note_text}
 use Rattle.mx_book.specs.declared.values.Line.{Line}
 use Rattle.mx_book.specs.declared.values.LineRow.{LineRow}
-use Rattle.mx_tables.specs.Cells.{number}
+use Rattle.mx_tables.specs.Schema.{number}
 
 abbrev pub line_shown : Line → Row
 line_shown l = number l.number ∷ Text (kind_text l.kind) ∷ number l.amount ∷ number l.balance ∷ Text (note_text l.note) ∷ []

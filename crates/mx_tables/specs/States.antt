@@ -17,7 +17,8 @@ use Rattle.sqlite.specs.State.{State, HasCleanDisk, KeepsCommit, Executes}
 use Rattle.mx_tables.specs.Schema.{office_schema}
 use Rattle.mx_book.specs.Rows.{Rows}
 use Rattle.mx_book.specs.declared.contract.StoreFault.{StoreFault}
-use Rattle.mx_tables.specs.Holds.{Holds}
+use Rattle.mx_book.specs.World.{World}
+use Rattle.mx_tables.specs.Holds.{Holds, SpellsOne}
 
 -- 0 while the disk has returned what was written and the connection is open, 1 once a fault has shut it, 2 once the disk has lied
 abbrev pub worry_at : Bool → Bool → ℕ
@@ -94,6 +95,11 @@ pub record Sees (old new : State) (is : Rows → Type 0) : Type 0 where
 pub record Reads {S T : Type 0} (g : Ghosts S) (old new : Held S) (result : Result T StoreFault) (is : Rows → T → Type 0) : Type 0 where
   pub stays : IsOurs (state g old) → Stays (state g old) (state g new)
   pub value : IsOurs (state g old) → worry (state g new) ≡ 0 → (r : Rows) → Holds (state g old).now r → IfOk result (is r)
+
+-- A read of the World: the same, where what is given is so of the World that the rows spell.
+pub record Tells {S T : Type 0} (g : Ghosts S) (old new : Held S) (result : Result T StoreFault) (is : World → T → Type 0) : Type 0 where
+  pub stays : IsOurs (state g old) → Stays (state g old) (state g new)
+  pub value : IsOurs (state g old) → (w : World) → worry (state g new) ≡ 0 → SpellsOne (state g old).now w → IfOk result (is w)
 
 -- A step inside a transaction: the same connection is lent, and where it answers Ok this is so of what it gives.
 pub record Steps {S T E : Type 0} (g : Ghosts S) (old new : Transaction S) (result : Result T E) (does : T → Type 0) : Type 0 where

@@ -1,75 +1,48 @@
 //! The value between purses: what is on its way, and what is lost.
 ghost use Rattle.std.specs.Prelude.{◌≡◌};
-ghost use Rattle.std.specs.FinMap as fmap;
 ghost use Rattle.mx_pay.specs.Log.{has_logged};
 ghost use Rattle.mx_book.specs.RowEdits.{log_at};
-ghost use Rattle.mx_book.specs.RowTotals.{has_left, has_sent, lost_by, lost_in_log, row_lost_of, row_transit_of};
+ghost use Rattle.mx_book.specs.RowTotals.{has_sent, lost_by};
 ghost use Rattle.mx_tables.specs.Answers.{ArePurses};
-ghost use Rattle.mx_tables.specs.Between.{left_value, log_row, logs_lost, result_row, results_lost, waiting_row};
+ghost use Rattle.mx_tables.specs.Counted.{left_value, log_row, result_row};
 ghost use Rattle.mx_tables.specs.Results.{AreDetails};
 ghost use Rattle.mx_tables.specs.States.{Reads};
 
-use crate::asking::ask;
 use crate::cells::{entry_at, log_at, name_at};
 use crate::purses::find_purse;
 use crate::results::find_archived;
-use crate::sums::{Adds, plus, sum_rows};
-use mx_book::StoreFault;
+use crate::sums::plus;
 use mx_book::totals::is_sent_by;
+use mx_book::{PurseRow, StoreFault};
 use mx_pay::names::same_name;
-use mx_pay::{Log, Name, PayDetails};
+use mx_pay::{Name, PayDetails};
 use sqlite::{Alter, Connection, Row};
 use std::alloc::Global;
 
 /// Whether a purse waits for the acknowledgement of details, or has them in its log.
-fn has_sent<S: Alter>(
-    conn: &mut Connection<S>,
-    purse: &Name,
-    details: &PayDetails,
-) -> Result<bool, StoreFault>
-    ensures { Reads S.Store conn.old conn.new result
-        (λ r b. ArePurses r → b ≡ has_sent (fmap.get r.purses purse.now) details.now) }
+fn has_sent(purse: &Option<PurseRow>, details: &PayDetails) -> bool
+    ensures { result ≡ has_sent purse.now details.now }
 {
-    match find_purse(conn, purse)? {
-        None => Ok(false),
-        Some(row) => Ok(is_sent_by(&row, details)),
+    match purse {
+        Some(row) => is_sent_by(row, details),
+        None => false,
     }
 }
 
 /// Whether details are in the log of a purse.
-fn is_logged<S: Alter>(
-    conn: &mut Connection<S>,
-    purse: &Name,
-    details: &PayDetails,
-) -> Result<bool, StoreFault>
-    ensures { Reads S.Store conn.old conn.new result
-        (λ r b. ArePurses r → b ≡ has_logged (log_at (fmap.get r.purses purse.now)) details.now) }
+#[tactic(auto, using(crate::proofs::CountedSums::nothing_logged))]
+fn is_logged(purse: &Option<PurseRow>, details: &PayDetails) -> bool
+    ensures { result ≡ has_logged (log_at purse.now) details.now }
 {
-    match find_purse(conn, purse)? {
-        None => Ok(false),
-        Some(row) => Ok(row.purse.log().has(details)),
+    match purse {
+        Some(row) => row.purse.log().has(details),
+        None => false,
     }
 }
 
-/// Whether the value of details has left the purse that pays: it waits for their acknowledgement, has them in its
+/// The value of details, where it has left the purse that pays: it waits for their acknowledgement, has them in its
 /// log, or they are archived for it.
-fn has_left<S: Alter>(
-    alloc: Global,
-    conn: &mut Connection<S>,
-    details: &PayDetails,
-) -> Result<bool, StoreFault>
-    ensures { Reads S.Store conn.old conn.new result
-        (λ r b. ArePurses r → AreDetails r.archive → b ≡ has_left r.purses r.archive details.now) }
-{
-    let payer = details.from();
-    if has_sent(conn, &payer, details)? {
-        return Ok(true);
-    }
-    find_archived(alloc, conn, &payer, details)
-}
-
-/// The value of details, where it has left the purse that pays.
-fn value_left<S: Alter>(
+pub fn value_left<S: Alter>(
     alloc: Global,
     conn: &mut Connection<S>,
     details: &PayDetails,
@@ -78,33 +51,17 @@ fn value_left<S: Alter>(
         (λ r n. ArePurses r → AreDetails r.archive
         → n ≡ left_value r.purses r.archive details.now) }
 {
-    if has_left(alloc, conn, details)? {
-        Ok(details.value().get() as u128)
+    let value = details.value().get() as u128;
+    let payer = details.from();
+    let row = find_purse(conn, &payer)?;
+    if has_sent(&row, details) {
+        return Ok(value);
+    }
+    if find_archived(alloc, conn, &payer, details)? {
+        Ok(value)
     } else {
         Ok(0)
     }
-}
-
-/// What the purse of a row waits for that has left the other purse.
-pub fn wait_row<S: Alter>(
-    alloc: Global,
-    conn: &mut Connection<S>,
-    row: &Row,
-) -> Result<u128, StoreFault>
-    ensures { Reads S.Store conn.old conn.new result
-        (λ r n. ArePurses r → AreDetails r.archive → n ≡ waiting_row r.purses r.archive row.now) }
-{
-    let details = entry_at(row, 0)?;
-    value_left(alloc, conn, &details)
-}
-
-/// The value on its way: what left a purse and another one waits for.
-pub fn sum_transit<S: Alter>(alloc: Global, conn: &mut Connection<S>) -> Result<u128, StoreFault>
-    ensures { Reads S.Store conn.old conn.new result
-        (λ r n. ArePurses r → AreDetails r.archive → n ≡ row_transit_of r) }
-{
-    let rows = ask(conn, "SELECT details FROM purse WHERE status = 'epv'", &[])?;
-    sum_rows(alloc, conn, &Adds::Waiting, &rows)
 }
 
 /// The value of details that are logged for a purse, where they are to it and it has left the other purse.
@@ -125,28 +82,6 @@ fn lost_by<S: Alter>(
     }
 }
 
-/// What is lost by the log of a purse.
-fn lost_in_log<S: Alter>(
-    alloc: Global,
-    conn: &mut Connection<S>,
-    purse: &Name,
-    log: &Log,
-) -> Result<u128, StoreFault>
-    ensures { Reads S.Store conn.old conn.new result
-        (λ r n. ArePurses r → AreDetails r.archive
-        → n ≡ lost_in_log r.purses r.archive purse.now log.now) }
-{
-    let mut sum = 0;
-    for place in 0..log.len() {
-        let Some(details) = log.at(place) else {
-            return Err(StoreFault::Store);
-        };
-        let more = lost_by(alloc, conn, purse, &details)?;
-        sum = plus(sum, more)?;
-    }
-    Ok(sum)
-}
-
 /// What is lost by the log in a row.
 pub fn lose_row<S: Alter>(
     alloc: Global,
@@ -158,16 +93,15 @@ pub fn lose_row<S: Alter>(
 {
     let purse = name_at(row, 0)?;
     let log = log_at(row, 1)?;
-    lost_in_log(alloc, conn, &purse, &log)
-}
-
-/// What is lost by the logs of all purses.
-fn sum_logs<S: Alter>(alloc: Global, conn: &mut Connection<S>) -> Result<u128, StoreFault>
-    ensures { Reads S.Store conn.old conn.new result
-        (λ r n. ArePurses r → AreDetails r.archive → n ≡ logs_lost r) }
-{
-    let rows = ask(conn, "SELECT name, log FROM purse", &[])?;
-    sum_rows(alloc, conn, &Adds::Logged, &rows)
+    let mut sum = 0;
+    for place in 0..log.len() {
+        let Some(details) = log.at(place) else {
+            return Err(StoreFault::Store);
+        };
+        let more = lost_by(alloc, conn, &purse, &details)?;
+        sum = plus(sum, more)?;
+    }
+    Ok(sum)
 }
 
 /// What is lost by the archived result in a row, where the log of its purse hasn't it still.
@@ -181,28 +115,10 @@ pub fn lose_result<S: Alter>(
 {
     let purse = name_at(row, 0)?;
     let details = entry_at(row, 1)?;
-    if is_logged(conn, &purse, &details)? {
+    let kept = find_purse(conn, &purse)?;
+    if is_logged(&kept, &details) {
         Ok(0)
     } else {
         lost_by(alloc, conn, &purse, &details)
     }
-}
-
-/// What is lost by archived results.
-fn sum_results<S: Alter>(alloc: Global, conn: &mut Connection<S>) -> Result<u128, StoreFault>
-    ensures { Reads S.Store conn.old conn.new result
-        (λ r n. ArePurses r → AreDetails r.archive → n ≡ results_lost r) }
-{
-    let rows = ask(conn, "SELECT purse, details FROM archive", &[])?;
-    sum_rows(alloc, conn, &Adds::Archived, &rows)
-}
-
-/// What left a purse and will not reach the other any more.
-pub fn sum_lost<S: Alter>(alloc: Global, conn: &mut Connection<S>) -> Result<u128, StoreFault>
-    ensures { Reads S.Store conn.old conn.new result
-        (λ r n. ArePurses r → AreDetails r.archive → n ≡ row_lost_of r) }
-{
-    let in_logs = sum_logs(alloc, conn)?;
-    let in_archive = sum_results(alloc, conn)?;
-    plus(in_logs, in_archive)
 }

@@ -1,5 +1,5 @@
 //! The values of a row that was read.
-ghost use Rattle.std.specs.Prelude.{◌≡◌, IfOk, IfSome, pos};
+ghost use Rattle.std.specs.Prelude.{◌≡◌, IfOk, IfSome, option_map, pos};
 ghost use Rattle.sqlite_value.specs.Order.{column};
 ghost use Rattle.sqlite_value.specs.declared.value.Value.TheVariants.{Int, Text};
 ghost use Rattle.mx_pay.specs.Codes.{code, entry_text};
@@ -37,6 +37,16 @@ pub fn name_at(row: &Row, at: usize) -> Result<Name, StoreFault>
     }
 }
 
+/// The name in the first column of a row, where there is a row.
+pub fn name_in(row: Option<Row>) -> Result<Option<Name>, StoreFault>
+    ensures { IfOk result (λ name. option_map (λ r. column r 0) row ≡ option_map Text name) }
+{
+    match row {
+        Some(row) => Ok(Some(name_at(&row, 0)?)),
+        None => Ok(None),
+    }
+}
+
 /// The number in a column. Store where another value is there.
 pub fn number_at(row: &Row, at: usize) -> Result<u64, StoreFault>
     ensures { IfOk result (λ n. column row.now at ≡ Int (pos n)) }
@@ -50,6 +60,17 @@ pub fn number_at(row: &Row, at: usize) -> Result<u64, StoreFault>
     }
 }
 
+/// The number in the first column of a row, where there is a row.
+pub fn number_in(row: Option<Row>) -> Result<Option<u64>, StoreFault>
+    ensures { IfOk result
+        (λ number. option_map (λ r. column r 0) row ≡ option_map (λ n. Int (pos n)) number) }
+{
+    match row {
+        Some(row) => Ok(Some(number_at(&row, 0)?)),
+        None => Ok(None),
+    }
+}
+
 /// The amount in a column. Store where another value is there.
 pub fn amount_at(row: &Row, at: usize) -> Result<Amount, StoreFault>
     ensures { IfOk result (λ n. column row.now at ≡ Int (pos n)) }
@@ -57,6 +78,17 @@ pub fn amount_at(row: &Row, at: usize) -> Result<Amount, StoreFault>
     match Amount::new(number_at(row, at)?) {
         Some(amount) => Ok(amount),
         None => Err(StoreFault::Store),
+    }
+}
+
+/// The amount in the first column of a row, where there is a row.
+pub fn amount_in(row: Option<Row>) -> Result<Option<Amount>, StoreFault>
+    ensures { IfOk result
+        (λ amount. option_map (λ r. column r 0) row ≡ option_map (λ n. Int (pos n)) amount) }
+{
+    match row {
+        Some(row) => Ok(Some(amount_at(&row, 0)?)),
+        None => Ok(None),
     }
 }
 

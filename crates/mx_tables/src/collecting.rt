@@ -1,33 +1,16 @@
 //! The redemptions of a member's purses are collected.
-ghost use Rattle.mx_pay.specs.Names.{is_name};
 ghost use Rattle.mx_book.specs.RowEdits.{marked};
 ghost use Rattle.mx_book.specs.Under.{remake};
 ghost use Rattle.mx_tables.specs.Counted.{collected_where, is_owned};
 ghost use Rattle.mx_tables.specs.States.{Writes};
 
-use crate::asking::{ask_inside, run};
-use crate::cells::name_at;
+use crate::asking::{About, ask_about_inside, ask_inside, run};
+use crate::cells::{name_at, name_in};
 use crate::given;
-use crate::holders::find_holder_inside;
+use crate::holders::is_of;
 use mx_book::StoreFault;
 use mx_pay::Name;
-use mx_pay::names::same_name;
 use sqlite::{Alter, Row, Transaction};
-
-/// Collects the redemptions of a purse.
-fn collect_purse<S: Alter>(tx: &mut Transaction<'_, S>, purse: &Name) -> Result<(), StoreFault>
-    ensures { Writes S.Store tx.old tx.new result
-        (λ r. record r {
-          redemptions =
-              remake (collected_where (λ p. is_name p purse.now)) r.redemptions;
-        }) }
-{
-    run(
-        tx,
-        "UPDATE redemption SET collected = 1 WHERE purse = ?1",
-        &[given::text(purse.as_str())],
-    )
-}
 
 /// Collects the redemptions of the purse that a row names before its holder, where the holder is the member's.
 fn collect_row<S: Alter>(
@@ -43,11 +26,13 @@ fn collect_row<S: Alter>(
 {
     let purse = name_at(row, 0)?;
     let holder = name_at(row, 1)?;
-    let Some(owner) = find_holder_inside(tx, &holder)? else {
-        return Ok(());
-    };
-    if same_name(member, &owner) {
-        collect_purse(tx, &purse)
+    let owner = name_in(ask_about_inside(tx, About::Holder, &holder)?)?;
+    if is_of(member, &owner) {
+        run(
+            tx,
+            "UPDATE redemption SET collected = 1 WHERE purse = ?1",
+            &[given::text(purse.as_str())],
+        )
     } else {
         Ok(())
     }

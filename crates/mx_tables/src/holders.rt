@@ -1,15 +1,17 @@
 //! Holders.
 ghost use Rattle.std.specs.Prelude.{◌≡◌};
 ghost use Rattle.std.specs.FinMap as fmap;
-ghost use Rattle.mx_book.specs.RowReads.{row_holder_of};
-ghost use Rattle.mx_tables.specs.States.{Finds, Reads, Writes};
+ghost use Rattle.mx_book.specs.World.{is_of};
+ghost use Rattle.mx_tables.specs.States.{Reads, Writes, Tells};
+ghost use Rattle.mx_book.specs.Reads.{holder_of};
 
-use crate::asking::{ask, ask_inside, only, run};
-use crate::cells::name_at;
+use crate::asking::{About, ask_about, run};
+use crate::cells::name_in;
 use crate::given;
 use crate::purses::count_held;
 use mx_book::{HolderRow, StoreFault};
 use mx_pay::Name;
+use mx_pay::names::same_name;
 use sqlite::{Alter, Connection, Transaction};
 
 /// Adds a holder of a member.
@@ -35,15 +37,7 @@ pub fn find_holder<S: Alter>(
 ) -> Result<Option<Name>, StoreFault>
     ensures { Reads S.Store conn.old conn.new result (λ r v. v ≡ fmap.get r.holders name.now) }
 {
-    let rows = ask(
-        conn,
-        "SELECT member FROM holder WHERE name = ?1",
-        &[given::text(name.as_str())],
-    )?;
-    match only(&rows)? {
-        Some(row) => Ok(Some(name_at(row, 0)?)),
-        None => Ok(None),
-    }
+    name_in(ask_about(conn, About::Holder, name)?)
 }
 
 /// The member of a holder and how many purses the holder has, or None where there is no such holder.
@@ -51,7 +45,7 @@ pub fn read_holder<S: Alter>(
     conn: &mut Connection<S>,
     name: &Name,
 ) -> Result<Option<HolderRow>, StoreFault>
-    ensures { Reads S.Store conn.old conn.new result (λ r v. v ≡ row_holder_of r name.now) }
+    ensures { Tells S.Store conn.old conn.new result (λ w v. v ≡ holder_of w name.now) }
 {
     let Some(member) = find_holder(conn, name)? else {
         return Ok(None);
@@ -60,20 +54,12 @@ pub fn read_holder<S: Alter>(
     Ok(Some(HolderRow { member, purses }))
 }
 
-/// The member of a holder, or None where there is no such holder, inside a transaction.
-pub fn find_holder_inside<S: Alter>(
-    tx: &mut Transaction<'_, S>,
-    name: &Name,
-) -> Result<Option<Name>, StoreFault>
-    ensures { Finds S.Store tx.old tx.new result (λ r v. v ≡ fmap.get r.holders name.now) }
+/// Whether it is this name that was found.
+pub fn is_of(name: &Name, found: &Option<Name>) -> bool
+    ensures { result ≡ is_of name.now found.now }
 {
-    let rows = ask_inside(
-        tx,
-        "SELECT member FROM holder WHERE name = ?1",
-        &[given::text(name.as_str())],
-    )?;
-    match only(&rows)? {
-        Some(row) => Ok(Some(name_at(row, 0)?)),
-        None => Ok(None),
+    match found {
+        Some(found) => same_name(name, found),
+        None => false,
     }
 }

@@ -7,8 +7,9 @@ ghost use Rattle.sqlite_value.specs.declared.value.Value.TheVariants.{Text};
 ghost use Rattle.mx_purse.specs.Messages.{IsMessage};
 ghost use Rattle.mx_purse.specs.Words.{message_word, message_details};
 ghost use Rattle.mx_book.specs.RowReads.{row_inbox_of};
-ghost use Rattle.mx_tables.specs.Answers.{AreMessages, HaveNumbers, first_three, message_row};
-ghost use Rattle.mx_tables.specs.States.{Reads, Writes};
+ghost use Rattle.mx_tables.specs.Answers.{first_three, message_row};
+ghost use Rattle.mx_tables.specs.States.{Reads, Writes, Tells};
+ghost use Rattle.mx_book.specs.Reads.{inbox_of, message_of};
 
 use crate::asking::{ask, only, run_one};
 use crate::cells::{number_at, text_at};
@@ -68,8 +69,7 @@ pub fn list_inbox<S: Alter>(
     conn: &mut Connection<S>,
     purse: &Name,
 ) -> Result<Vec<(u64, Message)>, StoreFault>
-    ensures { Reads S.Store conn.old conn.new result
-        (λ r v. AreMessages r → v.items ≡ row_inbox_of r purse.now) }
+    ensures { Tells S.Store conn.old conn.new result (λ w v. v.items ≡ inbox_of w purse.now) }
 {
     let rows = ask(
         conn,
@@ -98,8 +98,7 @@ pub fn find_message<S: Alter>(
     purse: &Name,
     number: u64,
 ) -> Result<Option<Message>, StoreFault>
-    ensures { Reads S.Store conn.old conn.new result
-        (λ r v. AreMessages r → HaveNumbers r → v ≡ fmap.get r.inbox (purse.now, number)) }
+    ensures { Tells S.Store conn.old conn.new result (λ w v. v ≡ message_of w purse.now number) }
 {
     if number > MOST_NUMBER {
         return Ok(None);
@@ -109,8 +108,8 @@ pub fn find_message<S: Alter>(
         "SELECT kind, details FROM inbox WHERE purse = ?1 AND number = ?2",
         &[given::text(purse.as_str()), given::number(number)],
     )?;
-    match only(&rows)? {
-        Some(row) => Ok(Some(message_at(row, 0, 1)?)),
+    match only(rows)? {
+        Some(row) => Ok(Some(message_at(&row, 0, 1)?)),
         None => Ok(None),
     }
 }
@@ -121,8 +120,8 @@ pub fn find_has_message<S: Alter>(
     purse: &Name,
     number: u64,
 ) -> Result<bool, StoreFault>
-    ensures { Reads S.Store conn.old conn.new result
-        (λ r b. HaveNumbers r → b ≡ is_some (fmap.get r.inbox (purse.now, number))) }
+    ensures { Tells S.Store conn.old conn.new result
+        (λ w b. b ≡ is_some (message_of w purse.now number)) }
 {
     if number > MOST_NUMBER {
         return Ok(false);
@@ -132,7 +131,7 @@ pub fn find_has_message<S: Alter>(
         "SELECT number FROM inbox WHERE purse = ?1 AND number = ?2",
         &[given::text(purse.as_str()), given::number(number)],
     )?;
-    let found = only(&rows)?;
+    let found = only(rows)?;
     Ok(found.is_some())
 }
 

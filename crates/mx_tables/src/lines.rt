@@ -5,11 +5,11 @@ ghost use Rattle.sqlite.specs.Held.{state};
 ghost use Rattle.sqlite_value.specs.Order.{column};
 ghost use Rattle.sqlite_value.specs.declared.value.Value.TheVariants.{Text};
 ghost use Rattle.mx_book.specs.Conditions.{IsNote};
-ghost use Rattle.mx_book.specs.RowReads.{row_lines_of};
 ghost use Rattle.mx_book.specs.Rows.{line_row};
 ghost use Rattle.mx_book.specs.Words as words;
-ghost use Rattle.mx_tables.specs.Pages.{AreLines, GivesLine, first_five, line_shown};
-ghost use Rattle.mx_tables.specs.States.{IsOurs, Reads, Stays, Writes, worry};
+ghost use Rattle.mx_tables.specs.Pages.{GivesLine, first_five, line_shown};
+ghost use Rattle.mx_tables.specs.States.{IsOurs, Stays, Writes, worry, Tells};
+ghost use Rattle.mx_book.specs.Reads.{lines_of};
 
 use crate::asking::{fault_of, run};
 use crate::cells::{amount_at, entry_at, number_at, text_at};
@@ -126,19 +126,21 @@ fn next_line<S: Alter>(rows: &mut Rows<'_, S>) -> Result<Option<Line>, StoreFaul
     Ok(Some(line))
 }
 
-/// The first `most` lines of a purse that are numbered above a number, by number. The rows after them are not taken.
-fn select_lines<S: Alter>(
+/// The first `most` lines of a purse that are numbered above `after`, by number. The rows after them are not taken.
+pub fn list_lines<S: Alter>(
     alloc: Global,
     conn: &mut Connection<S>,
     purse: &Name,
     after: u64,
     most: u64,
 ) -> Result<Vec<Line>, StoreFault>
-    requires { after < 2 ^ 63 }
-    ensures { Reads S.Store conn.old conn.new result
-        (λ r v. AreLines r → v.items ≡ row_lines_of r purse.now after most) }
+    ensures { Tells S.Store conn.old conn.new result
+        (λ w v. v.items ≡ lines_of w purse.now after most) }
 {
     let mut lines = Vec::new(alloc);
+    if after > MOST_KEPT {
+        return Ok(lines);
+    }
     let found = conn.query(
         "SELECT number, kind, amount, balance, note FROM line WHERE purse = ?1 AND number > ?2 ORDER BY number",
         &[given::text(purse.as_str()), given::number(after)],
@@ -156,21 +158,4 @@ fn select_lines<S: Alter>(
         }
     }
     Ok(lines)
-}
-
-/// The first `most` lines of a purse that are numbered above `after`, by number. What lies behind them is not read as lines.
-pub fn list_lines<S: Alter>(
-    alloc: Global,
-    conn: &mut Connection<S>,
-    purse: &Name,
-    after: u64,
-    most: u64,
-) -> Result<Vec<Line>, StoreFault>
-    ensures { Reads S.Store conn.old conn.new result
-        (λ r v. AreLines r → v.items ≡ row_lines_of r purse.now after most) }
-{
-    if after > MOST_KEPT {
-        return Ok(Vec::new(alloc));
-    }
-    select_lines(alloc, conn, purse, after, most)
 }

@@ -1,12 +1,14 @@
 //! Members.
-ghost use Rattle.std.specs.Prelude.{◌≡◌, IfOk, map};
+ghost use Rattle.std.specs.Prelude.{◌≡◌, IfOk, map, option_map};
 ghost use Rattle.std.specs.FinMap as fmap;
 ghost use Rattle.sqlite_value.specs.Order.{column};
 ghost use Rattle.sqlite_value.specs.declared.value.Value.TheVariants.{Text};
-ghost use Rattle.mx_tables.specs.Cells.{number};
-ghost use Rattle.mx_tables.specs.States.{Reads, Writes};
+ghost use Rattle.mx_tables.specs.Schema.{number};
+ghost use Rattle.mx_tables.specs.Answers.{first_two, member_shown};
+ghost use Rattle.mx_tables.specs.States.{Reads, Writes, Tells};
+ghost use Rattle.mx_book.specs.Reads.{members_of};
 
-use crate::asking::{ask, only, run, run_one};
+use crate::asking::{About, ask, ask_about, run, run_one};
 use crate::cells::{name_at, number_at};
 use crate::given;
 use mx_book::{MemberRow, StoreFault};
@@ -14,14 +16,16 @@ use mx_pay::{MOST_NUMBER, Name};
 use sqlite::{Alter, Connection, Row, Transaction};
 use std::alloc::Global;
 
-/// What a row says of a member: its grants and its float.
-fn member_in(row: &Row) -> Result<MemberRow, StoreFault>
-    ensures { IfOk result
-        (λ m. (column row.now 0 ≡ number m.granted) × (column row.now 1 ≡ number m.float)) }
+/// What a row says of a member, where there is a row: its grants and its float.
+fn member_in(row: Option<Row>) -> Result<Option<MemberRow>, StoreFault>
+    ensures { IfOk result (λ m. option_map first_two row ≡ option_map member_shown m) }
 {
-    let granted = number_at(row, 0)?;
-    let float = number_at(row, 1)?;
-    Ok(MemberRow { granted, float })
+    let Some(row) = row else {
+        return Ok(None);
+    };
+    let granted = number_at(&row, 0)?;
+    let float = number_at(&row, 1)?;
+    Ok(Some(MemberRow { granted, float }))
 }
 
 /// The grants and the float of a member, or None where there is no such member.
@@ -31,15 +35,7 @@ pub fn find_member<S: Alter>(
 ) -> Result<Option<MemberRow>, StoreFault>
     ensures { Reads S.Store conn.old conn.new result (λ r v. v ≡ fmap.get r.members name.now) }
 {
-    let rows = ask(
-        conn,
-        "SELECT granted, unspent FROM member WHERE name = ?1",
-        &[given::text(name.as_str())],
-    )?;
-    match only(&rows)? {
-        Some(row) => Ok(Some(member_in(row)?)),
-        None => Ok(None),
-    }
+    member_in(ask_about(conn, About::Member, name)?)
 }
 
 /// Adds a member with grants 0 and float 0.
@@ -73,7 +69,7 @@ pub fn list_members<S: Alter>(
     alloc: Global,
     conn: &mut Connection<S>,
 ) -> Result<Vec<Name>, StoreFault>
-    ensures { Reads S.Store conn.old conn.new result (λ r v. v.items ≡ fmap.keys r.members) }
+    ensures { Tells S.Store conn.old conn.new result (λ w v. v.items ≡ members_of w) }
 {
     let rows = ask(conn, "SELECT name FROM member ORDER BY name", &[])?;
     names_in(alloc, &rows)

@@ -8,18 +8,19 @@ ghost use Rattle.mx_pay.specs.Details.{IsDetails};
 ghost use Rattle.mx_purse.specs.State.{IsPurse, details_of};
 ghost use Rattle.mx_purse.specs.Words.{status_details, status_word};
 ghost use Rattle.mx_book.specs.RowEdits.{rewritten};
-ghost use Rattle.mx_book.specs.RowReads.{row_account_of, row_finds_place, row_own_purse, row_purses_of};
+ghost use Rattle.mx_book.specs.RowReads.{row_finds_place, row_purses_of};
 ghost use Rattle.mx_book.specs.declared.edits.Edit.TheVariants.{NewPurse, SetPurse};
 ghost use Rattle.mx_book.specs.declared.values.PurseRow.{PurseRow};
-ghost use Rattle.mx_tables.specs.Answers.{ArePurses, Raises, own_shown, own_state, purse_columns, purse_shown, state_columns, state_shown};
+ghost use Rattle.mx_tables.specs.Answers.{ArePurses, Raises, purse_columns, purse_shown, state_columns, state_shown};
 ghost use Rattle.mx_tables.specs.Schema.{office_schema};
-ghost use Rattle.mx_tables.specs.States.{Finds, Reads, Steps, Writes};
+ghost use Rattle.mx_tables.specs.States.{Finds, Reads, Steps, Writes, Tells};
+ghost use Rattle.mx_book.specs.Reads.{account_of, own_purse, has_purse, purses_of};
 
-use crate::asking::{ask, ask_inside, only, run, run_one};
-use crate::cells::{log_at, name_at, number_at, text_at};
+use crate::asking::{About, ask, ask_about, ask_about_inside, run, run_one};
+use crate::cells::{log_at, name_at, name_in, number_at, number_in, text_at};
 use crate::codes::{log_code, status_code};
 use crate::given;
-use crate::holders::find_holder;
+use crate::holders::{find_holder, is_of};
 use crate::inbox::count_messages;
 use crate::members::names_in;
 use mx_book::{Account, MOST_MESSAGES, PurseRow, StoreFault};
@@ -49,7 +50,7 @@ pub fn list_held<S: Alter>(
     conn: &mut Connection<S>,
     holder: &Name,
 ) -> Result<Vec<Name>, StoreFault>
-    ensures { Reads S.Store conn.old conn.new result (λ r v. v.items ≡ row_purses_of r holder.now) }
+    ensures { Tells S.Store conn.old conn.new result (λ w v. v.items ≡ purses_of w holder.now) }
 {
     let rows = ask(
         conn,
@@ -134,13 +135,8 @@ pub fn find_purse<S: Alter>(
     ensures { Reads S.Store conn.old conn.new result
         (λ r v. ArePurses r → v ≡ fmap.get r.purses name.now) }
 {
-    let rows = ask(
-        conn,
-        "SELECT holder, balance, next_number, status, details, log, line_count, next_message FROM purse WHERE name = ?1",
-        &[given::text(name.as_str())],
-    )?;
-    match only(&rows)? {
-        Some(row) => Ok(Some(purse_in(name, row)?)),
+    match ask_about(conn, About::Purse, name)? {
+        Some(row) => Ok(Some(purse_in(name, &row)?)),
         None => Ok(None),
     }
 }
@@ -151,8 +147,7 @@ pub fn read_account<S: Alter>(
     conn: &mut Connection<S>,
     name: &Name,
 ) -> Result<Option<Account>, StoreFault>
-    ensures { Reads S.Store conn.old conn.new result
-        (λ r v. ArePurses r → v ≡ row_account_of r name.now) }
+    ensures { Tells S.Store conn.old conn.new result (λ w v. v ≡ account_of w name.now) }
 {
     let Some(row) = find_purse(conn, name)? else {
         return Ok(None);
@@ -170,37 +165,23 @@ pub fn read_account<S: Alter>(
     }))
 }
 
-/// The purse of that name that a row shows, where the row is this holder's.
-fn own_in(holder: &Name, name: &Name, row: &Row) -> Result<Option<Purse>, StoreFault>
-    ensures { (x : PurseRow) → own_shown x ≡ row.now → x.purse.name ≡ name.now → IsPurse x.purse
-        → IfOk result (λ v. v ≡ own_state holder.now x) }
-{
-    let owner = name_at(row, 0)?;
-    if !same_name(holder, &owner) {
-        return Ok(None);
-    }
-    let purse = state_in(name, row)?;
-    Ok(Some(purse))
-}
-
 /// The purse of that name where it is the holder's, or None where it is another's or there is none.
 pub fn find_own<S: Alter>(
     conn: &mut Connection<S>,
     holder: &Name,
     name: &Name,
 ) -> Result<Option<Purse>, StoreFault>
-    ensures { Reads S.Store conn.old conn.new result
-        (λ r v. ArePurses r → v ≡ row_own_purse r holder.now name.now) }
+    ensures { Tells S.Store conn.old conn.new result (λ w v. v ≡ own_purse w holder.now name.now) }
 {
-    let rows = ask(
-        conn,
-        "SELECT holder, balance, next_number, status, details, log, line_count FROM purse WHERE name = ?1",
-        &[given::text(name.as_str())],
-    )?;
-    match only(&rows)? {
-        Some(row) => own_in(holder, name, row),
-        None => Ok(None),
+    let Some(row) = ask_about(conn, About::Own, name)? else {
+        return Ok(None);
+    };
+    let owner = name_at(&row, 0)?;
+    if !same_name(holder, &owner) {
+        return Ok(None);
     }
+    let purse = state_in(name, &row)?;
+    Ok(Some(purse))
 }
 
 /// The holder of a purse, or None where there is no such purse.
@@ -211,21 +192,12 @@ pub fn find_owner<S: Alter>(
     ensures { Reads S.Store conn.old conn.new result
         (λ r v. v ≡ option_map (λ x. x.holder) (fmap.get r.purses name.now)) }
 {
-    let rows = ask(
-        conn,
-        "SELECT holder FROM purse WHERE name = ?1",
-        &[given::text(name.as_str())],
-    )?;
-    match only(&rows)? {
-        Some(row) => Ok(Some(name_at(row, 0)?)),
-        None => Ok(None),
-    }
+    name_in(ask_about(conn, About::Owner, name)?)
 }
 
 /// Whether there is a purse of that name.
 pub fn find_has_purse<S: Alter>(conn: &mut Connection<S>, name: &Name) -> Result<bool, StoreFault>
-    ensures { Reads S.Store conn.old conn.new result
-        (λ r b. b ≡ is_some (fmap.get r.purses name.now)) }
+    ensures { Tells S.Store conn.old conn.new result (λ w b. b ≡ has_purse w name.now) }
 {
     Ok(find_owner(conn, name)?.is_some())
 }
@@ -236,29 +208,11 @@ pub fn find_is_own<S: Alter>(
     holder: &Name,
     name: &Name,
 ) -> Result<bool, StoreFault>
-    ensures { Reads S.Store conn.old conn.new result
-        (λ r b. b ≡ is_some (row_own_purse r holder.now name.now)) }
+    ensures { Tells S.Store conn.old conn.new result
+        (λ w b. b ≡ is_some (own_purse w holder.now name.now)) }
 {
-    match find_owner(conn, name)? {
-        Some(owner) => Ok(same_name(holder, &owner)),
-        None => Ok(false),
-    }
-}
-
-/// The number of a purse's next message, or None where there is no such purse.
-fn find_next<S: Alter>(conn: &mut Connection<S>, name: &Name) -> Result<Option<u64>, StoreFault>
-    ensures { Reads S.Store conn.old conn.new result
-        (λ r n. n ≡ option_map (λ x. x.next_message) (fmap.get r.purses name.now)) }
-{
-    let rows = ask(
-        conn,
-        "SELECT next_message FROM purse WHERE name = ?1",
-        &[given::text(name.as_str())],
-    )?;
-    match only(&rows)? {
-        Some(row) => Ok(Some(number_at(row, 0)?)),
-        None => Ok(None),
-    }
+    let owner = find_owner(conn, name)?;
+    Ok(is_of(holder, &owner))
 }
 
 /// The number that a message to a purse gets, or None where it finds no place.
@@ -269,7 +223,8 @@ pub fn find_place<S: Alter>(
     ensures { Reads S.Store conn.old conn.new result
         (λ r v. is_some v ≡ row_finds_place r name.now) }
 {
-    let Some(next_message) = find_next(conn, name)? else {
+    let row = ask_about(conn, About::Next, name)?;
+    let Some(next_message) = number_in(row)? else {
         return Ok(None);
     };
     let held = count_messages(conn, name)?;
@@ -310,13 +265,8 @@ pub fn next_number<S: Alter>(tx: &mut Transaction<'_, S>, name: &Name) -> Result
     ensures { Finds S.Store tx.old tx.new result
         (λ r n. option_map (λ x. x.next_message) (fmap.get r.purses name.now) ≡ Some n) }
 {
-    let rows = ask_inside(
-        tx,
-        "SELECT next_message FROM purse WHERE name = ?1",
-        &[given::text(name.as_str())],
-    )?;
-    match only(&rows)? {
-        Some(row) => number_at(row, 0),
+    match ask_about_inside(tx, About::Next, name)? {
+        Some(row) => number_at(&row, 0),
         None => Err(StoreFault::Store),
     }
 }

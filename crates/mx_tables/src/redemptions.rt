@@ -1,11 +1,11 @@
 //! The redemptions of purses.
 ghost use Rattle.std.specs.Prelude.{◌≡◌, false};
 ghost use Rattle.std.specs.FinMap as fmap;
-ghost use Rattle.mx_book.specs.RowReads.{row_redemption_of};
-ghost use Rattle.mx_tables.specs.States.{Reads, Writes};
+ghost use Rattle.mx_tables.specs.States.{Writes, Tells};
+ghost use Rattle.mx_book.specs.Reads.{redemption_of};
 
 use crate::asking::{ask, only, run_one};
-use crate::cells::amount_at;
+use crate::cells::amount_in;
 use crate::given;
 use mx_book::StoreFault;
 use mx_pay::{Amount, Name};
@@ -41,16 +41,13 @@ pub fn find_redemption<S: Alter>(
     purse: &Name,
     reference: &Name,
 ) -> Result<Option<Amount>, StoreFault>
-    ensures { Reads S.Store conn.old conn.new result
-        (λ r v. v ≡ row_redemption_of r purse.now reference.now) }
+    ensures { Tells S.Store conn.old conn.new result
+        (λ w v. v ≡ redemption_of w purse.now reference.now) }
 {
     let rows = ask(
         conn,
         "SELECT amount FROM redemption WHERE purse = ?1 AND reference = ?2",
         &[given::text(purse.as_str()), given::text(reference.as_str())],
     )?;
-    match only(&rows)? {
-        Some(row) => Ok(Some(amount_at(row, 0)?)),
-        None => Ok(None),
-    }
+    amount_in(only(rows)?)
 }

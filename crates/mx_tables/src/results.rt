@@ -1,17 +1,16 @@
 //! The results of read log in the tray and in the archive.
-ghost use Rattle.std.specs.Prelude.{◌≡◌, ◌∷◌, [], IfOk, string_bytes};
+ghost use Rattle.std.specs.Prelude.{◌≡◌, IfOk, string_bytes};
 ghost use Rattle.std.specs.FinMap as fmap;
 ghost use Rattle.sqlite.specs.Held.{state};
-ghost use Rattle.sqlite_value.specs.declared.value.Value.TheVariants.{Text};
 ghost use Rattle.mx_pay.specs.Codes.{entry_text};
 ghost use Rattle.mx_pay.specs.Details.{IsDetails};
-ghost use Rattle.mx_book.specs.RowEdits.{rewritten, row_tray_of};
+ghost use Rattle.mx_book.specs.RowEdits.{rewritten};
 ghost use Rattle.mx_book.specs.RowReads.{row_is_archived};
-ghost use Rattle.mx_book.specs.World.{results_but};
 ghost use Rattle.mx_book.specs.declared.edits.Edit.TheVariants.{ArchiveTray};
 ghost use Rattle.mx_tables.specs.Results.{Archives, AreDetails, Shows};
-ghost use Rattle.mx_tables.specs.Schema.{office_schema, tray};
-ghost use Rattle.mx_tables.specs.States.{Reads, Steps, Writes};
+ghost use Rattle.mx_tables.specs.Schema.{office_schema};
+ghost use Rattle.mx_tables.specs.States.{Reads, Steps, Writes, Tells};
+ghost use Rattle.mx_book.specs.Reads.{tray_of};
 
 use crate::asking::{ask, ask_inside, only, run};
 use crate::cells::{entry_at, text_at};
@@ -69,7 +68,7 @@ pub fn find_archived<S: Alter>(
         "SELECT 1 FROM archive WHERE purse = ?1 AND details = ?2",
         &[given::text(purse.as_str()), given::text(&text)],
     )?;
-    let found = only(&rows)?;
+    let found = only(rows)?;
     Ok(found.is_some())
 }
 
@@ -89,8 +88,7 @@ fn log_in(rows: &[Row]) -> Result<Log, StoreFault>
 
 /// The results in the tray of a purse.
 pub fn list_tray<S: Alter>(conn: &mut Connection<S>, purse: &Name) -> Result<Log, StoreFault>
-    ensures { Reads S.Store conn.old conn.new result
-        (λ r log. AreDetails r.tray → log ≡ row_tray_of r purse.now) }
+    ensures { Tells S.Store conn.old conn.new result (λ w log. log ≡ tray_of w purse.now) }
 {
     let rows = ask(
         conn,
@@ -98,24 +96,6 @@ pub fn list_tray<S: Alter>(conn: &mut Connection<S>, purse: &Name) -> Result<Log
         &[given::text(purse.as_str())],
     )?;
     log_in(&rows)
-}
-
-/// Adds the details of this text to the archive of a purse.
-fn insert_archive<S: Alter>(
-    tx: &mut Transaction<'_, S>,
-    purse: &Name,
-    text: &str,
-) -> Result<(), StoreFault>
-    ensures { Steps S.Store tx.old tx.new result
-        (λ _. (state S.Store tx.old.conn.now).now.schema ≡ office_schema
-        → Archives purse.now ((Text text.now ∷ []) ∷ [])
-        (state S.Store tx.old.conn.now) (state S.Store tx.new.conn.now)) }
-{
-    run(
-        tx,
-        "INSERT INTO archive (purse, details) VALUES (?1, ?2)",
-        &[given::text(purse.as_str()), given::text(text)],
-    )
 }
 
 /// Adds what these rows show to the archive of a purse.
@@ -132,21 +112,13 @@ fn archive_rows<S: Alter>(
         let Some(text) = text_at(row, 0) else {
             return Err(StoreFault::Store);
         };
-        insert_archive(tx, purse, text)?;
+        run(
+            tx,
+            "INSERT INTO archive (purse, details) VALUES (?1, ?2)",
+            &[given::text(purse.as_str()), given::text(text)],
+        )?;
     }
     Ok(())
-}
-
-/// Empties the tray of a purse.
-fn delete_tray<S: Alter>(tx: &mut Transaction<'_, S>, purse: &Name) -> Result<(), StoreFault>
-    ensures { Writes S.Store tx.old tx.new result
-        (λ r. record r { tray = results_but purse.now r.tray }) }
-{
-    run(
-        tx,
-        "DELETE FROM tray WHERE purse = ?1",
-        &[given::text(purse.as_str())],
-    )
 }
 
 /// Moves what is in the tray of a purse to the archive.
@@ -159,5 +131,9 @@ pub fn archive_tray<S: Alter>(tx: &mut Transaction<'_, S>, purse: &Name) -> Resu
         &[given::text(purse.as_str())],
     )?;
     archive_rows(tx, purse, &rows)?;
-    delete_tray(tx, purse)
+    run(
+        tx,
+        "DELETE FROM tray WHERE purse = ?1",
+        &[given::text(purse.as_str())],
+    )
 }

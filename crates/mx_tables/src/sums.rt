@@ -4,23 +4,21 @@ ghost use Rattle.std.specs.FinMap as fmap;
 ghost use Rattle.sqlite_value.specs.Order.{column};
 ghost use Rattle.mx_book.specs.RowEdits.{member_at};
 ghost use Rattle.mx_book.specs.RowReads.{is_counted};
-ghost use Rattle.mx_book.specs.RowTotals.{row_member_totals_of, row_totals_of};
 ghost use Rattle.mx_book.specs.Sums.{sum_values};
 ghost use Rattle.mx_tables.specs.Answers.{ArePurses};
-ghost use Rattle.mx_tables.specs.Between.{row_adds};
-ghost use Rattle.mx_tables.specs.Counted.{counted_row, number_of, row_sums};
+ghost use Rattle.mx_tables.specs.Counted.{adds_text, amounts_text, counted_row, number_of, row_adds, row_sums, sum_of};
 ghost use Rattle.mx_tables.specs.Results.{AreDetails};
-ghost use Rattle.mx_tables.specs.States.{Reads};
+ghost use Rattle.mx_tables.specs.States.{Reads, Tells};
+ghost use Rattle.mx_book.specs.Totals.{member_totals_of, totals_of};
 
 use crate::asking::ask;
-use crate::between::{lose_result, lose_row, sum_lost, sum_transit, wait_row};
-use crate::cells::{name_at, number_at};
-use crate::holders::find_holder;
+use crate::between::{lose_result, lose_row, value_left};
+use crate::cells::{entry_at, name_at, number_at};
+use crate::holders::{find_holder, is_of};
 use crate::members::find_member;
 use crate::purses::find_owner;
 use mx_book::{MemberTotals, Scope, StoreFault, Totals};
 use mx_pay::Name;
-use mx_pay::names::same_name;
 use sqlite::{Alter, Connection, Row};
 use std::alloc::Global;
 
@@ -59,10 +57,10 @@ fn counts<S: Alter>(
 {
     match scope {
         Scope::Scheme => Ok(true),
-        Scope::Member(member) => match find_member_at(conn, purse)? {
-            None => Ok(false),
-            Some(owner) => Ok(same_name(member, &owner)),
-        },
+        Scope::Member(member) => {
+            let owner = find_member_at(conn, purse)?;
+            Ok(is_of(member, &owner))
+        }
     }
 }
 
@@ -84,17 +82,58 @@ fn count_row<S: Alter>(
     }
 }
 
-/// What each row of a query adds to a sum.
+/// Amounts of purses.
+#[derive(Clone, Copy)]
+pub enum Amounts {
+    /// What was redeemed that isn't collected.
+    Uncollected,
+    /// What was loaded.
+    Issued,
+    /// What was redeemed.
+    Redeemed,
+    /// The balances.
+    Balances,
+}
+
+impl Amounts {
+    /// The query of each of these amounts, after the purse that it is of.
+    pub fn text(self) -> &'static str
+        ensures { result.now ≡ amounts_text self }
+    {
+        match self {
+            Amounts::Uncollected => "SELECT purse, amount FROM redemption WHERE collected = 0",
+            Amounts::Issued => "SELECT purse, amount FROM load",
+            Amounts::Redeemed => "SELECT purse, amount FROM redemption",
+            Amounts::Balances => "SELECT name, balance FROM purse",
+        }
+    }
+}
+
+/// What is summed: what each row of a query adds.
 #[derive(Clone, Copy)]
 pub enum Adds {
-    /// Its number, where the purse that it names counts.
-    Counted(Scope),
-    /// What the purse of the row waits for that has left the other purse.
+    /// The amounts of the purses that count.
+    Counted(Amounts, Scope),
+    /// What each purse waits for that has left the other purse.
     Waiting,
-    /// What is lost by the log in the row.
+    /// What is lost by the log of each purse.
     Logged,
-    /// What is lost by the archived result in the row.
+    /// What is lost by each archived result.
     Archived,
+}
+
+impl Adds {
+    /// The query of these rows.
+    fn text(&self) -> &'static str
+        ensures { result.now ≡ adds_text self.now }
+    {
+        match self {
+            Adds::Counted(amounts, _) => amounts.text(),
+            Adds::Waiting => "SELECT details FROM purse WHERE status = 'epv'",
+            Adds::Logged => "SELECT name, log FROM purse",
+            Adds::Archived => "SELECT purse, details FROM archive",
+        }
+    }
 }
 
 /// What a row adds to a sum.
@@ -108,25 +147,28 @@ fn row_adds<S: Alter>(
         (λ r n. ArePurses r → AreDetails r.archive → n ≡ row_adds r adds.now row.now) }
 {
     match adds {
-        Adds::Counted(scope) => count_row(conn, scope, row),
-        Adds::Waiting => wait_row(alloc, conn, row),
+        Adds::Counted(_, scope) => count_row(conn, scope, row),
+        Adds::Waiting => {
+            let details = entry_at(row, 0)?;
+            value_left(alloc, conn, &details)
+        }
         Adds::Logged => lose_row(alloc, conn, row),
         Adds::Archived => lose_result(alloc, conn, row),
     }
 }
 
-/// What rows add to a sum.
-pub fn sum_rows<S: Alter>(
+/// A sum over the rows of a query.
+pub fn sum_of<S: Alter>(
     alloc: Global,
     conn: &mut Connection<S>,
     adds: &Adds,
-    rows: &[Row],
 ) -> Result<u128, StoreFault>
     ensures { Reads S.Store conn.old conn.new result
-        (λ r n. ArePurses r → AreDetails r.archive → n ≡ sum_by (row_adds r adds.now) rows.now) }
+        (λ r n. ArePurses r → AreDetails r.archive → n ≡ sum_of r adds.now) }
 {
+    let rows = ask(conn, adds.text(), &[])?;
     let mut sum = 0;
-    for row in rows {
+    for row in &rows {
         let more = row_adds(alloc, conn, adds, row)?;
         sum = plus(sum, more)?;
     }
@@ -142,51 +184,7 @@ pub fn sum_uncollected<S: Alter>(
     ensures { Reads S.Store conn.old conn.new result
         (λ r n. ArePurses r → AreDetails r.archive → n ≡ (row_sums r scope.now).uncollected) }
 {
-    let rows = ask(
-        conn,
-        "SELECT purse, amount FROM redemption WHERE collected = 0",
-        &[],
-    )?;
-    sum_rows(alloc, conn, &Adds::Counted(*scope), &rows)
-}
-
-/// What the redemptions of the purses that count come to.
-fn sum_redeemed<S: Alter>(
-    alloc: Global,
-    conn: &mut Connection<S>,
-    scope: &Scope,
-) -> Result<u128, StoreFault>
-    ensures { Reads S.Store conn.old conn.new result
-        (λ r n. ArePurses r → AreDetails r.archive → n ≡ (row_sums r scope.now).redeemed) }
-{
-    let rows = ask(conn, "SELECT purse, amount FROM redemption", &[])?;
-    sum_rows(alloc, conn, &Adds::Counted(*scope), &rows)
-}
-
-/// What the loads of the purses that count come to.
-fn sum_issued<S: Alter>(
-    alloc: Global,
-    conn: &mut Connection<S>,
-    scope: &Scope,
-) -> Result<u128, StoreFault>
-    ensures { Reads S.Store conn.old conn.new result
-        (λ r n. ArePurses r → AreDetails r.archive → n ≡ (row_sums r scope.now).issued) }
-{
-    let rows = ask(conn, "SELECT purse, amount FROM load", &[])?;
-    sum_rows(alloc, conn, &Adds::Counted(*scope), &rows)
-}
-
-/// What the balances of the purses that count come to.
-fn sum_balances<S: Alter>(
-    alloc: Global,
-    conn: &mut Connection<S>,
-    scope: &Scope,
-) -> Result<u128, StoreFault>
-    ensures { Reads S.Store conn.old conn.new result
-        (λ r n. ArePurses r → AreDetails r.archive → n ≡ (row_sums r scope.now).balances) }
-{
-    let rows = ask(conn, "SELECT name, balance FROM purse", &[])?;
-    sum_rows(alloc, conn, &Adds::Counted(*scope), &rows)
+    sum_of(alloc, conn, &Adds::Counted(Amounts::Uncollected, *scope))
 }
 
 /// The sums of the purses that count.
@@ -211,10 +209,10 @@ fn sum_all<S: Alter>(
     ensures { Reads S.Store conn.old conn.new result
         (λ r sums. ArePurses r → AreDetails r.archive → sums ≡ row_sums r scope.now) }
 {
-    let uncollected = sum_uncollected(alloc, conn, scope)?;
-    let issued = sum_issued(alloc, conn, scope)?;
-    let redeemed = sum_redeemed(alloc, conn, scope)?;
-    let balances = sum_balances(alloc, conn, scope)?;
+    let uncollected = sum_of(alloc, conn, &Adds::Counted(Amounts::Uncollected, *scope))?;
+    let issued = sum_of(alloc, conn, &Adds::Counted(Amounts::Issued, *scope))?;
+    let redeemed = sum_of(alloc, conn, &Adds::Counted(Amounts::Redeemed, *scope))?;
+    let balances = sum_of(alloc, conn, &Adds::Counted(Amounts::Balances, *scope))?;
     Ok(Sums {
         uncollected,
         issued,
@@ -229,8 +227,7 @@ pub fn sum_member<S: Alter>(
     conn: &mut Connection<S>,
     member: &Name,
 ) -> Result<Option<MemberTotals>, StoreFault>
-    ensures { Reads S.Store conn.old conn.new result
-        (λ r v. ArePurses r → AreDetails r.archive → v ≡ row_member_totals_of r member.now) }
+    ensures { Tells S.Store conn.old conn.new result (λ w v. v ≡ member_totals_of w member.now) }
 {
     let Some(row) = find_member(conn, member)? else {
         return Ok(None);
@@ -272,13 +269,14 @@ fn sum_grants<S: Alter>(conn: &mut Connection<S>) -> Result<(u128, u128), StoreF
 
 /// What the books come to for the whole scheme.
 pub fn sum_scheme<S: Alter>(alloc: Global, conn: &mut Connection<S>) -> Result<Totals, StoreFault>
-    ensures { Reads S.Store conn.old conn.new result
-        (λ r v. ArePurses r → AreDetails r.archive → v ≡ row_totals_of r) }
+    ensures { Tells S.Store conn.old conn.new result (λ w v. v ≡ totals_of w) }
 {
     let (granted, float) = sum_grants(conn)?;
     let sums = sum_all(alloc, conn, &Scope::Scheme)?;
-    let transit = sum_transit(alloc, conn)?;
-    let lost = sum_lost(alloc, conn)?;
+    let transit = sum_of(alloc, conn, &Adds::Waiting)?;
+    let in_logs = sum_of(alloc, conn, &Adds::Logged)?;
+    let in_archive = sum_of(alloc, conn, &Adds::Archived)?;
+    let lost = plus(in_logs, in_archive)?;
     Ok(Totals {
         granted,
         float,

@@ -4,13 +4,13 @@ ghost use Rattle.std.specs.FinMap as fmap;
 ghost use Rattle.sqlite.specs.Held.{state};
 ghost use Rattle.sqlite_value.specs.Order.{column};
 ghost use Rattle.sqlite_value.specs.declared.value.Value.TheVariants.{Text};
-ghost use Rattle.mx_book.specs.RowReads.{row_who_of};
 ghost use Rattle.mx_book.specs.Spells.{opening_rows};
 ghost use Rattle.mx_book.specs.declared.values.Caller.TheVariants.{Operator};
-ghost use Rattle.mx_tables.specs.Cells.{kind_text, owner_text};
+ghost use Rattle.mx_tables.specs.Schema.{kind_text, owner_text};
 ghost use Rattle.mx_tables.specs.Holds.{Holds};
 ghost use Rattle.mx_tables.specs.Made.{Fresh};
-ghost use Rattle.mx_tables.specs.States.{Reads, Steps, Writes};
+ghost use Rattle.mx_tables.specs.States.{Steps, Writes, Tells};
+ghost use Rattle.mx_book.specs.Reads.{who_of};
 
 use crate::asking::{ask, only, run};
 use crate::cells::{name_at, text_at};
@@ -37,7 +37,7 @@ pub fn find_caller<S: Alter>(
     conn: &mut Connection<S>,
     token: &Token,
 ) -> Result<Option<Caller>, StoreFault>
-    ensures { Reads S.Store conn.old conn.new result (λ r v. v ≡ row_who_of r token.now) }
+    ensures { Tells S.Store conn.old conn.new result (λ w v. v ≡ who_of w token.now) }
 {
     let text = token.text();
     let rows = ask(
@@ -45,8 +45,8 @@ pub fn find_caller<S: Alter>(
         "SELECT kind, name FROM token WHERE token = ?1",
         &[ValueRef::Text(&text[..])],
     )?;
-    match only(&rows)? {
-        Some(row) => Ok(Some(caller_in(row)?)),
+    match only(rows)? {
+        Some(row) => Ok(Some(caller_in(&row)?)),
         None => Ok(None),
     }
 }

@@ -1,14 +1,18 @@
-use Rattle.std.proofs.Common.{◌∙◌, sym}
+use Rattle.std.proofs.Common.{◌∙◌, sym, ap}
+use Rattle.mx_pay.specs.Log.{has_logged}
+use Rattle.mx_book.specs.RowEdits.{log_at}
 use Rattle.mx_tables.proofs.CallLemmas.{reads_to, reads_more, reads_then}
-use Rattle.mx_tables.proofs.BetweenLemmas.{logged_still, logged_no_more, result_is}
+use Rattle.mx_tables.proofs.CountedSums.{logged_still, logged_no_more, result_is}
 use Rattle.mx_tables.proofs.between.lose_result.Goals as goal
 
-pub returns-then-branch : goal.returns-then-branch
-returns-then-branch g c = reads_to g.S.Store c.in_ok-is_logged.ensures (λ rows holds is purses archive.
-    logged_still rows c.in_ok-purse.purse c.in_ok-details.details (sym (is purses) ∙ c.if-branch.true)
-    ∙ result_is rows c.args.row.now c.in_ok-purse.purse c.in_ok-details.details c.in_ok-purse.ensures c.in_ok-details.ensures.shown c.in_ok-details.ensures.valid)
+pub returns-then-is_logged : goal.returns-then-is_logged
+returns-then-is_logged g c = reads_to g.S.Store c.in_ok-kept.ensures (λ r holds is purses archive.
+    let known = ap (λ o. has_logged (log_at o) c.in_ok-details.details) (sym (is purses)) ∙ sym c.is_logged.ensures in
+    logged_still r c.in_ok-purse.purse c.in_ok-details.details (known ∙ c.if-is_logged.true)
+    ∙ result_is r c.args.row.now c.in_ok-purse.purse c.in_ok-details.details c.in_ok-purse.ensures c.in_ok-details.ensures.shown c.in_ok-details.ensures.valid)
 
-pub returns-else-branch : goal.returns-else-branch
-returns-else-branch g c = reads_more g.S.Store (reads_then g.S.Store c.in_ok-is_logged.ensures c.lost_by.ensures) (λ rows holds n both purses archive.
-    both.1 purses archive ∙ logged_no_more rows c.in_ok-purse.purse c.in_ok-details.details (sym (both.0 purses) ∙ c.if-branch.false)
-    ∙ result_is rows c.args.row.now c.in_ok-purse.purse c.in_ok-details.details c.in_ok-purse.ensures c.in_ok-details.ensures.shown c.in_ok-details.ensures.valid)
+pub returns-else-is_logged : goal.returns-else-is_logged
+returns-else-is_logged g c = reads_more g.S.Store (reads_then g.S.Store c.in_ok-kept.ensures c.lost_by.ensures) (λ r holds n both purses archive.
+    let known = ap (λ o. has_logged (log_at o) c.in_ok-details.details) (sym (both.0 purses)) ∙ sym c.is_logged.ensures in
+    both.1 purses archive ∙ logged_no_more r c.in_ok-purse.purse c.in_ok-details.details (known ∙ c.if-is_logged.false)
+    ∙ result_is r c.args.row.now c.in_ok-purse.purse c.in_ok-details.details c.in_ok-purse.ensures c.in_ok-details.ensures.shown c.in_ok-details.ensures.valid)

@@ -1,8 +1,27 @@
-use Rattle.std.proofs.Common.{◌∙◌}
-use Rattle.mx_tables.proofs.CallLemmas.{reads_more}
-use Rattle.mx_tables.proofs.BetweenLemmas.{log_is}
+use Rattle.std.proofs.Common.{◌≡◌, ℕ, Some, sym, ◌∙◌, arith}
+use Rattle.std.specs.Prelude.{slice_get}
+use Rattle.mx_pay.specs.Details.{Details}
+use Rattle.mx_pay.specs.Log.{logged}
+use Rattle.mx_book.specs.RowTotals.{lost_by}
+use Rattle.mx_book.proofs.LogLemmas.{sum_next, sum_all}
+use Rattle.mx_tables.proofs.CountedSums.{log_is}
+use Rattle.mx_tables.proofs.CallLemmas.{reads_to, reads_then}
 use Rattle.mx_tables.proofs.between.lose_row.Goals as goal
 
+pub loop-place-preserved : goal.loop-place-preserved
+loop-place-preserved g c = (
+  c.loop-place.invariant.0,
+  reads_to g.S.Store (reads_then g.S.Store c.loop-place.invariant.1 c.in_ok-more.ensures) (λ r holds both purses archive.
+      let f : Details → ℕ = lost_by r.purses r.archive c.in_ok-purse.purse in
+      let at : slice_get (logged c.in_ok-log.log) c.loop-place.place ≡ Some c.in-Some.details = sym c.at.ensures.value ∙ c.in-Some.is in
+      let before = both.0 purses archive in
+      let more = both.1 purses archive in
+      let next = sum_next f c.in_ok-log.log c.loop-place.place c.in-Some.details at in
+      omega (arith, before, more, next, c.in_ok-sum.ensures)),
+)
+
 pub returns : goal.returns
-returns g c = reads_more g.S.Store c.lost_in_log.ensures (λ rows holds n is purses archive.
-    is purses archive ∙ log_is rows c.args.row.now c.in_ok-purse.purse c.in_ok-log.log c.in_ok-purse.ensures c.in_ok-log.ensures.shown c.in_ok-log.ensures.valid)
+returns g c = reads_to g.S.Store c.loop-place.invariant.1 (λ r holds is purses archive.
+    is purses archive
+    ∙ sum_all (lost_by r.purses r.archive c.in_ok-purse.purse) c.in_ok-log.log c.loop-place.place (let all = c.loop-place.invariant.0 in omega (arith, c.loop-place-test.false, all))
+    ∙ log_is r c.args.row.now c.in_ok-purse.purse c.in_ok-log.log c.in_ok-purse.ensures c.in_ok-log.ensures.shown c.in_ok-log.ensures.valid)

@@ -1,6 +1,6 @@
 use Rattle.std.proofs.Common.{take}
 use Rattle.mx_tables.specs.States.{Writes, going}
-use Rattle.mx_tables.proofs.CollectLemmas.{collects_so_far}
+use Rattle.mx_tables.proofs.LoadLemmas.{collects_so_far}
 use Rattle.mx_tables.proofs.collecting.collect.Given as goal
 
 -- the redemptions of the member's purses in the rows so far are collected

@@ -1,5 +1,5 @@
 use Rattle.mx_tables.proofs.CallLemmas.{runs_to}
-use Rattle.mx_tables.proofs.HolderLemmas.{adds_holder}
+use Rattle.mx_tables.proofs.MemberLemmas.{adds_holder}
 use Rattle.mx_tables.proofs.holders.insert_holder.Goals as goal
 
 pub returns : goal.returns

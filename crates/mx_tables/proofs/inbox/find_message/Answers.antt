@@ -1,28 +1,27 @@
-use Rattle.std.proofs.Common.{Some, sym, ap, ◌∙◌}
-use Rattle.std.specs.Option.{option_copied}
-use Rattle.std.specs.Ordering.{nat_cmp}
-use Rattle.mx_pay.specs.Names.{name_cmp}
-use Rattle.mx_book.specs.Under.{pair_cmp}
+use Rattle.std.proofs.Common.{Some, sym, ap, ◌∙◌, arith, rules}
+use Rattle.std.specs.FinMap as fmap
 use Rattle.mx_tables.specs.Answers.{message_shown}
-use Rattle.mx_tables.proofs.InboxLemmas.{message_back}
 use Rattle.mx_tables.proofs.CallLemmas.{reads_to}
-use Rattle.mx_tables.proofs.InboxLemmas.{finds_message}
+use Rattle.mx_tables.proofs.InboxLemmas.{message_is, message_back}
+use Rattle.mx_tables.proofs.ReadLemmas.{one_mapped}
 use Rattle.mx_tables.proofs.Texts.{select_message_is}
-use Rattle.mx_tables.proofs.ReadLemmas.{got_none, got_one}
+use Rattle.mx_tables.proofs.ToldLemmas.{tell_message}
 use Rattle.mx_tables.proofs.inbox.find_message.Goals as goal
 
 pub ask-requires : goal.ask-requires
 ask-requires g c = select_message_is.query
 
-pub returns : goal.returns
-returns g c = reads_to g.S.Store c.in_ok-rows.ensures.reads (λ rows holds shown valid low.
-    let found = finds_message c.args.purse.now c.args.number _ _ _ (rw (c.text.ensures, c.as_str.ensures.text, c.number.ensures) at shown) rows holds in
-    let gone = got_none (pair_cmp name_cmp nat_cmp) message_shown (c.args.purse.now, c.args.number) rows.inbox _ _ _ found c.deref.ensures.value c.in_ok-row.ensures (ap option_copied c.in-None.is) in
-    sym gone)
+pub returns-in-None : goal.returns-in-None
+returns-in-None g c = tell_message g.S.Store _ _ (reads_to g.S.Store c.in_ok-rows.ensures.reads (λ r holds shown valid low.
+    let it = message_is c.args.purse.now c.args.number _ _ _ (rw (c.text.ensures, c.as_str.ensures.text, c.number.ensures) at shown) r holds _ c.in_ok-row.ensures in
+    grind (arith, it)))
 
-pub returns-in-Some : goal.returns-in-Some
-returns-in-Some g c = reads_to g.S.Store c.in_ok-rows.ensures.reads (λ rows holds shown valid low.
-    let found = finds_message c.args.purse.now c.args.number _ _ _ (rw (c.text.ensures, c.as_str.ensures.text, c.number.ensures) at shown) rows holds in
-    let one = got_one (pair_cmp name_cmp nat_cmp) message_shown (c.args.purse.now, c.args.number) rows.inbox _ _ _ c.in-Some.row.now found c.deref.ensures.value c.in_ok-row.ensures (ap option_copied c.in-Some.is) in
+pub returns-in_ok-message_at-in-Some : goal.returns-in_ok-message_at-in-Some
+returns-in_ok-message_at-in-Some g c = tell_message g.S.Store _ _ (reads_to g.S.Store c.in_ok-rows.ensures.reads (λ r holds shown valid low.
+    let it = message_is c.args.purse.now c.args.number _ _ _ (rw (c.text.ensures, c.as_str.ensures.text, c.number.ensures) at shown) r holds _ c.in_ok-row.ensures in
+    let one = one_mapped message_shown (fmap.get r.inbox (c.args.purse.now, c.args.number)) c.in-Some.row (sym c.in-Some.is ∙ it) in
     let read = c.in_ok-message_at-in-Some in
-    ap Some (message_back one.0 read.field-0 c.in-Some.row.now (valid (c.args.purse.now, c.args.number) one.0 one.1) read.ensures.valid one.2 read.ensures.shown.0 read.ensures.shown.1) ∙ sym one.1)
+    ap Some (message_back one.0 read.field-0 c.in-Some.row (valid (c.args.purse.now, c.args.number) one.0 one.1) read.ensures.valid one.2 read.ensures.shown.0 read.ensures.shown.1) ∙ sym one.1))
+
+pub returns-then-number-gt-MOST_NUMBER : goal.returns-then-number-gt-MOST_NUMBER
+returns-then-number-gt-MOST_NUMBER g c = tell_message g.S.Store _ _ (search rules)

@@ -1,8 +1,118 @@
-use Rattle.std.proofs.Common.{sym, ◌∙◌, arith}
+use Rattle.std.proofs.Common.{◌≡◌, ◌≤◌, [], ◌∷◌, ◌++◌, length, ap, sym, subst, refl, rules, arith, ◌∙◌}
+use Rattle.sqlite.specs.Effect.{Database}
+use Rattle.sqlite.specs.Given.{IsPlain}
+use Rattle.sqlite.specs.Held.{state}
+use Rattle.sqlite.specs.Listing.{understood}
+use Rattle.sqlite.proofs.Callers.{begun_plain}
+use Rattle.mx_tables.specs.Holds.{Holds}
+use Rattle.mx_tables.specs.States.{worry, Stays}
+use Rattle.mx_tables.proofs.StateLemmas.{sure, sure_before, stays_then, begun_stays, refused_stays}
 use Rattle.mx_tables.proofs.CallLemmas.{reads_none}
-use Rattle.mx_tables.proofs.PageLemmas.{no_page}
+use Rattle.mx_tables.proofs.LineLemmas.{no_page, select_lines, select_lines_is, noted_more, one_more, no_more, begins, ended, full_page, last_page}
+use Rattle.mx_tables.proofs.ToldLemmas.{tell_lines}
 use Rattle.mx_tables.proofs.lines.list_lines.Goals as goal
 
 pub returns-then-after-gt-MOST_KEPT : goal.returns-then-after-gt-MOST_KEPT
-returns-then-after-gt-MOST_KEPT g c = reads_none g.S.Store (λ rows holds valid.
-    c.new.ensures.items ∙ sym (no_page c.args.purse.now c.args.after c.args.most rows valid (omega (arith, c.if-after-gt-MOST_KEPT.true))))
+returns-then-after-gt-MOST_KEPT g c = tell_lines g.S.Store _ _ _ (reads_none g.S.Store (λ rows holds valid.
+    c.new-lines.ensures.items ∙ sym (no_page c.args.purse.now c.args.after c.args.most rows valid (omega (arith, c.if-after-gt-MOST_KEPT.true)))))
+
+pub returns-in-Err : goal.returns-in-Err
+returns-in-Err g c = tell_lines g.S.Store _ _ _ (record {
+  stays = λ ours.
+      refused_stays g.S.Store _ _ c.args.conn.now c.query-found.follows.lender-at-none c.query-found.result _ c.in-Err.is select_lines_is.query.silent ours c.query-found.follows.holds-at-none;
+  value = λ ours sound kept holds. tt;
+})
+
+pub rows-init : goal.rows-init
+rows-init g c =
+    let made = c.in-Ok.ensures in
+    let old = state g.S.Store c.args.conn.now in
+    let new = state g.S.Store c.in-Ok.rows.conn.now in (
+      refl,
+      ap length c.new-lines.ensures.items,
+      rw c.new-lines.ensures.items tt,
+      λ ours. begun_stays g.S.Store select_lines _ c.args.conn.now c.in-Ok.rows.conn.now select_lines_is.query.plain select_lines_is.query.silent ours made.mode made.survives made.begun,
+      λ ours sound.
+          let began = begun_stays g.S.Store select_lines _ c.args.conn.now c.in-Ok.rows.conn.now select_lines_is.query.plain select_lines_is.query.silent ours made.mode made.survives made.begun in
+          let has = ours.schema (sure_before old new began.later sound) in
+          let plain = subst (λ s. IsPlain (understood s select_lines)) (sym has) select_lines_is.query.plain in
+          ([], rw (c.text.ensures, c.as_str.ensures.text, c.number.ensures) at (begun_plain g.S.Store select_lines _ c.args.conn.now c.in-Ok.rows.conn.now plain (made.begun (sure new sound).1)).0, rw c.new-lines.ensures.items refl),
+    )
+
+pub rows-preserved : goal.rows-preserved
+rows-preserved g c =
+    let before = c.rows.invariant in
+    let made = c.in_ok-line.ensures in
+    let mid = state g.S.Store c.rows.rows.conn.now in
+    let new = state g.S.Store c.next_line.new.rows.conn.now in
+    let pushed : c.push.new.self.items ≡ c.rows.lines.items ++ c.in-Some.line ∷ [] = search rules in (
+      made.same_reference ∙ before.0,
+      search rules,
+      rw pushed (noted_more c.rows.lines.items c.in-Some.line before.2 (rw c.in-Some.is at made.valid)),
+      λ ours. let was = before.3 ours in stays_then (state g.S.Store c.args.conn.now) mid new was (made.stays was.ours),
+      λ ours sound.
+          let step = made.stays (before.3 ours).ours in
+          let was = before.4 ours (sure_before mid new step.later sound) in
+          rw pushed (one_more g.S.Store select_lines _ c.rows.rows.conn.now c.next_line.new.rows.conn.now was.0 was.1 c.rows.lines.items was.2 c.in-Some.line (rw c.in-Some.is at made.shown sound)),
+    )
+
+pub returns-in_err-line : goal.returns-in_err-line
+returns-in_err-line g c = tell_lines g.S.Store _ _ _ (record {
+  stays = λ ours.
+      let was = c.rows.invariant.3 ours in
+      let same : c.next_line.new.rows.conn.now ≡ c.conn-in_err-line-1.given.0 = search rules in
+      subst (λ h. Stays (state g.S.Store c.args.conn.now) (state g.S.Store h)) same
+      (stays_then (state g.S.Store c.args.conn.now) (state g.S.Store c.rows.rows.conn.now) (state g.S.Store c.next_line.new.rows.conn.now) was (c.next_line.ensures.stays was.ours));
+  value = λ ours sound kept holds. search rules;
+})
+
+pub returns-in_default : goal.returns-in_default
+returns-in_default g c = tell_lines g.S.Store _ _ _ (record {
+  stays = λ ours.
+      let was = c.rows.invariant.3 ours in
+      let same : c.next_line.new.rows.conn.now ≡ c.conn-in_default-1.given.0 = search rules in
+      subst (λ h. Stays (state g.S.Store c.args.conn.now) (state g.S.Store h)) same
+      (stays_then (state g.S.Store c.args.conn.now) (state g.S.Store c.rows.rows.conn.now) (state g.S.Store c.next_line.new.rows.conn.now) was (c.next_line.ensures.stays was.ours));
+  value = λ ours sound kept holds valid.
+      let old = state g.S.Store c.args.conn.now in
+      let mid = state g.S.Store c.rows.rows.conn.now in
+      let new = state g.S.Store c.next_line.new.rows.conn.now in
+      let before = c.rows.invariant in
+      let made = c.in_ok-line.ensures in
+      let first = before.3 ours in
+      let same : c.next_line.new.rows.conn.now ≡ c.conn-in_default-1.given.0 = search rules in
+      let last : worry new ≡ 0 = subst (λ h. worry (state g.S.Store h) ≡ 0) (sym same) sound in
+      let early = sure_before mid new (made.stays first.ours).later last in
+      let was = before.4 ours early in
+      let there : Holds mid.now kept = subst (λ (d : Database). Holds d kept) (sym (first.same early)) holds in
+      let shown = no_more g.S.Store select_lines _ c.rows.rows.conn.now c.next_line.new.rows.conn.now was.0 was.1 (rw c.in_default.is at made.shown last) in
+      let few : length c.rows.lines.items ≤ c.args.most = omega (arith, before.1, c.rows-test.true) in
+      last_page c.args.purse.now c.args.after c.args.most kept valid was.0 c.rows.lines.items was.2 before.2 few (ended c.args.purse.now c.args.after mid new was.0 shown kept there);
+})
+
+pub returns-then-is_err : goal.returns-then-is_err
+returns-then-is_err g c = tell_lines g.S.Store _ _ _ (record {
+  stays = λ ours.
+      let was = c.rows.invariant.3 ours in
+      let same : c.next_line.new.rows.conn.now ≡ c.conn-then-is_err-1.given.0 = search rules in
+      subst (λ h. Stays (state g.S.Store c.args.conn.now) (state g.S.Store h)) same
+      (stays_then (state g.S.Store c.args.conn.now) (state g.S.Store c.rows.rows.conn.now) (state g.S.Store c.next_line.new.rows.conn.now) was (c.next_line.ensures.stays was.ours));
+  value = λ ours sound kept holds. tt;
+})
+
+pub returns : goal.returns
+returns g c = tell_lines g.S.Store _ _ _ (record {
+  stays = λ ours.
+      let same : c.rows.rows.conn.now ≡ c.conn-2-1.given.0 = search rules in
+      subst (λ h. Stays (state g.S.Store c.args.conn.now) (state g.S.Store h)) same (c.rows.invariant.3 ours);
+  value = λ ours sound kept holds valid.
+      let mid = state g.S.Store c.rows.rows.conn.now in
+      let before = c.rows.invariant in
+      let same : c.rows.rows.conn.now ≡ c.conn-2-1.given.0 = search rules in
+      let last : worry mid ≡ 0 = subst (λ h. worry (state g.S.Store h) ≡ 0) (sym same) sound in
+      let was = before.4 ours last in
+      let there : Holds mid.now kept = subst (λ (d : Database). Holds d kept) (sym ((before.3 ours).same last)) holds in
+      let all = begins c.args.purse.now c.args.after g.S.Store c.rows.rows.conn.now was.0 was.1 kept there in
+      let many : length c.rows.lines.items ≡ c.args.most = before.1 ∙ (search rules) in
+      full_page c.args.purse.now c.args.after c.args.most kept valid was.0 all.0 c.rows.lines.items was.2 before.2 many all.1;
+})

@@ -3,7 +3,7 @@ use Rattle.std.proofs.lemmas.Result.{on_ok_weaker}
 use Rattle.mx_pay.specs.Names.{name_cmp}
 use Rattle.mx_book.specs.Slots.{map_of}
 use Rattle.mx_tables.proofs.CallLemmas.{reads_to}
-use Rattle.mx_tables.proofs.MemberSumLemmas.{adds_to_none, adds_to_one}
+use Rattle.mx_tables.proofs.CountedSums.{adds_to_none, adds_to_one}
 use Rattle.mx_tables.proofs.member_sums.add_row.Goals as goal
 
 pub returns-in-None : goal.returns-in-None

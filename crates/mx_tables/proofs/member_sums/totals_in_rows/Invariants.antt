@@ -1,5 +1,5 @@
 use Rattle.std.proofs.Common.{◌≡◌, map, take}
-use Rattle.mx_tables.specs.MemberSums.{totals_row}
+use Rattle.mx_tables.specs.Counted.{totals_row}
 use Rattle.mx_tables.proofs.member_sums.totals_in_rows.Given as goal
 
 abbrev pub invariant-loop-row : goal.invariant-loop-row

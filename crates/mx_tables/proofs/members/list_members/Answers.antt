@@ -3,12 +3,13 @@ use Rattle.mx_tables.proofs.CallLemmas.{reads_to}
 use Rattle.std.proofs.Common.{◌∙◌}
 use Rattle.mx_tables.proofs.Texts.{select_members_is}
 use Rattle.mx_tables.proofs.MemberLemmas.{lists_members, names_read}
+use Rattle.mx_tables.proofs.ToldLemmas.{tell_members}
 use Rattle.mx_tables.proofs.members.list_members.Goals as goal
 
 pub ask-requires : goal.ask-requires
 ask-requires g c = select_members_is.query
 
 pub returns : goal.returns
-returns g c = reads_to g.S.Store c.in_ok-rows.ensures.reads (λ rows holds shown.
+returns g c = tell_members g.S.Store (reads_to g.S.Store c.in_ok-rows.ensures.reads (λ rows holds shown.
     let found = lists_members _ _ _ shown rows holds in
-    IfOk-weaker c.names_in.result _ _ (λ names read. names_read c.deref.result.now names.items _ read (c.deref.ensures.value ∙ found)) c.names_in.ensures)
+    IfOk-weaker c.names_in.result _ _ (λ names read. names_read c.deref.result.now names.items _ read (c.deref.ensures.value ∙ found)) c.names_in.ensures))

@@ -1,27 +1,28 @@
-use Rattle.std.proofs.Common.{sym, ap, ◌∙◌}
-use Rattle.std.specs.Option.{option_copied}
-use Rattle.std.specs.Prelude.{option_and_then}
-use Rattle.std.proofs.lemmas.Result.{IfOk-weaker}
-use Rattle.mx_pay.specs.Names.{name_cmp}
-use Rattle.mx_tables.specs.Answers.{own_shown, own_state}
-use Rattle.mx_tables.proofs.CallLemmas.{reads_to, reads_if}
-use Rattle.mx_tables.proofs.PurseLemmas.{finds_own}
-use Rattle.mx_tables.proofs.Texts.{select_own_is}
-use Rattle.mx_tables.proofs.ReadLemmas.{got_none, got_one}
+use Rattle.std.proofs.Common.{◌≡◌, true, false, Some, sym, ap, refl, ◌∙◌, arith}
+use Rattle.std.specs.FinMap as fmap
+use Rattle.mx_pay.specs.Names.{is_name}
+use Rattle.mx_tables.specs.Answers.{own_shown}
+use Rattle.mx_tables.proofs.CallLemmas.{reads_to}
+use Rattle.mx_tables.proofs.PurseLemmas.{own_back, holder_back}
+use Rattle.mx_tables.proofs.ReadLemmas.{one_mapped}
+use Rattle.mx_tables.proofs.ToldLemmas.{tell_own}
 use Rattle.mx_tables.proofs.purses.find_own.Goals as goal
 
-pub ask-requires : goal.ask-requires
-ask-requires g c = select_own_is.query
+pub returns-in_default : goal.returns-in_default
+returns-in_default g c = tell_own g.S.Store _ _ (reads_to g.S.Store c.in_ok-row.ensures (λ r holds is purses. grind (arith, is)))
+
+pub returns-then-not-same_name : goal.returns-then-not-same_name
+returns-then-not-same_name g c = tell_own g.S.Store _ _ (reads_to g.S.Store c.in_ok-row.ensures (λ r holds is purses.
+    let one = one_mapped own_shown (fmap.get r.purses c.args.name.now) c.in-Some.row (sym c.in-Some.is ∙ is) in
+    let owner = holder_back one.0 c.in_ok-owner.owner c.in-Some.row one.2 c.in_ok-owner.ensures in
+    let other : is_name c.args.holder.now one.0.holder ≡ false = ap (is_name c.args.holder.now) (sym owner) ∙ sym c.same_name.ensures.value ∙ c.if-not-same_name.true in
+    rw (one.1, other) refl))
 
 pub returns : goal.returns
-returns g c = reads_to g.S.Store c.in_ok-rows.ensures.reads (λ rows holds shown sound.
-    let found = finds_own c.args.name.now _ _ _ (rw (c.text.ensures, c.as_str.ensures.text) at shown) rows holds in
-    let gone = got_none name_cmp own_shown c.args.name.now rows.purses _ _ _ found c.deref.ensures.value c.in_ok-row.ensures (ap option_copied c.in-None.is) in
-    sym (ap (option_and_then (own_state c.args.holder.now)) gone))
-
-pub returns-in-Some : goal.returns-in-Some
-returns-in-Some g c = reads_if g.S.Store c.in_ok-rows.ensures.reads (λ rows holds shown sound.
-    let found = finds_own c.args.name.now _ _ _ (rw (c.text.ensures, c.as_str.ensures.text) at shown) rows holds in
-    let one = got_one name_cmp own_shown c.args.name.now rows.purses _ _ _ c.in-Some.row.now found c.deref.ensures.value c.in_ok-row.ensures (ap option_copied c.in-Some.is) in
-    let kept_as = sound c.args.name.now one.0 one.1 in
-    IfOk-weaker c.own_in.result _ _ (λ v is. is ∙ sym (ap (option_and_then (own_state c.args.holder.now)) one.1)) (c.own_in.ensures one.0 one.2 kept_as.0 kept_as.1))
+returns g c = tell_own g.S.Store _ _ (reads_to g.S.Store c.in_ok-row.ensures (λ r holds is purses.
+    let one = one_mapped own_shown (fmap.get r.purses c.args.name.now) c.in-Some.row (sym c.in-Some.is ∙ is) in
+    let kept = purses c.args.name.now one.0 one.1 in
+    let owner = holder_back one.0 c.in_ok-owner.owner c.in-Some.row one.2 c.in_ok-owner.ensures in
+    let mine : is_name c.args.holder.now one.0.holder ≡ true = ap (is_name c.args.holder.now) (sym owner) ∙ sym c.same_name.ensures.value ∙ c.if-not-same_name.false in
+    let read = c.in_ok-purse.ensures in
+    rw (one.1, mine) (ap Some (own_back one.0 c.in_ok-purse.purse c.in-Some.row kept.1 read.valid (kept.0 ∙ sym read.named) one.2 read.shown))))

@@ -6,20 +6,21 @@ use Rattle.mx_book.specs.World.{Name}
 use Rattle.mx_book.specs.RowReads.{of_name}
 use Rattle.mx_book.specs.declared.values.Account.{Account}
 use Rattle.mx_tables.proofs.CallLemmas.{reads_to, reads_then}
+use Rattle.mx_tables.proofs.ToldLemmas.{tell_account}
 use Rattle.mx_tables.proofs.purses.read_account.Goals as goal
 
 pub returns : goal.returns
-returns g c = reads_to g.S.Store (reads_then g.S.Store (reads_then g.S.Store c.in_ok-row.ensures c.in_ok-member.ensures) c.in_ok-held.ensures) (λ rows holds all sound.
+returns g c = tell_account g.S.Store _ (reads_to g.S.Store (reads_then g.S.Store (reads_then g.S.Store c.in_ok-row.ensures c.in_ok-member.ensures) c.in_ok-held.ensures) (λ rows holds all sound.
     let row : fmap.get rows.purses c.args.name.now ≡ Some c.in-Some.row = sym (all.0.0 sound) ∙ c.in-Some.is in
     let member : fmap.get rows.holders c.in-Some.row.holder ≡ Some c.in-Some-2.member = sym all.0.1 ∙ c.in-Some-2.is in
     let count = all.1 ∙ length-map (of_name c.args.name.now (fmap.entries rows.inbox)) (λ (e : (Name × ℕ) × Message). (e.0.1, e.1)) in
-    rw (row, member) (ap (λ n. let it : Account = record { holder = c.in-Some.row.holder; member = c.in-Some-2.member; purse = c.in-Some.row.purse; held = n; next_message = c.in-Some.row.next_message } in Some it) count))
+    rw (row, member) (ap (λ n. let it : Account = record { holder = c.in-Some.row.holder; member = c.in-Some-2.member; purse = c.in-Some.row.purse; held = n; next_message = c.in-Some.row.next_message } in Some it) count)))
 
 pub returns-in_default : goal.returns-in_default
-returns-in_default g c = reads_to g.S.Store c.in_ok-row.ensures (λ rows holds is sound. rw (sym (is sound) ∙ c.in_default.is) refl)
+returns-in_default g c = tell_account g.S.Store _ (reads_to g.S.Store c.in_ok-row.ensures (λ rows holds is sound. rw (sym (is sound) ∙ c.in_default.is) refl))
 
 pub returns-in_default-2 : goal.returns-in_default-2
-returns-in_default-2 g c = reads_to g.S.Store (reads_then g.S.Store c.in_ok-row.ensures c.in_ok-member.ensures) (λ rows holds both sound.
+returns-in_default-2 g c = tell_account g.S.Store _ (reads_to g.S.Store (reads_then g.S.Store c.in_ok-row.ensures c.in_ok-member.ensures) (λ rows holds both sound.
     let row : fmap.get rows.purses c.args.name.now ≡ Some c.in-Some.row = sym (both.0 sound) ∙ c.in-Some.is in
     let member : fmap.get rows.holders c.in-Some.row.holder ≡ None = sym both.1 ∙ c.in_default-2.is in
-    rw (row, member) refl)
+    rw (row, member) refl))

@@ -1,5 +1,5 @@
 use Rattle.mx_tables.proofs.CallLemmas.{runs_to}
-use Rattle.mx_tables.proofs.RedemptionLemmas.{adds_redemption}
+use Rattle.mx_tables.proofs.LoadLemmas.{adds_redemption}
 use Rattle.mx_tables.proofs.redemptions.insert_redemption.Goals as goal
 
 pub returns : goal.returns

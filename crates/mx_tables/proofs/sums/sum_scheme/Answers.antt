@@ -1,20 +1,23 @@
-use Rattle.std.proofs.Common.{ap}
+use Rattle.std.proofs.Common.{◌+◌, ◌∙◌, ap, ap₂}
 use Rattle.mx_tables.specs.declared.sums.Sums.{Sums}
 use Rattle.mx_tables.proofs.CallLemmas.{reads_to, reads_then}
+use Rattle.mx_tables.proofs.ToldLemmas.{tell_totals}
 use Rattle.mx_tables.proofs.sums.sum_scheme.Goals as goal
 
 pub returns : goal.returns
 returns g c =
-    reads_to g.S.Store (reads_then g.S.Store (reads_then g.S.Store (reads_then g.S.Store c.in_ok-granted.ensures c.in_ok-sums.ensures) c.in_ok-transit.ensures) c.in_ok-lost.ensures)
+    tell_totals g.S.Store (
+    reads_to g.S.Store
+    (reads_then g.S.Store (reads_then g.S.Store (reads_then g.S.Store (reads_then g.S.Store c.in_ok-granted.ensures c.in_ok-sums.ensures) c.in_ok-transit.ensures) c.in_ok-in_logs.ensures) c.in_ok-in_archive.ensures)
     (λ rows holds all purses archive k.
-    let sums = all.0.0.1 purses archive in
+    let sums = all.0.0.0.1 purses archive in
     record {
-      granted = all.0.0.0.0 k;
-      float = all.0.0.0.1 k;
+      granted = all.0.0.0.0.0 k;
+      float = all.0.0.0.0.1 k;
       uncollected = ap (λ (s : Sums). s.uncollected) sums k;
       issued = ap (λ (s : Sums). s.issued) sums k;
       redeemed = ap (λ (s : Sums). s.redeemed) sums k;
       balances = ap (λ (s : Sums). s.balances) sums k;
-      transit = all.0.1 purses archive k;
-      lost = all.1 purses archive k;
-    })
+      transit = all.0.0.1 purses archive k;
+      lost = (c.in_ok-lost.ensures ∙ ap₂ ◌+◌ (all.0.1 purses archive) (all.1 purses archive)) k;
+    }))

@@ -1,8 +1,8 @@
 use Rattle.std.proofs.Common.{◌∙◌, ap}
-use Rattle.mx_tables.specs.Cells.{kind_text, owner_text}
+use Rattle.mx_tables.specs.Schema.{kind_text, owner_text}
 use Rattle.mx_tables.proofs.CallLemmas.{runs_to, steps_to}
-use Rattle.mx_tables.proofs.FreshLemmas.{opens_with}
-use Rattle.mx_tables.proofs.TokenLemmas.{adds_token}
+use Rattle.mx_tables.proofs.MadeLemmas.{opens_with}
+use Rattle.mx_tables.proofs.MemberLemmas.{adds_token}
 use Rattle.mx_tables.proofs.tokens.insert_token.Goals as goal
 
 pub returns-clause-writes : goal.returns-clause-writes

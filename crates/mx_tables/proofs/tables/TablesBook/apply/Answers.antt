@@ -3,8 +3,7 @@ use Rattle.sqlite.specs.Held.{state}
 use Rattle.mx_book.specs.RowEdits.{rewritten}
 use Rattle.mx_tables.specs.Holds.{Spells}
 use Rattle.mx_tables.specs.States.{worry, Leaves}
-use Rattle.mx_tables.proofs.EditLemmas.{spelled_after}
-use Rattle.mx_tables.proofs.SingleLemmas.{spelled_one}
+use Rattle.mx_tables.proofs.KeptLemmas.{spelled_after, spelled_one}
 use Rattle.mx_tables.proofs.StateLemmas.{worry_later, sure, sure_before, no_worry, not_lied, ours_after, left_as_was}
 use Rattle.std.proofs.lemmas.Result.{on_ok_weaker}
 use Rattle.mx_tables.proofs.tables.TablesBook.apply.Goals as goal

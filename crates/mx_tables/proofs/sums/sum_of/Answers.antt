@@ -1,0 +1,22 @@
+use Rattle.std.proofs.Common.{◌<◌, ◌≤◌, ◌∙◌, length, rules}
+use Rattle.mx_tables.proofs.CallLemmas.{reads_to, reads_then}
+use Rattle.mx_tables.specs.Counted.{row_adds}
+use Rattle.mx_tables.proofs.CountedSums.{sum_more, adds_query, sum_is, sum_all_rows}
+use Rattle.mx_tables.proofs.sums.sum_of.Goals as goal
+
+pub ask-requires : goal.ask-requires
+ask-requires g c = rw c.text.ensures (adds_query c.args.adds.now)
+
+pub loop-row-preserved : goal.loop-row-preserved
+loop-row-preserved g c =
+    let within : c.loop-row.row-index < length c.deref-row-items.result.now = search rules in
+    reads_to g.S.Store (reads_then g.S.Store c.loop-row.invariant c.in_ok-more.ensures) (λ r holds both purses archive.
+    sum_more (row_adds r c.args.adds.now) c.deref-row-items.result.now c.loop-row.row-index c.row-item.result c.loop-row.sum c.in_ok-more.more c.in_ok-sum.sum within c.row-item.is
+    (both.0 purses archive) (both.1 purses archive) c.in_ok-sum.ensures)
+
+pub returns : goal.returns
+returns g c =
+    let past : length c.deref-row-items.result.now ≤ c.loop-row.row-index = search rules in
+    reads_to g.S.Store (reads_then g.S.Store c.in_ok-rows.ensures.reads c.loop-row.invariant) (λ r holds both purses archive.
+    sum_all_rows (row_adds r c.args.adds.now) c.loop-row.row-index c.deref-row-items.result.now _ c.loop-row.sum past c.deref-row-items.ensures.value (both.1 purses archive)
+    ∙ sum_is r c.args.adds.now _ _ _ (rw c.text.ensures at both.0) holds purses archive)
