@@ -1,14 +1,13 @@
 -- The index of the purses of each holder.
-use Rattle.std.proofs.Common.{◌≡◌, Bool, true, false, not, cond, ◌&&◌, List, map, length, refl, sym, ◌∙◌, ap, Option, Some, None, is_some, arith}
-use Rattle.std.specs.Prelude.{filter_map, option_map}
+use Rattle.std.proofs.Common.{◌≡◌, Bool, true, false, not, cond, ◌&&◌, map, length, refl, sym, ◌∙◌, ap, Option, Some, None, is_some, arith}
+use Rattle.std.specs.Prelude.{option_map}
 use Rattle.std.specs.FinMap as fmap
 use Rattle.std.specs.FinSet.{FinSet}
 use Rattle.std.proofs.lemmas.List.{length-map}
 use Rattle.mx_pay.specs.Names.{name_cmp, is_name}
 use Rattle.mx_book.specs.declared.values.PurseRow.{PurseRow}
 use Rattle.mx_book.specs.World.{Name}
-use Rattle.mx_book.specs.Blocks.{rows_from, first_of}
-use Rattle.mx_book.specs.Index.{index_cmp, stands, is_met, is_held, IsHeld, released}
+use Rattle.mx_book.specs.Index.{index_cmp, stands, is_met, is_held, IsHeld, released, names_under}
 use Rattle.mx_book.specs.RowReads.{purse_rows_of}
 use Rattle.mx_book.proofs.IndexLemmas.{keys_under, is_key, has-added, has-dropped}
 use Rattle.mx_book.proofs.NameLemmas.{names_total, names_exact, same_name}
@@ -54,11 +53,8 @@ module _ (purses : fmap.FinMap name_cmp PurseRow) (held : FinSet (index_cmp name
 -- ---- what it gives
 
 module _ (purses : fmap.FinMap name_cmp PurseRow) (held : FinSet (index_cmp name_cmp)) (is : IsHeld purses held) (h : Name) where
-  abbrev under_holder : List Name
-  under_holder = filter_map (λ (e : (Name × Option Name) × Unit {0}). e.0.1) (first_of h (rows_from (index_cmp name_cmp) (h, None) (fmap.entries held)))
-
-  pub held_names : under_holder ≡ map (λ (e : Name × PurseRow). e.0) (purse_rows_of h (fmap.entries purses))
+  pub held_names : names_under held h ≡ map (λ (e : Name × PurseRow). e.0) (purse_rows_of h (fmap.entries purses))
   held_names = keys_under names_total names_exact (λ p (x : PurseRow). is_name h x.holder) purses h held (λ p. is h (Some p))
 
-  pub held_count : length under_holder ≡ length (purse_rows_of h (fmap.entries purses))
+  pub held_count : length (names_under held h) ≡ length (purse_rows_of h (fmap.entries purses))
   held_count = ap length held_names ∙ length-map (purse_rows_of h (fmap.entries purses)) _

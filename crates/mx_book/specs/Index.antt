@@ -1,11 +1,12 @@
 -- Indexes of a book in memory: the keys under names, in the order of the names and then of the keys.
-use Rattle.std.specs.Prelude.{◌≡◌, Bool, Option, Some, None}
+use Rattle.std.specs.Prelude.{◌≡◌, Bool, List, filter_map, Option, Some, None}
 use Rattle.std.specs.declared.cmp.Ordering.{Ordering}
 use Rattle.std.specs.Option.{option_cmp}
 use Rattle.std.specs.FinMap as fmap
 use Rattle.std.specs.FinSet.{FinSet}
 use Rattle.mx_pay.specs.Names.{name_cmp, is_name}
 use Rattle.mx_book.specs.declared.values.PurseRow.{PurseRow}
+use Rattle.mx_book.specs.Blocks.{rows_from, first_of}
 use Rattle.mx_book.specs.Under.{pair_cmp}
 use Rattle.mx_book.specs.World.{Name}
 
@@ -36,6 +37,10 @@ is_held purses h p = is_met (λ (x : PurseRow). is_name h x.holder) (fmap.get pu
 -- each purse is under its holder, and nothing else is there
 abbrev pub IsHeld : fmap.FinMap name_cmp PurseRow → FinSet (index_cmp name_cmp) → Type 0
 IsHeld purses held = IsIndex name_cmp (is_held purses) held
+
+-- the names under a holder, in order
+abbrev pub names_under : FinSet (index_cmp name_cmp) → Name → List Name
+names_under held h = filter_map (λ (e : (Name × Option Name) × Unit {0}). e.0.1) (first_of h (rows_from (index_cmp name_cmp) (h, None) (fmap.entries held)))
 
 -- the index without a purse, which had this row or none
 abbrev pub released : FinSet (index_cmp name_cmp) → Option PurseRow → Name → FinSet (index_cmp name_cmp)

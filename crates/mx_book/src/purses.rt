@@ -1,19 +1,18 @@
 //! The purses by name, with an index by holder.
-ghost use Rattle.std.specs.Prelude.{◌≡◌, ◌+◌, ◌<◌, ◌≤◌, ℕ, List, length, map, filter_map, IfOk, OnOk, Option, Some, option_map};
+ghost use Rattle.std.specs.Prelude.{◌≡◌, ◌+◌, ◌<◌, ◌≤◌, ℕ, List, length, map, IfOk, OnOk, Some, option_map};
 ghost use Rattle.std.specs.FinMap as map;
 ghost use Rattle.mx_pay.specs.Names.{name_cmp};
-ghost use Rattle.mx_book.specs.Blocks.{first_of};
 ghost use Rattle.mx_book.specs.Index.{index_cmp, released};
 ghost use Rattle.mx_book.specs.Left.{rows_left};
 ghost use Rattle.mx_book.specs.RowReads.{purse_rows_of};
 ghost use Rattle.mx_book.specs.Slots.{map_of};
 ghost use Rattle.mx_book.specs.declared.values.PurseRow.{PurseRow as Kept};
 
+use crate::held::{Held, count_held, names_held};
 use crate::rows::Rows;
 use crate::table::Table;
 use crate::values::PurseRow;
 use mx_pay::Name;
-use mx_pay::names::same_name;
 use std::alloc::{AllocError, Global};
 use std::marker::Model;
 
@@ -23,8 +22,8 @@ use std::marker::Model;
 pub struct Purses {
     /// The rows.
     rows: Table<Name, PurseRow>,
-    /// Each purse under its holder. None is no purse, and comes before all of them.
-    held: Table<(Name, Option<Name>), ()>,
+    /// Each purse under its holder.
+    held: Held,
 }
 
 impl Model for Purses {
@@ -72,14 +71,14 @@ impl Purses {
     pub fn count_of(&self, holder: Name) -> usize
         ensures { result ≡ length (purse_rows_of holder (map.entries (map_of name_cmp self.now))) }
     {
-        count_under(self.held.rows_from((holder, None)), holder)
+        count_held(&self.held, holder)
     }
 
     /// The names of a holder's purses, in order.
     pub fn names_of(&self, alloc: Global, holder: Name) -> Result<Vec<Name>, AllocError>
         ensures { IfOk result (λ r. r.items ≡ map (λ (e : List ℕ × Kept). e.0) (purse_rows_of holder (map.entries (map_of name_cmp self.now)))) }
     {
-        names_under(alloc, self.held.rows_from((holder, None)), holder)
+        names_held(alloc, &self.held, holder)
     }
 
     pub fn reserve(&mut self, more: usize) -> Result<(), AllocError>
@@ -114,33 +113,11 @@ impl Purses {
 }
 
 /// Takes a purse, which had this row or none, from under its holder.
-fn release(held: &mut Table<(Name, Option<Name>), ()>, before: Option<&PurseRow>, name: Name)
+fn release(held: &mut Held, before: Option<&PurseRow>, name: Name)
     ensures map { map_of (index_cmp name_cmp) held.new ≡ released (map_of (index_cmp name_cmp) held.old) (option_map (λ v. v.now) before.entry) name }
     ensures room { held.old.room ≤ held.new.room }
 {
     if let Some(row) = before {
         held.remove((row.holder, Some(name)));
     }
-}
-
-/// How many purses are under the holder in these rows, from the first.
-fn count_under(rows: Rows<'_, (Name, Option<Name>), ()>, holder: Name) -> usize
-    ensures { result ≡ length (filter_map (λ (e : (List ℕ × Option (List ℕ)) × Unit {0}). e.0.1) (first_of holder (rows_left rows.entry))) }
-{
-    rows.take_while(|row| same_name(&holder, &row.0.0))
-        .filter_map(|row| row.0.1)
-        .count()
-}
-
-/// The purses that are under the holder in these rows, from the first.
-fn names_under(
-    alloc: Global,
-    rows: Rows<'_, (Name, Option<Name>), ()>,
-    holder: Name,
-) -> Result<Vec<Name>, AllocError>
-    ensures { IfOk result (λ r. r.items ≡ filter_map (λ (e : (List ℕ × Option (List ℕ)) × Unit {0}). e.0.1) (first_of holder (rows_left rows.entry))) }
-{
-    rows.take_while(|row| same_name(&holder, &row.0.0))
-        .filter_map(|row| row.0.1)
-        .collect(alloc)
 }
