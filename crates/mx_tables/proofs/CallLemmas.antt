@@ -1,18 +1,14 @@
 -- Calls one after another: what each of them is gives what all are.
-use Rattle.std.proofs.Common.{◌≡◌, ℕ, List, Ok, Err, Result, IfOk, sym, ap, subst, ◌∙◌, arith, refl}
-use Rattle.std.proofs.lemmas.Result.{IfOk-weaker}
-use Rattle.sqlite_value.specs.Order.{Row}
+use Rattle.mx_tables.proofs.Common.{◌≡◌, ℕ, List, Ok, ◌∙◌, arith, refl, IfOk-weaker, Row, Database, state, Executes, Rows, office_schema, Holds, going}
+use Rattle.std.proofs.Common.{Err, Result, IfOk, sym, ap, subst}
 use Rattle.sqlite_trees.specs.declared.store.Store.{Ghosts}
 use Rattle.sqlite.specs.declared.transaction.Transaction.{Transaction}
-use Rattle.sqlite.specs.Effect.{Database}
-use Rattle.sqlite.specs.Held.{Held, state}
-use Rattle.sqlite.specs.State.{HasCleanDisk, Executes}
-use Rattle.mx_book.specs.Rows.{Rows}
+use Rattle.sqlite.specs.Held.{Held}
+use Rattle.sqlite.specs.State.{HasCleanDisk}
 use Rattle.mx_book.specs.declared.contract.StoreFault.{StoreFault}
-use Rattle.mx_tables.specs.Schema.{office_schema}
-use Rattle.mx_tables.specs.Holds.{Holds}
-use Rattle.mx_tables.specs.States.{Goes, Reads, Steps, Runs, Writes, Finds, going}
-use Rattle.mx_tables.proofs.StateLemmas.{stays_same, stays_then, sure_before, within_none, within_then}
+use Rattle.mx_tables.specs.Owners.{OwnerIndex}
+use Rattle.mx_tables.specs.States.{Brings, Makes, Reads, Steps, Runs, Writes, Finds}
+use Rattle.mx_tables.proofs.StateLemmas.{brings_same, brings_none, stays_same, stays_then, sure_before, within_none, within_then}
 use Rattle.mx_tables.proofs.WriteLemmas.{goes_as, goes_then}
 
 module _ {S : Type 0} (g : Ghosts S) where
@@ -22,11 +18,6 @@ module _ {S : Type 0} (g : Ghosts S) where
   pub reads_none : {T : Type 0} {old : Held S} {r : Result T StoreFault} {is : Rows → T → Type 0}
       → ((rows : Rows) → Holds (state g old).now rows → IfOk r (is rows)) → Reads g old old r is
   reads_none {old = old} f = record { stays = λ ours. stays_same (state g old) ours; value = λ ours calm rows holds. f rows holds }
-
-  -- a fault after a read
-  pub reads_fault : {T U : Type 0} {old new : Held S} {r : Result T StoreFault} {is : Rows → T → Type 0} {other : Rows → U → Type 0} {e : StoreFault}
-      → Reads g old new r is → Reads g old new (Err e) other
-  reads_fault h = record { stays = h.stays; value = λ ours calm r holds. tt }
 
   -- what follows from what was read
   pub reads_to : {T U : Type 0} {old new : Held S} {x : T} {r : Result U StoreFault} {is : Rows → T → Type 0} {other : Rows → U → Type 0}
@@ -92,11 +83,11 @@ module _ {S : Type 0} (g : Ghosts S) where
   }
 
   -- what a statement does to the rows
-  pub runs_to : {T : Type 0} (sql : List ℕ) (params : Row) {old new : Transaction S} {r : Result T StoreFault} {counts : ℕ → Type 0} {change : Rows → Rows}
+  pub runs_to : {T : Type 0} (sql : List ℕ) (params : Row) {old new : Transaction S} {r : Result T StoreFault} {counts : ℕ → Type 0} {change : Rows → Rows} {index : OwnerIndex → OwnerIndex}
       → Runs g sql params old new r counts
       → ((count : ℕ) → counts count → (state g old.conn.now).now.schema ≡ office_schema
-      → Executes sql params (state g old.conn.now) (state g new.conn.now) (Ok count) → Goes change (state g old.conn.now) (state g new.conn.now))
-      → Writes g old new r change
+      → Executes sql params (state g old.conn.now) (state g new.conn.now) (Ok count) → Brings change index (state g old.conn.now) (state g new.conn.now))
+      → Makes g old new r change index
   runs_to sql params h f = steps_to h (λ x it has. f it.0 it.1 has it.2)
 
   -- what a statement does that changed one row
@@ -114,25 +105,27 @@ module _ {S : Type 0} (g : Ghosts S) where
   finds_to (Err e) h f = steps_fault h
 
   -- a change as another that gives the same
-  pub writes_as : {T : Type 0} {old new : Transaction S} {r : Result T StoreFault} {one two : Rows → Rows}
-      → Writes g old new r one → ((rows : Rows) → Holds (state g old.conn.now).now rows → one rows ≡ two rows) → Writes g old new r two
+  pub writes_as : {T : Type 0} {old new : Transaction S} {r : Result T StoreFault} {one two : Rows → Rows} {index : OwnerIndex → OwnerIndex}
+      → Makes g old new r one index → ((rows : Rows) → Holds (state g old.conn.now).now rows → one rows ≡ two rows) → Makes g old new r two index
   writes_as {old = old} {new = new} {one = one} {two = two} h same =
-      steps_to h (λ x went has. goes_as one two (state g old.conn.now) (state g new.conn.now) same (went has))
+      steps_to h (λ x went has. goes_as one two _ (state g old.conn.now) (state g new.conn.now) same (went has))
+
+  -- the same, where the index is another that is the same too
+  pub makes_as : {T : Type 0} {old new : Transaction S} {r : Result T StoreFault} {one two : Rows → Rows} {i j : OwnerIndex → OwnerIndex}
+      → Makes g old new r one i → ((rows : Rows) → one rows ≡ two rows) → ((held : OwnerIndex) → i held ≡ j held) → Makes g old new r two j
+  makes_as {old = old} {new = new} {r = r} {one = one} h rows owned = writes_as (subst (Makes g old new r one) (λ t held. owned held t) h) (λ r holds. rows r)
 
   -- no change yet
   pub writes_none : (a : Transaction S) → Writes g a a going (λ rows. rows)
-  writes_none a = steps_none a tt (λ has. record { schema = has; rows = λ r holds. holds })
+  writes_none a = steps_none a tt (λ has. brings_none (state g a.conn.now) has)
 
   -- no change after a look
   pub finds_none : {T U : Type 0} {a b : Transaction S} {x : T} {y : U} {is : Rows → T → Type 0} {change : Rows → Rows}
       → Finds g a b (Ok x) is → ((rows : Rows) → Holds (state g a.conn.now).now rows → is rows x → rows ≡ change rows) → Writes g a b (Ok y) change
   finds_none {a = a} {b = b} {y = y} found f =
-      steps_as (Ok y) found (λ seen has.
-      let at = seen has in
-      record {
-        schema = ap (λ (d : Database). d.schema) at.same ∙ has;
-        rows = λ r holds. subst (Holds (state g b.conn.now).now) (f r holds (at.value r holds)) (subst (λ (d : Database). Holds d r) (sym at.same) holds);
-      })
+      let old = state g a.conn.now in
+      let new = state g b.conn.now in
+      steps_as (Ok y) found (λ seen has. goes_as _ _ _ old new (λ r holds. f r holds ((seen has).value r holds)) (brings_same _ _ old old old new refl (seen has).same (brings_none old has)))
 
   -- a change after a look
   pub finds_then : {T U : Type 0} {a b c : Transaction S} {x : T} {r : Result U StoreFault} {is : Rows → T → Type 0} {one two : Rows → Rows}
@@ -141,15 +134,13 @@ module _ {S : Type 0} (g : Ghosts S) where
       steps_to (steps_then found wrote) (λ y both has.
       let seen = both.0 has in
       let went = both.1 (ap (λ (d : Database). d.schema) seen.same ∙ has) in
-      record {
-        schema = went.schema;
-        rows = λ r holds. subst (Holds (state g c.conn.now).now) (f r holds (seen.value r holds)) (went.rows r (subst (λ (d : Database). Holds d r) (sym seen.same) holds));
-      })
+      goes_as _ _ _ (state g a.conn.now) (state g c.conn.now) (λ r holds. f r holds (seen.value r holds))
+      (brings_same _ _ (state g a.conn.now) (state g b.conn.now) (state g c.conn.now) (state g c.conn.now) seen.same refl went))
 
   -- a change after a change
-  pub writes_then : {T U : Type 0} {a b c : Transaction S} {x : T} {r : Result U StoreFault} {one two : Rows → Rows}
-      → Writes g a b (Ok x) one → Writes g b c r two → Writes g a c r (λ rows. two (one rows))
-  writes_then {a = a} {b = b} {c = c} {one = one} {two = two} first second =
+  pub writes_then : {T U : Type 0} {a b c : Transaction S} {x : T} {r : Result U StoreFault} {one two : Rows → Rows} {i j : OwnerIndex → OwnerIndex}
+      → Makes g a b (Ok x) one i → Makes g b c r two j → Makes g a c r (λ rows. two (one rows)) (λ held. j (i held))
+  writes_then {a = a} {b = b} {c = c} {one = one} {two = two} {i = i} {j = j} first second =
       steps_to (steps_then first second) (λ y both has.
       let went = both.0 has in
-      goes_then one two (state g a.conn.now) (state g b.conn.now) (state g c.conn.now) went (both.1 went.schema))
+      goes_then one two i j (state g a.conn.now) (state g b.conn.now) (state g c.conn.now) went (both.1 went.schema))

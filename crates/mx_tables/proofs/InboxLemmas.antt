@@ -1,73 +1,44 @@
 -- The statements on inboxes.
-use Rattle.std.proofs.Common.{◌≡◌, ℕ, List, [], ◌∷◌, map, refl, ap, inl, inr, ℤ, pos, ◌+◌, Bool, true, false, not, cond, None, Some, Option, Err, Result, IfOk, ◌&&◌, codes, Ok, sym, ap₂, subst, ◌∙◌, Less, Equal, Greater, arith, length}
-use Rattle.std.specs.List.{AllByRecursion}
-use Rattle.sqlite_value.specs.declared.value.Value.TheVariants.{Text, Int}
+use Rattle.mx_tables.proofs.Common.{◌≡◌, ℕ, length, List, [], ◌∷◌, refl, ℤ, pos, ◌+◌, true, Some, Option, codes, Ok, ◌∙◌, arith, AllByRecursion, length-map, Text, Int, number, office_schema, option_map, IsPermutation, Ordering, nat_cmp, is_eq, eq_by_cmp, Binary, Row, column, col, Database, Executes, name_cmp, is_name, Name, Rows, rewritten, PurseRow, Holds, Goes}
+use Rattle.std.proofs.Common.{map, ap, not, Err, Result, IfOk, sym, subst, Less}
+use Rattle.std.proofs.lemmas.List.Sorted.{length_permutation}
 use Rattle.mx_purse.specs.declared.message.Message.{Message}
 use Rattle.mx_purse.specs.Messages.{IsMessage}
 use Rattle.mx_purse.specs.Words.{message_word, message_details}
 use Rattle.mx_purse.proofs.WordLemmas.{same_message}
-use Rattle.mx_tables.specs.Schema.{number, message_cells, office_schema}
+use Rattle.mx_tables.specs.Schema.{message_cells}
 use Rattle.mx_tables.specs.Answers.{message_row, at_key, message_shown, first_three, AreMessages, Raises, one_or_none}
-use Rattle.mx_tables.proofs.ValueLemmas.{told, same_made, same_words}
-use Rattle.std.specs.Prelude.{option_map}
-use Rattle.std.specs.List.Sorted.{IsPermutation}
+use Rattle.mx_tables.proofs.ValueLemmas.{same_made, same_words}
 use Rattle.std.specs.FinMap as fmap
-use Rattle.std.specs.declared.cmp.Ordering.{Ordering}
-use Rattle.std.specs.Ordering.{nat_cmp, is_eq, eq_by_cmp, ordering_then}
+use Rattle.std.specs.Ordering.{ordering_then}
 use Rattle.std.specs.Cmp.{eq_by_cmp_equiv, nat_cmp_total, tied_then}
-use Rattle.std.proofs.lemmas.Bool.{cases_Bool}
-use Rattle.sqlite_value.specs.declared.keys.Collation.TheVariants.{Binary}
 use Rattle.sqlite_value.specs.Keys.{ascending}
-use Rattle.sqlite_value.specs.Order.{Row, column}
 use Rattle.sqlite_value.proofs.OrderLemmas.{value_cmp-Int, then-Equal}
 use Rattle.sqlite_trees.proofs.ListLemmas.{map-map}
-use Rattle.sqlite_sql.specs.Term.{col}
-use Rattle.sqlite.specs.Effect.{Database}
-use Rattle.sqlite.specs.State.{State, Shown, Executes}
+use Rattle.sqlite.specs.State.{State, Shown}
 use Rattle.mx_pay.proofs.SameLemmas.{names_turned}
-use Rattle.mx_pay.specs.Names.{name_cmp, is_name}
-use Rattle.mx_pay.proofs.TestLemmas.{is_equal}
-use Rattle.mx_book.specs.World.{Name}
-use Rattle.mx_book.specs.Rows.{Rows}
-use Rattle.mx_book.specs.RowEdits.{rewritten, on_purse}
+use Rattle.mx_book.specs.RowEdits.{on_purse}
 use Rattle.mx_book.specs.declared.edits.Edit.TheVariants.{AddMessage}
-use Rattle.mx_book.specs.declared.values.PurseRow.{PurseRow}
 use Rattle.mx_book.specs.RowReads.{row_inbox_of, of_name}
 use Rattle.mx_book.specs.Under.{pair_cmp}
 use Rattle.mx_book.proofs.NameLemmas.{same_name}
-use Rattle.mx_book.proofs.MapLemmas.{AllEntries, all_entries}
-use Rattle.mx_tables.specs.Holds.{Holds}
-use Rattle.mx_tables.specs.States.{Goes}
+use Rattle.mx_book.proofs.MapLemmas.{all_entries}
 use Rattle.mx_tables.proofs.Texts.{is_given, select_inbox, select_inbox_is, select_held_numbers, select_held_numbers_is, select_message, select_message_is, select_number, select_number_is, insert_message, insert_message_is, delete_message, delete_message_is}
 use Rattle.mx_tables.proofs.Statements.{passes}
 use Rattle.mx_tables.proofs.StoredLemmas.{and_true, same_text, same_numbers, numbers_cmp, cast_int, cast_null}
 use Rattle.mx_tables.proofs.ReadLemmas.{answers, answers_in_order, keyed}
-use Rattle.mx_tables.proofs.WriteLemmas.{adds, drops, goes_as}
+use Rattle.mx_tables.proofs.StateLemmas.{brings_same}
+use Rattle.mx_tables.proofs.WriteLemmas.{adds, drops, goes_as, goes_then}
 use Rattle.mx_tables.proofs.KeptLemmas as kept
+use Rattle.sqlite_trees.proofs.ListLemmas.{all-map, all-filter}
 
 -- messages that show the same row are the same
 same_message_row : (m n : ℕ × Message) → IsMessage m.1 → IsMessage n.1 → message_row m ≡ message_row n → m ≡ n
-same_message_row m n one two h =
-    let (count, (word, (text, _))) = told (message_row m) (message_row n) h in
-    let message = same_message m.1 n.1 one two word text in
-    λ i. (count i, message i)
-
--- messages that show the same rows are the same
-pub same_message_rows : (ms ns : List (ℕ × Message)) → AllByRecursion (λ m. IsMessage m.1) ms → AllByRecursion (λ m. IsMessage m.1) ns → map message_row ms ≡ map message_row ns → ms ≡ ns
-same_message_rows [] [] one two h = refl
-same_message_rows [] (n ∷ ns) one two h = absurd (let k = ap length h in omega (arith, k))
-same_message_rows (m ∷ ms) [] one two h = absurd (let k = ap length h in omega (arith, k))
-same_message_rows (m ∷ ms) (n ∷ ns) one two h =
-    let rest : map message_row ms ≡ map message_row ns = cc in
-    let count : m.0 ≡ n.0 = cc in
-    let message = same_message m.1 n.1 one.0 two.0 (cc) (cc) in
-    λ i. (count i, message i) ∷ same_message_rows ms ns one.1 two.1 rest i
+same_message_row (n, m) (k, l) one two h = let message = same_message m l one two (cc) (cc) in cc
 
 -- under one first key, pairs are in the order of their second keys
 pub second_less : (a b : Ordering) → is_eq a ≡ true → ordering_then a b ≡ Less → b ≡ Less
-second_less Less b e h = absurd (cc)
-second_less Equal b e h = h
-second_less Greater b e h = absurd (cc)
+second_less a b e h = grind arith
 
 pub same_first : (p a b : Name) → is_name p a ≡ true → is_name p b ≡ true → is_eq (name_cmp a b) ≡ true
 same_first p a b s t = ap (λ n. is_name n b) (sym (same_name p a s)) ∙ t
@@ -83,39 +54,24 @@ finds_inbox p old new rows shown r h =
     ∙ sym (map-map message_row (λ (e : (Name × ℕ) × Message). (e.0.1, e.1)) (of_name p (fmap.entries r.inbox)))
 
 pub finds_numbers : (p : Name) (old new : State) (rows : List Row) → Shown select_held_numbers (Text p ∷ []) old new rows → (r : Rows) → Holds old.now r
-    → rows ≡ map (λ (m : ℕ × Message). number m.0 ∷ []) (row_inbox_of r p)
+    → length rows ≡ length (row_inbox_of r p)
 finds_numbers p old new rows shown r h =
-    answers_in_order kept.inbox (is_given 1 0 ∷ []) (col 1 2 ∷ []) ((col 1 2, ascending Binary) ∷ []) (Text p ∷ []) (λ (e : (Name × ℕ) × Message). is_name p e.0.0)
-    (λ (e : (Name × ℕ) × Message). (number e.0.1 ∷ [], number e.0.1 ∷ []))
-    (λ id e. rw (same_text e.0.0 p) (and_true _ ∙ names_turned e.0.0 p)) (λ id e. refl)
-    (λ a b s t low. then-Equal _ ∙ value_cmp-Int (pos a.0.1) (pos b.0.1) ∙ numbers_cmp a.0.1 b.0.1 ∙ second_less _ _ (same_first p a.0.0 b.0.0 s t) low)
-    select_held_numbers (codes "number" ∷ []) select_held_numbers_is old new rows shown r h
-    ∙ sym (map-map (λ (m : ℕ × Message). number m.0 ∷ []) (λ (e : (Name × ℕ) × Message). (e.0.1, e.1)) (of_name p (fmap.entries r.inbox)))
+    let found = answers kept.inbox select_held_numbers _ _ _ select_held_numbers_is (Text p ∷ []) (λ (e : (Name × ℕ) × Message). is_name p e.0.0) (λ (e : (Name × ℕ) × Message). number e.0.1 ∷ [])
+    (λ id e. rw (same_text e.0.0 p) (and_true _ ∙ names_turned e.0.0 p)) (λ id e. refl) old new rows shown r h in
+    length_permutation _ _ found ∙ length-map _ _ ∙ sym (length-map (of_name p (fmap.entries r.inbox)) (λ (e : (Name × ℕ) × Message). (e.0.1, e.1)))
 
--- the messages of a purse are within their limits
-abbrev AllMessages : List (ℕ × Message) → Type 0
-AllMessages = AllByRecursion (λ m. IsMessage m.1)
-
-all_of_purse : (p : Name) (es : List ((Name × ℕ) × Message)) → AllEntries (λ _ m. IsMessage m) es → AllMessages (map (λ (e : (Name × ℕ) × Message). (e.0.1, e.1)) (of_name p es))
-all_of_purse p [] h = tt
-all_of_purse p (e ∷ es) h = elim (cases_Bool (is_name p e.0.0)) [
-  | inl t ↦ rw t (h.0, all_of_purse p es h.1)
-  | inr f ↦ rw f (all_of_purse p es h.1)
-]
-
-pub inbox_read : (p : Name) (r : Rows) → AreMessages r → (rows : List Row) (ms : List (ℕ × Message)) → map first_three rows ≡ map message_row ms → AllMessages ms → rows ≡ map message_row (row_inbox_of r p) → ms ≡ row_inbox_of r p
+pub inbox_read : (p : Name) (r : Rows) → AreMessages r → (rows : List Row) (ms : List (ℕ × Message)) → map first_three rows ≡ map message_row ms → AllByRecursion (λ m. IsMessage m.1) ms
+    → rows ≡ map message_row (row_inbox_of r p) → ms ≡ row_inbox_of r p
 inbox_read p r valid rows ms read mine is =
-    same_made (λ m. IsMessage m.1) message_row same_message_row ms (row_inbox_of r p) mine (all_of_purse p (fmap.entries r.inbox) (all_entries kept.pairs_key.total (λ _ m. IsMessage m) r.inbox valid))
+    same_made (λ m. IsMessage m.1) message_row same_message_row ms (row_inbox_of r p) mine
+    (all-map (λ m. IsMessage m.1) (λ (e : (Name × ℕ) × Message). (e.0.1, e.1)) (of_name p (fmap.entries r.inbox))
+    (all-filter (λ e. IsMessage e.1) (λ e. is_name p e.0.0) (fmap.entries r.inbox) (all_entries kept.pairs_key.total (λ _ m. IsMessage m) r.inbox valid)))
     (sym read ∙ ap (map first_three) is ∙ map-map first_three message_row (row_inbox_of r p))
-
-pub both_turned : (a b c d e f : Bool) → a ≡ c → b ≡ d → c ≡ e → d ≡ f → (a && (b && true)) ≡ (e && f)
-both_turned a b c d e f p q s t = ap₂ (λ x y. x && y) (p ∙ s) (and_true b ∙ q ∙ t)
 
 -- the test on both columns of the key
 at_message : (p : Name) (n : ℕ) (id : ℤ) (e : (Name × ℕ) × Message) → passes (is_given 1 0 ∷ is_given 2 1 ∷ []) (Text p ∷ number n ∷ []) (Int id ∷ message_cells e) ≡ eq_by_cmp (pair_cmp name_cmp nat_cmp) (p, n) e.0
 at_message p n id e =
-    both_turned _ _ (is_name e.0.0 p) (eq_by_cmp nat_cmp e.0.1 n) (is_name p e.0.0) (eq_by_cmp nat_cmp n e.0.1) (same_text e.0.0 p) (same_numbers e.0.1 n) (names_turned e.0.0 p) ((eq_by_cmp_equiv nat_cmp_total).symm e.0.1 n)
-    ∙ tied_then (name_cmp p e.0.0) (nat_cmp n e.0.1)
+    grind (arith, same_text e.0.0 p, same_numbers e.0.1 n, names_turned e.0.0 p, (eq_by_cmp_equiv nat_cmp_total).symm e.0.1 n, tied_then (name_cmp p e.0.0) (nat_cmp n e.0.1))
 
 pub message_is : (p : Name) (n : ℕ) (old new : State) (rows : List Row) → Shown select_message (Text p ∷ number n ∷ []) old new rows → (r : Rows) → Holds old.now r
     → (found : Option Row) → rows ≡ one_or_none found → found ≡ option_map message_shown (fmap.get r.inbox (p, n))
@@ -125,12 +81,7 @@ message_is p n = keyed kept.inbox (p, n) select_message _ _ _ select_message_is 
 same_numbers_shown : (p : Name) (n : ℕ) (es : List ((Name × ℕ) × Message))
     → map (λ (e : (Name × ℕ) × Message). number e.0.1 ∷ []) (at_key (pair_cmp name_cmp nat_cmp) (p, n) es) ≡ map (λ (e : (Name × ℕ) × Message). number n ∷ []) (at_key (pair_cmp name_cmp nat_cmp) (p, n) es)
 same_numbers_shown p n [] = refl
-same_numbers_shown p n (e ∷ es) =
-    let more = same_numbers_shown p n es in
-    elim (cases_Bool (eq_by_cmp (pair_cmp name_cmp nat_cmp) (p, n) e.0)) [
-      | inl t ↦ let same : n ≡ e.0.1 = ap (λ (k : Name × ℕ). k.1) (kept.pairs_key.exact (p, n) e.0 (is_equal _ t)) in rw t (λ i. (number (sym same i) ∷ []) ∷ more i)
-      | inr f ↦ rw f more
-    ]
+same_numbers_shown p n (e ∷ es) = grind (arith, same_numbers_shown p n es, kept.pairs_key.exact (p, n) e.0)
 
 pub finds_number : (p : Name) (n : ℕ) (old new : State) (rows : List Row) → Shown select_number (Text p ∷ number n ∷ []) old new rows → (r : Rows) → Holds old.now r
     → IsPermutation (map (λ (e : (Name × ℕ) × Message). number n ∷ []) (at_key (pair_cmp name_cmp nat_cmp) (p, n) (fmap.entries r.inbox))) rows
@@ -147,12 +98,8 @@ message_back v m row one two is a b = sym (same_message v m one two (same_words 
 -- what is kept but one key is what is left where it is removed
 remove_is : (m : fmap.FinMap (pair_cmp name_cmp nat_cmp) Message) (k : Name × ℕ) → fmap.retain_keys m (λ j. not (eq_by_cmp (pair_cmp name_cmp nat_cmp) k j)) ≡ fmap.remove m k
 remove_is m k = fmap.same_map kept.pairs_key.total kept.pairs_key.exact _ _ (λ q.
-    fmap.get-retain_keys m (λ j. not (eq_by_cmp (pair_cmp name_cmp nat_cmp) k j)) q (λ x tie. ap (λ j. not (eq_by_cmp (pair_cmp name_cmp nat_cmp) k j)) (sym (kept.pairs_key.exact q x tie)))
-    ∙ either (eq_by_cmp (pair_cmp name_cmp nat_cmp) k q) (fmap.get m q) ∙ ap (λ b. cond b None (fmap.get m q)) ((eq_by_cmp_equiv kept.pairs_key.total).symm k q) ∙ sym (fmap.get-remove kept.pairs_key.total m k q))
-  where
-    either : (b : Bool) (o : Option Message) → cond (not b) o None ≡ cond b None o
-    either true o = refl
-    either false o = refl
+    let left = fmap.get-retain_keys m (λ j. not (eq_by_cmp (pair_cmp name_cmp nat_cmp) k j)) q (λ x tie. ap (λ j. not (eq_by_cmp (pair_cmp name_cmp nat_cmp) k j)) (sym (kept.pairs_key.exact q x tie))) in
+    grind (arith, left, (eq_by_cmp_equiv kept.pairs_key.total).symm k q, fmap.get-remove kept.pairs_key.total m k q))
 
 pub both_hold : {X E : Type 0} (r : Result X E) (P Q : X → Type 0) → IfOk r P → IfOk r Q → IfOk r (λ x. P x × Q x)
 both_hold (Ok x) P Q p q = (p, q)
@@ -161,22 +108,20 @@ both_hold (Err e) P Q p q = tt
 pub drops_message : (p : Name) (n : ℕ) (old new : State) (count : ℕ) → old.now.schema ≡ office_schema → Executes delete_message (Text p ∷ number n ∷ []) old new (Ok count)
     → Goes (λ r. record r { inbox = fmap.remove r.inbox (p, n) }) old new
 drops_message p n old new count has ran =
-    goes_as _ _ old new (λ r h. ap (λ m. record r { inbox = m }) (remove_is r.inbox (p, n)))
+    goes_as _ _ _ old new (λ r h. ap (λ m. record r { inbox = m }) (remove_is r.inbox (p, n)))
     (drops kept.inbox delete_message _ _ delete_message_is (Text p ∷ number n ∷ []) (eq_by_cmp (pair_cmp name_cmp nat_cmp) (p, n))
-    (at_message p n) (λ id e. refl) old new count has ran)
+    (at_message p n) (λ id e. refl) refl old new count has ran)
 
 pub adds_message : (p : Name) (n : ℕ) (m : Message) (old new : State) (count : ℕ) → old.now.schema ≡ office_schema
     → Executes insert_message (Text p ∷ number n ∷ Text (message_word m) ∷ Text (message_details m) ∷ []) old new (Ok count) → Goes (λ r. record r { inbox = fmap.insert r.inbox (p, n) m }) old new
 adds_message p n m =
-    adds kept.inbox insert_message _ _ insert_message_is (Text p ∷ number n ∷ Text (message_word m) ∷ Text (message_details m) ∷ []) ((p, n), m) (rw (cast_null, cast_int (pos n)) refl)
+    adds kept.inbox insert_message _ _ insert_message_is (Text p ∷ number n ∷ Text (message_word m) ∷ Text (message_details m) ∷ []) ((p, n), m) (rw (cast_null, cast_int (pos n)) refl) refl
 
 -- a message under the next number of its purse, which rises
 pub delivers : (p : Name) (m : Message) (n : ℕ) (a b c d : State) → b.now ≡ a.now → Raises p n b c → Goes (λ r. record r { inbox = fmap.insert r.inbox (p, n) m }) c d
     → Goes (λ r. rewritten r (AddMessage p m)) a d
-delivers p m n a b c d same one two = record {
-  schema = two.schema;
-  rows = λ r holds. let here : Holds b.now r = subst (λ (db : Database). Holds db r) (sym same) holds in subst (Holds d.now) (is r (fmap.get r.purses p) (one.was r here)) (two.rows _ (one.goes.rows r here));
-}
+delivers p m n a b c d same one two =
+    goes_as _ _ _ a d (λ r holds. is r (fmap.get r.purses p) (one.was r (subst (λ (db : Database). Holds db r) (sym same) holds))) (goes_then _ _ _ _ a c d (brings_same _ _ a b c c same refl one.goes) two)
   where
     put_in : Rows → Rows
     put_in r = record r { inbox = fmap.insert r.inbox (p, n) m }
@@ -184,5 +129,4 @@ delivers p m n a b c d same one two = record {
     is : (r : Rows) (o : Option PurseRow) → option_map (λ (x : PurseRow). x.next_message) o ≡ Some n
         → put_in (on_purse o r (λ x. record r { purses = fmap.insert r.purses p (record x { next_message = n + 1 }) }))
         ≡ on_purse o r (λ x. record r { purses = fmap.insert r.purses p (record x { next_message = x.next_message + 1 }); inbox = fmap.insert r.inbox (p, x.next_message) m })
-    is r None e = absurd (cc)
-    is r (Some x) e = let number : x.next_message ≡ n = cc in rw number refl
+    is r o e = grind (arith, e)

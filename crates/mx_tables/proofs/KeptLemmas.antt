@@ -1,19 +1,16 @@
 -- The tables of the office, each as one value: how it is made, where it stands, how its rows are stored and what is stored of a row. A database spells one World at most.
-use Rattle.std.proofs.Common.{◌≡◌, ℕ, true, false, Bool, List, [], ◌∷◌, Option, Some, refl, sym, ap, subst, ◌∙◌, if◌then◌else◌, arith, fold, codes}
-use Rattle.std.specs.Ordering.{nat_cmp}
+use Rattle.mx_tables.proofs.Common.{◌≡◌, ℕ, ℤ, List, [], ◌∷◌, Option, Some, refl, ◌∙◌, arith, fold, codes, nat_cmp, Ordering, AllByRecursion, Int, column, Database, name_cmp, Name, Rows, PurseRow, Holds, rewritten}
+use Rattle.std.proofs.Common.{suc, map, slice_get, sym, ap, subst}
+use Rattle.std.specs.FinMap as fmap
 use Rattle.std.specs.Cmp.{nat_cmp_total}
 use Rattle.std.specs.FinMap.{nat_cmp-IsAntisymmetric}
-use Rattle.sqlite.specs.Effect.{Database}
-use Rattle.mx_pay.specs.Names.{name_cmp}
 use Rattle.mx_pay.specs.Tokens.{token_cmp, token_of, IsToken}
 use Rattle.mx_pay.specs.Details.{Details, IsDetails}
 use Rattle.mx_purse.specs.declared.message.Message.{Message}
-use Rattle.mx_book.specs.World.{Name, result_cmp, World, Token}
-use Rattle.mx_book.specs.Rows.{Rows}
+use Rattle.mx_book.specs.World.{result_cmp, World, Token}
 use Rattle.mx_book.specs.Under.{pair_cmp}
 use Rattle.mx_book.specs.declared.values.Caller.{Caller}
 use Rattle.mx_book.specs.declared.values.MemberRow.{MemberRow}
-use Rattle.mx_book.specs.declared.values.PurseRow.{PurseRow}
 use Rattle.mx_book.specs.declared.values.LineRow.{LineRow}
 use Rattle.mx_book.specs.declared.values.Redemption.{Redemption}
 use Rattle.mx_book.proofs.NameLemmas.{names_total, names_exact}
@@ -21,8 +18,8 @@ use Rattle.mx_book.proofs.UnderLemmas.{pair_total, pair_exact}
 use Rattle.mx_book.proofs.DueLemmas.{keys_total, keys_exact}
 use Rattle.mx_book.proofs.ResultLemmas.{results_total, results_exact}
 use Rattle.mx_tables.specs.Schema as schema
-use Rattle.mx_tables.specs.Schema.{Contents, member_cells, token_cells, holder_cells, purse_cells, message_cells, line_cells, result_cells, load_cells, redemption_cells, tokens_of, number, rows_of}
-use Rattle.mx_tables.specs.Holds.{HasContents, Holds, Spells, SpellsOne}
+use Rattle.mx_tables.specs.Schema.{Contents, member_cells, token_cells, holder_cells, purse_cells, message_cells, line_cells, result_cells, load_cells, redemption_cells, tokens_of, cells_of, rows_of}
+use Rattle.mx_tables.specs.Holds.{HasContents, Spells, SpellsOne}
 use Rattle.hex.specs.Hex.{encode_lower}
 use Rattle.mx_pay.proofs.TextLemmas.{same_entry}
 use Rattle.mx_purse.specs.State.{IsPurse}
@@ -32,14 +29,14 @@ use Rattle.mx_book.specs.Spells as book
 use Rattle.mx_book.specs.Spells.{one_world}
 use Rattle.mx_book.specs.Conditions.{IsNote}
 use Rattle.mx_book.proofs.WordLemmas.{same_kind}
-use Rattle.mx_tables.proofs.ValueLemmas.{token_back, told, same_caller, purse_back, same_note}
+use Rattle.mx_tables.proofs.ValueLemmas.{token_back, same_caller, purse_back, same_note}
 use Rattle.mx_tables.proofs.SoundLemmas.{messages_valid, purses_valid, lines_valid, tray_valid, archive_valid}
 use Rattle.mx_tables.specs.Answers.{purse_shown}
-use Rattle.mx_book.specs.RowEdits.{rewritten, all_rewritten}
+use Rattle.mx_book.specs.RowEdits.{all_rewritten}
 use Rattle.mx_book.specs.Edits.{Fits, all_edited}
 use Rattle.mx_book.specs.declared.edits.Edit.{Edit}
 use Rattle.mx_book.proofs.SpellLemmas.{applied}
-use Rattle.mx_tables.proofs.Places.{Place, IsKey, Kept, Belongs, stored, listed_once, same_lists, but_number}
+use Rattle.mx_tables.proofs.Places.{Place, IsKey, Ties, Kept, Written, Belongs, stored, listed_once, same_lists, but_number}
 use Rattle.sqlite.specs.Listing.{understood}
 use Rattle.sqlite_tied.specs.Compute.{everything}
 use Rattle.mx_tables.specs.Made.{Makes, made, also}
@@ -60,6 +57,13 @@ results_key = record { total = results_total; exact = results_exact }
 
 -- ---- members
 
+-- a table that belongs to the rows of a book, by what its place says
+belongs : {K V : Type 0} {R : K → K → Ordering} (p : Place R V) → IsKey R
+    → ((i j : ℤ) (k : K) (v w : V) → AllByRecursion (λ n. Ties (column (Int i ∷ p.cells (k, v)) n) (column (Int j ∷ p.cells (k, w)) n)) p.table.primary)
+    → slice_get schema.office_schema.tables (suc p.at) ≡ Some p.table → ((c : Contents) → slice_get (cells_of c) (suc p.at) ≡ Some (map p.cells (p.list.get c)))
+    → ((c : Contents) → p.map.get (rows_of c) ≡ fmap.from_entries (p.list.get c)) → ((l : List (K × V)) (c : Contents) → Written p l c) → Belongs p
+belongs p key ties found cells_are is written = record { kept = record { found = found; key = key; ties = ties; cells_are = cells_are }; is = is; written = written }
+
 abbrev pub member_place : Place name_cmp MemberRow
 member_place = record {
   at = 0;
@@ -70,16 +74,10 @@ member_place = record {
 }
 
 pub members : Belongs member_place
-members = record {
-  kept = record { found = refl; key = names_key; ties = λ i j k v w. ((refl, refl), tt); cells_are = λ c. refl };
-  is = λ c. refl;
-  written = λ l c. record { listed = refl; cells = refl; tokens = refl; rows = refl };
-}
+members = belongs member_place names_key (λ i j k v w. ((refl, refl), tt)) refl (λ c. refl) (λ c. refl) (λ l c. record { listed = refl; cells = refl; tokens = refl; rows = refl })
 
 tells_member : (e f : Name × MemberRow) → Unit {0} → Unit {0} → member_cells e ≡ member_cells f → e ≡ f
-tells_member e f _ _ h =
-    let (name, (granted, (float, _))) = told (member_cells e) (member_cells f) h in
-    λ i. (name i, record { granted = granted i; float = float i })
+tells_member e f _ _ h = grind (arith, h)
 
 -- ---- tokens
 
@@ -100,11 +98,10 @@ same_token : (s t : Token) → IsToken s → IsToken t → encode_lower s ≡ en
 same_token s t one two h = let it : ◌≡◌ {A = Option Token} (Some s) (Some t) = sym (token_back s one) ∙ ap token_of h ∙ token_back t two in cc
 
 tells_token : (e f : Token × Caller) → IsToken e.0 → IsToken f.0 → token_cells e ≡ token_cells f → e ≡ f
-tells_token e f one two h =
-    let (text, (kind, (owner, _))) = told (token_cells e) (token_cells f) h in
-    let token = same_token e.0 f.0 one two text in
-    let caller = same_caller e.1 f.1 kind owner in
-    λ i. (token i, caller i)
+tells_token (s, c) (t, d) one two h =
+    let token = same_token s t one two (cc) in
+    let caller = same_caller c d (cc) (cc) in
+    cc
 
 -- ---- holders
 
@@ -118,16 +115,10 @@ holder_place = record {
 }
 
 pub holders : Belongs holder_place
-holders = record {
-  kept = record { found = refl; key = names_key; ties = λ i j k v w. ((refl, refl), tt); cells_are = λ c. refl };
-  is = λ c. refl;
-  written = λ l c. record { listed = refl; cells = refl; tokens = refl; rows = refl };
-}
+holders = belongs holder_place names_key (λ i j k v w. ((refl, refl), tt)) refl (λ c. refl) (λ c. refl) (λ l c. record { listed = refl; cells = refl; tokens = refl; rows = refl })
 
 tells_holder : (e f : Name × Name) → Unit {0} → Unit {0} → holder_cells e ≡ holder_cells f → e ≡ f
-tells_holder e f _ _ h =
-    let (name, (member, _)) = told (holder_cells e) (holder_cells f) h in
-    λ i. (name i, member i)
+tells_holder (n, m) (k, l) _ _ h = cc
 
 -- ---- purses
 
@@ -141,21 +132,17 @@ purse_place = record {
 }
 
 pub purses : Belongs purse_place
-purses = record {
-  kept = record { found = refl; key = names_key; ties = λ i j k v w. ((refl, refl), tt); cells_are = λ c. refl };
-  is = λ c. refl;
-  written = λ l c. record { listed = refl; cells = refl; tokens = refl; rows = refl };
-}
+purses = belongs purse_place names_key (λ i j k v w. ((refl, refl), tt)) refl (λ c. refl) (λ c. refl) (λ l c. record { listed = refl; cells = refl; tokens = refl; rows = refl })
 
 -- a purse, under its name
 abbrev IsRow : Name × PurseRow → Type 0
 IsRow e = (e.1.purse.name ≡ e.0) × IsPurse e.1.purse
 
 tells_purse : (e f : Name × PurseRow) → IsRow e → IsRow f → purse_cells e ≡ purse_cells f → e ≡ f
-tells_purse e f one two h =
-    let (name, _) = told (purse_cells e) (purse_cells f) h in
-    let row = purse_back e.1 f.1 (purse_shown e.1) one.1 two.1 (one.0 ∙ name ∙ sym two.0) refl (ap but_number h) in
-    λ i. (name i, sym row i)
+tells_purse (p, x) (q, y) one two h =
+    let name : p ≡ q = cc in
+    let row = purse_back x y (purse_shown x) one.1 two.1 (one.0 ∙ name ∙ sym two.0) refl (ap but_number h) in
+    cc
 
 -- ---- inboxes
 
@@ -169,17 +156,10 @@ inbox_place = record {
 }
 
 pub inbox : Belongs inbox_place
-inbox = record {
-  kept = record { found = refl; key = pairs_key; ties = λ i j k v w. ((refl, refl), ((refl, refl), tt)); cells_are = λ c. refl };
-  is = λ c. refl;
-  written = λ l c. record { listed = refl; cells = refl; tokens = refl; rows = refl };
-}
+inbox = belongs inbox_place pairs_key (λ i j k v w. ((refl, refl), ((refl, refl), tt))) refl (λ c. refl) (λ c. refl) (λ l c. record { listed = refl; cells = refl; tokens = refl; rows = refl })
 
 tells_message : (e f : (Name × ℕ) × Message) → IsMessage e.1 → IsMessage f.1 → message_cells e ≡ message_cells f → e ≡ f
-tells_message e f one two h =
-    let (purse, (count, (kind, (details, _)))) = told (message_cells e) (message_cells f) h in
-    let message = same_message e.1 f.1 one two kind details in
-    λ i. ((purse i, count i), message i)
+tells_message ((p, n), m) ((q, k), l) one two h = let message = same_message m l one two (cc) (cc) in cc
 
 -- ---- lines
 
@@ -193,18 +173,13 @@ line_place = record {
 }
 
 pub lines : Belongs line_place
-lines = record {
-  kept = record { found = refl; key = pairs_key; ties = λ i j k v w. ((refl, refl), ((refl, refl), tt)); cells_are = λ c. refl };
-  is = λ c. refl;
-  written = λ l c. record { listed = refl; cells = refl; tokens = refl; rows = refl };
-}
+lines = belongs line_place pairs_key (λ i j k v w. ((refl, refl), ((refl, refl), tt))) refl (λ c. refl) (λ c. refl) (λ l c. record { listed = refl; cells = refl; tokens = refl; rows = refl })
 
 tells_line : (e f : (Name × ℕ) × LineRow) → IsNote e.1.note → IsNote f.1.note → line_cells e ≡ line_cells f → e ≡ f
 tells_line e f one two h =
-    let (purse, (count, (word, (amount, (balance, (text, _)))))) = told (line_cells e) (line_cells f) h in
-    let kind = same_kind e.1.kind f.1.kind word in
-    let note = same_note e.1.note f.1.note one two text in
-    λ i. ((purse i, count i), record { kind = kind i; amount = amount i; balance = balance i; note = note i })
+    let kind = same_kind e.1.kind f.1.kind (cc) in
+    let note = same_note e.1.note f.1.note one two (cc) in
+    grind (arith, h, kind, note)
 
 -- ---- trays
 
@@ -218,17 +193,10 @@ tray_place = record {
 }
 
 pub tray : Belongs tray_place
-tray = record {
-  kept = record { found = refl; key = results_key; ties = λ i j k v w. ((refl, refl), ((refl, refl), tt)); cells_are = λ c. refl };
-  is = λ c. refl;
-  written = λ l c. record { listed = refl; cells = refl; tokens = refl; rows = refl };
-}
+tray = belongs tray_place results_key (λ i j k v w. ((refl, refl), ((refl, refl), tt))) refl (λ c. refl) (λ c. refl) (λ l c. record { listed = refl; cells = refl; tokens = refl; rows = refl })
 
 tells_result : (e f : (Name × Details) × Unit {0}) → IsDetails e.0.1 → IsDetails f.0.1 → result_cells e ≡ result_cells f → e ≡ f
-tells_result e f one two h =
-    let (purse, (text, _)) = told (result_cells e) (result_cells f) h in
-    let details = same_entry e.0.1 f.0.1 one two text in
-    λ i. ((purse i, details i), tt)
+tells_result e f one two h = let details = same_entry e.0.1 f.0.1 one two (cc) in grind (arith, h, details)
 
 -- ---- archives
 
@@ -242,11 +210,7 @@ archive_place = record {
 }
 
 pub archive : Belongs archive_place
-archive = record {
-  kept = record { found = refl; key = results_key; ties = λ i j k v w. ((refl, refl), ((refl, refl), tt)); cells_are = λ c. refl };
-  is = λ c. refl;
-  written = λ l c. record { listed = refl; cells = refl; tokens = refl; rows = refl };
-}
+archive = belongs archive_place results_key (λ i j k v w. ((refl, refl), ((refl, refl), tt))) refl (λ c. refl) (λ c. refl) (λ l c. record { listed = refl; cells = refl; tokens = refl; rows = refl })
 
 -- ---- loads
 
@@ -260,16 +224,10 @@ load_place = record {
 }
 
 pub loads : Belongs load_place
-loads = record {
-  kept = record { found = refl; key = references_key; ties = λ i j k v w. ((refl, refl), ((refl, refl), tt)); cells_are = λ c. refl };
-  is = λ c. refl;
-  written = λ l c. record { listed = refl; cells = refl; tokens = refl; rows = refl };
-}
+loads = belongs load_place references_key (λ i j k v w. ((refl, refl), ((refl, refl), tt))) refl (λ c. refl) (λ c. refl) (λ l c. record { listed = refl; cells = refl; tokens = refl; rows = refl })
 
 tells_load : (e f : (Name × Name) × ℕ) → Unit {0} → Unit {0} → load_cells e ≡ load_cells f → e ≡ f
-tells_load e f _ _ h =
-    let (purse, (reference, (amount, _))) = told (load_cells e) (load_cells f) h in
-    λ i. ((purse i, reference i), amount i)
+tells_load ((p, r), m) ((q, s), l) _ _ h = cc
 
 -- ---- redemptions
 
@@ -283,23 +241,10 @@ redemption_place = record {
 }
 
 pub redemptions : Belongs redemption_place
-redemptions = record {
-  kept = record { found = refl; key = references_key; ties = λ i j k v w. ((refl, refl), ((refl, refl), tt)); cells_are = λ c. refl };
-  is = λ c. refl;
-  written = λ l c. record { listed = refl; cells = refl; tokens = refl; rows = refl };
-}
-
-same_flag : (a b : Bool) → ◌≡◌ {A = ℕ} (if a then 1 else 0) (if b then 1 else 0) → a ≡ b
-same_flag true true h = refl
-same_flag false false h = refl
-same_flag true false h = absurd (omega (arith, h))
-same_flag false true h = absurd (omega (arith, h))
+redemptions = belongs redemption_place references_key (λ i j k v w. ((refl, refl), ((refl, refl), tt))) refl (λ c. refl) (λ c. refl) (λ l c. record { listed = refl; cells = refl; tokens = refl; rows = refl })
 
 tells_redemption : (e f : (Name × Name) × Redemption) → Unit {0} → Unit {0} → redemption_cells e ≡ redemption_cells f → e ≡ f
-tells_redemption e f _ _ h =
-    let (purse, (reference, (amount, (flag, _)))) = told (redemption_cells e) (redemption_cells f) h in
-    let collected = same_flag e.1.collected f.1.collected flag in
-    λ i. ((purse i, reference i), record { amount = amount i; collected = collected i })
+tells_redemption e f _ _ h = grind (arith, h)
 
 -- ---- how they are made
 
@@ -338,47 +283,31 @@ makes_office =
 
 -- ---- all tables
 
-tokens_once : (db : Database) (b c : Contents) → HasContents db b → HasContents db c → tokens_of b ≡ tokens_of c
-tokens_once db b c h g =
-    same_lists token_cells (λ e. IsToken e.0) tells_token (db.trees 3) (tokens_of b) (tokens_of c) (stored token_rows db b h).have (stored token_rows db c g).have h.tokens g.tokens
+first_and_others : (s t : Token) (xs ys : List (Token × Caller)) (c : Caller) → ◌≡◌ {A = List (Token × Caller)} ((s, c) ∷ xs) ((t, c) ∷ ys) → (s ≡ t) × (xs ≡ ys)
+first_and_others s t xs ys c h = let first : ◌≡◌ {A = Token × Caller} (s, c) (t, c) = cc in (ap (λ (e : Token × Caller). e.0) first, (cc))
 
-abbrev first_token : List (Token × Caller) → Token
-first_token [] = []
-first_token (e ∷ es) = e.0
-
-abbrev later_tokens : List (Token × Caller) → List (Token × Caller)
-later_tokens [] = []
-later_tokens (e ∷ es) = es
+tokens_once : (db : Database) (b c : Contents) → HasContents db b → HasContents db c → (b.operator ≡ c.operator) × (b.tokens ≡ c.tokens)
+tokens_once db b c h g = first_and_others _ _ _ _ _
+    (same_lists token_cells (λ e. IsToken e.0) tells_token (db.trees 3) (tokens_of b) (tokens_of c) (stored token_rows db b h).have (stored token_rows db c g).have h.tokens g.tokens)
 
 -- a database spells one World at most
 one_spelled : (db : Database) (v w : World) → Spells db v → Spells db w → v ≡ w
 one_spelled db v w h g =
     let r = h.rows in
     let s = g.rows in
-    let operators_and_tokens = tokens_once db h.holds.contents g.holds.contents h.holds.has g.holds.has in
-    let operator = ap first_token operators_and_tokens in
-    let tokens = ap later_tokens operators_and_tokens in
-    let member = listed_once members (λ _. Unit {0}) tells_member db r s h.holds g.holds (λ _ _ _. tt) (λ _ _ _. tt) in
-    let holder = listed_once holders (λ _. Unit {0}) tells_holder db r s h.holds g.holds (λ _ _ _. tt) (λ _ _ _. tt) in
-    let purse = listed_once purses IsRow tells_purse db r s h.holds g.holds (purses_valid r v h.spells) (purses_valid s w g.spells) in
-    let message = listed_once inbox (λ e. IsMessage e.1) tells_message db r s h.holds g.holds (messages_valid r v h.spells) (messages_valid s w g.spells) in
-    let line = listed_once lines (λ e. IsNote e.1.note) tells_line db r s h.holds g.holds (λ k x at. (lines_valid r v h.spells k x at).1) (λ k x at. (lines_valid s w g.spells k x at).1) in
-    let laid = listed_once tray (λ e. IsDetails e.0.1) tells_result db r s h.holds g.holds (tray_valid r v h.spells) (tray_valid s w g.spells) in
-    let kept = listed_once archive (λ e. IsDetails e.0.1) tells_result db r s h.holds g.holds (archive_valid r v h.spells) (archive_valid s w g.spells) in
-    let loaded = listed_once loads (λ _. Unit {0}) tells_load db r s h.holds g.holds (λ _ _ _. tt) (λ _ _ _. tt) in
-    let redeemed = listed_once redemptions (λ _. Unit {0}) tells_redemption db r s h.holds g.holds (λ _ _ _. tt) (λ _ _ _. tt) in
+    let tokens = tokens_once db h.holds.contents g.holds.contents h.holds.has g.holds.has in
     let contents : h.holds.contents ≡ g.holds.contents = λ i. record {
-      operator = operator i;
-      tokens = tokens i;
-      members = member i;
-      holders = holder i;
-      purses = purse i;
-      inbox = message i;
-      lines = line i;
-      tray = laid i;
-      archive = kept i;
-      loads = loaded i;
-      redemptions = redeemed i;
+      operator = tokens.0 i;
+      tokens = tokens.1 i;
+      members = listed_once members (λ _. Unit {0}) tells_member db r s h.holds g.holds (λ _ _ _. tt) (λ _ _ _. tt) i;
+      holders = listed_once holders (λ _. Unit {0}) tells_holder db r s h.holds g.holds (λ _ _ _. tt) (λ _ _ _. tt) i;
+      purses = listed_once purses IsRow tells_purse db r s h.holds g.holds (purses_valid r v h.spells) (purses_valid s w g.spells) i;
+      inbox = listed_once inbox (λ e. IsMessage e.1) tells_message db r s h.holds g.holds (messages_valid r v h.spells) (messages_valid s w g.spells) i;
+      lines = listed_once lines (λ e. IsNote e.1.note) tells_line db r s h.holds g.holds (λ k x at. (lines_valid r v h.spells k x at).1) (λ k x at. (lines_valid s w g.spells k x at).1) i;
+      tray = listed_once tray (λ e. IsDetails e.0.1) tells_result db r s h.holds g.holds (tray_valid r v h.spells) (tray_valid s w g.spells) i;
+      archive = listed_once archive (λ e. IsDetails e.0.1) tells_result db r s h.holds g.holds (archive_valid r v h.spells) (archive_valid s w g.spells) i;
+      loads = listed_once loads (λ _. Unit {0}) tells_load db r s h.holds g.holds (λ _ _ _. tt) (λ _ _ _. tt) i;
+      redemptions = listed_once redemptions (λ _. Unit {0}) tells_redemption db r s h.holds g.holds (λ _ _ _. tt) (λ _ _ _. tt) i;
     } in
     let same : r ≡ s = sym h.holds.rows ∙ ap rows_of contents ∙ g.holds.rows in
     one_world s v w (subst (λ (x : Rows). book.Spells x v) same h.spells) g.spells

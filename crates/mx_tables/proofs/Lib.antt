@@ -1,3 +1,4 @@
+pub mod Common
 pub mod Texts
 pub mod Statements
 pub mod StateLemmas
@@ -9,6 +10,7 @@ pub mod KeptLemmas
 pub mod ReadLemmas
 pub mod CallLemmas
 pub mod WriteLemmas
+pub mod OwnerLemmas
 pub mod PurseLemmas
 pub mod MemberLemmas
 pub mod MadeLemmas

@@ -1,35 +1,30 @@
 -- The statements on lines, and what is read of the lines of a purse.
-use Rattle.std.proofs.Common.{◌≡◌, inl, inr, ℕ, pos, List, [], ◌∷◌, codes, Ok, refl, arith, zero, suc, ◌+◌, ◌≤◌, Bool, false, ◌&&◌, ◌++◌, map, filter, take, length, sym, ap, ap₂, ◌∙◌, Some, None, Option}
+use Rattle.mx_tables.proofs.Common.{◌≡◌, ℕ, pos, List, [], ◌∷◌, codes, Ok, refl, arith, ◌+◌, ◌≤◌, ◌&&◌, ◌++◌, take, length, ◌∙◌, Some, None, Null, Text, Int, col, Term, Executes, is_name, Name, Rows, office_schema, number, Goes, AllByRecursion, length-map, Binary, Row, Database, state, Holds}
+use Rattle.std.proofs.Common.{map, sym, ap, ap₂}
 use Rattle.std.specs.FinMap as fmap
-use Rattle.std.specs.Ordering.{nat_cmp, is_gt}
+use Rattle.std.specs.Ordering.{is_gt}
 use Rattle.std.proofs.lemmas.Bool.Decides.{nat_tests}
-use Rattle.sqlite_value.specs.declared.value.Value.TheVariants.{Null, Text, Int}
-use Rattle.sqlite_sql.specs.Term.{col, lit, Term, op2}
-use Rattle.sqlite.specs.State.{State, Executes, Shown}
+use Rattle.sqlite_sql.specs.Term.{lit, op2}
+use Rattle.sqlite.specs.State.{State, Shown}
 use Rattle.sqlite.specs.Listing.{understood}
 use Rattle.sqlite_tied.specs.Compute.{everything}
-use Rattle.mx_pay.specs.Names.{is_name}
-use Rattle.mx_book.specs.World.{Name}
-use Rattle.mx_book.specs.Rows.{line_row, Rows}
+use Rattle.mx_book.specs.Rows.{line_row}
 use Rattle.mx_book.specs.Words.{kind_text, note_text}
 use Rattle.mx_book.specs.declared.values.Line.{Line}
 use Rattle.mx_book.specs.declared.values.LineRow.{LineRow}
-use Rattle.mx_tables.specs.Schema.{office_schema, number}
-use Rattle.mx_tables.specs.States.{Goes}
 use Rattle.mx_tables.proofs.Texts.{IsInsert, scan, alone, is_given, IsSelect}
 use Rattle.mx_tables.proofs.StoredLemmas.{cast_int, cast_null, and_true, same_text, if_truth, numbers_cmp}
 use Rattle.mx_tables.proofs.WriteLemmas.{adds}
 use Rattle.mx_tables.proofs.KeptLemmas as kept
-use Rattle.std.specs.Prelude.{nat_lt, option_map}
-use Rattle.std.specs.List.{AllByRecursion, take-map}
+use Rattle.std.specs.Prelude.{nat_lt}
+use Rattle.std.specs.List.{take-map}
 use Rattle.std.specs.Cmp.{first_so}
-use Rattle.std.proofs.ByRecursion.{All-push}
-use Rattle.std.proofs.lemmas.Bool.{cases_Bool}
-use Rattle.std.proofs.lemmas.List.{take_at, take_all, length-map, map-append}
-use Rattle.sqlite_value.specs.declared.keys.Collation.TheVariants.{Binary}
+use Rattle.std.proofs.Math.Seq.{take-nil}
+use Rattle.sqlite_trees.proofs.ListLemmas.{all_weaker, all-filter}
+use Rattle.std.proofs.ByRecursion.{All-map, All-take}
+use Rattle.std.proofs.lemmas.List.{take_at, take_all, map-append}
 use Rattle.sqlite_value.specs.declared.keys.Key.{Key}
 use Rattle.sqlite_value.specs.Keys.{ascending}
-use Rattle.sqlite_value.specs.Order.{Row}
 use Rattle.sqlite_value.proofs.OrderLemmas.{value_cmp-Int, then-Equal}
 use Rattle.sqlite_trees.proofs.ListLemmas.{map-map, filter_none}
 use Rattle.sqlite_sql.specs.declared.ops.BinaryOp.TheVariants.{Compare}
@@ -37,21 +32,20 @@ use Rattle.sqlite_sql.specs.declared.ops.CompareOp.TheVariants.{Gt}
 use Rattle.sqlite_sql.specs.Ops.{binary, is_true}
 use Rattle.sqlite_schema.specs.declared.command.Command.TheVariants.{Select}
 use Rattle.sqlite_trees.specs.declared.store.Store as store
-use Rattle.sqlite.specs.Effect.{Database, Reads}
-use Rattle.sqlite.specs.Given.{HasGiven, Advances}
-use Rattle.sqlite.specs.Held.{Held, state}
+use Rattle.sqlite.specs.Effect.{Reads}
+use Rattle.sqlite.specs.Given.{HasGiven}
+use Rattle.sqlite.specs.Held.{Held}
 use Rattle.sqlite.proofs.Callers.{reads_as, begins_as, given_begin}
 use Rattle.mx_pay.proofs.SameLemmas.{names_turned}
 use Rattle.mx_pay.specs.Limits.{most_number}
 use Rattle.mx_book.specs.RowReads.{row_lines_of, line_of_row}
 use Rattle.mx_book.specs.Conditions.{IsNote}
-use Rattle.mx_book.proofs.MapLemmas.{AllEntries, all_entries}
+use Rattle.mx_book.proofs.MapLemmas.{all_entries}
 use Rattle.mx_book.proofs.WordLemmas.{same_kind}
-use Rattle.mx_tables.specs.Holds.{Holds}
 use Rattle.mx_tables.specs.Pages.{line_shown, first_five, lines_above, GivesLine, AreLines}
 use Rattle.mx_tables.proofs.ReadLemmas.{reads_in_order}
 use Rattle.mx_tables.proofs.InboxLemmas.{second_less, same_first}
-use Rattle.mx_tables.proofs.ValueLemmas.{told, same_made, same_note}
+use Rattle.mx_tables.proofs.ValueLemmas.{same_made, same_note}
 
 abbrev pub insert_line : List ℕ
 insert_line = codes "INSERT INTO line (purse, number, kind, amount, balance, note) VALUES (?1, ?2, ?3, ?4, ?5, ?6)"
@@ -65,7 +59,7 @@ pub adds_line : (p : Name) (l : Line) (old new : State) (count : ℕ) → old.no
     → Goes (λ r. record r { lines = fmap.insert r.lines (p, l.number) (line_row l) }) old new
 adds_line p l =
     adds kept.lines insert_line _ _ insert_line_is (Text p ∷ number l.number ∷ Text (kind_text l.kind) ∷ number l.amount ∷ number l.balance ∷ Text (note_text l.note) ∷ []) ((p, l.number), line_row l)
-    (rw (cast_null, cast_int (pos l.number), cast_int (pos l.amount), cast_int (pos l.balance)) refl)
+    (rw (cast_null, cast_int (pos l.number), cast_int (pos l.amount), cast_int (pos l.balance)) refl) refl
 
 -- ---- the page of a purse
 
@@ -76,12 +70,9 @@ select_lines = codes "SELECT number, kind, amount, balance, note FROM line WHERE
 abbrev is_above : Term
 is_above = op2 (Compare Gt Binary) (col 1 2) (col 0 1)
 
-greater : (m n : ℕ) → is_gt (nat_cmp m n) ≡ nat_lt n m
-greater m n = grind (arith, nat_tests)
-
 above_is : (m n : ℕ) → is_true (binary (Compare Gt Binary) (Int (pos m)) (Int (pos n))) ≡ nat_lt n m
 unfolding binary
-above_is m n = if_truth _ ∙ ap is_gt (value_cmp-Int (pos m) (pos n) ∙ numbers_cmp m n) ∙ greater m n
+above_is m n = if_truth _ ∙ ap is_gt (value_cmp-Int (pos m) (pos n) ∙ numbers_cmp m n) ∙ grind (arith, nat_tests)
 
 abbrev terms : List Term
 terms = is_given 1 0 ∷ is_above ∷ []
@@ -129,50 +120,31 @@ module _ (p : Name) (after : ℕ) where
 -- ---- one line more
 
 module _ {S : Type 0} (g : store.Ghosts S) (sql : List ℕ) (params : Row) (old new : Held S) (rows : List Row) (has : HasGiven g sql params old rows) where
-  more : (ls : List Line) → map first_five rows ≡ map line_shown ls → (l : Line) (got : Option Row) → Advances g old new got → option_map first_five got ≡ Some (line_shown l)
-      → (all : List Row) × HasGiven g sql params new all × (map first_five all ≡ map line_shown (ls ++ l ∷ []))
-  more ls read l None gives is = absurd (cc)
-  more ls read l (Some row) gives is =
+  pub one_more : (ls : List Line) → map first_five rows ≡ map line_shown ls → (l : Line) → GivesLine g old new (Some l) → (all : List Row) × HasGiven g sql params new all × (map first_five all ≡ map line_shown (ls ++ l ∷ []))
+  one_more ls read l (None, gives, is) = absurd (cc)
+  one_more ls read l (Some row, gives, is) =
       let here : first_five row ≡ line_shown l = cc in
       (rows ++ row ∷ [], gives sql params rows has, map-append first_five rows (row ∷ []) ∙ ap₂ (λ a b. a ++ b ∷ []) read here ∙ sym (map-append line_shown ls (l ∷ [])))
 
-  pub one_more : (ls : List Line) → map first_five rows ≡ map line_shown ls → (l : Line) → GivesLine g old new (Some l) → (all : List Row) × HasGiven g sql params new all × (map first_five all ≡ map line_shown (ls ++ l ∷ []))
-  one_more ls read l h = more ls read l h.0 h.1 h.2
-
-  none_given : (got : Option Row) → Advances g old new got → ◌≡◌ {A = Option Row} (option_map first_five got) None → Shown sql params (state g old) (state g new) rows
-  none_given None gives is = gives sql params rows has
-  none_given (Some row) gives is = absurd (cc)
-
   pub no_more : GivesLine g old new None → Shown sql params (state g old) (state g new) rows
-  no_more h = none_given h.0 h.1 h.2
+  no_more (None, gives, is) = gives sql params rows has
+  no_more (Some row, gives, is) = absurd (cc)
 
 -- ---- lines that show the same rows are the same
 
 abbrev pub Noted : Line → Type 0
 Noted l = IsNote l.note
 
-pub noted_more : (ls : List Line) (l : Line) → AllByRecursion Noted ls → Noted l → AllByRecursion Noted (ls ++ l ∷ [])
-noted_more = All-push Noted
-
 same_line : (a b : Line) → Noted a → Noted b → line_shown a ≡ line_shown b → a ≡ b
 same_line a b one two h =
-    let (count, (word, (amount, (balance, (text, _))))) = told (line_shown a) (line_shown b) h in
-    let kind = same_kind a.kind b.kind word in
-    let note = same_note a.note b.note one two text in
-    λ i. record { number = count i; kind = kind i; amount = amount i; balance = balance i; note = note i }
+    let kind = same_kind a.kind b.kind (cc) in
+    let note = same_note a.note b.note one two (cc) in
+    grind (arith, h, kind, note)
 
 -- ---- a page of lines
 
 abbrev IsPageRow : Name × ℕ → LineRow → Type 0
 IsPageRow k x = (k.1 ≤ most_number + 2) × IsNote x.note
-
-noted : (q : (Name × ℕ) × LineRow → Bool) (n : ℕ) (es : List ((Name × ℕ) × LineRow)) → AllEntries IsPageRow es → AllByRecursion Noted (map line_of_row (take n (filter q es)))
-noted q zero es h = tt
-noted q (suc n) [] h = tt
-noted q (suc n) (e ∷ es) h = elim (cases_Bool (q e)) [
-  | inl t ↦ rw t (h.0.1, noted q n es h.1)
-  | inr f ↦ rw f (noted q (suc n) es h.1)
-]
 
 module _ (p : Name) (after most : ℕ) (r : Rows) (valid : AreLines r) where
   page_read : (rows : List Row) (ls : List Line) → map first_five (take most rows) ≡ map line_shown ls → AllByRecursion (λ l. IsNote l.note) ls → rows ≡ all_shown p after r → ls ≡ row_lines_of r p after most
@@ -181,7 +153,10 @@ module _ (p : Name) (after most : ℕ) (r : Rows) (valid : AreLines r) where
       let page : map first_five (take most rows) ≡ map line_shown (map line_of_row found) =
       ap (λ rs. map first_five (take most rs)) is ∙ ap (map first_five) (take-map (λ e. line_shown (line_of_row e)) most (lines_above p after r))
       ∙ map-map first_five (λ e. line_shown (line_of_row e)) found ∙ sym (map-map line_shown line_of_row found) in
-      same_made Noted line_shown same_line ls (map line_of_row found) mine (noted _ most (fmap.entries r.lines) (all_entries kept.pairs_key.total IsPageRow r.lines valid)) (sym read ∙ page)
+      let all = all_entries kept.pairs_key.total (λ _ x. IsNote x.note) r.lines (λ k x at. (valid k x at).1) in
+      let above = all-filter (λ (e : (Name × ℕ) × LineRow). IsNote e.1.note) _ (fmap.entries r.lines) all in
+      let noted = All-map Noted line_of_row found (All-take (λ (e : (Name × ℕ) × LineRow). IsNote e.1.note) most (lines_above p after r) above) in
+      same_made Noted line_shown same_line ls (map line_of_row found) mine noted (sym read ∙ page)
 
   -- as many rows were taken as the page has at most
   pub full_page : (rows tail : List Row) (ls : List Line) → map first_five rows ≡ map line_shown ls → AllByRecursion (λ l. IsNote l.note) ls → length ls ≡ most → rows ++ tail ≡ all_shown p after r → ls ≡ row_lines_of r p after most
@@ -195,16 +170,11 @@ module _ (p : Name) (after most : ℕ) (r : Rows) (valid : AreLines r) where
       let count : length rows ≡ length ls = sym (length-map rows first_five) ∙ ap length read ∙ length-map ls line_shown in
       page_read rows ls (ap (map first_five) (take_all most rows (omega (arith, count, few))) ∙ read) mine is
 
-below : (p : Name) (after : ℕ) → most_number + 2 ≤ after → (es : List ((Name × ℕ) × LineRow)) → AllEntries IsPageRow es → AllByRecursion (λ (e : (Name × ℕ) × LineRow). (is_name p e.0.0 && nat_lt after e.0.1) ≡ false) es
-below p after high [] h = tt
-below p after high (e ∷ es) h = (grind (arith, nat_tests, h.0.0, high), below p after high es h.1)
-
-none_taken : {X : Type 0} (n : ℕ) → ◌≡◌ {A = List X} (take n []) []
-none_taken zero = refl
-none_taken (suc n) = refl
-
 -- no line is numbered above the most
 pub no_page : (p : Name) (after most : ℕ) (r : Rows) → AreLines r → most_number + 2 ≤ after → row_lines_of r p after most ≡ []
 no_page p after most r valid high =
-    ap (λ es. map line_of_row (take most es)) (filter_none _ (fmap.entries r.lines) (below p after high (fmap.entries r.lines) (all_entries kept.pairs_key.total IsPageRow r.lines valid)))
-    ∙ ap (map line_of_row) (none_taken most)
+    ap (λ es. map line_of_row (take most es))
+    (filter_none _ (fmap.entries r.lines)
+    (all_weaker (λ (e : (Name × ℕ) × LineRow). IsPageRow e.0 e.1) _ (λ e h. grind (arith, nat_tests, h.0, high)) (fmap.entries r.lines)
+    (all_entries kept.pairs_key.total IsPageRow r.lines valid)))
+    ∙ ap (map line_of_row) (take-nil most)

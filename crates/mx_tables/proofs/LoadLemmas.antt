@@ -1,50 +1,38 @@
 -- The statements on loads and redemptions, and redemptions that are collected purse by purse.
-use Rattle.std.proofs.Common.{◌≡◌, inl, inr, ℕ, pos, List, [], ◌∷◌, map, Ok, refl, ◌∙◌, arith, true, ◌&&◌, false, ◌+◌, ◌<◌, ◌≤◌, Bool, T, cond, ◌||◌, ◌++◌, take, length, get_or, Option, Some, None, sym, ap, codes, subst}
-use Rattle.std.specs.List.Sorted.{IsPermutation}
+use Rattle.mx_tables.proofs.Common.{◌≡◌, ℕ, pos, List, [], ◌∷◌, Ok, refl, ◌∙◌, arith, true, ◌&&◌, false, ◌+◌, ◌<◌, ◌≤◌, Bool, ◌++◌, take, length, Option, codes, IsPermutation, eq_by_cmp, Text, Null, Int, option_map, Binary, Row, column, Executes, name_cmp, is_name, Name, Rows, office_schema, number, Holds, Goes, PurseRow, col}
+use Rattle.std.proofs.Common.{map, T, cond, ◌||◌, get_or, sym, ap, subst}
 use Rattle.std.specs.Cmp.{tied_then}
 use Rattle.std.specs.FinMap as fmap
-use Rattle.std.specs.Ordering.{eq_by_cmp}
-use Rattle.sqlite_value.specs.declared.value.Value.TheVariants.{Text, Null, Int}
-use Rattle.std.specs.Prelude.{option_map}
-use Rattle.sqlite_value.specs.declared.keys.Collation.TheVariants.{Binary}
-use Rattle.sqlite_value.specs.Order.{Row, column}
 use Rattle.sqlite_sql.specs.declared.ops.BinaryOp.TheVariants.{Compare}
 use Rattle.sqlite_sql.specs.declared.ops.CompareOp.TheVariants.{Eq}
 use Rattle.sqlite_sql.specs.Ops.{binary, is_true}
-use Rattle.sqlite.specs.State.{State, Shown, Executes}
+use Rattle.sqlite.specs.State.{State, Shown}
 use Rattle.mx_pay.proofs.SameLemmas.{names_turned}
-use Rattle.mx_pay.specs.Names.{name_cmp, is_name}
-use Rattle.mx_book.specs.World.{Name, is_of}
-use Rattle.mx_book.specs.Rows.{Rows}
+use Rattle.mx_book.specs.World.{is_of}
 use Rattle.mx_book.specs.Under.{pair_cmp, remake}
-use Rattle.mx_tables.specs.Schema.{office_schema, number}
-use Rattle.mx_tables.specs.Holds.{Holds}
-use Rattle.mx_tables.specs.States.{Goes}
 use Rattle.mx_tables.specs.Answers.{amount_shown, one_or_none}
 use Rattle.mx_tables.proofs.StoredLemmas.{same_text, cast_int, cast_null, and_true}
 use Rattle.mx_tables.proofs.ReadLemmas.{answers, keyed}
-use Rattle.mx_tables.proofs.WriteLemmas.{adds, alters, goes_as}
-use Rattle.mx_tables.proofs.InboxLemmas.{both_turned}
+use Rattle.mx_tables.proofs.WriteLemmas.{adds, alters, goes_as, untouched}
 use Rattle.mx_tables.proofs.KeptLemmas.{loads, redemptions, purses}
 use Rattle.mx_book.specs.declared.values.Redemption.{Redemption}
 use Rattle.std.specs.List.{list_any}
-use Rattle.std.specs.FinMap.Entries.{is_sorted, below_all}
-use Rattle.std.specs.declared.cmp.Ordering.TheVariants.{Equal}
-use Rattle.std.proofs.lemmas.Bool.{cases_Bool}
+use Rattle.std.specs.FinMap.Entries.{is_sorted}
 use Rattle.std.proofs.Math.Bool.{or-true, or-false, and-false}
 use Rattle.std.proofs.lemmas.List.{take_more, take_all}
 use Rattle.std.proofs.lemmas.List.Sorted.{list_any-IsPermutation}
-use Rattle.mx_pay.proofs.TestLemmas.{or_assoc}
 use Rattle.mx_book.specs.RowEdits.{marked, member_at}
-use Rattle.mx_book.specs.declared.values.PurseRow.{PurseRow}
 use Rattle.mx_book.proofs.NameLemmas.{names_total}
+use Rattle.mx_book.proofs.MapLemmas.{find_below}
+use Rattle.mx_book.specs.Index.{is_met}
 use Rattle.mx_book.proofs.UnderLemmas.{get-remake}
 use Rattle.mx_book.proofs.DueLemmas.{keys_total, keys_exact}
 use Rattle.mx_tables.specs.Counted.{owned_shown, is_owned, collected_where}
 use Rattle.mx_tables.proofs.MapLists.{any_mapped}
+use Rattle.std.proofs.lemmas.List.Folds.{list_any-append}
 use Rattle.sqlite_tied.specs.Compute.{everything}
 use Rattle.sqlite.specs.Listing.{understood}
-use Rattle.sqlite_sql.specs.Term.{lit, col}
+use Rattle.sqlite_sql.specs.Term.{lit}
 use Rattle.mx_tables.proofs.Texts.{is_given, IsSelect, IsInsert, IsUpdate}
 use Rattle.std.specs.FinMap as fmap
 use Rattle.std.specs.FinMap as fmap
@@ -70,8 +58,7 @@ select_load_is = record { is = refl; query = record { plain = (refl, refl); sile
 pub reference_passes : (p reference : Name) (k : Name × Name)
     → (is_true (binary (Compare Eq Binary) (Text k.0) (Text p)) && (is_true (binary (Compare Eq Binary) (Text k.1) (Text reference)) && true)) ≡ eq_by_cmp (pair_cmp name_cmp name_cmp) (p, reference) k
 reference_passes p reference k =
-    both_turned _ _ (is_name k.0 p) (is_name k.1 reference) (is_name p k.0) (is_name reference k.1) (same_text k.0 p) (same_text k.1 reference) (names_turned k.0 p) (names_turned k.1 reference)
-    ∙ tied_then (name_cmp p k.0) (name_cmp reference k.1)
+    grind (arith, same_text k.0 p, same_text k.1 reference, names_turned k.0 p, names_turned k.1 reference, tied_then (name_cmp p k.0) (name_cmp reference k.1))
 
 pub load_is : (p reference : Name) (old new : State) (rows : List Row) → Shown select_load (Text p ∷ Text reference ∷ []) old new rows → (r : Rows) → Holds old.now r
     → (found : Option Row) → rows ≡ one_or_none found → found ≡ option_map amount_shown (fmap.get r.loads (p, reference))
@@ -80,7 +67,7 @@ load_is p reference = keyed loads (p, reference) select_load _ _ _ select_load_i
 pub adds_load : (p reference : Name) (amount : ℕ) (old new : State) (count : ℕ) → old.now.schema ≡ office_schema → Executes insert_load (Text p ∷ Text reference ∷ number amount ∷ []) old new (Ok count)
     → Goes (λ r. record r { loads = fmap.insert r.loads (p, reference) amount }) old new
 adds_load p reference amount =
-    adds loads insert_load _ _ insert_load_is (Text p ∷ Text reference ∷ number amount ∷ []) ((p, reference), amount) (rw (cast_null, cast_int (pos amount)) refl)
+    adds loads insert_load _ _ insert_load_is (Text p ∷ Text reference ∷ number amount ∷ []) ((p, reference), amount) (rw (cast_null, cast_int (pos amount)) refl) refl
 
 -- ---- redemptions
 
@@ -114,7 +101,7 @@ pub adds_redemption : (p reference : Name) (amount : ℕ) (old new : State) (cou
     → Goes (λ r. record r { redemptions = fmap.insert r.redemptions (p, reference) (record { amount = amount; collected = false }) }) old new
 adds_redemption p reference amount =
     adds redemptions insert_redemption _ _ insert_redemption_is (Text p ∷ Text reference ∷ number amount ∷ []) ((p, reference), record { amount = amount; collected = false })
-    (rw (cast_null, cast_int (pos amount), cast_int (pos 0)) refl)
+    (rw (cast_null, cast_int (pos amount), cast_int (pos 0)) refl) refl
 
 -- ---- collecting
 
@@ -124,51 +111,31 @@ Redemptions = fmap.FinMap (pair_cmp name_cmp name_cmp) Redemption
 -- ---- the UPDATE
 
 set_or_left : (b : Bool) (x : Redemption) → cond b (record x { collected = true }) x ≡ record x { collected = x.collected || b }
-set_or_left true x = λ i. record x { collected = sym (or-true x.collected) i }
-set_or_left false x = λ i. record x { collected = sym (or-false x.collected) i }
+set_or_left b x = grind (arith, or-true x.collected, or-false x.collected)
 
 pub collects_purse : (p : Name) (old new : State) (count : ℕ) → old.now.schema ≡ office_schema → Executes mark_purse (Text p ∷ []) old new (Ok count)
     → Goes (λ r. record r { redemptions = remake (collected_where (λ q. is_name q p)) r.redemptions }) old new
 collects_purse p old new count has ran =
-    goes_as _ _ old new (λ r h. λ i. record r { redemptions = remake (λ k x. set_or_left (is_name k.0 p) x i) r.redemptions })
+    goes_as _ _ _ old new (λ r h. λ i. record r { redemptions = remake (λ k x. set_or_left (is_name k.0 p) x i) r.redemptions })
     (alters redemptions mark_purse _ _ mark_purse_is (Text p ∷ []) (λ e. is_name e.0.0 p) (λ k x. record x { collected = true }) (λ id e. rw (same_text e.0.0 p) (and_true _)) (λ id e. refl)
-    (λ id e. rw (cast_int id, cast_int (pos e.1.amount), cast_int (pos 1)) refl) old new count has ran)
+    (λ id e. rw (cast_int id, cast_int (pos e.1.amount), cast_int (pos 1)) refl) old new count has ran (λ read picks fresh wrote. untouched _ old new _ refl wrote))
 
 -- ---- one after the other
 
 module _ (p q : Name → Bool) (m : Redemptions) where
-  twice : (k : Name × Name) (o : Option Redemption) → option_map (collected_where q k) (option_map (collected_where p k) o) ≡ option_map (collected_where (λ n. p n || q n) k) o
-  twice k None = refl
-  twice k (Some x) = λ i. Some (record x { collected = or_assoc x.collected (p k.0) (q k.0) i })
-
   pub collected_twice : remake (collected_where q) (remake (collected_where p) m) ≡ remake (collected_where (λ n. p n || q n)) m
   collected_twice = fmap.same_map keys_total keys_exact _ _ (λ k.
-      get-remake _ (collected_where q) keys_exact (remake (collected_where p) m) k ∙ ap (option_map (collected_where q k)) (get-remake _ (collected_where p) keys_exact m k)
-      ∙ twice k (fmap.get m k) ∙ sym (get-remake _ (collected_where (λ n. p n || q n)) keys_exact m k))
+      grind (arith, get-remake _ (collected_where q) keys_exact (remake (collected_where p) m) k, get-remake _ (collected_where p) keys_exact m k, get-remake _ (collected_where (λ n. p n || q n)) keys_exact m k))
 
   pub collected_same : ((n : Name) → p n ≡ q n) → remake (collected_where p) m ≡ remake (collected_where q) m
   collected_same same = λ i. remake {K = Name × Name} {X = Redemption} {Y = Redemption} {R = pair_cmp name_cmp name_cmp} (λ k x. record x { collected = x.collected || same k.0 i }) m
 
-as_it_was : (k : Name × Name) (o : Option Redemption) → option_map (collected_where (λ _. false) k) o ≡ o
-as_it_was k None = refl
-as_it_was k (Some x) = λ i. Some (record x { collected = or-false x.collected i })
-
 pub collected_none : (m : Redemptions) → remake (collected_where (λ _. false)) m ≡ m
-collected_none m = fmap.same_map keys_total keys_exact _ _ (λ k. get-remake _ (collected_where (λ _. false)) keys_exact m k ∙ as_it_was k (fmap.get m k))
-
-any_last : {X : Type 0} (p : X → Bool) (xs : List X) (x : X) → (list_any p xs || p x) ≡ list_any p (xs ++ x ∷ [])
-any_last p [] x = sym (or-false (p x))
-any_last p (y ∷ xs) x = elim (cases_Bool (p y)) [ inl t ↦ rw t refl | inr e ↦ rw e (any_last p xs x) ]
+collected_none m = fmap.same_map keys_total keys_exact _ _ (λ k. grind (arith, get-remake _ (collected_where (λ _. false)) keys_exact m k))
 
 -- the rows so far, and one more
 abbrev pub so_far : fmap.FinMap name_cmp Name → Name → List Row → Name → Bool
 so_far holders m rows n = list_any (λ row. is_owned holders m row n) rows
-
-one_row_more : (holders : fmap.FinMap name_cmp Name) (m : Name) (rows : List Row) (at : ℕ) (row : Row) → at < length rows → row ≡ get_or rows at row → (e : Redemptions)
-    → remake (collected_where (is_owned holders m row)) (remake (collected_where (so_far holders m (take at rows))) e) ≡ remake (collected_where (so_far holders m (take (at + 1) rows))) e
-one_row_more holders m rows at row within is e =
-    collected_twice _ _ e
-    ∙ collected_same _ _ e (λ n. any_last (λ row. is_owned holders m row n) (take at rows) row ∙ ap (list_any (λ row. is_owned holders m row n)) (ap (λ r. take at rows ++ r ∷ []) is ∙ sym (take_more rows at row within)))
 
 -- ---- all of them
 
@@ -176,52 +143,31 @@ module _ (g : PurseRow → Bool) (p : Name) where
   abbrev named : Name × PurseRow → Bool
   named e = is_name p e.0 && g e.1
 
-  abbrev if_there : Option PurseRow → Bool
-  if_there None = false
-  if_there (Some x) = g x
-
-  missed : (q : Name) (es : List (Name × PurseRow)) → name_cmp p q ≡ Equal → T (below_all name_cmp q es) → list_any named es ≡ false
-  missed q [] t h = refl
-  missed q (e ∷ es) t h = grind (arith, missed q es, names_total.congr p q e.0)
-
-  named_listed : (es : List (Name × PurseRow)) → T (is_sorted name_cmp es) → list_any named es ≡ if_there (fmap.find name_cmp p es)
+  named_listed : (es : List (Name × PurseRow)) → T (is_sorted name_cmp es) → list_any named es ≡ is_met g (fmap.find name_cmp p es)
   named_listed [] h = refl
-  named_listed (e ∷ es) h = grind (arith, named_listed es, missed e.0 es, or-false (g e.1))
+  named_listed (e ∷ es) h = grind (arith, named_listed es, find_below names_total p e.0 es, or-false (g e.1))
 
-  pub any_named : (m : fmap.FinMap name_cmp PurseRow) → list_any named (fmap.entries m) ≡ if_there (fmap.get m p)
-  any_named m = named_listed (fmap.entries m) (fmap.entries_sorted m) ∙ ap if_there (sym (fmap.get-entries m p))
+  pub any_named : (m : fmap.FinMap name_cmp PurseRow) → list_any named (fmap.entries m) ≡ is_met g (fmap.get m p)
+  any_named m = named_listed (fmap.entries m) (fmap.entries_sorted m) ∙ ap (is_met g) (sym (fmap.get-entries m p))
 
-member_there : (holders : fmap.FinMap name_cmp Name) (m : Name) (o : Option PurseRow) → if_there (λ x. is_of m (fmap.get holders x.holder)) [] o ≡ is_of m (member_at holders o)
-member_there holders m None = refl
-member_there holders m (Some x) = refl
-
--- after the last row each purse of a holder of the member is collected
-all_collected : (r : Rows) (m : Name) (rows items : List Row) (at : ℕ) → length rows ≤ at → rows ≡ items → IsPermutation (map owned_shown (fmap.entries r.purses)) items
-    → remake (collected_where (so_far r.holders m (take at rows))) r.redemptions ≡ remake (marked r.purses r.holders m) r.redemptions
-all_collected r m rows items at past is same = λ i. remake {K = Name × Name} {X = Redemption} {Y = Redemption} {R = pair_cmp name_cmp name_cmp} (λ k x. record x { collected = x.collected || each k.0 i }) r.redemptions
-  where
-    each : (n : Name) → so_far r.holders m (take at rows) n ≡ is_of m (member_at r.holders (fmap.get r.purses n))
-    each n =
-        let f : Row → Bool = λ row. is_owned r.holders m row n in
-        ap (list_any f) (take_all at rows past ∙ is) ∙ sym (list_any-IsPermutation f _ _ same) ∙ any_mapped f owned_shown (fmap.entries r.purses)
-        ∙ any_named (λ x. is_of m (fmap.get r.holders x.holder)) n r.purses ∙ member_there r.holders m (fmap.get r.purses n)
+member_there : (holders : fmap.FinMap name_cmp Name) (m : Name) (o : Option PurseRow) → is_met (λ (x : PurseRow). is_of m (fmap.get holders x.holder)) o ≡ is_of m (member_at holders o)
+member_there holders m o = grind arith
 
 -- ---- one row
 
 module _ (m purse holder : Name) (row : Row) (first : column row 0 ≡ Text purse) (second : column row 1 ≡ Text holder) where
-  owned_as : (holders : fmap.FinMap name_cmp Name) (o : Option Name) → fmap.get holders holder ≡ o → (n : Name) → is_owned holders m row n ≡ (is_name n purse && is_of m o)
-  owned_as holders o at n = rw (first, second, at) refl
+  owned_as : (holders : fmap.FinMap name_cmp Name) (o : Option Name) (b : Bool) → is_of m o ≡ b → o ≡ fmap.get holders holder → (n : Name) → (is_name n purse && b) ≡ is_owned holders m row n
+  owned_as holders o b of found n = rw (first, second, ← found, of) refl
 
   -- the holder isn't one of the member
   pub row_left : (o : Option Name) → is_of m o ≡ false → (r : Rows) → o ≡ fmap.get r.holders holder → r ≡ record r { redemptions = remake (collected_where (is_owned r.holders m row)) r.redemptions }
   row_left o other r found =
-      λ i. record r { redemptions = (sym (collected_none r.redemptions) ∙ sym (collected_same _ _ r.redemptions (λ n. owned_as r.holders o (sym found) n ∙ ap (λ b. is_name n purse && b) other ∙ and-false (is_name n purse)))) i }
+      λ i. record r { redemptions = (sym (collected_none r.redemptions) ∙ collected_same _ _ r.redemptions (λ n. sym (and-false (is_name n purse)) ∙ owned_as r.holders o false other found n)) i }
 
   -- the holder is one of the member
   pub row_taken : (o : Option Name) → is_of m o ≡ true → (r : Rows) → o ≡ fmap.get r.holders holder
       → record r { redemptions = remake (collected_where (λ n. is_name n purse)) r.redemptions } ≡ record r { redemptions = remake (collected_where (is_owned r.holders m row)) r.redemptions }
-  row_taken o mine r found =
-      λ i. record r { redemptions = sym (collected_same _ _ r.redemptions (λ n. owned_as r.holders o (sym found) n ∙ ap (λ b. is_name n purse && b) mine ∙ and_true (is_name n purse))) i }
+  row_taken o mine r found = λ i. record r { redemptions = collected_same _ _ r.redemptions (λ n. sym (and_true (is_name n purse)) ∙ owned_as r.holders o true mine found n) i }
 
 -- ---- the loop
 
@@ -233,11 +179,22 @@ none_so_far m r = λ i. record r { redemptions = sym (collected_none r.redemptio
 
 pub one_row_so_far : (m : Name) (rows : List Row) (at : ℕ) (row : Row) → at < length rows → row ≡ get_or rows at row → (r : Rows)
     → record r { redemptions = remake (collected_where (is_owned r.holders m row)) (remake (collected_where (so_far r.holders m (take at rows))) r.redemptions) } ≡ collects_so_far m (take (at + 1) rows) r
-one_row_so_far m rows at row within is r = λ i. record r { redemptions = one_row_more r.holders m rows at row within is r.redemptions i }
+one_row_so_far m rows at row within is r =
+    let f : Name → Row → Bool = λ n row. is_owned r.holders m row n in
+    let more : take at rows ++ row ∷ [] ≡ take (at + 1) rows = ap (λ r. take at rows ++ r ∷ []) is ∙ sym (take_more rows at row within) in
+    let last : (n : Name) → (so_far r.holders m (take at rows) n || f n row) ≡ so_far r.holders m (take (at + 1) rows) n =
+    λ n. grind (arith, list_any-append (f n) (take at rows) (row ∷ []), or-false (f n row), more) in
+    λ i. record r { redemptions = (collected_twice (so_far r.holders m (take at rows)) (λ n. f n row) r.redemptions ∙ collected_same _ _ r.redemptions last) i }
 
 pub all_so_far : (m : Name) (rows items : List Row) (at : ℕ) → length rows ≤ at → rows ≡ items → (r : Rows) → IsPermutation (map owned_shown (fmap.entries r.purses)) items
     → collects_so_far m (take at rows) r ≡ record r { redemptions = remake (marked r.purses r.holders m) r.redemptions }
-all_so_far m rows items at past is r same = λ i. record r { redemptions = all_collected r m rows items at past is same i }
+all_so_far m rows items at past is r same = λ i. record r { redemptions = collected_same _ _ r.redemptions each i }
+  where
+    each : (n : Name) → so_far r.holders m (take at rows) n ≡ is_of m (member_at r.holders (fmap.get r.purses n))
+    each n =
+        let f : Row → Bool = λ row. is_owned r.holders m row n in
+        ap (list_any f) (take_all at rows past ∙ is) ∙ sym (list_any-IsPermutation f _ _ same) ∙ any_mapped f owned_shown (fmap.entries r.purses)
+        ∙ any_named (λ x. is_of m (fmap.get r.holders x.holder)) n r.purses ∙ member_there r.holders m (fmap.get r.purses n)
 
 -- ---- the query
 

@@ -1,21 +1,15 @@
 -- Lists of rows and the maps that they make.
-use Rattle.std.proofs.Common.{◌≡◌, inl, inr, Bool, true, cond, ◌||◌, List, [], ◌∷◌, ◌++◌, map, Some, None, refl, sym, ap, subst, ◌∙◌, false, not, filter, Option, ℕ, zero, suc, length, get_or, set, ap₂, arith}
-use Rattle.std.specs.List.{list_any, swap}
-use Rattle.std.specs.List.Sorted.{IsPermutation}
-use Rattle.std.proofs.lemmas.Bool.{cases_Bool}
-use Rattle.std.proofs.lemmas.List.Sorted.{IsPermutation-refl, IsPermutation-cons, IsPermutation-trans, IsPermutation-append_comm, IsPermutation-swap, IsPermutation-keeps}
-use Rattle.std.specs.declared.cmp.Ordering.{Ordering}
+use Rattle.mx_tables.proofs.Common.{◌≡◌, Bool, true, List, [], ◌∷◌, ◌++◌, Some, None, refl, ◌∙◌, filter, arith, IsPermutation, Ordering, is_eq, eq_by_cmp, option_map}
+use Rattle.std.proofs.Common.{cond, ◌||◌, map, sym, ap, subst, not}
+use Rattle.std.specs.List.{list_any}
+use Rattle.std.proofs.lemmas.List.Sorted.{IsPermutation-refl, IsPermutation-cons, IsPermutation-middle, IsPermutation-trans}
 use Rattle.std.specs.declared.cmp.Ordering.TheVariants.{Less, Equal, Greater}
-use Rattle.std.specs.Ordering.{is_eq, eq_by_cmp}
 use Rattle.std.specs.Cmp.{IsTotalOrder, eq_by_cmp_equiv}
 use Rattle.std.specs.FinMap as fmap
 use Rattle.std.specs.FinMap.{IsAntisymmetric}
 use Rattle.std.specs.FinMap.Entries.{put, by_order}
 use Rattle.mx_book.proofs.UnderLemmas.{entries_empty, get-remake}
-use Rattle.std.specs.Prelude.{option_map}
-use Rattle.mx_pay.proofs.TestLemmas.{is_equal}
 use Rattle.mx_book.specs.Under.{remake}
-use Rattle.std.proofs.lemmas.List.{length-map, map-set}
 
 -- each key stands once
 abbrev pub AreDistinct : {K V : Type 0} → (K → K → Ordering) → List (K × V) → Type 0
@@ -27,9 +21,6 @@ pub any_mapped : {X Y : Type 0} (f : Y → Bool) (show : X → Y) (xs : List X) 
 any_mapped f show [] = refl
 any_mapped f show (x ∷ xs) = ap (λ b. f (show x) || b) (any_mapped f show xs)
 
-swapped : {X : Type 0} (a b : X) (xs : List X) → IsPermutation (a ∷ b ∷ xs) (b ∷ a ∷ xs)
-swapped a b xs = IsPermutation-trans (a ∷ b ∷ xs) (b ∷ xs ++ a ∷ []) (b ∷ a ∷ xs) (IsPermutation-append_comm (a ∷ []) (b ∷ xs)) (IsPermutation-cons b (xs ++ a ∷ []) (a ∷ xs) (IsPermutation-append_comm xs (a ∷ [])))
-
 module _ {K V : Type 0} (R : K → K → Ordering) where
   -- a new key is added
   put_adds : (k : K) (v : V) (es : List (K × V)) → fmap.find R k es ≡ None → IsPermutation ((k, v) ∷ es) (put R k v es)
@@ -38,7 +29,7 @@ module _ {K V : Type 0} (R : K → K → Ordering) where
       elim (R k e.0) as (λ o. cond (is_eq o) (Some e.1) (fmap.find R k es) ≡ None → IsPermutation ((k, v) ∷ e ∷ es) (by_order o ((k, v) ∷ e ∷ es) ((e.0, v) ∷ es) (e ∷ put R k v es))) [
         | Less ↦ λ n. IsPermutation-refl ((k, v) ∷ e ∷ es)
         | Equal ↦ λ n. absurd cc
-        | Greater ↦ λ n. IsPermutation-trans _ _ _ (swapped (k, v) e es) (IsPermutation-cons e ((k, v) ∷ es) (put R k v es) (put_adds k v es n))
+        | Greater ↦ λ n. IsPermutation-trans _ _ _ (IsPermutation-middle ((k, v) ∷ []) e es) (IsPermutation-cons e ((k, v) ∷ es) (put R k v es) (put_adds k v es n))
       ] none
 
   -- the entries of the map of a list whose keys are distinct are the list's, in another order
@@ -52,18 +43,12 @@ module _ {K V : Type 0} (R : K → K → Ordering) where
 
   -- the last of distinct keys stands nowhere before
   last_found : (q k : K) (v : V) (es : List (K × V)) → eq_by_cmp R q k ≡ true → fmap.find R q (es ++ (k, v) ∷ []) ≡ None → ⊥
-  last_found q k v [] same none = absurd (let it : Some v ≡ None = rw same at none in cc)
-  last_found q k v (e ∷ es) same none = elim (cases_Bool (eq_by_cmp R q e.0)) [
-    | inl t ↦ absurd (let it : Some e.1 ≡ None = rw t at none in cc)
-    | inr f ↦ last_found q k v es same (rw f at none)
-  ]
+  last_found q k v [] same none = grind arith
+  last_found q k v (e ∷ es) same none = grind (arith, last_found q k v es)
 
   last_new : IsTotalOrder R → (es : List (K × V)) (k : K) (v : V) → AreDistinct R (es ++ (k, v) ∷ []) → fmap.find R k es ≡ None
   last_new o [] k v h = refl
-  last_new o (e ∷ es) k v h = elim (cases_Bool (eq_by_cmp R k e.0)) [
-    | inl t ↦ absurd (last_found e.0 k v es ((eq_by_cmp_equiv o).symm e.0 k ∙ t) h.0)
-    | inr f ↦ rw f (last_new o es k v h.1)
-  ]
+  last_new o (e ∷ es) k v h = grind (arith, last_new o es k v h.1, last_found e.0 k v es, (eq_by_cmp_equiv o).symm e.0 k)
 
   -- a row more, whose key no other row has, is an insert
   pub map_push : IsTotalOrder R → IsAntisymmetric R → (es : List (K × V)) (k : K) (v : V) → AreDistinct R (es ++ (k, v) ∷ []) → fmap.from_entries {R = R} (es ++ (k, v) ∷ []) ≡ fmap.insert (fmap.from_entries es) k v
@@ -78,10 +63,7 @@ module _ {K V : Type 0} {R : K → K → Ordering} (o : IsTotalOrder R) (exact :
 
   find_anew : (f : K → V → V) (q : K) (es : List (K × V)) → fmap.find R q (map (anew f) es) ≡ option_map (f q) (fmap.find R q es)
   find_anew f q [] = refl
-  find_anew f q (e ∷ es) = elim (cases_Bool (eq_by_cmp R q e.0)) [
-    | inl t ↦ rw t (ap (λ k. Some (f k e.1)) (sym (exact q e.0 (is_equal _ t))))
-    | inr n ↦ rw n (find_anew f q es)
-  ]
+  find_anew f q (e ∷ es) = grind (arith, find_anew f q es, exact q e.0)
 
   -- values made anew are the map's made anew
   pub map_anew : (f : K → V → V) (es : List (K × V)) → fmap.from_entries {R = R} (map (anew f) es) ≡ remake f (fmap.from_entries es)
@@ -89,55 +71,11 @@ module _ {K V : Type 0} {R : K → K → Ordering} (o : IsTotalOrder R) (exact :
       fmap.get-from_entries o (map (anew f) es) q ∙ find_anew f q es ∙ ap (option_map (f q)) (sym (fmap.get-from_entries o es q)) ∙ sym (get-remake R f exact (fmap.from_entries es) q))
 
   find_left : (gone : K → Bool) (q : K) (es : List (K × V)) → fmap.find R q (filter (λ (e : K × V). not (gone e.0)) es) ≡ cond (gone q) None (fmap.find R q es)
-  find_left gone q [] = either (gone q)
-    where
-      either : (b : Bool) → ◌≡◌ {A = Option V} None (cond b None None)
-      either true = refl
-      either false = refl
-  find_left gone q (e ∷ es) =
-      let more = find_left gone q es in
-      elim (cases_Bool (eq_by_cmp R q e.0)) [
-        | inl t ↦
-            let at : gone q ≡ gone e.0 = ap gone (exact q e.0 (is_equal _ t)) in
-            elim (cases_Bool (gone e.0)) [
-              | inl out ↦ rw (out, at, out) (more ∙ rw (at, out) refl)
-              | inr kept ↦ rw (kept, at, kept, t) refl
-            ]
-        | inr n ↦ elim (cases_Bool (gone e.0)) [
-          | inl out ↦ rw (out, n) more
-          | inr kept ↦ rw (kept, n) more
-        ]
-      ]
-
-  cond_turned : (b : Bool) (x : Option V) → cond b None x ≡ cond (not b) x None
-  cond_turned true x = refl
-  cond_turned false x = refl
+  find_left gone q [] = grind arith
+  find_left gone q (e ∷ es) = grind (arith, find_left gone q es, exact q e.0)
 
   -- what is left of a list is what the map keeps
   pub map_left : (gone : K → Bool) (es : List (K × V)) → fmap.from_entries {R = R} (filter (λ (e : K × V). not (gone e.0)) es) ≡ fmap.retain_keys (fmap.from_entries es) (λ k. not (gone k))
   map_left gone es = fmap.same_map o exact _ _ (λ q.
-      fmap.get-from_entries o (filter (λ (e : K × V). not (gone e.0)) es) q ∙ find_left gone q es ∙ ap (cond (gone q) None) (sym (fmap.get-from_entries o es q))
-      ∙ cond_turned (gone q) (fmap.get (fmap.from_entries es) q)
-      ∙ sym (fmap.get-retain_keys (fmap.from_entries es) (λ k. not (gone k)) q (λ x tie. ap (λ k. not (gone k)) (sym (exact q x tie)))))
-
--- ---- a permutation of shown values shows a permutation of them
-
-module _ {X Y : Type 0} (f : X → Y) where
-  at_map : (xs : List X) (i : ℕ) (d : X) → f (get_or xs i d) ≡ get_or (map f xs) i (f d)
-  at_map [] i d = refl
-  at_map (x ∷ xs) zero d = refl
-  at_map (x ∷ xs) (suc i) d = at_map xs i d
-
-  swap_map : (xs : List X) (i j : ℕ) → map f (swap xs i j) ≡ swap (map f xs) i j
-  swap_map [] i j = refl
-  swap_map (x ∷ xs) i j =
-      map-set f (set (x ∷ xs) i (get_or (x ∷ xs) j x)) j (get_or (x ∷ xs) i x)
-      ∙ ap₂ (λ l y. set l j y) (map-set f (x ∷ xs) i (get_or (x ∷ xs) j x) ∙ ap (set (map f (x ∷ xs)) i) (at_map (x ∷ xs) j x)) (at_map (x ∷ xs) i x)
-
-  pub unmapped : (xs : List X) (ys : List Y) → IsPermutation (map f xs) ys → (zs : List X) × IsPermutation xs zs × (map f zs ≡ ys)
-  unmapped xs ys =
-      IsPermutation-keeps (map f xs) (λ l. (zs : List X) × IsPermutation xs zs × (map f zs ≡ l)) (xs, IsPermutation-refl xs, refl)
-      (λ l i j p q h.
-      let long = length-map h.0 f in
-      let same = ap length h.2 in
-      (swap h.0 i j, IsPermutation-trans xs h.0 (swap h.0 i j) h.1 (IsPermutation-swap h.0 (swap h.0 i j) i j (omega (arith, long, same)) (omega (arith, long, same)) refl), swap_map h.0 i j ∙ ap (λ m. swap m i j) h.2)) ys
+      let kept = fmap.get-retain_keys {R = R} (fmap.from_entries es) (λ k. not (gone k)) q (λ x tie. ap (λ k. not (gone k)) (sym (exact q x tie))) in
+      grind (arith, fmap.get-from_entries o (filter (λ (e : K × V). not (gone e.0)) es) q, find_left gone q es, fmap.get-from_entries o es q, kept))

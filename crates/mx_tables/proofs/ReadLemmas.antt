@@ -1,48 +1,42 @@
 -- What the queries answer from the rows of a book.
-use Rattle.std.proofs.Common.{◌≡◌, ◌+◌, List, [], ◌∷◌, map, length, Some, None, refl, ap, subst, inl, inr, arith, ℕ, ℤ, Bool, true, T, filter, Option, sym, ◌∙◌, Less, codes}
-use Rattle.std.specs.List.Sorted.{IsPermutation}
+use Rattle.mx_tables.proofs.Common.{◌≡◌, List, [], ◌∷◌, length, Some, None, refl, inl, inr, arith, ℕ, ℤ, Bool, true, filter, Option, ◌∙◌, codes, IsPermutation, length-map, Ordering, eq_by_cmp, AllByRecursion, option_map, Int, Text, Row, Term, col, Database, Rows, office_schema, Holds, Name, PurseRow}
+use Rattle.std.proofs.Common.{map, ap, subst, T, sym, Less}
 use Rattle.std.proofs.lemmas.List.Sorted.{length_permutation, IsPermutation-sym, IsPermutation-trans, IsPermutation-map}
-use Rattle.std.proofs.lemmas.List.{length-map}
 use Rattle.std.proofs.lemmas.Bool.{cases_Bool}
-use Rattle.std.specs.declared.cmp.Ordering.{Ordering}
-use Rattle.std.specs.Ordering.{eq_by_cmp}
 use Rattle.std.specs.FinMap as fmap
 use Rattle.sqlite.proofs.Callers.{one_permutation, reads_as}
 use Rattle.mx_tables.specs.Answers.{at_key, one_or_none, about_text, shown_about, member_shown, text_shown, purse_shown, own_shown, next_shown}
-use Rattle.std.specs.List.{AllByRecursion}
-use Rattle.std.specs.Prelude.{option_map}
 use Rattle.std.specs.FinMap as fmap
 use Rattle.std.specs.FinMap.Entries.{is_sorted, below_all}
-use Rattle.sqlite_value.specs.declared.value.Value.TheVariants.{Int, Text}
 use Rattle.sqlite_value.specs.declared.keys.Key.{Key}
-use Rattle.sqlite_value.specs.Order.{Row}
 use Rattle.sqlite_trees.specs.Tree.{IsAscending}
 use Rattle.sqlite_trees.proofs.ListLemmas.{map-map}
-use Rattle.sqlite_sql.specs.Term.{Term, eval_all, col}
+use Rattle.sqlite_sql.specs.Term.{eval_all}
 use Rattle.sqlite_sql.specs.Query.{Output, output, output_cmp}
 use Rattle.sqlite_sql.proofs.QueryLemmas.{output_cmp_total}
 use Rattle.sqlite_keyed.proofs.SortLemmas.{sorted_unique}
 use Rattle.sqlite_keyed.proofs.ListLemmas.{IsPermutation-filter, ascending-map}
 use Rattle.sqlite_schema.specs.declared.command.Command.TheVariants.{Select}
-use Rattle.sqlite.specs.Effect.{Database, Reads}
+use Rattle.sqlite.specs.Effect.{Reads}
 use Rattle.sqlite.specs.State.{State, Shown}
 use Rattle.mx_pay.proofs.TestLemmas.{first_true, second_true, is_less}
-use Rattle.mx_book.specs.Rows.{Rows}
-use Rattle.mx_tables.specs.Schema.{office_schema}
-use Rattle.mx_tables.specs.Holds.{Holds, HaveCells}
+use Rattle.mx_tables.specs.Holds.{HaveCells}
 use Rattle.mx_tables.proofs.Texts.{scan, alone, IsSelect, is_given}
 use Rattle.mx_tables.proofs.Statements.{selected, picked, shown_rows, env, passes}
-use Rattle.mx_tables.proofs.Places.{Place, Belongs, listed}
+use Rattle.mx_tables.proofs.Places.{Place, Belongs, stored, in_map}
 use Rattle.sqlite_tied.specs.Compute.{everything}
 use Rattle.sqlite.specs.Listing.{understood}
 use Rattle.mx_pay.proofs.SameLemmas.{names_turned}
-use Rattle.mx_book.specs.World.{Name}
-use Rattle.mx_book.specs.declared.values.PurseRow.{PurseRow}
 use Rattle.mx_tables.specs.declared.asking.About.{About}
 use Rattle.mx_tables.specs.declared.asking.About.TheVariants.{Member, Holder, Purse, Own, Owner, Next}
 use Rattle.mx_tables.specs.States.{IsQuery}
 use Rattle.mx_tables.proofs.StoredLemmas.{and_true, same_text}
 use Rattle.mx_tables.proofs.KeptLemmas as kept
+
+-- a value whose image is there
+pub one_mapped : {A B : Type 0} (f : A → B) (o : Option A) (b : B) → Some b ≡ option_map f o → (x : A) × (o ≡ Some x) × (f x ≡ b)
+one_mapped f None b e = absurd (cc)
+one_mapped f (Some x) b e = (x, refl, cc)
 
 -- ---- what a query at a key answers
 
@@ -52,19 +46,11 @@ module _ {K V A : Type 0} (R : K → K → Ordering) (show : V → A) (q : K) wh
 
   none_at : (es : List (K × V)) → length (at_key R q es) ≡ 0 → fmap.find R q es ≡ None
   none_at [] h = refl
-  none_at (e ∷ es) h =
-      elim (cases_Bool (eq_by_cmp R q e.0)) [
-        | inl t ↦ absurd (let e : length (at_key R q (e ∷ es)) ≡ length (at_key R q es) + 1 = rw t (omega arith) in omega (arith, h, e))
-        | inr f ↦ rw f (none_at es (rw f at h))
-      ]
+  none_at (e ∷ es) h = grind (arith, none_at es)
 
-  one_shown : (es : List (K × V)) (x : A) → shown es ≡ x ∷ [] → (v : V) × (fmap.find R q es ≡ Some v) × (show v ≡ x)
+  one_shown : (es : List (K × V)) (x : A) → shown es ≡ x ∷ [] → option_map show (fmap.find R q es) ≡ Some x
   one_shown [] x h = absurd (let n = ap length h in omega (arith, n))
-  one_shown (e ∷ es) x h =
-      elim (cases_Bool (eq_by_cmp R q e.0)) [
-        | inl t ↦ (e.1, rw t refl, let it : show e.1 ∷ shown es ≡ x ∷ [] = rw t at h in cc)
-        | inr f ↦ let more = one_shown es x (rw f at h) in (more.0, rw f more.1, more.2)
-      ]
+  one_shown (e ∷ es) x h = grind (arith, h, one_shown es x)
 
   -- no row: no such key
   pub found_none : (es : List (K × V)) (rows : List A) → IsPermutation (shown es) rows → rows ≡ [] → fmap.find R q es ≡ None
@@ -75,7 +61,7 @@ module _ {K V A : Type 0} (R : K → K → Ordering) (show : V → A) (q : K) wh
 
   -- one row: the key's
   pub found_one : (es : List (K × V)) (rows : List A) (x : A) → IsPermutation (shown es) rows → rows ≡ x ∷ [] → (v : V) × (fmap.find R q es ≡ Some v) × (show v ≡ x)
-  found_one es rows x h one = one_shown es x (one_permutation x _ (IsPermutation-sym _ _ (subst (IsPermutation (shown es)) one h)))
+  found_one es rows x h one = one_mapped show (fmap.find R q es) x (sym (one_shown es x (one_permutation x _ (IsPermutation-sym _ _ (subst (IsPermutation (shown es)) one h)))))
 
 -- a query of one tree answers what it shows of the typed rows that pass
 pub answered : {X : Type 0} (sql : List ℕ) (tree : ℕ) (terms project : List Term) (names : List (List ℕ)) → IsSelect sql tree terms project [] names
@@ -88,15 +74,10 @@ answered sql tree terms project names text params cells p f tests shows old new 
     let got = picked tree terms project [] names old.now params rows read in
     subst (λ all. IsPermutation all rows) (shown_rows cells (passes terms params) (λ r. eval_all project (env params r)) p f tests shows (old.now.trees tree) xs have) got
 
--- a value whose image is there
-pub one_mapped : {A B : Type 0} (f : A → B) (o : Option A) (b : B) → Some b ≡ option_map f o → (x : A) × (o ≡ Some x) × (f x ≡ b)
-one_mapped f None b e = absurd (cc)
-one_mapped f (Some x) b e = (x, refl, cc)
-
 -- what a query at a key answers is what it shows of the key's value
 pub got : {K V : Type 0} (R : K → K → Ordering) (show : V → Row) (q : K) (m : fmap.FinMap R V) (rows : List Row) (found : Option Row) → IsPermutation (map (λ (e : K × V). show e.1) (at_key R q (fmap.entries m))) rows
     → rows ≡ one_or_none found → found ≡ option_map show (fmap.get m q)
-got R show q m rows None h only = rw (fmap.get-entries m q ∙ found_none R show q (fmap.entries m) rows h only) refl
+got R show q m rows None h only = grind (arith, fmap.get-entries m q, found_none R show q (fmap.entries m) rows h only)
 got R show q m rows (Some x) h only = let one = found_one R show q (fmap.entries m) rows x h only in rw (fmap.get-entries m q ∙ one.1) (ap Some (sym one.2))
 
 module _ {K V : Type 0} {R : K → K → Ordering} {t : Place R V} (table : Belongs t) where
@@ -106,9 +87,8 @@ module _ {K V : Type 0} {R : K → K → Ordering} {t : Place R V} (table : Belo
       → ((id : ℤ) (e : K × V) → passes terms params (Int id ∷ t.cells e) ≡ p e) → ((id : ℤ) (e : K × V) → eval_all project (env params (Int id ∷ t.cells e)) ≡ f e)
       → (old new : State) (rows : List Row) → Shown sql params old new rows → (r : Rows) → Holds old.now r → IsPermutation (map f (filter p (fmap.entries (t.map.get r)))) rows
   answers sql terms project names text params p f tests shows old new rows shown r h =
-      let l = listed table old.now r h in
-      let got = answered sql t.table.tree terms project names text params t.cells p f tests shows old new rows shown h.has.schema l.rows l.have in
-      IsPermutation-trans _ _ _ (IsPermutation-sym _ _ (IsPermutation-map f _ _ (IsPermutation-filter p _ _ l.same))) got
+      let got = answered sql t.table.tree terms project names text params t.cells p f tests shows old new rows shown h.has.schema (t.list.get h.contents) (stored table.kept old.now h.contents h.has).have in
+      IsPermutation-trans _ _ _ (IsPermutation-sym _ _ (IsPermutation-map f _ _ (IsPermutation-filter p _ _ (in_map table old.now r h)))) got
 
   -- a query at a key answers what it shows of the key's value
   pub keyed : (q : K) (sql : List ℕ) (terms project : List Term) (names : List (List ℕ)) → IsSelect sql t.table.tree terms project [] names
@@ -149,16 +129,16 @@ module _ {K V : Type 0} {R : K → K → Ordering} {t : Place R V} (table : Belo
         → (r : Rows) → Holds db r → rows ≡ map (λ e. (out e).1) (filter p (fmap.entries (t.map.get r)))
     reads_in_order names db rows read r h =
         let q = scan t.table.tree terms project order in
-        let l = listed table db r h in
+        let l = t.list.get h.contents in
         let got = selected t.table.tree terms project order names db params rows read in
         let found = filter (passes terms params) (db.trees t.table.tree) in
         let es = filter p (fmap.entries (t.map.get r)) in
-        let typed : map (output q) (map (env params) found) ≡ map out (filter p l.rows) =
+        let typed : map (output q) (map (env params) found) ≡ map out (filter p l) =
         map-map (output q) (env params) found
-        ∙ shown_rows t.cells (passes terms params) (λ x. output q (env params x)) p out tests outs (db.trees t.table.tree) l.rows l.have in
-        let same = IsPermutation-map out _ _ (IsPermutation-filter p _ _ l.same) in
+        ∙ shown_rows t.cells (passes terms params) (λ x. output q (env params x)) p out tests outs (db.trees t.table.tree) l (stored table.kept db h.contents h.has).have in
+        let same = IsPermutation-map out _ _ (IsPermutation-filter p _ _ (in_map table db r h)) in
         let other : IsPermutation (map out es) got.0 =
-        IsPermutation-trans (map out es) (map out (filter p l.rows)) got.0 (IsPermutation-sym _ _ same) (subst (λ x. IsPermutation x got.0) typed got.1) in
+        IsPermutation-trans (map out es) (map out (filter p l)) got.0 (IsPermutation-sym _ _ same) (subst (λ x. IsPermutation x got.0) typed got.1) in
         let up = ascending-map (λ a b. output_cmp q a b ≡ Less) out es (ascends (fmap.entries (t.map.get r)) (fmap.entries_sorted (t.map.get r))) in
         let order : got.0 ≡ map out es = sorted_unique (output_cmp q) (output_cmp_total q) (map out es) got.0 up other got.2 in
         got.3 ∙ ap (map (λ (o : Output). o.1)) order ∙ map-map (λ (o : Output). o.1) out es
@@ -168,45 +148,36 @@ module _ {K V : Type 0} {R : K → K → Ordering} {t : Place R V} (table : Belo
     answers_in_order sql names text old new rows shown r h =
         reads_in_order names old.now rows (reads_as sql params old new office_schema h.has.schema _ text.is text.query.plain text.unlisted rows shown) r h
 
-member_is : IsSelect (about_text Member) 1 (is_given 1 0 ∷ []) (col 1 2 ∷ col 1 3 ∷ []) [] (codes "granted" ∷ codes "unspent" ∷ [])
-unfolding understood everything
-member_is = record { is = refl; query = record { plain = (refl, refl); silent = λ _ _. refl }; unlisted = refl }
+-- what is asked about a name: the tree, the columns that are shown, and their names
+abbrev asked : About → ℕ × List Term × List (List ℕ)
+asked Member = (1, col 1 2 ∷ col 1 3 ∷ [], codes "granted" ∷ codes "unspent" ∷ [])
+asked Holder = (6, col 1 2 ∷ [], codes "member" ∷ [])
+asked Purse = (
+  8,
+  col 1 2 ∷ col 1 3 ∷ col 1 4 ∷ col 1 5 ∷ col 1 6 ∷ col 1 7 ∷ col 1 8 ∷ col 1 9 ∷ [],
+  codes "holder" ∷ codes "balance" ∷ codes "next_number" ∷ codes "status" ∷ codes "details" ∷ codes "log" ∷ codes "line_count" ∷ codes "next_message" ∷ [],
+)
+asked Own = (
+  8,
+  col 1 2 ∷ col 1 3 ∷ col 1 4 ∷ col 1 5 ∷ col 1 6 ∷ col 1 7 ∷ col 1 8 ∷ [],
+  codes "holder" ∷ codes "balance" ∷ codes "next_number" ∷ codes "status" ∷ codes "details" ∷ codes "log" ∷ codes "line_count" ∷ [],
+)
+asked Owner = (8, col 1 2 ∷ [], codes "holder" ∷ [])
+asked Next = (8, col 1 9 ∷ [], codes "next_message" ∷ [])
 
-holder_is : IsSelect (about_text Holder) 6 (is_given 1 0 ∷ []) (col 1 2 ∷ []) [] (codes "member" ∷ [])
+selects : (a : About) → IsSelect (about_text a) (asked a).0 (is_given 1 0 ∷ []) (asked a).1 [] (asked a).2
 unfolding understood everything
-holder_is = record { is = refl; query = record { plain = (refl, refl); silent = λ _ _. refl }; unlisted = refl }
-
-purse_is : IsSelect (about_text Purse) 8 (is_given 1 0 ∷ []) (col 1 2 ∷ col 1 3 ∷ col 1 4 ∷ col 1 5 ∷ col 1 6 ∷ col 1 7 ∷ col 1 8 ∷ col 1 9 ∷ []) []
-    (codes "holder" ∷ codes "balance" ∷ codes "next_number" ∷ codes "status" ∷ codes "details" ∷ codes "log" ∷ codes "line_count" ∷ codes "next_message" ∷ [])
-unfolding understood everything
-purse_is = record { is = refl; query = record { plain = (refl, refl); silent = λ _ _. refl }; unlisted = refl }
-
-own_is : IsSelect (about_text Own) 8 (is_given 1 0 ∷ []) (col 1 2 ∷ col 1 3 ∷ col 1 4 ∷ col 1 5 ∷ col 1 6 ∷ col 1 7 ∷ col 1 8 ∷ []) []
-    (codes "holder" ∷ codes "balance" ∷ codes "next_number" ∷ codes "status" ∷ codes "details" ∷ codes "log" ∷ codes "line_count" ∷ [])
-unfolding understood everything
-own_is = record { is = refl; query = record { plain = (refl, refl); silent = λ _ _. refl }; unlisted = refl }
-
-owner_is : IsSelect (about_text Owner) 8 (is_given 1 0 ∷ []) (col 1 2 ∷ []) [] (codes "holder" ∷ [])
-unfolding understood everything
-owner_is = record { is = refl; query = record { plain = (refl, refl); silent = λ _ _. refl }; unlisted = refl }
-
-next_is : IsSelect (about_text Next) 8 (is_given 1 0 ∷ []) (col 1 9 ∷ []) [] (codes "next_message" ∷ [])
-unfolding understood everything
-next_is = record { is = refl; query = record { plain = (refl, refl); silent = λ _ _. refl }; unlisted = refl }
+selects Member = record { is = refl; query = record { plain = (refl, refl); silent = λ _ _. refl }; unlisted = refl }
+selects a = record { is = refl; query = record { plain = (refl, refl); silent = λ _ _. refl }; unlisted = refl }
 
 pub about_query : (a : About) → IsQuery (about_text a)
-about_query Member = member_is.query
-about_query Holder = holder_is.query
-about_query Purse = purse_is.query
-about_query Own = own_is.query
-about_query Owner = owner_is.query
-about_query Next = next_is.query
+about_query a = (selects a).query
 
 module _ (p : Name) (old new : State) (rows : List Row) (r : Rows) (h : Holds old.now r) (found : Option Row) (only : rows ≡ one_or_none found) where
   pub about_is : (a : About) → Shown (about_text a) (Text p ∷ []) old new rows → found ≡ shown_about a r p
-  about_is Member shown = keyed kept.members p _ _ _ _ member_is (Text p ∷ []) member_shown (λ id e. rw (same_text e.0 p) (and_true _ ∙ names_turned e.0 p)) (λ id e. refl) old new rows shown r h found only
-  about_is Holder shown = keyed kept.holders p _ _ _ _ holder_is (Text p ∷ []) text_shown (λ id e. rw (same_text e.0 p) (and_true _ ∙ names_turned e.0 p)) (λ id e. refl) old new rows shown r h found only
-  about_is Purse shown = keyed kept.purses p _ _ _ _ purse_is (Text p ∷ []) purse_shown (λ id e. rw (same_text e.0 p) (and_true _ ∙ names_turned e.0 p)) (λ id e. refl) old new rows shown r h found only
-  about_is Own shown = keyed kept.purses p _ _ _ _ own_is (Text p ∷ []) own_shown (λ id e. rw (same_text e.0 p) (and_true _ ∙ names_turned e.0 p)) (λ id e. refl) old new rows shown r h found only
-  about_is Owner shown = keyed kept.purses p _ _ _ _ owner_is (Text p ∷ []) (λ (x : PurseRow). text_shown x.holder) (λ id e. rw (same_text e.0 p) (and_true _ ∙ names_turned e.0 p)) (λ id e. refl) old new rows shown r h found only
-  about_is Next shown = keyed kept.purses p _ _ _ _ next_is (Text p ∷ []) next_shown (λ id e. rw (same_text e.0 p) (and_true _ ∙ names_turned e.0 p)) (λ id e. refl) old new rows shown r h found only
+  about_is Member shown = keyed kept.members p _ _ _ _ (selects Member) (Text p ∷ []) member_shown (λ id e. rw (same_text e.0 p) (and_true _ ∙ names_turned e.0 p)) (λ id e. refl) old new rows shown r h found only
+  about_is Holder shown = keyed kept.holders p _ _ _ _ (selects Holder) (Text p ∷ []) text_shown (λ id e. rw (same_text e.0 p) (and_true _ ∙ names_turned e.0 p)) (λ id e. refl) old new rows shown r h found only
+  about_is Purse shown = keyed kept.purses p _ _ _ _ (selects Purse) (Text p ∷ []) purse_shown (λ id e. rw (same_text e.0 p) (and_true _ ∙ names_turned e.0 p)) (λ id e. refl) old new rows shown r h found only
+  about_is Own shown = keyed kept.purses p _ _ _ _ (selects Own) (Text p ∷ []) own_shown (λ id e. rw (same_text e.0 p) (and_true _ ∙ names_turned e.0 p)) (λ id e. refl) old new rows shown r h found only
+  about_is Owner shown = keyed kept.purses p _ _ _ _ (selects Owner) (Text p ∷ []) (λ (x : PurseRow). text_shown x.holder) (λ id e. rw (same_text e.0 p) (and_true _ ∙ names_turned e.0 p)) (λ id e. refl) old new rows shown r h found only
+  about_is Next shown = keyed kept.purses p _ _ _ _ (selects Next) (Text p ∷ []) next_shown (λ id e. rw (same_text e.0 p) (and_true _ ∙ names_turned e.0 p)) (λ id e. refl) old new rows shown r h found only

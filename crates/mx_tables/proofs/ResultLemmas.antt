@@ -1,53 +1,49 @@
 -- The statements on the tray and the archive.
-use Rattle.std.proofs.Common.{◌≡◌, inl, inr, ℕ, pos, ◌+◌, ◌<◌, Bool, true, false, if◌then◌else◌, ◌&&◌, ◌||◌, List, [], ◌∷◌, ◌++◌, map, filter, take, length, get_or, codes, Ok, refl, sym, ap, ap₂, subst, ◌∙◌, arith, is_some, Option, is_eq}
-use Rattle.std.specs.List.{AllByRecursion, list_any}
-use Rattle.std.specs.List.Sorted.{IsPermutation}
+use Rattle.mx_tables.proofs.Common.{◌≡◌, ℕ, pos, ◌+◌, ◌<◌, Bool, true, ◌&&◌, List, [], ◌∷◌, ◌++◌, filter, take, length, codes, Ok, refl, ◌∙◌, arith, Option, Some, is_eq, IsPermutation, eq_by_cmp, nat_cmp, Null, Int, Text, Row, column, col, Database, Executes, is_name, Name, Rows, rewritten, office_schema, number, Holds, Goes}
+use Rattle.std.proofs.Common.{if◌then◌else◌, ◌||◌, map, get_or, sym, ap, ap₂, subst, length-append, is_some}
+use Rattle.std.specs.List.{list_any}
 use Rattle.std.specs.FinMap as fmap
 use Rattle.std.specs.FinSet.{FinSet}
-use Rattle.std.specs.Ordering.{eq_by_cmp, nat_cmp}
 use Rattle.std.specs.Cmp.Lexicographic.{slice_cmp}
 use Rattle.std.proofs.lemmas.Cmp.{tied_itself}
-use Rattle.std.proofs.lemmas.Bool.{cases_Bool}
-use Rattle.std.proofs.Math.Bool.{and-true, and-false}
+use Rattle.std.proofs.ByRecursion.{All-push}
+use Rattle.std.specs.Cmp.{both_ways}
+use Rattle.std.proofs.Math.Bool.{and-true}
 use Rattle.std.proofs.lemmas.List.{take_more, map-append}
+use Rattle.std.proofs.lemmas.List.Folds.{list_any-append}
 use Rattle.std.proofs.lemmas.List.Sorted.{list_any-IsPermutation}
 use Rattle.sqlite_value.specs.declared.value.Value.{Value}
-use Rattle.sqlite_value.specs.declared.value.Value.TheVariants.{Null, Int, Text}
-use Rattle.sqlite_value.specs.Order.{Row, column}
-use Rattle.sqlite_trees.proofs.ListLemmas.{map-map, all-permutation}
-use Rattle.sqlite_sql.specs.Term.{col, lit}
-use Rattle.sqlite.specs.Effect.{Database}
-use Rattle.sqlite.specs.State.{State, Shown, Executes}
+use Rattle.sqlite_trees.proofs.ListLemmas.{map-map, all-map, all-filter, all-permutation, all_weaker, filter_same, pull_back}
+use Rattle.sqlite_sql.specs.Term.{lit}
+use Rattle.sqlite.specs.State.{State, Shown}
 use Rattle.sqlite.specs.Listing.{understood}
 use Rattle.sqlite_tied.specs.Compute.{everything}
 use Rattle.mx_pay.proofs.SameLemmas.{names_turned, has-none_logged}
-use Rattle.mx_pay.specs.Names.{is_name}
 use Rattle.mx_pay.specs.Details.{Details, IsDetails, is_details}
 use Rattle.mx_pay.specs.Codes.{entry_text}
 use Rattle.mx_pay.specs.Log.{Entries, has_logged, none_logged, with_entry}
 use Rattle.mx_pay.specs.Orders.{details_exact}
 use Rattle.mx_pay.proofs.LogLemmas.{details_total}
 use Rattle.mx_pay.proofs.TestLemmas.{is_equal}
-use Rattle.mx_book.specs.World.{Name, result_cmp, results_of, results_but, and_results}
-use Rattle.mx_book.specs.Rows.{Rows}
+use Rattle.mx_book.specs.World.{result_cmp, results_of, results_but, and_results}
 use Rattle.mx_book.specs.RowReads.{of_name}
-use Rattle.mx_book.specs.RowEdits.{row_tray_of, rewritten}
+use Rattle.mx_book.specs.RowEdits.{row_tray_of}
 use Rattle.mx_book.specs.declared.edits.Edit.TheVariants.{ArchiveTray}
 use Rattle.mx_book.proofs.NameLemmas.{same_name, name_itself}
 use Rattle.mx_book.proofs.MapLemmas.{AllEntries, all_entries}
 use Rattle.mx_book.proofs.LogLemmas.{same_members, has_kept, under_has}
 use Rattle.mx_book.proofs.ResultLemmas.{has-both, results_total, results_exact}
-use Rattle.mx_tables.specs.Schema.{office_schema, number}
-use Rattle.mx_tables.specs.Holds.{Holds}
-use Rattle.mx_tables.specs.States.{Goes, Sees}
+use Rattle.mx_tables.specs.Owners.{Owned}
+use Rattle.mx_tables.specs.States.{Sees}
 use Rattle.mx_tables.specs.Answers.{at_key}
 use Rattle.mx_tables.specs.Results.{Archives, details_shown, first_one, AreDetails, Shows, and_details}
-use Rattle.mx_tables.proofs.ValueLemmas.{told, same_made}
-use Rattle.mx_tables.proofs.MapLists.{any_mapped, unmapped}
+use Rattle.mx_tables.proofs.ValueLemmas.{same_made}
+use Rattle.mx_tables.proofs.MapLists.{any_mapped}
 use Rattle.mx_tables.proofs.Texts.{is_given, IsInsert, IsSelect, IsDelete}
 use Rattle.mx_tables.proofs.StoredLemmas.{and_true, same_text, cast_null}
 use Rattle.mx_tables.proofs.ReadLemmas.{answers}
-use Rattle.mx_tables.proofs.WriteLemmas.{adds, drops, no_actions, goes_as, goes_then}
+use Rattle.mx_tables.proofs.StateLemmas.{brings_none}
+use Rattle.mx_tables.proofs.WriteLemmas.{adds, drops, no_actions, goes_as, goes_then, untouched}
 use Rattle.mx_tables.proofs.Statements.{inserted}
 use Rattle.mx_pay.proofs.TextLemmas.{same_entry}
 use Rattle.mx_tables.proofs.KeptLemmas as kept
@@ -96,30 +92,25 @@ select_archived_is = record { is = refl; query = record { plain = (refl, refl); 
 
 pub adds_tray : (p : Name) (d : Details) (old new : State) (count : ℕ) → old.now.schema ≡ office_schema → Executes insert_tray (Text p ∷ Text (entry_text d) ∷ []) old new (Ok count)
     → Goes (λ r. record r { tray = fmap.insert r.tray (p, d) tt }) old new
-adds_tray p d = adds kept.tray insert_tray _ _ insert_tray_is (Text p ∷ Text (entry_text d) ∷ []) ((p, d), tt) (rw cast_null refl)
-
-adds_archive : (p : Name) (d : Details) (old new : State) (count : ℕ) → old.now.schema ≡ office_schema → Executes insert_archive (Text p ∷ Text (entry_text d) ∷ []) old new (Ok count)
-    → Goes (λ r. record r { archive = fmap.insert r.archive (p, d) tt }) old new
-adds_archive p d = adds kept.archive insert_archive _ _ insert_archive_is (Text p ∷ Text (entry_text d) ∷ []) ((p, d), tt) (rw cast_null refl)
-
-adds_schema : (p text : List ℕ) (old new : State) (count : ℕ) → old.now.schema ≡ office_schema → Executes insert_archive (Text p ∷ Text text ∷ []) old new (Ok count) → new.now.schema ≡ office_schema
-adds_schema p text old new count has ran =
-    (inserted office_schema 8 kept.archive_place.table refl (no_actions kept.archive_place.table) insert_archive (Text p ∷ Text text ∷ []) old new has insert_archive_is.plain count ran (lit Null ∷ col 0 0 ∷ col 0 1 ∷ []) 3 (Text p ∷ Text text ∷ []) insert_archive_is.is refl (rw cast_null refl)).schema_is
+adds_tray p d = adds kept.tray insert_tray _ _ insert_tray_is (Text p ∷ Text (entry_text d) ∷ []) ((p, d), tt) (rw cast_null refl) refl
 
 pub archives_one : (p text : List ℕ) (old new : State) (count : ℕ) → old.now.schema ≡ office_schema → Executes insert_archive (Text p ∷ Text text ∷ []) old new (Ok count) → Archives p ((Text text ∷ []) ∷ []) old new
-archives_one p text old new count has ran = record { schema = adds_schema p text old new count has ran; goes = one }
+archives_one p text old new count has ran =
+    let wrote = (inserted office_schema 8 kept.archive_place.table refl (no_actions kept.archive_place.table) insert_archive (Text p ∷ Text text ∷ []) old new has insert_archive_is.plain count ran
+    (lit Null ∷ col 0 0 ∷ col 0 1 ∷ []) 3 (Text p ∷ Text text ∷ []) insert_archive_is.is refl (rw cast_null refl)).0 in
+    record { schema = wrote.schema_is; goes = one; spares = untouched _ old new _ refl wrote }
   where
     one : (ds : List Details) → map details_shown ds ≡ (Text text ∷ []) ∷ [] → Goes (λ r. record r { archive = and_details p r.archive ds }) old new
-    one [] from = absurd (let k = ap length from in omega (arith, k))
-    one (d ∷ e ∷ ds) from = absurd (let k = ap length from in omega (arith, k))
     one (d ∷ []) from =
         let same : text ≡ entry_text d = cc in
-        adds_archive p d old new count has (subst (λ t. Executes insert_archive (Text p ∷ Text t ∷ []) old new (Ok count)) same ran)
+        adds kept.archive insert_archive _ _ insert_archive_is (Text p ∷ Text (entry_text d) ∷ []) ((p, d), tt) (rw cast_null refl) refl old new count has
+        (subst (λ t. Executes insert_archive (Text p ∷ Text t ∷ []) old new (Ok count)) same ran)
+    one ds from = absurd (let k = ap length from in omega (arith, k))
 
 pub drops_tray : (p : Name) (old new : State) (count : ℕ) → old.now.schema ≡ office_schema → Executes delete_tray (Text p ∷ []) old new (Ok count)
     → Goes (λ r. record r { tray = results_but p r.tray }) old new
 drops_tray p = drops kept.tray delete_tray _ _ delete_tray_is (Text p ∷ []) (λ (k : Name × Details). is_name p k.0)
-    (λ id e. rw (same_text e.0.0 p) (and_true _ ∙ names_turned e.0.0 p)) (λ id e. refl)
+    (λ id e. rw (same_text e.0.0 p) (and_true _ ∙ names_turned e.0.0 p)) (λ id e. refl) refl
 
 -- ---- reads
 
@@ -130,17 +121,9 @@ finds_tray p = answers kept.tray select_tray _ _ _ select_tray_is (Text p ∷ []
 
 -- texts of details within their limits are the same where the details are
 same_texts : (d e : Details) → IsDetails d → IsDetails e → eq_by_cmp (slice_cmp nat_cmp) (entry_text e) (entry_text d) ≡ is_details d e
-same_texts d e one two = elim (cases_Bool (eq_by_cmp (slice_cmp nat_cmp) (entry_text e) (entry_text d))) [
-  | inl t ↦
-      let same : d ≡ e = same_entry d e one two (same_name (entry_text d) (entry_text e) (names_turned (entry_text d) (entry_text e) ∙ t)) in
-      t ∙ sym (ap (is_details d) (sym same) ∙ ap is_eq (tied_itself details_total d))
-  | inr f ↦ f ∙ sym (elim (cases_Bool (is_details d e)) [
-    | inl u ↦
-        let same : d ≡ e = details_exact d e (is_equal _ u) in
-        absurd (let it : true ≡ false = sym (name_itself (entry_text e)) ∙ ap (λ (x : Details). eq_by_cmp (slice_cmp nat_cmp) (entry_text e) (entry_text x)) (sym same) ∙ f in cc)
-    | inr g ↦ g
-  ])
-]
+same_texts d e one two = both_ways _ _
+    (λ t. let same : d ≡ e = same_entry d e one two (same_name (entry_text d) (entry_text e) (names_turned (entry_text d) (entry_text e) ∙ t)) in rw (← same) (ap is_eq (tied_itself details_total d)))
+    (λ t. let same : d ≡ e = details_exact d e (is_equal _ t) in rw same (name_itself (entry_text e)))
 
 pair_eq : (p : Name) (d : Details) (k : Name × Details) → eq_by_cmp result_cmp (p, d) k ≡ (is_name p k.0 && is_details d k.1)
 pair_eq p d k = grind arith
@@ -150,15 +133,9 @@ Valid k x = IsDetails k.1
 
 same_found : (p : Name) (d : Details) → IsDetails d → (es : List Result) → AllEntries Valid es
     → filter (λ (e : Result). is_name p e.0.0 && eq_by_cmp (slice_cmp nat_cmp) (entry_text e.0.1) (entry_text d)) es ≡ at_key result_cmp (p, d) es
-same_found p d valid [] h = refl
-same_found p d valid (e ∷ es) h =
-    let here : (is_name p e.0.0 && eq_by_cmp (slice_cmp nat_cmp) (entry_text e.0.1) (entry_text d)) ≡ eq_by_cmp result_cmp (p, d) e.0 =
-    ap (λ b. is_name p e.0.0 && b) (same_texts d e.0.1 valid h.0) ∙ sym (pair_eq p d e.0) in
-    let more = same_found p d valid es h.1 in
-    elim (cases_Bool (eq_by_cmp result_cmp (p, d) e.0)) [
-      | inl t ↦ rw (here, t) (ap (λ xs. e ∷ xs) more)
-      | inr f ↦ rw (here, f) more
-    ]
+same_found p d valid es each =
+    filter_same _ (λ (e : Result). eq_by_cmp result_cmp (p, d) e.0) es
+    (all_weaker (λ (e : Result). IsDetails e.0.1) _ (λ e h. ap (λ b. is_name p e.0.0 && b) (same_texts d e.0.1 valid h) ∙ sym (pair_eq p d e.0)) es each)
 
 pub finds_archived : (p : Name) (d : Details) → IsDetails d → (old new : State) (rows : List Row) → Shown select_archived (Text p ∷ Text (entry_text d) ∷ []) old new rows → (r : Rows) → Holds old.now r → AreDetails r.archive
     → IsPermutation (map (λ (e : Result). number 1 ∷ []) (at_key result_cmp (p, d) (fmap.entries r.archive))) rows
@@ -169,6 +146,14 @@ finds_archived p d valid old new rows shown r h each =
 
 -- ---- a result among those of a purse
 
+-- what is found in one more row, by tests alone
+some_found : (at : Bool) (x : Unit {0}) (found : Option (Unit {0})) → is_some (if at then Some x else found) ≡ (at || is_some found)
+some_found at x found = grind arith
+
+among_step : (named at own found : Bool) (f : Result → Bool) (some : Bool) (e : Result) (es : List Result) → (named ≡ true → f e ≡ at) → (at ≡ true → own ≡ named)
+    → list_any f es ≡ (found && own) → some ≡ (at || found) → list_any f (if named then e ∷ es else es) ≡ (some && own)
+among_step named at own found f some e es one two more is = grind arith
+
 module _ (p : Name) (k : Name × Details) where
   abbrev of_purse : Result → Bool
   of_purse e = eq_by_cmp result_cmp k (p, e.0.1)
@@ -176,26 +161,10 @@ module _ (p : Name) (k : Name × Details) where
   among : (es : List Result) → list_any of_purse (of_name p es) ≡ (is_some (fmap.find result_cmp k es) && is_name p k.0)
   among [] = refl
   among (e ∷ es) =
-      let more = among es in
-      elim (cases_Bool (is_name p e.0.0)) [
-        | inl t ↦
-            let same : ◌≡◌ {A = Name × Details} (p, e.0.1) e.0 = ap (λ n. (n, e.0.1)) (same_name p e.0.0 t) in
-            let here : of_purse e ≡ eq_by_cmp result_cmp k e.0 = ap (eq_by_cmp result_cmp k) same in
-            elim (cases_Bool (eq_by_cmp result_cmp k e.0)) [
-              | inl u ↦
-                  let at : k ≡ e.0 = results_exact k e.0 (is_equal _ u) in
-                  let own : is_name p k.0 ≡ true = ap (λ (x : Name × Details). is_name p x.0) at ∙ t in
-                  rw (t, here, u, own) refl
-              | inr f ↦ rw (t, here, f) more
-            ]
-        | inr n ↦ elim (cases_Bool (eq_by_cmp result_cmp k e.0)) [
-          | inl u ↦
-              let at : k ≡ e.0 = results_exact k e.0 (is_equal _ u) in
-              let other : is_name p k.0 ≡ false = ap (λ (x : Name × Details). is_name p x.0) at ∙ n in
-              rw (n, u) (more ∙ rw other (and-false (is_some (fmap.find result_cmp k es)) ∙ refl))
-          | inr f ↦ rw (n, f) more
-        ]
-      ]
+      let one : is_name p e.0.0 ≡ true → of_purse e ≡ eq_by_cmp result_cmp k e.0 = λ t. ap (λ n. eq_by_cmp result_cmp k (n, e.0.1)) (same_name p e.0.0 t) in
+      let two : eq_by_cmp result_cmp k e.0 ≡ true → is_name p k.0 ≡ is_name p e.0.0 = λ u. ap (λ (x : Name × Details). is_name p x.0) (results_exact k e.0 (is_equal _ u)) in
+      among_step (is_name p e.0.0) (eq_by_cmp result_cmp k e.0) (is_name p k.0) (is_some (fmap.find result_cmp k es)) of_purse _ e (of_name p es) one two
+      (among es) (some_found (eq_by_cmp result_cmp k e.0) tt (fmap.find result_cmp k es))
 
   pub among_tray : (s : FinSet result_cmp) (zs : List Result) → IsPermutation (of_name p (fmap.entries s)) zs → list_any of_purse zs ≡ (fmap.contains_key s k && is_name p k.0)
   among_tray s zs same =
@@ -204,19 +173,10 @@ module _ (p : Name) (k : Name × Details) where
 -- ---- the tray as a log
 
 pub added_is : (b : Bool) (new old : Entries) (d : Details) → b ≡ true → new ≡ (if b then with_entry old d else old) → new ≡ with_entry old d
-added_is true new old d h is = is
-added_is false new old d h is = absurd (cc)
+added_is b new old d h is = grind arith
 
 pub shows_none : (rows : List Row) (log : Entries) → log ≡ none_logged → Shows log (take 0 rows)
 shows_none rows log is = record { details = []; shown = refl; valid = tt; has = λ d. ap (λ l. has_logged l d) is ∙ has-none_logged d }
-
-all_last : (ds : List Details) (d : Details) → AllByRecursion IsDetails ds → IsDetails d → AllByRecursion IsDetails (ds ++ d ∷ [])
-all_last [] d h one = (one, tt)
-all_last (e ∷ es) d h one = (h.0, all_last es d h.1 one)
-
-one_of : (d e : Details) (ds : List Details) → list_any (is_details d) (ds ++ e ∷ []) ≡ (is_details d e || list_any (is_details d) ds)
-one_of d e [] = refl
-one_of d e (x ∷ ds) = grind (arith, one_of d e ds)
 
 pub shows_more : (rows : List Row) (at : ℕ) (row : Row) (old new : Entries) (d : Details) → at < length rows → row ≡ get_or rows at row → column row 0 ≡ Text (entry_text d) → IsDetails d → new ≡ with_entry old d
     → Shows old (take at rows) → Shows new (take (at + 1) rows)
@@ -224,29 +184,15 @@ shows_more rows at row old new d within is shown valid made h = record {
   details = h.details ++ d ∷ [];
   shown = ap (map first_one) (take_more rows at row within ∙ ap (λ r. take at rows ++ r ∷ []) (sym is)) ∙ map-append first_one (take at rows) (row ∷ [])
       ∙ ap₂ (λ xs v. xs ++ (v ∷ []) ∷ []) h.shown shown ∙ sym (map-append details_shown h.details (d ∷ []));
-  valid = all_last h.details d h.valid valid;
-  has = λ e. ap (λ l. has_logged l e) made ∙ added e ∙ ap (λ b. is_details e d || b) (h.has e) ∙ sym (one_of e d h.details);
+  valid = All-push IsDetails h.details d h.valid valid;
+  has = λ e. ap (λ l. has_logged l e) made ∙ grind (arith, fmap.get-insert details_total old d tt e, h.has e, list_any-append (is_details e) h.details (d ∷ []));
 }
-  where
-    added : (e : Details) → has_logged (with_entry old d) e ≡ (is_details e d || has_logged old e)
-    added e = grind (arith, fmap.get-insert details_total old d tt e)
 
 same_shown : (d e : Details) → IsDetails d → IsDetails e → details_shown d ≡ details_shown e → d ≡ e
-same_shown d e one two h = let (text, _) = told (details_shown d) (details_shown e) h in same_entry d e one two text
+same_shown d e one two h = same_entry d e one two (cc)
 
 abbrev second : Result → Details
 second e = e.0.1
-
-all_second : (p : Name) (es : List Result) → AllEntries Valid es → AllByRecursion (λ (e : Result). IsDetails (second e)) (of_name p es)
-all_second p [] h = tt
-all_second p (e ∷ es) h = elim (cases_Bool (is_name p e.0.0)) [
-  | inl t ↦ rw t (h.0, all_second p es h.1)
-  | inr f ↦ rw f (all_second p es h.1)
-]
-
-all_mapped : (es : List Result) → AllByRecursion (λ (e : Result). IsDetails (second e)) es → AllByRecursion IsDetails (map second es)
-all_mapped [] h = tt
-all_mapped (e ∷ es) h = (h.0, all_mapped es h.1)
 
 any_second : (p : Name) (d : Details) (zs : List Result) → list_any (is_details d) (map second zs) ≡ list_any (of_purse p (p, d)) zs
 any_second p d [] = refl
@@ -255,11 +201,12 @@ any_second p d (z ∷ zs) = ap₂ (λ a b. a || b) (sym (pair_eq p d (p, second 
 pub tray_read : (p : Name) (r : Rows) → AreDetails r.tray → (rows items : List Row) (log : Entries) → Shows log rows → rows ≡ items → IsPermutation (map (λ (e : Result). details_shown e.0.1) (of_name p (fmap.entries r.tray))) items
     → log ≡ row_tray_of r p
 tray_read p r each rows items log h is same =
-    let of = unmapped (λ (e : Result). details_shown e.0.1) (of_name p (fmap.entries r.tray)) items same in
+    let of = pull_back (λ (e : Result). details_shown e.0.1) _ items same (of_name p (fmap.entries r.tray)) refl in
     let zs = of.0 in
-    let valid = all_mapped zs (all-permutation (λ (e : Result). IsDetails (second e)) (of_name p (fmap.entries r.tray)) zs of.1 (all_second p (fmap.entries r.tray) (all_entries results_total Valid r.tray each))) in
+    let own = all-filter (λ e. IsDetails (second e)) (λ e. is_name p e.0.0) (fmap.entries r.tray) (all_entries results_total Valid r.tray each) in
+    let valid = all-map IsDetails second zs (all-permutation (λ e. IsDetails (second e)) (of_name p (fmap.entries r.tray)) zs of.1 own) in
     let again : map first_one rows ≡ map details_shown (map second zs) =
-    ap (map first_one) (is ∙ sym of.2) ∙ map-map first_one (λ (e : Result). details_shown e.0.1) zs ∙ sym (map-map details_shown second zs) in
+    ap (map first_one) (is ∙ of.2) ∙ map-map first_one (λ (e : Result). details_shown e.0.1) zs ∙ sym (map-map details_shown second zs) in
     let found : h.details ≡ map second zs = same_made IsDetails details_shown same_shown h.details (map second zs) h.valid valid (sym h.shown ∙ again) in
     same_members details_total details_exact log (row_tray_of r p) (λ d.
     h.has d ∙ ap (list_any (is_details d)) found ∙ any_second p d zs ∙ among_tray p (p, d) r.tray zs of.1
@@ -285,22 +232,20 @@ details_last p s (e ∷ ds) d = details_last p (fmap.insert s (p, e) tt) ds d
 
 -- no row goes to the archive
 pub archives_none : (p : Name) (s : State) → s.now.schema ≡ office_schema → Archives p [] s s
-archives_none p s has = record { schema = has; goes = none }
+archives_none p s has = record { schema = has; goes = none; spares = λ held tells. tells }
   where
     none : (ds : List Details) → map details_shown ds ≡ [] → Goes (λ r. record r { archive = and_details p r.archive ds }) s s
-    none [] from = record { schema = has; rows = λ r holds. holds }
+    none [] from = brings_none s has
     none (d ∷ ds) from = absurd (let k = ap length from in omega (arith, k))
 
 last_shown : (ds : List Details) (rows : List Row) (row : Row) → map details_shown ds ≡ rows ++ row ∷ []
     → (es : List Details) × (d : Details) × (ds ≡ es ++ d ∷ []) × (map details_shown es ≡ rows) × (details_shown d ≡ row)
-last_shown [] [] row from = absurd (let k = ap length from in omega (arith, k))
-last_shown [] (x ∷ rows) row from = absurd (let k = ap length from in omega (arith, k))
 last_shown (d ∷ []) [] row from = ([], d, refl, refl, cc)
-last_shown (d ∷ e ∷ ds) [] row from = absurd (let k = ap length from in omega (arith, k))
 last_shown (d ∷ ds) (x ∷ rows) row from =
     let first : details_shown d ≡ x = cc in
     let more = last_shown ds rows row (cc) in
     (d ∷ more.0, more.1, ap (λ es. d ∷ es) more.2, ap₂ (λ y ys. y ∷ ys) first more.3, more.4)
+last_shown ds rows row from = absurd (let k = ap length from in omega (arith, k, length-append rows (row ∷ [])))
 
 -- one row more goes to the archive
 pub archives_more : (p : Name) (rows : List Row) (at : ℕ) (row : Row) (text : List ℕ) (a b c : State) → at < length rows → row ≡ get_or rows at row → column row 0 ≡ Text text
@@ -310,8 +255,9 @@ archives_more p rows at row text a b c within is shows one two = record {
   goes = λ ds from.
       let it = last_shown ds (take at rows) row (from ∙ take_more rows at row within ∙ ap (λ r. take at rows ++ r ∷ []) (sym is)) in
       let cell : ◌≡◌ {A = Value} (Text (entry_text it.1)) (Text text) = ap (λ (r : Row). column r 0) it.4 ∙ shows in
-      goes_as _ _ a c (λ (r : Rows) holds. ap (λ s. record r { archive = s }) (sym (ap (and_details p r.archive) it.2 ∙ details_last p r.archive it.0 it.1)))
-      (goes_then _ _ a b c (one.goes it.0 it.3) (two.goes (it.1 ∷ []) (ap (λ (v : Value). (v ∷ []) ∷ []) cell)));
+      goes_as _ _ _ a c (λ (r : Rows) holds. ap (λ s. record r { archive = s }) (sym (ap (and_details p r.archive) it.2 ∙ details_last p r.archive it.0 it.1)))
+      (goes_then _ _ _ _ a b c (one.goes it.0 it.3) (two.goes (it.1 ∷ []) (ap (λ (v : Value). (v ∷ []) ∷ []) cell)));
+  spares = λ held tells. two.spares held (one.spares held tells);
 }
 
 -- what is read of a tray, added to the archive and dropped from the tray, has moved
@@ -321,8 +267,9 @@ pub archives : (p : Name) (rows items : List Row) (first read put last : State) 
 archives p rows items first read put last is found moved emptied = record {
   schema = emptied.schema;
   rows = λ r holds.
-      let of = unmapped (λ (e : Result). details_shown e.0.1) (of_name p (fmap.entries r.tray)) items (found.value r holds) in
-      let moves = moved.goes (map second of.0) (map-map details_shown second of.0 ∙ of.2 ∙ sym is) in
+      let of = pull_back (λ (e : Result). details_shown e.0.1) _ items (found.value r holds) (of_name p (fmap.entries r.tray)) refl in
+      let moves = moved.goes (map second of.0) (map-map details_shown second of.0 ∙ sym of.2 ∙ sym is) in
       let after = emptied.rows _ (moves.rows r (subst (λ (d : Database). Holds d r) (sym found.same) holds)) in
       subst (λ s. Holds last.now (record r { tray = results_but p r.tray; archive = s })) (archive_all p r.tray r.archive of.0 of.1) after;
+  owned = λ held tells. emptied.owned held (moved.spares held (subst (λ (d : Database). Owned (d.trees 8) held) (sym found.same) tells));
 }

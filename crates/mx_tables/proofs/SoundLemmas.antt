@@ -1,34 +1,36 @@
 -- What a World's conditions say of the rows that spell it.
-use Rattle.std.proofs.Common.{◌≡◌, inl, inr, ℕ, ◌+◌, ◌<◌, ◌≤◌, List, [], ◌∷◌, map, length, refl, Some, None, Option, sym, ap, subst, ◌∙◌, arith}
-use Rattle.std.specs.Prelude.{option_map}
+use Rattle.mx_tables.proofs.Common.{◌≡◌, ℕ, ◌+◌, ◌<◌, ◌≤◌, List, [], ◌∷◌, length, refl, Some, None, Option, ◌∙◌, arith, option_map, nat_cmp, name_cmp, Name, Rows, PurseRow, AllByRecursion, length-map}
+use Rattle.std.proofs.Common.{map, sym, ap, subst}
 use Rattle.std.specs.FinMap as fmap
 use Rattle.mx_purse.specs.Messages.{IsMessage}
-use Rattle.std.specs.Ordering.{nat_cmp, eq_by_cmp}
 use Rattle.mx_pay.specs.Limits.{most_number}
-use Rattle.mx_pay.specs.Names.{name_cmp}
-use Rattle.mx_book.specs.World.{World, Name}
+use Rattle.mx_book.specs.World.{World}
 use Rattle.mx_book.specs.Reads.{tray_of}
 use Rattle.mx_book.specs.RowEdits.{row_tray_of}
 use Rattle.mx_tables.specs.Results.{AreDetails}
-use Rattle.mx_book.specs.Rows.{Rows, world_of, row_of, line_at}
+use Rattle.mx_book.specs.Rows.{world_of, row_of, line_at}
 use Rattle.mx_book.specs.Conditions.{IsWorld, IsLine, IsNote, AreNumbered}
 use Rattle.mx_book.specs.Spells.{Spells}
-use Rattle.mx_book.specs.declared.values.PurseRow.{PurseRow}
 use Rattle.mx_book.proofs.NameLemmas.{names_total}
 use Rattle.mx_book.proofs.RowLemmas.{get_rows, there}
 use Rattle.mx_book.proofs.FoundLemmas.{some_of, none_found}
 use Rattle.mx_book.proofs.UnderLemmas.{get-under}
 use Rattle.mx_tables.specs.Answers.{AreMessages, HaveNumbers, ArePurses}
-use Rattle.std.specs.List.{AllByRecursion}
-use Rattle.std.proofs.lemmas.Bool.{cases_Bool}
-use Rattle.std.proofs.lemmas.List.{length-map}
-use Rattle.mx_pay.proofs.TestLemmas.{is_equal}
 use Rattle.mx_purse.specs.State.{State, IsInStatus}
 use Rattle.mx_purse.specs.declared.status.Status.{Status}
-use Rattle.mx_purse.specs.declared.status.Status.TheVariants.{EaFrom, EaTo, Epr, Epv, Epa}
+use Rattle.mx_purse.specs.declared.status.Status.TheVariants.{EaFrom}
 use Rattle.mx_book.specs.Under.{under}
 use Rattle.mx_book.specs.declared.values.LineRow.{LineRow}
 use Rattle.mx_tables.specs.Pages.{AreLines}
+
+few_lines : (p : State) (s : Status) → IsInStatus p s → p.lines ≤ most_number + 2
+few_lines p EaFrom h = h
+few_lines p s h = omega (arith, h)
+
+-- a line that is found has a number from the first on, and a note
+line_found : (n : ℕ) (x : LineRow) (j : ℕ) (es : List (ℕ × LineRow)) → fmap.find nat_cmp n es ≡ Some x → AllByRecursion IsLine (map line_at es) → AreNumbered j (map line_at es) → (n < j + length es) × IsNote x.note
+line_found n x j [] at each numbered = absurd (cc)
+line_found n x j (e ∷ es) at each numbered = grind (arith, line_found n x (j + 1) es, fmap.nat_cmp-IsAntisymmetric n e.0)
 
 module _ (r : Rows) (w : World) (h : Spells r w) where
   own : IsWorld (world_of r)
@@ -54,55 +56,28 @@ module _ (r : Rows) (w : World) (h : Spells r w) where
   pub purses_valid : ArePurses r
   purses_valid p x at = let it = own.purses.each p (row_of r p x) (there r p x at) in (it.named, it.purse)
 
-few_lines : (p : State) (s : Status) → IsInStatus p s → p.lines ≤ most_number + 2
-few_lines p EaFrom h = h
-few_lines p EaTo h = h
-few_lines p (Epr d) h = omega (arith, h)
-few_lines p (Epv d) h = omega (arith, h)
-few_lines p (Epa d) h = omega (arith, h)
+  pub lines_valid : AreLines r
+  lines_valid k x at = by_purse (fmap.get r.purses k.0) refl
+    where
+      by_purse : (o : Option PurseRow) → fmap.get r.purses k.0 ≡ o → (k.1 ≤ most_number + 2) × IsNote x.note
+      by_purse None e = none_found (fmap.get r.lines k) x (h.spelled.proper.lines k.0 k.1 e) at
+      by_purse (Some y) e =
+          let row = get_rows r k.0 ∙ ap (option_map (row_of r k.0)) e in
+          let lines = own.lines.each k.0 (row_of r k.0 y) row in
+          let m = under name_cmp nat_cmp k.0 r.lines in
+          let found = sym (fmap.get-entries m k.1) ∙ get-under name_cmp nat_cmp names_total k.0 r.lines k.1 ∙ at in
+          let it = line_found k.1 x 1 (fmap.entries m) found lines.each lines.numbered in
+          let few = few_lines y.purse y.purse.status (own.purses.each k.0 (row_of r k.0 y) row).purse.status in
+          let size = length-map (fmap.entries m) line_at in
+          (omega (arith, it.0, few, size, lines.counted), it.1)
 
--- a line that is found has a number from the first on, and a note
-line_found : (n : ℕ) (x : LineRow) (j : ℕ) (es : List (ℕ × LineRow)) → fmap.find nat_cmp n es ≡ Some x → AllByRecursion IsLine (map line_at es) → AreNumbered j (map line_at es) → (n < j + length es) × IsNote x.note
-line_found n x j [] at each numbered = absurd (cc)
-line_found n x j (e ∷ es) at each numbered = elim (cases_Bool (eq_by_cmp nat_cmp n e.0)) [
-  | inl t ↦
-      let same : n ≡ e.0 = fmap.nat_cmp-IsAntisymmetric n e.0 (is_equal _ t) in
-      let found : ◌≡◌ {A = Option LineRow} (Some e.1) (Some x) = rw t at at in
-      let value : e.1 ≡ x = cc in
-      (omega (arith, same, numbered.0), subst (λ (y : LineRow). IsNote y.note) value each.0.note)
-  | inr f ↦
-      let more = line_found n x (j + 1) es (rw f at at) each.1 numbered.1 in
-      (omega (arith, more.0), more.1)
-]
+  pub archive_valid : AreDetails r.archive
+  archive_valid k x at = own.results.details k.0 k.1 (some_of (fmap.get r.archive k) x at)
 
-pub lines_valid : (r : Rows) (w : World) → Spells r w → AreLines r
-lines_valid r w h k x at = by_purse (fmap.get r.purses k.0) refl
-  where
-    own : IsWorld (world_of r)
-    own = subst IsWorld h.spelled.world h.sound
+  pub tray_valid : AreDetails r.tray
+  tray_valid k x at =
+      let entry = own.results.logged k.0 k.1 (some_of (fmap.get r.tray k) x at) in
+      (own.purses.each k.0 entry.0 entry.1).purse.log.entries k.1 entry.2
 
-    by_purse : (o : Option PurseRow) → fmap.get r.purses k.0 ≡ o → (k.1 ≤ most_number + 2) × IsNote x.note
-    by_purse None e = none_found (fmap.get r.lines k) x (h.spelled.proper.lines k.0 k.1 e) at
-    by_purse (Some y) e =
-        let row = get_rows r k.0 ∙ ap (option_map (row_of r k.0)) e in
-        let lines = own.lines.each k.0 (row_of r k.0 y) row in
-        let m = under name_cmp nat_cmp k.0 r.lines in
-        let found = sym (fmap.get-entries m k.1) ∙ get-under name_cmp nat_cmp names_total k.0 r.lines k.1 ∙ at in
-        let it = line_found k.1 x 1 (fmap.entries m) found lines.each lines.numbered in
-        let few = few_lines y.purse y.purse.status (own.purses.each k.0 (row_of r k.0 y) row).purse.status in
-        let size = length-map (fmap.entries m) line_at in
-        (omega (arith, it.0, few, size, lines.counted), it.1)
-
--- ---- results
-
-pub archive_valid : (r : Rows) (w : World) → Spells r w → AreDetails r.archive
-archive_valid r w h k x at = (subst IsWorld h.spelled.world h.sound).results.details k.0 k.1 (some_of (fmap.get r.archive k) x at)
-
-pub tray_valid : (r : Rows) (w : World) → Spells r w → AreDetails r.tray
-tray_valid r w h k x at =
-    let own : IsWorld (world_of r) = subst IsWorld h.spelled.world h.sound in
-    let entry = own.results.logged k.0 k.1 (some_of (fmap.get r.tray k) x at) in
-    (own.purses.each k.0 entry.0 entry.1).purse.log.entries k.1 entry.2
-
-pub tray_as : (r : Rows) (w : World) (p : Name) → Spells r w → row_tray_of r p ≡ tray_of w p
-tray_as r w p h = ap (λ (v : World). tray_of v p) (sym h.spelled.world)
+  pub tray_as : (p : Name) → row_tray_of r p ≡ tray_of w p
+  tray_as p = ap (λ (v : World). tray_of v p) (sym h.spelled.world)

@@ -1,11 +1,10 @@
 -- The forms of the queries, and the texts of the statements with their meaning.
-use Rattle.std.proofs.Common.{ℕ, List, [], None, pos, negsuc, false, ◌≡◌, ◌∷◌, codes, refl}
-use Rattle.sqlite_value.specs.declared.value.Value.TheVariants.{Int, Null, Text}
+use Rattle.mx_tables.proofs.Common.{ℕ, List, [], None, pos, false, ◌≡◌, ◌∷◌, codes, refl, Int, Null, Text, Binary, Term, col, office_schema}
+use Rattle.std.proofs.Common.{negsuc}
 use Rattle.sqlite_value.specs.declared.keys.Key.{Key}
-use Rattle.sqlite_value.specs.declared.keys.Collation.TheVariants.{Binary}
 use Rattle.sqlite_sql.specs.declared.ops.BinaryOp.TheVariants.{Compare}
 use Rattle.sqlite_sql.specs.declared.ops.CompareOp.TheVariants.{Eq}
-use Rattle.sqlite_sql.specs.Term.{Term, lit, col, op2}
+use Rattle.sqlite_sql.specs.Term.{lit, op2}
 use Rattle.sqlite_sql.specs.Query.{Query, inner, end}
 use Rattle.sqlite_schema.specs.declared.program.Program.{Program}
 use Rattle.sqlite_schema.specs.declared.command.Command.TheVariants.{Insert, Select, Update, Delete}
@@ -14,7 +13,6 @@ use Rattle.sqlite_tied.specs.Compute.{everything}
 use Rattle.sqlite.specs.Listing.{understood, reads_listing}
 use Rattle.sqlite.proofs.Callers.{command_of}
 use Rattle.sqlite_value.specs.Keys.{ascending}
-use Rattle.mx_tables.specs.Schema.{office_schema}
 use Rattle.mx_tables.specs.States.{IsText, IsQuery}
 
 -- the rows of one tree that pass the terms, in this order
@@ -87,12 +85,12 @@ pub insert_holder_is : IsInsert insert_holder 3 (lit Null ∷ col 0 0 ∷ col 0 
 unfolding understood everything
 insert_holder_is = record { is = refl; plain = (refl, refl) }
 
-abbrev pub select_held : List ℕ
-select_held = codes "SELECT name FROM purse WHERE holder = ?1 ORDER BY name"
+abbrev pub select_owners : List ℕ
+select_owners = codes "SELECT rowid, name, holder FROM purse"
 
-pub select_held_is : IsSelect select_held 8 (is_given 2 0 ∷ []) (col 1 1 ∷ []) ((col 1 1, ascending Binary) ∷ []) (codes "name" ∷ [])
+pub select_owners_is : IsSelect select_owners 8 [] (col 1 0 ∷ col 1 1 ∷ col 1 2 ∷ []) [] (codes "rowid" ∷ codes "name" ∷ codes "holder" ∷ [])
 unfolding understood everything
-select_held_is = record { is = refl; query = record { plain = (refl, refl); silent = λ _ _. refl }; unlisted = refl }
+select_owners_is = record { is = refl; query = record { plain = (refl, refl); silent = λ _ _. refl }; unlisted = refl }
 
 abbrev pub select_members : List ℕ
 select_members = codes "SELECT name FROM member ORDER BY name"
@@ -141,9 +139,9 @@ unfolding understood everything
 select_inbox_is = record { is = refl; query = record { plain = (refl, refl); silent = λ _ _. refl }; unlisted = refl }
 
 abbrev pub select_held_numbers : List ℕ
-select_held_numbers = codes "SELECT number FROM inbox WHERE purse = ?1 ORDER BY number"
+select_held_numbers = codes "SELECT number FROM inbox WHERE purse = ?1"
 
-pub select_held_numbers_is : IsSelect select_held_numbers 10 (is_given 1 0 ∷ []) (col 1 2 ∷ []) ((col 1 2, ascending Binary) ∷ []) (codes "number" ∷ [])
+pub select_held_numbers_is : IsSelect select_held_numbers 10 (is_given 1 0 ∷ []) (col 1 2 ∷ []) [] (codes "number" ∷ [])
 unfolding understood everything
 select_held_numbers_is = record { is = refl; query = record { plain = (refl, refl); silent = λ _ _. refl }; unlisted = refl }
 

@@ -1,15 +1,14 @@
 -- What is read of the rows is so of the World that they spell.
-use Rattle.std.proofs.Common.{◌≡◌, ℕ, Bool, Option, Result, is_some, ap, ◌∙◌}
+use Rattle.mx_tables.proofs.Common.{◌≡◌, ℕ, Bool, Option, ◌∙◌, IfOk-weaker, Name, Rows}
+use Rattle.std.proofs.Common.{Result, is_some, ap}
 use Rattle.std.specs.FinMap as fmap
 use Rattle.std.specs.declared.vec.Vec.{Vec}
-use Rattle.std.proofs.lemmas.Result.{IfOk-weaker}
 use Rattle.sqlite_trees.specs.declared.store.Store.{Ghosts}
 use Rattle.sqlite.specs.Held.{Held}
 use Rattle.mx_pay.specs.Log.{Entries}
 use Rattle.mx_purse.specs.State.{State as Purse}
 use Rattle.mx_purse.specs.declared.message.Message.{Message}
-use Rattle.mx_book.specs.World.{World, Name, Token}
-use Rattle.mx_book.specs.Rows.{Rows}
+use Rattle.mx_book.specs.World.{World, Token}
 use Rattle.mx_book.specs.Spells as book
 use Rattle.mx_book.specs.Reads.{who_of, holder_of, members_of, account_of, own_purse, has_purse, purses_of, inbox_of, message_of, lines_of, tray_of, load_of, redemption_of}
 use Rattle.mx_book.specs.RowReads.{row_who_of, row_holder_of, row_members_of, row_account_of, row_own_purse, row_purses_of, row_inbox_of, row_lines_of, row_load_of, row_redemption_of}
@@ -83,7 +82,7 @@ module _ {S : Type 0} (g : Ghosts S) {old new : Held S} where
 
   pub tell_tray : {r : Result Entries StoreFault} (p : Name)
       → Reads g old new r (λ rows log. AreDetails rows.tray → log ≡ row_tray_of rows p) → Tells g old new r (λ w log. log ≡ tray_of w p)
-  tell_tray p = tell (λ rows w s log is. is (tray_valid rows w s) ∙ tray_as rows w p s)
+  tell_tray p = tell (λ rows w s log is. is (tray_valid rows w s) ∙ tray_as rows w s p)
 
   pub tell_totals : {r : Result Totals StoreFault}
       → Reads g old new r (λ rows v. ArePurses rows → AreDetails rows.archive → v ≡ row_totals_of rows) → Tells g old new r (λ w v. v ≡ totals_of w)

@@ -1,5 +1,6 @@
 pub mod Holds
 pub mod Schema
+pub mod Owners
 pub mod States
 pub mod Settled
 pub mod Answers

@@ -1,5 +1,5 @@
 -- What the tables keep true of their connection, and what a call does to it.
-use Rattle.std.specs.Prelude.{◌≡◌, ℕ, ◌≤◌, ◌⊎◌, Bool, false, if◌then◌else◌, List, Result, Ok, Err, None, IfOk, OnOk, OnErr, IsTrue}
+use Rattle.std.specs.Prelude.{◌≡◌, ℕ, ◌≤◌, ◌⊎◌, Bool, false, if◌then◌else◌, List, Result, Ok, Err, None, IfOk, OnOk, OnErr, IsTrue, Option, Some}
 use Rattle.sqlite_trees.specs.Tree.{Trees}
 use Rattle.sqlite_trees.specs.View.{doubt}
 use Rattle.sqlite_schema.specs.declared.schema.Schema.{Schema}
@@ -19,6 +19,7 @@ use Rattle.mx_book.specs.Rows.{Rows}
 use Rattle.mx_book.specs.declared.contract.StoreFault.{StoreFault}
 use Rattle.mx_book.specs.World.{World}
 use Rattle.mx_tables.specs.Holds.{Holds, SpellsOne}
+use Rattle.mx_tables.specs.Owners.{OwnerIndex, IndexSlots, index_of, Owned}
 
 -- 0 while the disk has returned what was written and the connection is open, 1 once a fault has shut it, 2 once the disk has lied
 abbrev pub worry_at : Bool → Bool → ℕ
@@ -39,12 +40,18 @@ pub record Leaves (s : State) (db : Database) : Type 0 where
   pub schema : db.schema ≡ office_schema
   pub trees : s.may_leave db.trees
 
+-- without worry an index that is kept tells exactly the purses that are there
+abbrev pub TellsOwners : State → Option IndexSlots → Type 0
+TellsOwners s None = Unit {0}
+TellsOwners s (Some held) = worry s ≡ 0 → Owned (s.now.trees 8) (index_of held)
+
 -- A read: doubt doesn't fall, and without any in the end the database is as it was. While the disk didn't lie, a stop leaves what it could leave before.
 pub record Stays (old new : State) : Type 0 where
   pub ours : IsOurs new
   pub later : worry old ≤ worry new
   pub same : worry new ≡ 0 → new.now ≡ old.now
   pub stops : worry new ≤ 1 → (db : Database) → Leaves new db → Leaves old db
+  pub index : (held : Option IndexSlots) → TellsOwners old held → TellsOwners new held
 
 -- A step inside a transaction: no fault is forgotten, nothing is committed, the transaction goes on, and a stop leaves what it could leave before.
 pub record Within {T E : Type 0} (old new : State) (result : Result T E) : Type 0 where
@@ -69,15 +76,24 @@ ShowsNothing (Err e) = Unit {0}
 abbrev pub IsSilent : List ℕ → Type 0
 IsSilent sql = ShowsNothing (first sql)
 
--- the schema is that of the office, and the rows of a book become those of the change
-pub record Goes (change : Rows → Rows) (old new : State) : Type 0 where
+-- the schema is that of the office, the rows of a book become those of the change, and so does an index of purses by holder
+pub record Brings (change : Rows → Rows) (index : OwnerIndex → OwnerIndex) (old new : State) : Type 0 where
   pub schema : new.now.schema ≡ office_schema
   pub rows : (r : Rows) → Holds old.now r → Holds new.now (change r)
+  pub owned : (held : OwnerIndex) → Owned (old.now.trees 8) held → Owned (new.now.trees 8) (index held)
+
+-- what an index tells stays so
+abbrev pub SparesOwners : State → State → Type 0
+SparesOwners old new = (held : OwnerIndex) → Owned (old.now.trees 8) held → Owned (new.now.trees 8) held
+
+-- no purse comes in
+abbrev pub Goes : (Rows → Rows) → State → State → Type 0
+Goes change = Brings change (λ held. held)
 
 -- the connection was open, and this change is made of the rows
-pub record Applies (change : Rows → Rows) (old new : State) : Type 0 where
+pub record Applies (change : Rows → Rows) (index : OwnerIndex → OwnerIndex) (old new : State) : Type 0 where
   pub live : IsTrue old.is_open
-  pub goes : old.now.schema ≡ office_schema → Goes change old new
+  pub goes : old.now.schema ≡ office_schema → Brings change index old new
 
 -- A stop leaves what it could leave before, or, of an open connection, the rows after the change.
 abbrev pub Stops : (Rows → Rows) → State → State → Type 0
@@ -101,16 +117,25 @@ pub record Tells {S T : Type 0} (g : Ghosts S) (old new : Held S) (result : Resu
   pub stays : IsOurs (state g old) → Stays (state g old) (state g new)
   pub value : IsOurs (state g old) → (w : World) → worry (state g new) ≡ 0 → SpellsOne (state g old).now w → IfOk result (is w)
 
+-- a read that goes by an index of purses by holder, or makes one
+pub record Looks {S : Type 0} (g : Ghosts S) (old new : Held S) (before after : Option IndexSlots) (read : Type 0) : Type 0 where
+  pub reads : IsOurs (state g old) → TellsOwners (state g old) before → read
+  pub index : IsOurs (state g old) → TellsOwners (state g old) before → TellsOwners (state g new) after
+
 -- A step inside a transaction: the same connection is lent, and where it answers Ok this is so of what it gives.
 pub record Steps {S T E : Type 0} (g : Ghosts S) (old new : Transaction S) (result : Result T E) (does : T → Type 0) : Type 0 where
   pub same_reference : new.conn.ghost_name ≡ old.conn.ghost_name
   pub within : Within (state g old.conn.now) (state g new.conn.now) result
   pub ok : HasCleanDisk (state g new.conn.now) → IsTrue old.conn.now.in_transaction → IfOk result does
 
--- a step that makes this change of the rows
+-- a step that makes this change of the rows, and of an index of purses by holder
+abbrev pub Makes : {S T : Type 0} → Ghosts S → Transaction S → Transaction S → Result T StoreFault → (Rows → Rows) → (OwnerIndex → OwnerIndex) → Type 0
+Makes g old new result change index =
+    Steps g old new result (λ _. (state g old.conn.now).now.schema ≡ office_schema → Brings change index (state g old.conn.now) (state g new.conn.now))
+
+-- a step that makes this change of the rows, by which no purse comes in
 abbrev pub Writes : {S T : Type 0} → Ghosts S → Transaction S → Transaction S → Result T StoreFault → (Rows → Rows) → Type 0
-Writes g old new result change =
-    Steps g old new result (λ _. (state g old.conn.now).now.schema ≡ office_schema → Goes change (state g old.conn.now) (state g new.conn.now))
+Writes g old new result change = Makes g old new result change (λ held. held)
 
 -- a step that leaves the rows, and gives what is so of them
 abbrev pub Finds : {S T : Type 0} → Ghosts S → Transaction S → Transaction S → Result T StoreFault → (Rows → T → Type 0) → Type 0

@@ -23,10 +23,7 @@ use std::alloc::Global;
 fn has_sent(purse: &Option<PurseRow>, details: &PayDetails) -> bool
     ensures { result ≡ has_sent purse.now details.now }
 {
-    match purse {
-        Some(row) => is_sent_by(row, details),
-        None => false,
-    }
+    purse.as_ref().is_some_and(|row| is_sent_by(row, details))
 }
 
 /// Whether details are in the log of a purse.
@@ -34,10 +31,9 @@ fn has_sent(purse: &Option<PurseRow>, details: &PayDetails) -> bool
 fn is_logged(purse: &Option<PurseRow>, details: &PayDetails) -> bool
     ensures { result ≡ has_logged (log_at purse.now) details.now }
 {
-    match purse {
-        Some(row) => row.purse.log().has(details),
-        None => false,
-    }
+    purse
+        .as_ref()
+        .is_some_and(|row| row.purse.log().has(details))
 }
 
 /// The value of details, where it has left the purse that pays: it waits for their acknowledgement, has them in its
@@ -57,11 +53,8 @@ pub fn value_left<S: Alter>(
     if has_sent(&row, details) {
         return Ok(value);
     }
-    if find_archived(alloc, conn, &payer, details)? {
-        Ok(value)
-    } else {
-        Ok(0)
-    }
+    let found = find_archived(alloc, conn, &payer, details)?;
+    Ok(if found { value } else { 0 })
 }
 
 /// The value of details that are logged for a purse, where they are to it and it has left the other purse.
@@ -95,11 +88,8 @@ pub fn lose_row<S: Alter>(
     let log = log_at(row, 1)?;
     let mut sum = 0;
     for place in 0..log.len() {
-        let Some(details) = log.at(place) else {
-            return Err(StoreFault::Store);
-        };
-        let more = lost_by(alloc, conn, &purse, &details)?;
-        sum = plus(sum, more)?;
+        let details = log.at(place).ok_or(StoreFault::Store)?;
+        sum = plus(sum, lost_by(alloc, conn, &purse, &details)?)?;
     }
     Ok(sum)
 }

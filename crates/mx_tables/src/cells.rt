@@ -16,10 +16,7 @@ pub fn text_at(row: &Row, at: usize) -> Option<&str>
     ensures { IfSome result (λ t. column row.now at ≡ Text t.now) }
 {
     match row.get_ref(at) {
-        Ok(ValueRef::Text(text)) => match std::str::from_utf8(text) {
-            Ok(text) => Some(text),
-            Err(_) => None,
-        },
+        Ok(ValueRef::Text(text)) => std::str::from_utf8(text).ok(),
         _ => None,
     }
 }
@@ -28,22 +25,24 @@ pub fn text_at(row: &Row, at: usize) -> Option<&str>
 pub fn name_at(row: &Row, at: usize) -> Result<Name, StoreFault>
     ensures { IfOk result (λ name. column row.now at ≡ Text name) }
 {
-    let Some(text) = text_at(row, at) else {
-        return Err(StoreFault::Store);
-    };
-    match Name::read(text) {
-        Some(name) => Ok(name),
-        None => Err(StoreFault::Store),
-    }
+    let text = text_at(row, at).ok_or(StoreFault::Store)?;
+    Name::read(text).ok_or(StoreFault::Store)
 }
 
 /// The name in the first column of a row, where there is a row.
 pub fn name_in(row: Option<Row>) -> Result<Option<Name>, StoreFault>
     ensures { IfOk result (λ name. option_map (λ r. column r 0) row ≡ option_map Text name) }
 {
-    match row {
-        Some(row) => Ok(Some(name_at(&row, 0)?)),
-        None => Ok(None),
+    row.map(|row| name_at(&row, 0)).transpose()
+}
+
+/// The integer in a column. Store where another value is there.
+pub fn whole_at(row: &Row, at: usize) -> Result<i64, StoreFault>
+    ensures { IfOk result (λ n. column row.now at ≡ Int n) }
+{
+    match row.get_ref(at) {
+        Ok(ValueRef::Int(n)) => Ok(n),
+        _ => Err(StoreFault::Store),
     }
 }
 
@@ -51,13 +50,7 @@ pub fn name_in(row: Option<Row>) -> Result<Option<Name>, StoreFault>
 pub fn number_at(row: &Row, at: usize) -> Result<u64, StoreFault>
     ensures { IfOk result (λ n. column row.now at ≡ Int (pos n)) }
 {
-    match row.get_ref(at) {
-        Ok(ValueRef::Int(n)) => match u64::try_from(n) {
-            Ok(n) => Ok(n),
-            Err(_) => Err(StoreFault::Store),
-        },
-        _ => Err(StoreFault::Store),
-    }
+    u64::try_from(whole_at(row, at)?).map_err(|_| StoreFault::Store)
 }
 
 /// The number in the first column of a row, where there is a row.
@@ -65,20 +58,14 @@ pub fn number_in(row: Option<Row>) -> Result<Option<u64>, StoreFault>
     ensures { IfOk result
         (λ number. option_map (λ r. column r 0) row ≡ option_map (λ n. Int (pos n)) number) }
 {
-    match row {
-        Some(row) => Ok(Some(number_at(&row, 0)?)),
-        None => Ok(None),
-    }
+    row.map(|row| number_at(&row, 0)).transpose()
 }
 
 /// The amount in a column. Store where another value is there.
 pub fn amount_at(row: &Row, at: usize) -> Result<Amount, StoreFault>
     ensures { IfOk result (λ n. column row.now at ≡ Int (pos n)) }
 {
-    match Amount::new(number_at(row, at)?) {
-        Some(amount) => Ok(amount),
-        None => Err(StoreFault::Store),
-    }
+    Amount::new(number_at(row, at)?).ok_or(StoreFault::Store)
 }
 
 /// The amount in the first column of a row, where there is a row.
@@ -86,10 +73,7 @@ pub fn amount_in(row: Option<Row>) -> Result<Option<Amount>, StoreFault>
     ensures { IfOk result
         (λ amount. option_map (λ r. column r 0) row ≡ option_map (λ n. Int (pos n)) amount) }
 {
-    match row {
-        Some(row) => Ok(Some(amount_at(&row, 0)?)),
-        None => Ok(None),
-    }
+    row.map(|row| amount_at(&row, 0)).transpose()
 }
 
 /// The log in a column. Store where another value is there.
@@ -97,13 +81,8 @@ pub fn log_at(row: &Row, at: usize) -> Result<Log, StoreFault>
     ensures shown { IfOk result (λ log. column row.now at ≡ Text (code log)) }
     ensures valid { IfOk result IsLogValue }
 {
-    let Some(text) = text_at(row, at) else {
-        return Err(StoreFault::Store);
-    };
-    match read_code(text) {
-        Some(log) => Ok(log),
-        None => Err(StoreFault::Store),
-    }
+    let text = text_at(row, at).ok_or(StoreFault::Store)?;
+    read_code(text).ok_or(StoreFault::Store)
 }
 
 /// The details in a column, as one entry. Store where another value is there.
@@ -111,11 +90,6 @@ pub fn entry_at(row: &Row, at: usize) -> Result<PayDetails, StoreFault>
     ensures shown { IfOk result (λ d. column row.now at ≡ Text (entry_text d)) }
     ensures valid { IfOk result IsDetails }
 {
-    let Some(text) = text_at(row, at) else {
-        return Err(StoreFault::Store);
-    };
-    match read_details(text) {
-        Some(details) => Ok(details),
-        None => Err(StoreFault::Store),
-    }
+    let text = text_at(row, at).ok_or(StoreFault::Store)?;
+    read_details(text).ok_or(StoreFault::Store)
 }

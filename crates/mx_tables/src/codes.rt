@@ -1,6 +1,7 @@
 //! The texts of messages, statuses and logs, as they are stored.
 ghost use Rattle.std.specs.Prelude.{◌≡◌, IfOk, string_bytes};
 ghost use Rattle.mx_pay.specs.Codes.{code, entry_text};
+ghost use Rattle.mx_pay.specs.Details.{IsDetails};
 ghost use Rattle.mx_purse.specs.Words.{message_details, status_details};
 
 use mx_book::StoreFault;
@@ -12,10 +13,7 @@ use std::alloc::Global;
 pub fn log_code(alloc: Global, log: &Log) -> Result<String, StoreFault>
     ensures { IfOk result (λ text. string_bytes text ≡ code log.now) }
 {
-    match code_text(alloc, log) {
-        Ok(text) => Ok(text),
-        Err(_) => Err(StoreFault::Memory),
-    }
+    code_text(alloc, log).map_err(|_| StoreFault::Memory)
 }
 
 /// How many bytes the text of details has at most: two names, an amount and two numbers, with commas between them.
@@ -23,15 +21,14 @@ pub const MOST_ENTRY_BYTES: usize = 97;
 
 /// The text of details.
 pub fn entry_code(alloc: Global, details: &PayDetails) -> Result<String, StoreFault>
-    ensures { IfOk result (λ text. string_bytes text ≡ entry_text details.now) }
+    ensures text { IfOk result (λ text. string_bytes text ≡ entry_text details.now) }
+    ensures valid { IsDetails details.now }
 {
-    let Ok(mut text) = String::with_capacity(alloc, MOST_ENTRY_BYTES) else {
-        return Err(StoreFault::Memory);
-    };
-    match push_entry(&mut text, details) {
-        Ok(()) => Ok(text),
-        Err(_) => Err(StoreFault::Memory),
-    }
+    // The reader says the limits of the details.
+    let _limits = details.value();
+    let mut text = String::with_capacity(alloc, MOST_ENTRY_BYTES).map_err(|_| StoreFault::Memory)?;
+    push_entry(&mut text, details).map_err(|_| StoreFault::Memory)?;
+    Ok(text)
 }
 
 /// The text of the details of a message, or of the set to be cleared.

@@ -25,8 +25,7 @@ fn collect_row<S: Alter>(
         }) }
 {
     let purse = name_at(row, 0)?;
-    let holder = name_at(row, 1)?;
-    let owner = name_in(ask_about_inside(tx, About::Holder, &holder)?)?;
+    let owner = name_in(ask_about_inside(tx, About::Holder, &name_at(row, 1)?)?)?;
     if is_of(member, &owner) {
         run(
             tx,

@@ -3,8 +3,9 @@ ghost use Rattle.std.specs.Prelude.{◌≡◌, IsTrue, OnOk, false, fold};
 ghost use Rattle.sqlite.specs.Held.{state};
 ghost use Rattle.sqlite.specs.State.{HasCleanDisk, IsUnchanged};
 ghost use Rattle.mx_book.specs.RowEdits.{rewritten};
+ghost use Rattle.mx_tables.specs.Owners.{indexed};
 ghost use Rattle.mx_tables.specs.Schema.{office_schema};
-ghost use Rattle.mx_tables.specs.States.{Applies, Commits, Finds, Goes, Steps, Stops, Writes};
+ghost use Rattle.mx_tables.specs.States.{Applies, Brings, Commits, Finds, Makes, Steps, Stops, Writes};
 
 use crate::asking::fault_of;
 use crate::collecting::collect;
@@ -101,7 +102,8 @@ fn edit_one<S: Alter>(
     expected: &mut Option<(Name, u64)>,
     edit: &Edit,
 ) -> Result<(), StoreFault>
-    ensures { Writes S.Store tx.old tx.new result (λ r. rewritten r edit.now) }
+    ensures { Makes S.Store tx.old tx.new result
+        (λ r. rewritten r edit.now) (λ held. indexed held edit.now) }
 {
     match edit {
         Edit::NewMember { member, clerk } => add_member(tx, *member, *clerk),
@@ -146,7 +148,8 @@ fn edit_each<S: Alter>(
     expected: Option<(Name, u64)>,
     edits: &[Edit],
 ) -> Result<(), StoreFault>
-    ensures { Writes S.Store tx.old tx.new result (λ r. fold rewritten r edits.now) }
+    ensures { Makes S.Store tx.old tx.new result
+        (λ r. fold rewritten r edits.now) (λ held. fold indexed held edits.now) }
 {
     let mut expected = expected;
     for edit in edits {
@@ -173,7 +176,8 @@ fn edit_open<S: Alter>(
     expected: Option<(Name, u64)>,
     edits: &[Edit],
 ) -> Result<(), StoreFault>
-    ensures { Steps S.Store tx.old tx.new result (λ _. Applies (λ r. fold rewritten r edits.now)
+    ensures { Steps S.Store tx.old tx.new result (λ _. Applies
+        (λ r. fold rewritten r edits.now) (λ held. fold indexed held edits.now)
         (state S.Store tx.old.conn.now) (state S.Store tx.new.conn.now)) }
 {
     find_open(tx)?;
@@ -190,7 +194,8 @@ pub fn edit_all<S: Alter>(
 ) -> Result<(), StoreFault>
     requires { conn.old.in_transaction ≡ false }
     ensures commits { Commits S.Store conn.old conn.new result ((state S.Store conn.old).now.schema ≡ office_schema
-        → Goes (λ r. fold rewritten r edits.now) (state S.Store conn.old) (state S.Store conn.new)) }
+        → Brings (λ r. fold rewritten r edits.now) (λ held. fold indexed held edits.now)
+        (state S.Store conn.old) (state S.Store conn.new)) }
     ensures lives { HasCleanDisk (state S.Store conn.new)
         → OnOk result (IsTrue (state S.Store conn.new).is_open) }
     ensures stops { Stops (λ r. fold rewritten r edits.now)

@@ -2,17 +2,19 @@
 ghost use Rattle.std.specs.Prelude.{◌≡◌};
 ghost use Rattle.std.specs.FinMap as fmap;
 ghost use Rattle.mx_book.specs.World.{is_of};
-ghost use Rattle.mx_tables.specs.States.{Reads, Writes, Tells};
+ghost use Rattle.mx_tables.specs.States.{Looks, Reads, Tells, Writes};
 ghost use Rattle.mx_book.specs.Reads.{holder_of};
 
 use crate::asking::{About, ask_about, run};
 use crate::cells::name_in;
 use crate::given;
-use crate::purses::count_held;
+use crate::owners::count_purses;
+use mx_book::held::Held;
 use mx_book::{HolderRow, StoreFault};
 use mx_pay::Name;
 use mx_pay::names::same_name;
 use sqlite::{Alter, Connection, Transaction};
+use std::alloc::Global;
 
 /// Adds a holder of a member.
 pub fn insert_holder<S: Alter>(
@@ -42,15 +44,18 @@ pub fn find_holder<S: Alter>(
 
 /// The member of a holder and how many purses the holder has, or None where there is no such holder.
 pub fn read_holder<S: Alter>(
+    alloc: Global,
     conn: &mut Connection<S>,
+    kept: &mut Option<Held>,
     name: &Name,
 ) -> Result<Option<HolderRow>, StoreFault>
-    ensures { Tells S.Store conn.old conn.new result (λ w v. v ≡ holder_of w name.now) }
+    ensures { Looks S.Store conn.old conn.new kept.old kept.new
+        (Tells S.Store conn.old conn.new result (λ w v. v ≡ holder_of w name.now)) }
 {
     let Some(member) = find_holder(conn, name)? else {
         return Ok(None);
     };
-    let purses = count_held(conn, name)?;
+    let purses = count_purses(alloc, conn, kept, name)?;
     Ok(Some(HolderRow { member, purses }))
 }
 
@@ -58,8 +63,5 @@ pub fn read_holder<S: Alter>(
 pub fn is_of(name: &Name, found: &Option<Name>) -> bool
     ensures { result ≡ is_of name.now found.now }
 {
-    match found {
-        Some(found) => same_name(name, found),
-        None => false,
-    }
+    found.as_ref().is_some_and(|found| same_name(name, found))
 }

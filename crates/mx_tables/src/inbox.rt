@@ -29,13 +29,9 @@ fn message_at(row: &Row, kind: usize, details: usize) -> Result<Message, StoreFa
         × (column row.now details ≡ Text (message_details m))) }
     ensures valid { IfOk result IsMessage }
 {
-    let (Some(word), Some(text)) = (text_at(row, kind), text_at(row, details)) else {
-        return Err(StoreFault::Store);
-    };
-    match read_message(word, text) {
-        Some(message) => Ok(message),
-        None => Err(StoreFault::Store),
-    }
+    let word = text_at(row, kind).ok_or(StoreFault::Store)?;
+    let text = text_at(row, details).ok_or(StoreFault::Store)?;
+    read_message(word, text).ok_or(StoreFault::Store)
 }
 
 /// The message that a row shows.
@@ -43,9 +39,7 @@ fn message_in(row: &Row) -> Result<(u64, Message), StoreFault>
     ensures shown { IfOk result (λ m. first_three row.now ≡ message_row m) }
     ensures valid { IfOk result (λ m. IsMessage m.1) }
 {
-    let number = number_at(row, 0)?;
-    let message = message_at(row, 1, 2)?;
-    Ok((number, message))
+    Ok((number_at(row, 0)?, message_at(row, 1, 2)?))
 }
 
 /// The messages that rows show.
@@ -56,9 +50,7 @@ fn messages_in(alloc: Global, rows: &[Row]) -> Result<Vec<(u64, Message)>, Store
     let mut messages = Vec::new(alloc);
     for row in rows {
         let message = message_in(row)?;
-        if messages.push(message).is_err() {
-            return Err(StoreFault::Memory);
-        }
+        messages.push(message).map_err(|_| StoreFault::Memory)?;
     }
     Ok(messages)
 }
@@ -86,7 +78,7 @@ pub fn count_messages<S: Alter>(conn: &mut Connection<S>, purse: &Name) -> Resul
 {
     let rows = ask(
         conn,
-        "SELECT number FROM inbox WHERE purse = ?1 ORDER BY number",
+        "SELECT number FROM inbox WHERE purse = ?1",
         &[given::text(purse.as_str())],
     )?;
     Ok(rows.len())
@@ -131,8 +123,7 @@ pub fn find_has_message<S: Alter>(
         "SELECT number FROM inbox WHERE purse = ?1 AND number = ?2",
         &[given::text(purse.as_str()), given::number(number)],
     )?;
-    let found = only(rows)?;
-    Ok(found.is_some())
+    Ok(only(rows)?.is_some())
 }
 
 /// Puts a message into an inbox under a number that isn't there.

@@ -16,6 +16,7 @@ mod making;
 mod member_sums;
 mod members;
 pub mod opening;
+mod owners;
 mod purses;
 mod redemptions;
 mod results;

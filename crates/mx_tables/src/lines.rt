@@ -25,13 +25,9 @@ use std::alloc::Global;
 fn text_of(alloc: Global, note: &Note) -> Result<String, StoreFault>
     ensures { IfOk result (λ text. string_bytes text ≡ words.note_text note.now) }
 {
-    let Ok(mut text) = String::with_capacity(alloc, MOST_ENTRY_BYTES) else {
-        return Err(StoreFault::Memory);
-    };
-    match push_note(&mut text, note) {
-        Ok(()) => Ok(text),
-        Err(_) => Err(StoreFault::Memory),
-    }
+    let mut text = String::with_capacity(alloc, MOST_ENTRY_BYTES).map_err(|_| StoreFault::Memory)?;
+    push_note(&mut text, note).map_err(|_| StoreFault::Memory)?;
+    Ok(text)
 }
 
 /// Adds a line of a purse. Store where its number or its balance is above 2^63 - 1.
@@ -66,10 +62,8 @@ pub fn insert_line<S: Alter>(
 fn kind_at(row: &Row, at: usize) -> Result<LineKind, StoreFault>
     ensures { IfOk result (λ kind. column row.now at ≡ Text (words.kind_text kind)) }
 {
-    match text_at(row, at).and_then(read_kind) {
-        Some(kind) => Ok(kind),
-        None => Err(StoreFault::Store),
-    }
+    let text = text_at(row, at).ok_or(StoreFault::Store)?;
+    read_kind(text).ok_or(StoreFault::Store)
 }
 
 /// What the text in a column refers to: a reference or details. Store where another value is there.
@@ -77,9 +71,7 @@ fn note_at(row: &Row, at: usize) -> Result<Note, StoreFault>
     ensures shown { IfOk result (λ note. column row.now at ≡ Text (words.note_text note)) }
     ensures valid { IfOk result IsNote }
 {
-    let Some(text) = text_at(row, at) else {
-        return Err(StoreFault::Store);
-    };
+    let text = text_at(row, at).ok_or(StoreFault::Store)?;
     if let Some(reference) = Name::read(text) {
         return Ok(Note::Reference(reference));
     }
@@ -92,15 +84,11 @@ fn line_in(row: &Row, note: Note) -> Result<Line, StoreFault>
     ensures shown { IfOk result (λ line. first_five row.now ≡ line_shown line) }
     ensures noted { IfOk result (λ line. line.note ≡ note) }
 {
-    let number = number_at(row, 0)?;
-    let kind = kind_at(row, 1)?;
-    let amount = amount_at(row, 2)?;
-    let balance = number_at(row, 3)?;
     Ok(Line {
-        number,
-        kind,
-        amount,
-        balance,
+        number: number_at(row, 0)?,
+        kind: kind_at(row, 1)?,
+        amount: amount_at(row, 2)?,
+        balance: number_at(row, 3)?,
         note,
     })
 }
@@ -114,16 +102,13 @@ fn next_line<S: Alter>(rows: &mut Rows<'_, S>) -> Result<Option<Line>, StoreFaul
         → IfOk result (GivesLine S.Store rows.old.conn.now rows.new.conn.now) }
     ensures valid { IfOk result (λ line. IfSome line (λ l. IsNote l.note)) }
 {
-    match rows.advance() {
-        Ok(()) => {}
-        Err(error) => return Err(fault_of(error)),
+    if let Err(error) = rows.advance() {
+        return Err(fault_of(error));
     }
     let Some(row) = rows.get() else {
         return Ok(None);
     };
-    let note = note_at(row, 4)?;
-    let line = line_in(row, note)?;
-    Ok(Some(line))
+    Ok(Some(line_in(row, note_at(row, 4)?)?))
 }
 
 /// The first `most` lines of a purse that are numbered above `after`, by number. The rows after them are not taken.

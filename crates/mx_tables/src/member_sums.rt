@@ -21,10 +21,7 @@ use std::alloc::Global;
 fn sum_at(sums: &Table<Name, u128>, member: Name) -> u128
     ensures { result ≡ sum_at (map_of name_cmp sums.now) member }
 {
-    match sums.get(member) {
-        None => 0,
-        Some(sum) => *sum,
-    }
+    sums.get(member).copied().unwrap_or(0)
 }
 
 /// Adds a number to the sum of a member. Store where the sum is too large.
@@ -33,9 +30,7 @@ fn add_to(sums: &mut Table<Name, u128>, member: Name, more: u128) -> Result<(), 
         OnOk result (map_of name_cmp sums.new ≡ fmap.insert before member (sum_at before member + more)) }
 {
     let sum = plus(sum_at(sums, member), more)?;
-    if sums.reserve(1).is_err() {
-        return Err(StoreFault::Memory);
-    }
+    sums.reserve(1).map_err(|_| StoreFault::Memory)?;
     sums.put(member, sum);
     Ok(())
 }
@@ -96,11 +91,9 @@ fn totals_in(row: &Row, sums: &MemberSums) -> Result<(Name, MemberTotals), Store
     ensures { IfOk result (λ total. total ≡ totals_row sums.now row.now) }
 {
     let name = name_at(row, 0)?;
-    let granted = number_at(row, 1)?;
-    let float = number_at(row, 2)?;
     let totals = MemberTotals {
-        granted: granted as u128,
-        float: float as u128,
+        granted: number_at(row, 1)? as u128,
+        float: number_at(row, 2)? as u128,
         uncollected: sum_at(&sums.uncollected, name),
         issued: sum_at(&sums.issued, name),
         redeemed: sum_at(&sums.redeemed, name),
@@ -120,9 +113,7 @@ fn totals_in_rows(
     let mut totals = Vec::new(alloc);
     for row in rows {
         let total = totals_in(row, sums)?;
-        if totals.push(total).is_err() {
-            return Err(StoreFault::Memory);
-        }
+        totals.push(total).map_err(|_| StoreFault::Memory)?;
     }
     Ok(totals)
 }
@@ -139,15 +130,11 @@ pub fn sum_members<S: Alter>(
         "SELECT name, granted, unspent FROM member ORDER BY name",
         &[],
     )?;
-    let uncollected = amounts_by_member(alloc, conn, Amounts::Uncollected)?;
-    let issued = amounts_by_member(alloc, conn, Amounts::Issued)?;
-    let redeemed = amounts_by_member(alloc, conn, Amounts::Redeemed)?;
-    let balances = amounts_by_member(alloc, conn, Amounts::Balances)?;
     let sums = MemberSums {
-        uncollected,
-        issued,
-        redeemed,
-        balances,
+        uncollected: amounts_by_member(alloc, conn, Amounts::Uncollected)?,
+        issued: amounts_by_member(alloc, conn, Amounts::Issued)?,
+        redeemed: amounts_by_member(alloc, conn, Amounts::Redeemed)?,
+        balances: amounts_by_member(alloc, conn, Amounts::Balances)?,
     };
     totals_in_rows(alloc, &rows, &sums)
 }

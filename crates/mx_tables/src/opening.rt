@@ -114,9 +114,7 @@ fn model_of_office(alloc: Global) -> Result<Connection<MemStore>, OpenFault>
     ensures schema { IfOk result (λ c. c.schema ≡ office_schema) }
     ensures fault { IfErr result (λ fault. fault ≢ NotThisSchema) }
 {
-    let Ok(mut conn) = Connection::open_in_memory(alloc) else {
-        return Err(OpenFault::Memory);
-    };
+    let mut conn = Connection::open_in_memory(alloc).map_err(|_| OpenFault::Memory)?;
     let mut tx = conn.transaction();
     if let Err(error) = make_tables(&mut tx) {
         return Err(refused_create(true, error));
@@ -132,14 +130,8 @@ fn is_office(alloc: Global, schema: &Schema) -> Result<bool, OpenFault>
     ensures same { IfOk result (λ same. IsTrue same → schema.now ≡ office_schema) }
     ensures fault { IfErr result (λ fault. fault ≢ NotThisSchema) }
 {
-    let model = match model_of_office(alloc) {
-        Ok(model) => model,
-        Err(fault) => return Err(fault),
-    };
-    match same_schema(alloc, schema, model.schema()) {
-        Ok(same) => Ok(same),
-        Err(_) => Err(OpenFault::Memory),
-    }
+    let model = model_of_office(alloc)?;
+    same_schema(alloc, schema, model.schema()).map_err(|_| OpenFault::Memory)
 }
 
 /// The version that `meta` has, in the rows of id 1.
@@ -206,11 +198,7 @@ pub(crate) fn check_office<S: Alter>(
     ensures live { HasCleanDisk (state S.Store conn.new)
         → OnOk result (IsTrue (state S.Store conn.new).is_open) }
 {
-    let same = match is_office(alloc, conn.schema()) {
-        Ok(same) => same,
-        Err(fault) => return Err(fault),
-    };
-    if !same {
+    if !is_office(alloc, conn.schema())? {
         return match conn.schema().table_named("meta".as_bytes()) {
             Some(_) => Err(OpenFault::Store),
             None => Err(OpenFault::NotThisSchema),

@@ -1,5 +1,5 @@
 //! Purses.
-ghost use Rattle.std.specs.Prelude.{◌≡◌, ◌<◌, ◌^◌, IfOk, IfSome, is_some, length, option_map};
+ghost use Rattle.std.specs.Prelude.{◌≡◌, ◌<◌, ◌^◌, IfOk, IfSome, is_some, option_map};
 ghost use Rattle.std.specs.FinMap as fmap;
 ghost use Rattle.sqlite.specs.Held.{state};
 ghost use Rattle.sqlite_value.specs.Order.{column};
@@ -8,21 +8,21 @@ ghost use Rattle.mx_pay.specs.Details.{IsDetails};
 ghost use Rattle.mx_purse.specs.State.{IsPurse, details_of};
 ghost use Rattle.mx_purse.specs.Words.{status_details, status_word};
 ghost use Rattle.mx_book.specs.RowEdits.{rewritten};
-ghost use Rattle.mx_book.specs.RowReads.{row_finds_place, row_purses_of};
+ghost use Rattle.mx_book.specs.RowReads.{row_finds_place};
 ghost use Rattle.mx_book.specs.declared.edits.Edit.TheVariants.{NewPurse, SetPurse};
 ghost use Rattle.mx_book.specs.declared.values.PurseRow.{PurseRow};
 ghost use Rattle.mx_tables.specs.Answers.{ArePurses, Raises, purse_columns, purse_shown, state_columns, state_shown};
+ghost use Rattle.mx_tables.specs.Owners.{indexed};
 ghost use Rattle.mx_tables.specs.Schema.{office_schema};
-ghost use Rattle.mx_tables.specs.States.{Finds, Reads, Steps, Writes, Tells};
-ghost use Rattle.mx_book.specs.Reads.{account_of, own_purse, has_purse, purses_of};
+ghost use Rattle.mx_tables.specs.States.{Finds, Makes, Reads, Steps, Writes, Tells};
+ghost use Rattle.mx_book.specs.Reads.{account_of, own_purse, has_purse};
 
-use crate::asking::{About, ask, ask_about, ask_about_inside, run, run_one};
+use crate::asking::{About, ask_about, ask_about_inside, run, run_one};
 use crate::cells::{log_at, name_at, name_in, number_at, number_in, text_at};
 use crate::codes::{log_code, status_code};
 use crate::given;
 use crate::holders::{find_holder, is_of};
 use crate::inbox::count_messages;
-use crate::members::names_in;
 use mx_book::{Account, MOST_MESSAGES, PurseRow, StoreFault};
 use mx_pay::names::same_name;
 use mx_pay::{MOST_NUMBER, Name, Seq};
@@ -31,43 +31,15 @@ use mx_purse::{Purse, Status};
 use sqlite::{Alter, Connection, Row, Transaction};
 use std::alloc::Global;
 
-/// How many purses a holder has.
-pub fn count_held<S: Alter>(conn: &mut Connection<S>, holder: &Name) -> Result<usize, StoreFault>
-    ensures { Reads S.Store conn.old conn.new result
-        (λ r v. v ≡ length (row_purses_of r holder.now)) }
-{
-    let rows = ask(
-        conn,
-        "SELECT name FROM purse WHERE holder = ?1 ORDER BY name",
-        &[given::text(holder.as_str())],
-    )?;
-    Ok(rows.len())
-}
-
-/// The names of the purses of a holder, in order.
-pub fn list_held<S: Alter>(
-    alloc: Global,
-    conn: &mut Connection<S>,
-    holder: &Name,
-) -> Result<Vec<Name>, StoreFault>
-    ensures { Tells S.Store conn.old conn.new result (λ w v. v.items ≡ purses_of w holder.now) }
-{
-    let rows = ask(
-        conn,
-        "SELECT name FROM purse WHERE holder = ?1 ORDER BY name",
-        &[given::text(holder.as_str())],
-    )?;
-    names_in(alloc, &rows)
-}
-
 /// Adds a purse of a holder: at rest, with nothing in it and nothing logged.
 pub fn insert_purse<S: Alter>(
     tx: &mut Transaction<'_, S>,
     name: &Name,
     holder: &Name,
 ) -> Result<(), StoreFault>
-    ensures { Writes S.Store tx.old tx.new result
-        (λ r. rewritten r (NewPurse name.now holder.now)) }
+    ensures { Makes S.Store tx.old tx.new result
+        (λ r. rewritten r (NewPurse name.now holder.now))
+        (λ held. indexed held (NewPurse name.now holder.now)) }
 {
     run(
         tx,
@@ -83,13 +55,9 @@ fn status_in(row: &Row) -> Result<Status, StoreFault>
         × (column row.now 4 ≡ Text (status_details s))) }
     ensures valid { IfOk result (λ s. IfSome (details_of s) IsDetails) }
 {
-    let (Some(word), Some(details)) = (text_at(row, 3), text_at(row, 4)) else {
-        return Err(StoreFault::Store);
-    };
-    match read_status(word, details) {
-        Some(status) => Ok(status),
-        None => Err(StoreFault::Store),
-    }
+    let word = text_at(row, 3).ok_or(StoreFault::Store)?;
+    let details = text_at(row, 4).ok_or(StoreFault::Store)?;
+    read_status(word, details).ok_or(StoreFault::Store)
 }
 
 /// The purse of that name that a row shows.
@@ -99,16 +67,11 @@ fn state_in(name: &Name, row: &Row) -> Result<Purse, StoreFault>
     ensures named { IfOk result (λ p. p.name ≡ name.now) }
 {
     let balance = number_at(row, 1)?;
-    let Some(next) = Seq::new(number_at(row, 2)?) else {
-        return Err(StoreFault::Store);
-    };
+    let next = Seq::new(number_at(row, 2)?).ok_or(StoreFault::Store)?;
     let status = status_in(row)?;
     let log = log_at(row, 5)?;
     let lines = number_at(row, 6)?;
-    match Purse::from_parts(*name, balance, next, status, log, lines) {
-        Some(purse) => Ok(purse),
-        None => Err(StoreFault::Store),
-    }
+    Purse::from_parts(*name, balance, next, status, log, lines).ok_or(StoreFault::Store)
 }
 
 /// What a row says of the purse of that name.
@@ -117,13 +80,10 @@ fn purse_in(name: &Name, row: &Row) -> Result<PurseRow, StoreFault>
     ensures valid { IfOk result (λ x. IsPurse x.purse) }
     ensures named { IfOk result (λ x. x.purse.name ≡ name.now) }
 {
-    let holder = name_at(row, 0)?;
-    let purse = state_in(name, row)?;
-    let next_message = number_at(row, 7)?;
     Ok(PurseRow {
-        holder,
-        purse,
-        next_message,
+        holder: name_at(row, 0)?,
+        purse: state_in(name, row)?,
+        next_message: number_at(row, 7)?,
     })
 }
 
@@ -155,12 +115,11 @@ pub fn read_account<S: Alter>(
     let Some(member) = find_holder(conn, &row.holder)? else {
         return Ok(None);
     };
-    let held = count_messages(conn, name)?;
     Ok(Some(Account {
         holder: row.holder,
         member,
         purse: row.purse,
-        held,
+        held: count_messages(conn, name)?,
         next_message: row.next_message,
     }))
 }
@@ -176,12 +135,10 @@ pub fn find_own<S: Alter>(
     let Some(row) = ask_about(conn, About::Own, name)? else {
         return Ok(None);
     };
-    let owner = name_at(&row, 0)?;
-    if !same_name(holder, &owner) {
+    if !same_name(holder, &name_at(&row, 0)?) {
         return Ok(None);
     }
-    let purse = state_in(name, &row)?;
-    Ok(Some(purse))
+    Ok(Some(state_in(name, &row)?))
 }
 
 /// The holder of a purse, or None where there is no such purse.
@@ -211,8 +168,7 @@ pub fn find_is_own<S: Alter>(
     ensures { Tells S.Store conn.old conn.new result
         (λ w b. b ≡ is_some (own_purse w holder.now name.now)) }
 {
-    let owner = find_owner(conn, name)?;
-    Ok(is_of(holder, &owner))
+    Ok(is_of(holder, &find_owner(conn, name)?))
 }
 
 /// The number that a message to a purse gets, or None where it finds no place.
@@ -223,16 +179,11 @@ pub fn find_place<S: Alter>(
     ensures { Reads S.Store conn.old conn.new result
         (λ r v. is_some v ≡ row_finds_place r name.now) }
 {
-    let row = ask_about(conn, About::Next, name)?;
-    let Some(next_message) = number_in(row)? else {
+    let Some(next_message) = number_in(ask_about(conn, About::Next, name)?)? else {
         return Ok(None);
     };
-    let held = count_messages(conn, name)?;
-    if held < MOST_MESSAGES && next_message < MOST_NUMBER {
-        Ok(Some(next_message))
-    } else {
-        Ok(None)
-    }
+    let fits = count_messages(conn, name)? < MOST_MESSAGES && next_message < MOST_NUMBER;
+    Ok(fits.then_some(next_message))
 }
 
 /// Sets the purse of that name, which is there.
@@ -265,10 +216,7 @@ pub fn next_number<S: Alter>(tx: &mut Transaction<'_, S>, name: &Name) -> Result
     ensures { Finds S.Store tx.old tx.new result
         (λ r n. option_map (λ x. x.next_message) (fmap.get r.purses name.now) ≡ Some n) }
 {
-    match ask_about_inside(tx, About::Next, name)? {
-        Some(row) => number_at(&row, 0),
-        None => Err(StoreFault::Store),
-    }
+    number_in(ask_about_inside(tx, About::Next, name)?)?.ok_or(StoreFault::Store)
 }
 
 /// Raises the number of a purse's next message, which is this one, by one. Store where there is no such purse, or it has

@@ -1,9 +1,7 @@
 //! The results of read log in the tray and in the archive.
-ghost use Rattle.std.specs.Prelude.{◌≡◌, IfOk, string_bytes};
+ghost use Rattle.std.specs.Prelude.{◌≡◌, IfOk};
 ghost use Rattle.std.specs.FinMap as fmap;
 ghost use Rattle.sqlite.specs.Held.{state};
-ghost use Rattle.mx_pay.specs.Codes.{entry_text};
-ghost use Rattle.mx_pay.specs.Details.{IsDetails};
 ghost use Rattle.mx_book.specs.RowEdits.{rewritten};
 ghost use Rattle.mx_book.specs.RowReads.{row_is_archived};
 ghost use Rattle.mx_book.specs.declared.edits.Edit.TheVariants.{ArchiveTray};
@@ -14,25 +12,12 @@ ghost use Rattle.mx_book.specs.Reads.{tray_of};
 
 use crate::asking::{ask, ask_inside, only, run};
 use crate::cells::{entry_at, text_at};
+use crate::codes::entry_code;
 use crate::given;
 use mx_book::StoreFault;
-use mx_pay::{Log, Name, PayDetails, push_entry};
+use mx_pay::{Log, Name, PayDetails};
 use sqlite::{Alter, Connection, Row, Transaction};
 use std::alloc::Global;
-
-/// The text of details.
-fn text_of(alloc: Global, details: &PayDetails) -> Result<String, StoreFault>
-    ensures text { IfOk result (λ text. string_bytes text ≡ entry_text details.now) }
-    ensures valid { IsDetails details.now }
-{
-    // The reader says the limits of the details.
-    let _limits = details.value();
-    let mut text = String::new(alloc);
-    match push_entry(&mut text, details) {
-        Ok(()) => Ok(text),
-        Err(_) => Err(StoreFault::Memory),
-    }
-}
 
 /// Adds a result to the tray of a purse.
 pub fn insert_tray<S: Alter>(
@@ -44,7 +29,7 @@ pub fn insert_tray<S: Alter>(
     ensures { Writes S.Store tx.old tx.new result
         (λ r. record r { tray = fmap.insert r.tray (purse.now, details.now) tt }) }
 {
-    let text = text_of(alloc, details)?;
+    let text = entry_code(alloc, details)?;
     run(
         tx,
         "INSERT INTO tray (purse, details) VALUES (?1, ?2)",
@@ -62,14 +47,13 @@ pub fn find_archived<S: Alter>(
     ensures { Reads S.Store conn.old conn.new result
         (λ r b. AreDetails r.archive → b ≡ row_is_archived r purse.now details.now) }
 {
-    let text = text_of(alloc, details)?;
+    let text = entry_code(alloc, details)?;
     let rows = ask(
         conn,
         "SELECT 1 FROM archive WHERE purse = ?1 AND details = ?2",
         &[given::text(purse.as_str()), given::text(&text)],
     )?;
-    let found = only(rows)?;
-    Ok(found.is_some())
+    Ok(only(rows)?.is_some())
 }
 
 /// The log of what rows show.
@@ -109,9 +93,7 @@ fn archive_rows<S: Alter>(
         → Archives purse.now rows.now (state S.Store tx.old.conn.now) (state S.Store tx.new.conn.now)) }
 {
     for row in rows {
-        let Some(text) = text_at(row, 0) else {
-            return Err(StoreFault::Store);
-        };
+        let text = text_at(row, 0).ok_or(StoreFault::Store)?;
         run(
             tx,
             "INSERT INTO archive (purse, details) VALUES (?1, ?2)",

@@ -26,10 +26,7 @@ use std::alloc::Global;
 pub fn plus(sum: u128, more: u128) -> Result<u128, StoreFault>
     ensures { IfOk result (λ n. n ≡ sum + more) }
 {
-    match sum.checked_add(more) {
-        Some(sum) => Ok(sum),
-        None => Err(StoreFault::Store),
-    }
+    sum.checked_add(more).ok_or(StoreFault::Store)
 }
 
 /// The member of the holder of a purse, or None where there is no such purse or holder.
@@ -57,10 +54,7 @@ fn counts<S: Alter>(
 {
     match scope {
         Scope::Scheme => Ok(true),
-        Scope::Member(member) => {
-            let owner = find_member_at(conn, purse)?;
-            Ok(is_of(member, &owner))
-        }
+        Scope::Member(member) => Ok(is_of(member, &find_member_at(conn, purse)?)),
     }
 }
 
@@ -75,11 +69,8 @@ fn count_row<S: Alter>(
 {
     let purse = name_at(row, 0)?;
     let number = number_at(row, 1)?;
-    if counts(conn, scope, &purse)? {
-        Ok(number as u128)
-    } else {
-        Ok(0)
-    }
+    let counted = counts(conn, scope, &purse)?;
+    Ok(if counted { number as u128 } else { 0 })
 }
 
 /// Amounts of purses.
@@ -148,10 +139,7 @@ fn row_adds<S: Alter>(
 {
     match adds {
         Adds::Counted(_, scope) => count_row(conn, scope, row),
-        Adds::Waiting => {
-            let details = entry_at(row, 0)?;
-            value_left(alloc, conn, &details)
-        }
+        Adds::Waiting => value_left(alloc, conn, &entry_at(row, 0)?),
         Adds::Logged => lose_row(alloc, conn, row),
         Adds::Archived => lose_result(alloc, conn, row),
     }
@@ -169,8 +157,7 @@ pub fn sum_of<S: Alter>(
     let rows = ask(conn, adds.text(), &[])?;
     let mut sum = 0;
     for row in &rows {
-        let more = row_adds(alloc, conn, adds, row)?;
-        sum = plus(sum, more)?;
+        sum = plus(sum, row_adds(alloc, conn, adds, row)?)?;
     }
     Ok(sum)
 }
@@ -209,15 +196,11 @@ fn sum_all<S: Alter>(
     ensures { Reads S.Store conn.old conn.new result
         (λ r sums. ArePurses r → AreDetails r.archive → sums ≡ row_sums r scope.now) }
 {
-    let uncollected = sum_of(alloc, conn, &Adds::Counted(Amounts::Uncollected, *scope))?;
-    let issued = sum_of(alloc, conn, &Adds::Counted(Amounts::Issued, *scope))?;
-    let redeemed = sum_of(alloc, conn, &Adds::Counted(Amounts::Redeemed, *scope))?;
-    let balances = sum_of(alloc, conn, &Adds::Counted(Amounts::Balances, *scope))?;
     Ok(Sums {
-        uncollected,
-        issued,
-        redeemed,
-        balances,
+        uncollected: sum_of(alloc, conn, &Adds::Counted(Amounts::Uncollected, *scope))?,
+        issued: sum_of(alloc, conn, &Adds::Counted(Amounts::Issued, *scope))?,
+        redeemed: sum_of(alloc, conn, &Adds::Counted(Amounts::Redeemed, *scope))?,
+        balances: sum_of(alloc, conn, &Adds::Counted(Amounts::Balances, *scope))?,
     })
 }
 
@@ -249,8 +232,7 @@ fn sum_column(rows: &[Row], at: usize) -> Result<u128, StoreFault>
 {
     let mut sum = 0;
     for row in rows {
-        let more = number_at(row, at)?;
-        sum = plus(sum, more as u128)?;
+        sum = plus(sum, number_at(row, at)? as u128)?;
     }
     Ok(sum)
 }
@@ -262,9 +244,7 @@ fn sum_grants<S: Alter>(conn: &mut Connection<S>) -> Result<(u128, u128), StoreF
         × (sums.1 ≡ sum_values (λ m. m.float) r.members)) }
 {
     let rows = ask(conn, "SELECT granted, unspent FROM member", &[])?;
-    let granted = sum_column(&rows, 0)?;
-    let float = sum_column(&rows, 1)?;
-    Ok((granted, float))
+    Ok((sum_column(&rows, 0)?, sum_column(&rows, 1)?))
 }
 
 /// What the books come to for the whole scheme.
@@ -276,7 +256,6 @@ pub fn sum_scheme<S: Alter>(alloc: Global, conn: &mut Connection<S>) -> Result<T
     let transit = sum_of(alloc, conn, &Adds::Waiting)?;
     let in_logs = sum_of(alloc, conn, &Adds::Logged)?;
     let in_archive = sum_of(alloc, conn, &Adds::Archived)?;
-    let lost = plus(in_logs, in_archive)?;
     Ok(Totals {
         granted,
         float,
@@ -285,6 +264,6 @@ pub fn sum_scheme<S: Alter>(alloc: Global, conn: &mut Connection<S>) -> Result<T
         redeemed: sums.redeemed,
         balances: sums.balances,
         transit,
-        lost,
+        lost: plus(in_logs, in_archive)?,
     })
 }

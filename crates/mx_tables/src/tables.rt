@@ -19,11 +19,13 @@ use crate::loads::find_load;
 use crate::member_sums::sum_members;
 use crate::members::{find_member, list_members};
 use crate::opening::{OpenFault, OpenRefused, check_office, make_office};
-use crate::purses::{find_has_purse, find_is_own, find_own, find_place, list_held, read_account};
+use crate::owners::{keep_up, list_purses};
+use crate::purses::{find_has_purse, find_is_own, find_own, find_place, read_account};
 use crate::redemptions::find_redemption;
 use crate::results::{find_archived, list_tray};
 use crate::sums::{sum_member, sum_scheme, sum_uncollected};
 use crate::tokens::find_caller;
+use mx_book::held::Held;
 use mx_book::{
     Account, Book, Caller, Edit, HolderRow, Line, MemberRow, MemberTotals, Scope, StoreFault,
     Totals,
@@ -41,11 +43,13 @@ pub struct Tables<S: Alter> {
     conn: Connection<S>,
     // A purse to which a message was found to find a place since the last change, and the number that it gets.
     expected: Option<(Name, u64)>,
+    // The purses of each holder, from when they are first asked for until a change fails.
+    held: Option<Held>,
 }
 
 impl<S: Alter> Model for Tables<S> {
     ghost use Rattle.sqlite.specs.Held.{Held, held_code, state as state_of};
-    ghost use Rattle.mx_tables.specs.States.{IsOurs};
+    ghost use Rattle.mx_tables.specs.States.{IsOurs, TellsOwners};
 
     ghost Value = { Held S };
 
@@ -53,7 +57,8 @@ impl<S: Alter> Model for Tables<S> {
 
     ghost view = { λ t. t.conn };
 
-    ghost invariant = { λ t. IsOurs (state_of S.Store t.conn) };
+    ghost invariant = { λ t. IsOurs (state_of S.Store t.conn)
+        × TellsOwners (state_of S.Store t.conn) t.held };
 }
 
 impl<S: Alter> Tables<S> {
@@ -90,6 +95,7 @@ impl<S: Alter> Tables<S> {
                 alloc,
                 conn: store,
                 expected: None,
+                held: None,
             }),
             Err(fault) => Err(OpenRefused { fault, store }),
         }
@@ -130,6 +136,7 @@ impl<S: Alter> Tables<S> {
                 alloc,
                 conn: store,
                 expected: None,
+                held: None,
             }),
             Err(fault) => Err(OpenRefused { fault, store }),
         }
@@ -171,11 +178,14 @@ impl<S: Alter> Book for Tables<S> {
 
     fn apply(&mut self, edits: &[Edit]) -> Result<(), StoreFault> {
         let expected = self.expected.take();
-        edit_all(self.alloc, &mut self.conn, expected, edits)
+        let held = self.held.take();
+        let done = edit_all(self.alloc, &mut self.conn, expected, edits);
+        self.held = keep_up(done.is_ok(), held, edits);
+        done
     }
 
-    fn holder(&mut self, _alloc: Global, name: Name) -> Result<Option<HolderRow>, StoreFault> {
-        read_holder(&mut self.conn, &name)
+    fn holder(&mut self, alloc: Global, name: Name) -> Result<Option<HolderRow>, StoreFault> {
+        read_holder(alloc, &mut self.conn, &mut self.held, &name)
     }
 
     fn members(&mut self, alloc: Global) -> Result<Vec<Name>, StoreFault> {
@@ -214,7 +224,7 @@ impl<S: Alter> Book for Tables<S> {
     }
 
     fn purses_of(&mut self, alloc: Global, holder: Name) -> Result<Vec<Name>, StoreFault> {
-        list_held(alloc, &mut self.conn, &holder)
+        list_purses(alloc, &mut self.conn, &mut self.held, &holder)
     }
 
     fn inbox(&mut self, alloc: Global, purse: Name) -> Result<Vec<(u64, Message)>, StoreFault> {

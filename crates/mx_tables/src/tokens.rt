@@ -39,11 +39,10 @@ pub fn find_caller<S: Alter>(
 ) -> Result<Option<Caller>, StoreFault>
     ensures { Tells S.Store conn.old conn.new result (λ w v. v ≡ who_of w token.now) }
 {
-    let text = token.text();
     let rows = ask(
         conn,
         "SELECT kind, name FROM token WHERE token = ?1",
-        &[ValueRef::Text(&text[..])],
+        &[ValueRef::Text(&token.text()[..])],
     )?;
     match only(rows)? {
         Some(row) => Ok(Some(caller_in(&row)?)),
@@ -84,16 +83,13 @@ pub fn insert_token<S: Alter>(
         (λ _. Fresh (state S.Store tx.old.conn.now) → caller.now ≡ Operator
         → Holds (state S.Store tx.new.conn.now).now (opening_rows token.now)) }
 {
-    let text = token.text();
-    let kind = kind_of(caller);
-    let owner = owner_of(caller);
     run(
         tx,
         "INSERT INTO token (token, kind, name) VALUES (?1, ?2, ?3)",
         &[
-            ValueRef::Text(&text[..]),
-            ValueRef::Text(kind.as_bytes()),
-            ValueRef::Text(owner.as_bytes()),
+            ValueRef::Text(&token.text()[..]),
+            ValueRef::Text(kind_of(caller).as_bytes()),
+            ValueRef::Text(owner_of(caller).as_bytes()),
         ],
     )
 }

@@ -1,5 +1,5 @@
-use Rattle.sqlite.specs.Held.{state}
-use Rattle.mx_tables.proofs.StateLemmas.{shown_same, refused_keeps, shown_within, quits_within}
+use Rattle.mx_tables.proofs.Common.{state}
+use Rattle.mx_tables.proofs.StateLemmas.{shown_same, shown_keeps, refused_keeps, within_by}
 use Rattle.mx_tables.proofs.asking.ask_inside.Goals as goal
 
 pub returns-in-Ok : goal.returns-in-Ok
@@ -8,7 +8,7 @@ returns-in-Ok g c =
     let new = state g.S.Store c.query_all.new.self.conn.now in
     record {
       same_reference = c.in-Ok.ensures.same_reference;
-      within = shown_within _ _ old new _ _ c.in-Ok.ensures.survives c.in-Ok.ensures.ok;
+      within = within_by old new _ c.in-Ok.ensures.survives (λ clean inside. shown_keeps _ _ old new _ inside (c.in-Ok.ensures.ok clean));
       ok = λ clean inside has. record {
         same = (shown_same _ _ old new _ c.requires.plain has (c.in-Ok.ensures.ok clean)).0.now_is;
         value = λ r holds. c.in-Ok.ensures.ok clean;
@@ -21,6 +21,6 @@ returns-in-Err g c =
     let new = state g.S.Store c.query_all.new.self.conn.now in
     record {
       same_reference = c.in-Err.ensures.same_reference;
-      within = quits_within old new _ c.in-Err.ensures.survives (λ clean. refused_keeps _ _ old new _ (c.in-Err.ensures.err clean));
+      within = within_by old new _ c.in-Err.ensures.survives (λ clean inside. (refused_keeps _ _ old new _ (c.in-Err.ensures.err clean), tt));
       ok = λ clean inside. tt;
     }

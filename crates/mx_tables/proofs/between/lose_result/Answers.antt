@@ -1,4 +1,5 @@
-use Rattle.std.proofs.Common.{◌∙◌, sym, ap}
+use Rattle.mx_tables.proofs.Common.{◌∙◌}
+use Rattle.std.proofs.Common.{sym, ap}
 use Rattle.mx_pay.specs.Log.{has_logged}
 use Rattle.mx_book.specs.RowEdits.{log_at}
 use Rattle.mx_tables.proofs.CallLemmas.{reads_to, reads_more, reads_then}

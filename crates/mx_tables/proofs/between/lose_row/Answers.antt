@@ -1,4 +1,4 @@
-use Rattle.std.proofs.Common.{◌≡◌, ℕ, Some, sym, ◌∙◌, arith}
+use Rattle.mx_tables.proofs.Common.{◌≡◌, ℕ, Some, ◌∙◌, arith, rules}
 use Rattle.std.specs.Prelude.{slice_get}
 use Rattle.mx_pay.specs.Details.{Details}
 use Rattle.mx_pay.specs.Log.{logged}
@@ -11,12 +11,12 @@ use Rattle.mx_tables.proofs.between.lose_row.Goals as goal
 pub loop-place-preserved : goal.loop-place-preserved
 loop-place-preserved g c = (
   c.loop-place.invariant.0,
-  reads_to g.S.Store (reads_then g.S.Store c.loop-place.invariant.1 c.in_ok-more.ensures) (λ r holds both purses archive.
+  reads_to g.S.Store (reads_then g.S.Store c.loop-place.invariant.1 c.in_ok-lost_by.ensures) (λ r holds both purses archive.
       let f : Details → ℕ = lost_by r.purses r.archive c.in_ok-purse.purse in
-      let at : slice_get (logged c.in_ok-log.log) c.loop-place.place ≡ Some c.in-Some.details = sym c.at.ensures.value ∙ c.in-Some.is in
+      let at : slice_get (logged c.in_ok-log.log) c.loop-place.place ≡ Some c.in_ok-details.details = search rules in
       let before = both.0 purses archive in
       let more = both.1 purses archive in
-      let next = sum_next f c.in_ok-log.log c.loop-place.place c.in-Some.details at in
+      let next = sum_next f c.in_ok-log.log c.loop-place.place c.in_ok-details.details at in
       omega (arith, before, more, next, c.in_ok-sum.ensures)),
 )
 

@@ -1,10 +1,10 @@
-use Rattle.std.proofs.Common.{◌≡◌, take}
+use Rattle.mx_tables.proofs.Common.{◌≡◌, take, going}
 use Rattle.std.specs.Prelude.{sum_by}
 use Rattle.mx_pay.specs.Log.{logged, log_len}
 use Rattle.mx_book.specs.RowTotals.{lost_by}
 use Rattle.mx_tables.specs.Answers.{ArePurses}
 use Rattle.mx_tables.specs.Results.{AreDetails}
-use Rattle.mx_tables.specs.States.{Reads, going}
+use Rattle.mx_tables.specs.States.{Reads}
 use Rattle.mx_tables.proofs.between.lose_row.Given as goal
 
 -- the rows of the book are as they were, and the sum is that of the entries so far

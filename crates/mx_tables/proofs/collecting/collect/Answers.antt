@@ -1,4 +1,4 @@
-use Rattle.std.proofs.Common.{◌<◌, ◌≤◌, rules, length}
+use Rattle.mx_tables.proofs.Common.{◌<◌, ◌≤◌, rules, length}
 use Rattle.mx_tables.proofs.CallLemmas.{finds_then, writes_as, writes_none, writes_then}
 use Rattle.mx_tables.proofs.LoadLemmas.{all_so_far, none_so_far, one_row_so_far, finds_owned, select_owned_is}
 use Rattle.mx_tables.proofs.collecting.collect.Goals as goal

@@ -1,5 +1,5 @@
-use Rattle.std.proofs.Common.{take}
-use Rattle.mx_tables.specs.States.{Writes, going}
+use Rattle.mx_tables.proofs.Common.{take, going}
+use Rattle.mx_tables.specs.States.{Writes}
 use Rattle.mx_tables.proofs.LoadLemmas.{collects_so_far}
 use Rattle.mx_tables.proofs.collecting.collect.Given as goal
 

@@ -1,5 +1,5 @@
-use Rattle.std.proofs.Common.{ap, ◌∙◌}
-use Rattle.sqlite.specs.Effect.{Database}
+use Rattle.mx_tables.proofs.Common.{◌∙◌, Database}
+use Rattle.std.proofs.Common.{ap}
 use Rattle.mx_tables.proofs.CallLemmas.{steps_then, steps_to}
 use Rattle.mx_tables.proofs.InboxLemmas.{delivers}
 use Rattle.mx_tables.proofs.edits.add_message.Goals as goal

@@ -1,6 +1,5 @@
-use Rattle.std.proofs.Common.{[]}
-use Rattle.sqlite.specs.Held.{state}
-use Rattle.mx_tables.proofs.StateLemmas.{same_within, quits_within, not_run_keeps}
+use Rattle.mx_tables.proofs.Common.{[], inl, ◌∙◌, state}
+use Rattle.mx_tables.proofs.StateLemmas.{quits, not_run_quits, within_by}
 use Rattle.mx_tables.proofs.edits.find_open.Goals as goal
 use Rattle.mx_tables.proofs.edits.find_open.Goals.{in-Ok, in-Err}
 
@@ -11,12 +10,12 @@ returns g c =
     elim c.match-prepare.branch [
       | in-Ok w ↦ rw w.result-is (record {
         same_reference = w.in-Ok.ensures.same_reference;
-        within = same_within old new _ w.in-Ok.ensures.survives (λ clean. (w.in-Ok.ensures.ok clean).1);
+        within = within_by old new _ w.in-Ok.ensures.survives (λ clean inside. let same = (w.in-Ok.ensures.ok clean).1 in (quits old new (inl same), same.0.mode ∙ inside));
         ok = λ clean inside. (w.in-Ok.ensures.ok clean).1;
       })
       | in-Err w ↦ rw w.result-is (record {
         same_reference = w.in-Err.ensures.same_reference;
-        within = quits_within old new _ w.in-Err.ensures.survives (λ clean. not_run_keeps _ [] old new _ (w.in-Err.ensures.err clean []));
+        within = within_by old new _ w.in-Err.ensures.survives (λ clean inside. (quits old new (not_run_quits _ [] old new _ (w.in-Err.ensures.err clean [])), tt));
         ok = λ clean inside. tt;
       })
     ]

@@ -1,4 +1,4 @@
-use Rattle.std.proofs.Common.{refl}
+use Rattle.mx_tables.proofs.Common.{refl}
 use Rattle.mx_tables.proofs.CallLemmas.{steps_none, steps_to}
 use Rattle.mx_tables.proofs.edits.number_for.Goals as goal
 

@@ -1,19 +1,26 @@
-use Rattle.std.proofs.Common.{◌≡◌, ◌∙◌, sym, refl, ap, Some}
+use Rattle.mx_tables.proofs.Common.{◌≡◌, ◌∙◌, refl, Some, length-map, Name, PurseRow}
+use Rattle.std.proofs.Common.{sym, ap}
 use Rattle.std.specs.FinMap as fmap
-use Rattle.std.proofs.lemmas.List.{length-map}
-use Rattle.mx_book.specs.World.{Name}
 use Rattle.mx_book.specs.RowReads.{purse_rows_of}
-use Rattle.mx_book.specs.declared.values.PurseRow.{PurseRow}
 use Rattle.mx_book.specs.declared.values.HolderRow.{HolderRow}
 use Rattle.mx_tables.proofs.CallLemmas.{reads_to, reads_then}
 use Rattle.mx_tables.proofs.ToldLemmas.{tell_holder}
 use Rattle.mx_tables.proofs.holders.read_holder.Goals as goal
 
 pub returns : goal.returns
-returns g c = tell_holder g.S.Store _ (reads_to g.S.Store (reads_then g.S.Store c.in_ok-member.ensures c.in_ok-purses.ensures) (λ rows holds both.
-    let found : fmap.get rows.holders c.args.name.now ≡ Some c.in-Some.member = sym both.0 ∙ c.in-Some.is in
-    let count = both.1 ∙ length-map (purse_rows_of c.args.name.now (fmap.entries rows.purses)) (λ (e : Name × PurseRow). e.0) in
-    rw found (ap (λ n. let it : HolderRow = record { member = c.in-Some.member; purses = n } in Some it) count)))
+returns g c =
+    let looks = c.in_ok-purses.ensures in
+    let found = c.in_ok-member.ensures in
+    record {
+      reads = λ ours tells. tell_holder g.S.Store _ (reads_to g.S.Store (reads_then g.S.Store found (looks.reads (found.stays ours).ours ((found.stays ours).index _ tells))) (λ rows holds both.
+          let at : fmap.get rows.holders c.args.name.now ≡ Some c.in-Some.member = sym both.0 ∙ c.in-Some.is in
+          let count = both.1 ∙ length-map (purse_rows_of c.args.name.now (fmap.entries rows.purses)) (λ (e : Name × PurseRow). e.0) in
+          rw at (ap (λ n. let it : HolderRow = record { member = c.in-Some.member; purses = n } in Some it) count)));
+      index = λ ours tells. looks.index (found.stays ours).ours ((found.stays ours).index _ tells);
+    }
 
 pub returns-in_default : goal.returns-in_default
-returns-in_default g c = tell_holder g.S.Store _ (reads_to g.S.Store c.in_ok-member.ensures (λ rows holds is. rw (sym is ∙ c.in_default.is) refl))
+returns-in_default g c = record {
+  reads = λ ours tells. tell_holder g.S.Store _ (reads_to g.S.Store c.in_ok-member.ensures (λ rows holds is. rw (sym is ∙ c.in_default.is) refl));
+  index = λ ours. (c.in_ok-member.ensures.stays ours).index _;
+}

@@ -1,6 +1,5 @@
+use Rattle.mx_tables.proofs.Common.{arith}
 use Rattle.mx_tables.proofs.CallLemmas.{reads_to}
-use Rattle.std.proofs.Common.{◌∙◌, ap, length, arith}
-use Rattle.std.proofs.lemmas.List.{length-map}
 use Rattle.mx_tables.proofs.Texts.{select_held_numbers_is}
 use Rattle.mx_tables.proofs.InboxLemmas.{finds_numbers}
 use Rattle.mx_tables.proofs.inbox.count_messages.Goals as goal
@@ -11,5 +10,4 @@ ask-requires g c = select_held_numbers_is.query
 pub returns : goal.returns
 returns g c = reads_to g.S.Store c.in_ok-rows.ensures.reads (λ rows holds shown.
     let found = finds_numbers c.args.purse.now _ _ _ (rw (c.text.ensures, c.as_str.ensures.text) at shown) rows holds in
-    let made = ap length found ∙ length-map _ _ in
-    omega (arith, made, c.len.ensures))
+    omega (arith, found, c.len.ensures))

@@ -1,8 +1,5 @@
-use Rattle.std.proofs.Common.{◌∷◌, [], arith, rules}
-use Rattle.std.specs.Ordering.{nat_cmp}
-use Rattle.mx_pay.specs.Names.{name_cmp}
+use Rattle.mx_tables.proofs.Common.{◌∷◌, [], arith, rules, nat_cmp, name_cmp, number}
 use Rattle.mx_book.specs.Under.{pair_cmp}
-use Rattle.mx_tables.specs.Schema.{number}
 use Rattle.mx_tables.proofs.CallLemmas.{reads_to}
 use Rattle.mx_tables.proofs.Texts.{select_number_is}
 use Rattle.mx_tables.proofs.InboxLemmas.{finds_number}
@@ -16,7 +13,7 @@ ask-requires g c = select_number_is.query
 pub returns : goal.returns
 returns g c = tell_has_message g.S.Store _ _ (reads_to g.S.Store c.in_ok-rows.ensures.reads (λ r holds shown low.
     let found = finds_number c.args.purse.now c.args.number _ _ _ (rw (c.text.ensures, c.as_str.ensures.text, c.number.ensures) at shown) r holds in
-    let it = got (pair_cmp name_cmp nat_cmp) (λ _. number c.args.number ∷ []) (c.args.purse.now, c.args.number) r.inbox _ _ found c.in_ok-found.ensures in
+    let it = got (pair_cmp name_cmp nat_cmp) (λ _. number c.args.number ∷ []) (c.args.purse.now, c.args.number) r.inbox _ _ found c.in_ok-only.ensures in
     grind (arith, it, c.is_some.ensures)))
 
 pub returns-then-number-gt-MOST_NUMBER : goal.returns-then-number-gt-MOST_NUMBER

@@ -1,4 +1,5 @@
-use Rattle.std.proofs.Common.{Some, sym, ap, ◌∙◌, arith, rules}
+use Rattle.mx_tables.proofs.Common.{Some, ◌∙◌, arith, rules}
+use Rattle.std.proofs.Common.{sym, ap}
 use Rattle.std.specs.FinMap as fmap
 use Rattle.mx_tables.specs.Answers.{message_shown}
 use Rattle.mx_tables.proofs.CallLemmas.{reads_to}

@@ -1,6 +1,5 @@
-use Rattle.std.proofs.lemmas.Result.{IfOk-weaker}
+use Rattle.mx_tables.proofs.Common.{IfOk-weaker, ◌∙◌}
 use Rattle.mx_tables.proofs.CallLemmas.{reads_to}
-use Rattle.std.proofs.Common.{◌∙◌}
 use Rattle.mx_tables.proofs.Texts.{select_inbox_is}
 use Rattle.mx_tables.proofs.InboxLemmas.{finds_inbox, inbox_read, both_hold}
 use Rattle.mx_tables.proofs.ToldLemmas.{tell_inbox}

@@ -1,5 +1,5 @@
-use Rattle.std.proofs.Common.{◌≡◌, map, take}
-use Rattle.std.specs.List.{AllByRecursion}
+use Rattle.mx_tables.proofs.Common.{◌≡◌, take, AllByRecursion}
+use Rattle.std.proofs.Common.{map}
 use Rattle.mx_purse.specs.Messages.{IsMessage}
 use Rattle.mx_tables.specs.Answers.{first_three, message_row}
 use Rattle.mx_tables.proofs.inbox.messages_in.Given as goal

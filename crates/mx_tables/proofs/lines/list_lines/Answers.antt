@@ -1,16 +1,22 @@
-use Rattle.std.proofs.Common.{◌≡◌, ◌≤◌, [], ◌∷◌, ◌++◌, length, ap, sym, subst, refl, rules, arith, ◌∙◌}
-use Rattle.sqlite.specs.Effect.{Database}
+use Rattle.mx_tables.proofs.Common.{◌≡◌, ◌≤◌, [], ◌∷◌, ◌++◌, length, refl, rules, arith, ◌∙◌, Database, state, Holds}
+use Rattle.std.proofs.Common.{ap, sym, subst}
+use Rattle.std.proofs.ByRecursion.{All-push}
 use Rattle.sqlite.specs.Given.{IsPlain}
-use Rattle.sqlite.specs.Held.{state}
+use Rattle.sqlite.specs.Held.{Held}
 use Rattle.sqlite.specs.Listing.{understood}
 use Rattle.sqlite.proofs.Callers.{begun_plain}
-use Rattle.mx_tables.specs.Holds.{Holds}
-use Rattle.mx_tables.specs.States.{worry, Stays}
+use Rattle.sqlite_trees.specs.declared.store.Store.{Ghosts}
+use Rattle.mx_tables.specs.States.{worry, IsOurs, Stays}
 use Rattle.mx_tables.proofs.StateLemmas.{sure, sure_before, stays_then, begun_stays, refused_stays}
 use Rattle.mx_tables.proofs.CallLemmas.{reads_none}
-use Rattle.mx_tables.proofs.LineLemmas.{no_page, select_lines, select_lines_is, noted_more, one_more, no_more, begins, ended, full_page, last_page}
+use Rattle.mx_tables.proofs.LineLemmas.{no_page, Noted, select_lines, select_lines_is, one_more, no_more, begins, ended, full_page, last_page}
 use Rattle.mx_tables.proofs.ToldLemmas.{tell_lines}
 use Rattle.mx_tables.proofs.lines.list_lines.Goals as goal
+
+-- after one more row the rows of the tables still stay
+stays_on : {S : Type 0} (g : Ghosts S) (first before after last : Held S) → Stays (state g first) (state g before) → (IsOurs (state g before) → Stays (state g before) (state g after))
+    → after ≡ last → Stays (state g first) (state g last)
+stays_on g first before after last was step same = rw (← same) (stays_then (state g first) (state g before) (state g after) was (step was.ours))
 
 pub returns-then-after-gt-MOST_KEPT : goal.returns-then-after-gt-MOST_KEPT
 returns-then-after-gt-MOST_KEPT g c = tell_lines g.S.Store _ _ _ (reads_none g.S.Store (λ rows holds valid.
@@ -48,7 +54,7 @@ rows-preserved g c =
     let pushed : c.push.new.self.items ≡ c.rows.lines.items ++ c.in-Some.line ∷ [] = search rules in (
       made.same_reference ∙ before.0,
       search rules,
-      rw pushed (noted_more c.rows.lines.items c.in-Some.line before.2 (rw c.in-Some.is at made.valid)),
+      rw pushed (All-push Noted c.rows.lines.items c.in-Some.line before.2 (rw c.in-Some.is at made.valid)),
       λ ours. let was = before.3 ours in stays_then (state g.S.Store c.args.conn.now) mid new was (made.stays was.ours),
       λ ours sound.
           let step = made.stays (before.3 ours).ours in
@@ -59,20 +65,16 @@ rows-preserved g c =
 pub returns-in_err-line : goal.returns-in_err-line
 returns-in_err-line g c = tell_lines g.S.Store _ _ _ (record {
   stays = λ ours.
-      let was = c.rows.invariant.3 ours in
       let same : c.next_line.new.rows.conn.now ≡ c.conn-in_err-line-1.given.0 = search rules in
-      subst (λ h. Stays (state g.S.Store c.args.conn.now) (state g.S.Store h)) same
-      (stays_then (state g.S.Store c.args.conn.now) (state g.S.Store c.rows.rows.conn.now) (state g.S.Store c.next_line.new.rows.conn.now) was (c.next_line.ensures.stays was.ours));
+      stays_on g.S.Store c.args.conn.now c.rows.rows.conn.now c.next_line.new.rows.conn.now c.conn-in_err-line-1.given.0 (c.rows.invariant.3 ours) c.next_line.ensures.stays same;
   value = λ ours sound kept holds. search rules;
 })
 
 pub returns-in_default : goal.returns-in_default
 returns-in_default g c = tell_lines g.S.Store _ _ _ (record {
   stays = λ ours.
-      let was = c.rows.invariant.3 ours in
       let same : c.next_line.new.rows.conn.now ≡ c.conn-in_default-1.given.0 = search rules in
-      subst (λ h. Stays (state g.S.Store c.args.conn.now) (state g.S.Store h)) same
-      (stays_then (state g.S.Store c.args.conn.now) (state g.S.Store c.rows.rows.conn.now) (state g.S.Store c.next_line.new.rows.conn.now) was (c.next_line.ensures.stays was.ours));
+      stays_on g.S.Store c.args.conn.now c.rows.rows.conn.now c.next_line.new.rows.conn.now c.conn-in_default-1.given.0 (c.rows.invariant.3 ours) c.next_line.ensures.stays same;
   value = λ ours sound kept holds valid.
       let old = state g.S.Store c.args.conn.now in
       let mid = state g.S.Store c.rows.rows.conn.now in
@@ -93,10 +95,8 @@ returns-in_default g c = tell_lines g.S.Store _ _ _ (record {
 pub returns-then-is_err : goal.returns-then-is_err
 returns-then-is_err g c = tell_lines g.S.Store _ _ _ (record {
   stays = λ ours.
-      let was = c.rows.invariant.3 ours in
       let same : c.next_line.new.rows.conn.now ≡ c.conn-then-is_err-1.given.0 = search rules in
-      subst (λ h. Stays (state g.S.Store c.args.conn.now) (state g.S.Store h)) same
-      (stays_then (state g.S.Store c.args.conn.now) (state g.S.Store c.rows.rows.conn.now) (state g.S.Store c.next_line.new.rows.conn.now) was (c.next_line.ensures.stays was.ours));
+      stays_on g.S.Store c.args.conn.now c.rows.rows.conn.now c.next_line.new.rows.conn.now c.conn-then-is_err-1.given.0 (c.rows.invariant.3 ours) c.next_line.ensures.stays same;
   value = λ ours sound kept holds. tt;
 })
 

@@ -1,7 +1,5 @@
-use Rattle.std.proofs.Common.{◌≡◌, List, map, length}
-use Rattle.std.specs.List.{AllByRecursion}
-use Rattle.sqlite_value.specs.Order.{Row}
-use Rattle.sqlite.specs.Held.{state}
+use Rattle.mx_tables.proofs.Common.{◌≡◌, List, length, AllByRecursion, Row, state}
+use Rattle.std.proofs.Common.{map}
 use Rattle.sqlite.specs.Given.{HasGiven}
 use Rattle.mx_book.specs.Conditions.{IsNote}
 use Rattle.mx_tables.specs.States.{worry, IsOurs, Stays}

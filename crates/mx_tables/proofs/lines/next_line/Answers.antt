@@ -1,5 +1,5 @@
-use Rattle.std.proofs.Common.{◌≡◌, inl, None, Some, refl, ap, sym}
-use Rattle.sqlite.specs.Held.{state}
+use Rattle.mx_tables.proofs.Common.{◌≡◌, inl, None, Some, refl, state}
+use Rattle.std.proofs.Common.{ap, sym}
 use Rattle.sqlite.specs.Given.{row_if}
 use Rattle.mx_tables.proofs.StateLemmas.{sure, step_stays, failed_quits}
 use Rattle.mx_tables.proofs.lines.next_line.Goals as goal
@@ -9,30 +9,30 @@ returns-in-Err-clause-stays g c ours =
     step_stays (state g.S.Store c.args.rows.now.conn.now) (state g.S.Store c.advance.new.self.conn.now) ours c.in-Err.ensures.mode c.in-Err.ensures.survives
     (λ clean. failed_quits _ _ _ (c.in-Err.ensures.kept clean))
 
-pub returns-in_default-clause-stays : goal.returns-in_default-clause-stays
-returns-in_default-clause-stays g c ours =
-    step_stays (state g.S.Store c.args.rows.now.conn.now) (state g.S.Store c.advance.new.self.conn.now) ours c.in-Ok.ensures.mode c.in-Ok.ensures.survives (λ clean. inl (c.in-Ok.ensures.same clean))
+pub returns-in_default-get-clause-stays : goal.returns-in_default-get-clause-stays
+returns-in_default-get-clause-stays g c ours =
+    step_stays (state g.S.Store c.args.rows.now.conn.now) (state g.S.Store c.advance.new.self.conn.now) ours c.in_default.ensures.mode c.in_default.ensures.survives (λ clean. inl (c.in_default.ensures.same clean))
 
-pub returns-in_err-note-clause-stays : goal.returns-in_err-note-clause-stays
-returns-in_err-note-clause-stays g c ours =
-    step_stays (state g.S.Store c.args.rows.now.conn.now) (state g.S.Store c.advance.new.self.conn.now) ours c.in-Ok.ensures.mode c.in-Ok.ensures.survives (λ clean. inl (c.in-Ok.ensures.same clean))
+pub returns-in_err-note_at-clause-stays : goal.returns-in_err-note_at-clause-stays
+returns-in_err-note_at-clause-stays g c ours =
+    step_stays (state g.S.Store c.args.rows.now.conn.now) (state g.S.Store c.advance.new.self.conn.now) ours c.in_default.ensures.mode c.in_default.ensures.survives (λ clean. inl (c.in_default.ensures.same clean))
 
-pub returns-in_err-line-clause-stays : goal.returns-in_err-line-clause-stays
-returns-in_err-line-clause-stays g c ours =
-    step_stays (state g.S.Store c.args.rows.now.conn.now) (state g.S.Store c.advance.new.self.conn.now) ours c.in-Ok.ensures.mode c.in-Ok.ensures.survives (λ clean. inl (c.in-Ok.ensures.same clean))
+pub returns-in_err-line_in-clause-stays : goal.returns-in_err-line_in-clause-stays
+returns-in_err-line_in-clause-stays g c ours =
+    step_stays (state g.S.Store c.args.rows.now.conn.now) (state g.S.Store c.advance.new.self.conn.now) ours c.in_default.ensures.mode c.in_default.ensures.survives (λ clean. inl (c.in_default.ensures.same clean))
 
 pub returns-clause-stays : goal.returns-clause-stays
 returns-clause-stays g c ours =
-    step_stays (state g.S.Store c.args.rows.now.conn.now) (state g.S.Store c.advance.new.self.conn.now) ours c.in-Ok.ensures.mode c.in-Ok.ensures.survives (λ clean. inl (c.in-Ok.ensures.same clean))
+    step_stays (state g.S.Store c.args.rows.now.conn.now) (state g.S.Store c.advance.new.self.conn.now) ours c.in_default.ensures.mode c.in_default.ensures.survives (λ clean. inl (c.in_default.ensures.same clean))
 
-pub returns-in_default-clause-shown : goal.returns-in_default-clause-shown
-returns-in_default-clause-shown g c sound =
-    let made = c.in-Ok.ensures.ok (sure (state g.S.Store c.advance.new.self.conn.now) sound).1 in
-    let end : None ≡ row_if c.advance.new.self.has_row c.advance.new.self.conn.now = rw c.in_default.is at c.get.ensures in
+pub returns-in_default-get-clause-shown : goal.returns-in_default-get-clause-shown
+returns-in_default-get-clause-shown g c sound =
+    let made = c.in_default.ensures.ok (sure (state g.S.Store c.advance.new.self.conn.now) sound).1 in
+    let end : None ≡ row_if c.advance.new.self.has_row c.advance.new.self.conn.now = rw c.in_default-get.is at c.get.ensures in
     (None, rw (sym end) at made, refl)
 
 pub returns-clause-shown : goal.returns-clause-shown
 returns-clause-shown g c sound =
-    let made = c.in-Ok.ensures.ok (sure (state g.S.Store c.advance.new.self.conn.now) sound).1 in
+    let made = c.in_default.ensures.ok (sure (state g.S.Store c.advance.new.self.conn.now) sound).1 in
     let row : Some c.in-Some.row.now ≡ row_if c.advance.new.self.has_row c.advance.new.self.conn.now = rw c.in-Some.is at c.get.ensures in
-    (Some c.in-Some.row.now, rw (sym row) at made, ap Some c.in_ok-line.ensures.shown)
+    (Some c.in-Some.row.now, rw (sym row) at made, ap Some c.in_ok-line_in.ensures.shown)

@@ -1,9 +1,8 @@
-use Rattle.std.proofs.Common.{Ok, [], map, subst}
+use Rattle.mx_tables.proofs.Common.{Ok, [], state, going}
+use Rattle.std.proofs.Common.{map, subst}
 use Rattle.std.proofs.lemmas.List.{at_drop_more, drop_all}
 use Rattle.sqlite_catalog.specs.Change.{created}
-use Rattle.sqlite.specs.Held.{state}
 use Rattle.mx_tables.specs.Made.{Blank, Makes}
-use Rattle.mx_tables.specs.States.{going}
 use Rattle.mx_tables.proofs.CallLemmas.{steps_none, steps_as, steps_then}
 use Rattle.mx_tables.proofs.MadeLemmas.{makes_next, makes_none}
 use Rattle.mx_tables.proofs.making.make_each.Goals as goal

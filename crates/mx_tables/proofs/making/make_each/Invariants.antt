@@ -1,8 +1,8 @@
 use Rattle.std.proofs.Common.{drop, map}
 use Rattle.sqlite_schema.specs.declared.schema.Schema.{Schema}
-use Rattle.sqlite.specs.Held.{state}
+use Rattle.mx_tables.proofs.Common.{state, going}
 use Rattle.mx_tables.specs.Made.{Blank, Makes}
-use Rattle.mx_tables.specs.States.{Steps, going}
+use Rattle.mx_tables.specs.States.{Steps}
 use Rattle.mx_tables.proofs.making.make_each.Given as goal
 
 -- the texts that are left lead from the schema now to that in the end

@@ -1,6 +1,6 @@
-use Rattle.std.proofs.Common.{sym, ◌∙◌}
+use Rattle.mx_tables.proofs.Common.{◌∙◌, name_cmp}
+use Rattle.std.proofs.Common.{sym}
 use Rattle.std.proofs.lemmas.Result.{on_ok_weaker}
-use Rattle.mx_pay.specs.Names.{name_cmp}
 use Rattle.mx_book.specs.Slots.{map_of}
 use Rattle.mx_tables.proofs.CallLemmas.{reads_to}
 use Rattle.mx_tables.proofs.CountedSums.{adds_to_none, adds_to_one}

@@ -1,5 +1,5 @@
-use Rattle.std.proofs.Common.{◌<◌, ◌≤◌, ◌∙◌, ap, refl, length, rules}
-use Rattle.mx_pay.specs.Names.{name_cmp}
+use Rattle.mx_tables.proofs.Common.{◌<◌, ◌≤◌, ◌∙◌, refl, length, rules, name_cmp}
+use Rattle.std.proofs.Common.{ap}
 use Rattle.mx_book.specs.Slots.{map_of}
 use Rattle.mx_book.specs.declared.totals.Scope.TheVariants.{Member}
 use Rattle.mx_tables.specs.Counted.{counted_row, sum_at}

@@ -1,11 +1,9 @@
-use Rattle.std.proofs.Common.{◌≡◌, take}
+use Rattle.mx_tables.proofs.Common.{◌≡◌, take, name_cmp, Name, going}
 use Rattle.std.specs.Prelude.{sum_by}
-use Rattle.mx_pay.specs.Names.{name_cmp}
 use Rattle.mx_book.specs.Slots.{map_of}
-use Rattle.mx_book.specs.World.{Name}
 use Rattle.mx_book.specs.declared.totals.Scope.TheVariants.{Member}
 use Rattle.mx_tables.specs.Counted.{counted_row, sum_at}
-use Rattle.mx_tables.specs.States.{Reads, going}
+use Rattle.mx_tables.specs.States.{Reads}
 use Rattle.mx_tables.proofs.member_sums.amounts_by_member.Given as goal
 
 -- the rows of the book are as they were, and the sum of each member is that of the rows so far

@@ -1,5 +1,4 @@
-use Rattle.std.proofs.Common.{◌∙◌}
-use Rattle.std.proofs.lemmas.Result.{IfOk-weaker}
+use Rattle.mx_tables.proofs.Common.{◌∙◌, IfOk-weaker}
 use Rattle.mx_tables.specs.declared.member_sums.MemberSums.{MemberSums}
 use Rattle.mx_tables.proofs.CallLemmas.{reads_to, reads_then}
 use Rattle.mx_tables.proofs.CountedSums.{select_member_rows_is, lists_member_rows, members_summed}
@@ -13,9 +12,9 @@ pub returns : goal.returns
 returns g c =
     tell_members_totals g.S.Store (
     reads_to g.S.Store
-    (reads_then g.S.Store (reads_then g.S.Store (reads_then g.S.Store (reads_then g.S.Store c.in_ok-rows.ensures.reads c.in_ok-uncollected.ensures) c.in_ok-issued.ensures) c.in_ok-redeemed.ensures) c.in_ok-balances.ensures)
+    (reads_then g.S.Store (reads_then g.S.Store (reads_then g.S.Store (reads_then g.S.Store c.in_ok-rows.ensures.reads c.in_ok-amounts_by_member.ensures) c.in_ok-amounts_by_member-2.ensures) c.in_ok-amounts_by_member-3.ensures) c.in_ok-amounts_by_member-4.ensures)
     (λ r holds all.
-    let sums : MemberSums = record { uncollected = c.in_ok-uncollected.uncollected; issued = c.in_ok-issued.issued; redeemed = c.in_ok-redeemed.redeemed; balances = c.in_ok-balances.balances } in
+    let sums : MemberSums = record { uncollected = c.in_ok-amounts_by_member.field-0; issued = c.in_ok-amounts_by_member-2.field-0; redeemed = c.in_ok-amounts_by_member-3.field-0; balances = c.in_ok-amounts_by_member-4.field-0 } in
     let listed = lists_member_rows _ _ _ all.0.0.0.0 r holds in
     IfOk-weaker c.totals_in_rows.result _ _ (λ totals is. is ∙ members_summed r sums c.deref.result.now c.in_ok-rows.rows.items c.deref.ensures.value listed
     (λ m k. record { uncollected = all.0.0.0.1 m k; issued = all.0.0.1 m k; redeemed = all.0.1 m k; balances = all.1 m k }))

@@ -1,4 +1,5 @@
-use Rattle.std.proofs.Common.{◌≡◌, map, take}
+use Rattle.mx_tables.proofs.Common.{◌≡◌, take}
+use Rattle.std.proofs.Common.{map}
 use Rattle.mx_tables.specs.Counted.{totals_row}
 use Rattle.mx_tables.proofs.member_sums.totals_in_rows.Given as goal
 

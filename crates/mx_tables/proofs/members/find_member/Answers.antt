@@ -1,4 +1,4 @@
-use Rattle.std.proofs.Common.{arith}
+use Rattle.mx_tables.proofs.Common.{arith}
 use Rattle.mx_tables.proofs.CallLemmas.{reads_to}
 use Rattle.mx_tables.proofs.members.find_member.Goals as goal
 

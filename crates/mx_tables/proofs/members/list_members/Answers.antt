@@ -1,6 +1,5 @@
-use Rattle.std.proofs.lemmas.Result.{IfOk-weaker}
+use Rattle.mx_tables.proofs.Common.{IfOk-weaker, ◌∙◌}
 use Rattle.mx_tables.proofs.CallLemmas.{reads_to}
-use Rattle.std.proofs.Common.{◌∙◌}
 use Rattle.mx_tables.proofs.Texts.{select_members_is}
 use Rattle.mx_tables.proofs.MemberLemmas.{lists_members, names_read}
 use Rattle.mx_tables.proofs.ToldLemmas.{tell_members}

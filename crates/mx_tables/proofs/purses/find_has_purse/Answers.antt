@@ -1,4 +1,4 @@
-use Rattle.std.proofs.Common.{arith}
+use Rattle.mx_tables.proofs.Common.{arith}
 use Rattle.mx_tables.proofs.CallLemmas.{reads_to}
 use Rattle.mx_tables.proofs.ToldLemmas.{tell_there}
 use Rattle.mx_tables.proofs.purses.find_has_purse.Goals as goal

@@ -1,6 +1,6 @@
-use Rattle.std.proofs.Common.{◌≡◌, true, false, Some, sym, ap, refl, ◌∙◌, arith}
+use Rattle.mx_tables.proofs.Common.{◌≡◌, true, false, Some, refl, ◌∙◌, arith, is_name}
+use Rattle.std.proofs.Common.{sym, ap}
 use Rattle.std.specs.FinMap as fmap
-use Rattle.mx_pay.specs.Names.{is_name}
 use Rattle.mx_tables.specs.Answers.{own_shown}
 use Rattle.mx_tables.proofs.CallLemmas.{reads_to}
 use Rattle.mx_tables.proofs.PurseLemmas.{own_back, holder_back}
@@ -14,7 +14,7 @@ returns-in_default g c = tell_own g.S.Store _ _ (reads_to g.S.Store c.in_ok-row.
 pub returns-then-not-same_name : goal.returns-then-not-same_name
 returns-then-not-same_name g c = tell_own g.S.Store _ _ (reads_to g.S.Store c.in_ok-row.ensures (λ r holds is purses.
     let one = one_mapped own_shown (fmap.get r.purses c.args.name.now) c.in-Some.row (sym c.in-Some.is ∙ is) in
-    let owner = holder_back one.0 c.in_ok-owner.owner c.in-Some.row one.2 c.in_ok-owner.ensures in
+    let owner = holder_back one.0 c.in_ok-name_at.field-0 c.in-Some.row one.2 c.in_ok-name_at.ensures in
     let other : is_name c.args.holder.now one.0.holder ≡ false = ap (is_name c.args.holder.now) (sym owner) ∙ sym c.same_name.ensures.value ∙ c.if-not-same_name.true in
     rw (one.1, other) refl))
 
@@ -22,7 +22,7 @@ pub returns : goal.returns
 returns g c = tell_own g.S.Store _ _ (reads_to g.S.Store c.in_ok-row.ensures (λ r holds is purses.
     let one = one_mapped own_shown (fmap.get r.purses c.args.name.now) c.in-Some.row (sym c.in-Some.is ∙ is) in
     let kept = purses c.args.name.now one.0 one.1 in
-    let owner = holder_back one.0 c.in_ok-owner.owner c.in-Some.row one.2 c.in_ok-owner.ensures in
+    let owner = holder_back one.0 c.in_ok-name_at.field-0 c.in-Some.row one.2 c.in_ok-name_at.ensures in
     let mine : is_name c.args.holder.now one.0.holder ≡ true = ap (is_name c.args.holder.now) (sym owner) ∙ sym c.same_name.ensures.value ∙ c.if-not-same_name.false in
-    let read = c.in_ok-purse.ensures in
-    rw (one.1, mine) (ap Some (own_back one.0 c.in_ok-purse.purse c.in-Some.row kept.1 read.valid (kept.0 ∙ sym read.named) one.2 read.shown))))
+    let read = c.in_ok-state_in.ensures in
+    rw (one.1, mine) (ap Some (own_back one.0 c.in_ok-state_in.field-0 c.in-Some.row kept.1 read.valid (kept.0 ∙ sym read.named) one.2 read.shown))))

@@ -1,4 +1,5 @@
-use Rattle.std.proofs.Common.{Some, sym, ap, ◌∙◌, arith}
+use Rattle.mx_tables.proofs.Common.{Some, ◌∙◌, arith}
+use Rattle.std.proofs.Common.{sym, ap}
 use Rattle.std.specs.FinMap as fmap
 use Rattle.mx_tables.specs.Answers.{purse_shown}
 use Rattle.mx_tables.proofs.ValueLemmas.{purse_back}

@@ -1,8 +1,7 @@
-use Rattle.std.proofs.Common.{◌≡◌, ◌∙◌, sym, ap, refl, Some, None, ℕ}
+use Rattle.mx_tables.proofs.Common.{◌≡◌, ◌∙◌, refl, Some, None, ℕ, length-map, Name}
+use Rattle.std.proofs.Common.{sym, ap}
 use Rattle.std.specs.FinMap as fmap
-use Rattle.std.proofs.lemmas.List.{length-map}
 use Rattle.mx_purse.specs.declared.message.Message.{Message}
-use Rattle.mx_book.specs.World.{Name}
 use Rattle.mx_book.specs.RowReads.{of_name}
 use Rattle.mx_book.specs.declared.values.Account.{Account}
 use Rattle.mx_tables.proofs.CallLemmas.{reads_to, reads_then}
@@ -10,7 +9,7 @@ use Rattle.mx_tables.proofs.ToldLemmas.{tell_account}
 use Rattle.mx_tables.proofs.purses.read_account.Goals as goal
 
 pub returns : goal.returns
-returns g c = tell_account g.S.Store _ (reads_to g.S.Store (reads_then g.S.Store (reads_then g.S.Store c.in_ok-row.ensures c.in_ok-member.ensures) c.in_ok-held.ensures) (λ rows holds all sound.
+returns g c = tell_account g.S.Store _ (reads_to g.S.Store (reads_then g.S.Store (reads_then g.S.Store c.in_ok-row.ensures c.in_ok-member.ensures) c.in_ok-count_messages.ensures) (λ rows holds all sound.
     let row : fmap.get rows.purses c.args.name.now ≡ Some c.in-Some.row = sym (all.0.0 sound) ∙ c.in-Some.is in
     let member : fmap.get rows.holders c.in-Some.row.holder ≡ Some c.in-Some-2.member = sym all.0.1 ∙ c.in-Some-2.is in
     let count = all.1 ∙ length-map (of_name c.args.name.now (fmap.entries rows.inbox)) (λ (e : (Name × ℕ) × Message). (e.0.1, e.1)) in

@@ -1,4 +1,4 @@
-use Rattle.std.proofs.Common.{arith}
+use Rattle.mx_tables.proofs.Common.{arith}
 use Rattle.mx_tables.proofs.CallLemmas.{reads_to}
 use Rattle.mx_tables.proofs.LoadLemmas.{select_redemption_is, redemption_is}
 use Rattle.mx_tables.proofs.ToldLemmas.{tell_redemption}

@@ -1,8 +1,6 @@
-use Rattle.std.proofs.Common.{◌≡◌, take}
-use Rattle.sqlite.specs.Held.{state}
+use Rattle.mx_tables.proofs.Common.{◌≡◌, take, state, office_schema, going}
 use Rattle.mx_tables.specs.Results.{Archives}
-use Rattle.mx_tables.specs.Schema.{office_schema}
-use Rattle.mx_tables.specs.States.{Steps, going}
+use Rattle.mx_tables.specs.States.{Steps}
 use Rattle.mx_tables.proofs.results.archive_rows.Given as goal
 
 -- the archive has what the rows so far show

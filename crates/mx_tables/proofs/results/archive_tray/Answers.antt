@@ -1,6 +1,6 @@
 use Rattle.mx_tables.proofs.CallLemmas.{steps_then, steps_to}
-use Rattle.std.proofs.Common.{ap, ◌∙◌}
-use Rattle.sqlite.specs.Effect.{Database}
+use Rattle.mx_tables.proofs.Common.{◌∙◌, Database}
+use Rattle.std.proofs.Common.{ap}
 use Rattle.mx_tables.proofs.ResultLemmas.{archives, drops_tray, finds_tray, select_tray_is}
 use Rattle.mx_tables.proofs.results.archive_tray.Goals as goal
 

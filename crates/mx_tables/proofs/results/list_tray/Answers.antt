@@ -1,4 +1,4 @@
-use Rattle.std.proofs.lemmas.Result.{IfOk-weaker}
+use Rattle.mx_tables.proofs.Common.{IfOk-weaker}
 use Rattle.mx_tables.proofs.CallLemmas.{reads_to}
 use Rattle.mx_tables.proofs.ResultLemmas.{finds_tray, select_tray_is, tray_read}
 use Rattle.mx_tables.proofs.ToldLemmas.{tell_tray}

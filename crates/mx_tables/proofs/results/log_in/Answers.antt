@@ -1,4 +1,4 @@
-use Rattle.std.proofs.Common.{◌<◌, length, rules}
+use Rattle.mx_tables.proofs.Common.{◌<◌, length, rules}
 use Rattle.mx_tables.proofs.ResultLemmas.{shows_none, shows_more, added_is}
 use Rattle.mx_tables.proofs.results.log_in.Goals as goal
 

@@ -1,4 +1,4 @@
-use Rattle.std.proofs.Common.{take}
+use Rattle.mx_tables.proofs.Common.{take}
 use Rattle.mx_tables.specs.Results.{Shows}
 use Rattle.mx_tables.proofs.results.log_in.Given as goal
 

@@ -1,4 +1,5 @@
-use Rattle.std.proofs.Common.{◌≡◌, ◌<◌, ℕ, get_or}
+use Rattle.mx_tables.proofs.Common.{◌≡◌, ◌<◌, ℕ}
+use Rattle.std.proofs.Common.{get_or}
 use Rattle.mx_tables.proofs.same.same_items.Given as goal
 
 abbrev pub invariant-loop-i : goal.invariant-loop-i

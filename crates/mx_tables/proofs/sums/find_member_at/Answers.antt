@@ -1,4 +1,5 @@
-use Rattle.std.proofs.Common.{sym, ◌∙◌, refl}
+use Rattle.mx_tables.proofs.Common.{◌∙◌, refl}
+use Rattle.std.proofs.Common.{sym}
 use Rattle.mx_tables.proofs.CallLemmas.{reads_to, reads_more, reads_then}
 use Rattle.mx_tables.proofs.PurseLemmas.{member_found, row_absent}
 use Rattle.mx_tables.proofs.sums.find_member_at.Goals as goal

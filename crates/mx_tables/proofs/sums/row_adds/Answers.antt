@@ -1,4 +1,4 @@
-use Rattle.std.proofs.Common.{◌∙◌}
+use Rattle.mx_tables.proofs.Common.{◌∙◌}
 use Rattle.mx_tables.proofs.CountedSums.{wait_is}
 use Rattle.mx_tables.proofs.CallLemmas.{reads_more}
 use Rattle.mx_tables.proofs.sums.row_adds.Goals as goal
@@ -9,6 +9,6 @@ returns-in-Counted g c = reads_more g.S.Store c.count_row.ensures (λ rows holds
 pub returns-in-Logged : goal.returns-in-Logged
 returns-in-Logged g c = reads_more g.S.Store c.lose_row.ensures (λ rows holds n is purses archive. rw c.in-Logged.is (is purses archive))
 
-pub returns-in_ok-details-in-Waiting : goal.returns-in_ok-details-in-Waiting
-returns-in_ok-details-in-Waiting g c = reads_more g.S.Store c.value_left.ensures (λ r holds n is purses archive.
-    rw c.in-Waiting.is (is purses archive ∙ wait_is r c.args.row.now c.in_ok-details-in-Waiting.details c.in_ok-details-in-Waiting.ensures.shown c.in_ok-details-in-Waiting.ensures.valid))
+pub returns-in_ok-entry_at-in-Waiting : goal.returns-in_ok-entry_at-in-Waiting
+returns-in_ok-entry_at-in-Waiting g c = reads_more g.S.Store c.value_left.ensures (λ r holds n is purses archive.
+    rw c.in-Waiting.is (is purses archive ∙ wait_is r c.args.row.now c.in_ok-entry_at-in-Waiting.field-0 c.in_ok-entry_at-in-Waiting.ensures.shown c.in_ok-entry_at-in-Waiting.ensures.valid))

@@ -1,6 +1,5 @@
-use Rattle.std.proofs.Common.{◌≡◌, take}
+use Rattle.mx_tables.proofs.Common.{◌≡◌, take, column}
 use Rattle.std.specs.Prelude.{sum_by}
-use Rattle.sqlite_value.specs.Order.{column}
 use Rattle.mx_tables.specs.Counted.{number_of}
 use Rattle.mx_tables.proofs.sums.sum_column.Given as goal
 

@@ -1,4 +1,5 @@
-use Rattle.std.proofs.Common.{◌≡◌, sym, ◌∙◌, ap, refl, Some}
+use Rattle.mx_tables.proofs.Common.{◌≡◌, ◌∙◌, refl, Some}
+use Rattle.std.proofs.Common.{sym, ap}
 use Rattle.std.specs.FinMap as fmap
 use Rattle.mx_book.specs.declared.values.MemberTotals.{MemberTotals}
 use Rattle.mx_tables.specs.declared.sums.Sums.{Sums}

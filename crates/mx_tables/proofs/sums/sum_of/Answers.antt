@@ -1,4 +1,4 @@
-use Rattle.std.proofs.Common.{◌<◌, ◌≤◌, ◌∙◌, length, rules}
+use Rattle.mx_tables.proofs.Common.{◌<◌, ◌≤◌, ◌∙◌, length, rules}
 use Rattle.mx_tables.proofs.CallLemmas.{reads_to, reads_then}
 use Rattle.mx_tables.specs.Counted.{row_adds}
 use Rattle.mx_tables.proofs.CountedSums.{sum_more, adds_query, sum_is, sum_all_rows}
@@ -10,8 +10,8 @@ ask-requires g c = rw c.text.ensures (adds_query c.args.adds.now)
 pub loop-row-preserved : goal.loop-row-preserved
 loop-row-preserved g c =
     let within : c.loop-row.row-index < length c.deref-row-items.result.now = search rules in
-    reads_to g.S.Store (reads_then g.S.Store c.loop-row.invariant c.in_ok-more.ensures) (λ r holds both purses archive.
-    sum_more (row_adds r c.args.adds.now) c.deref-row-items.result.now c.loop-row.row-index c.row-item.result c.loop-row.sum c.in_ok-more.more c.in_ok-sum.sum within c.row-item.is
+    reads_to g.S.Store (reads_then g.S.Store c.loop-row.invariant c.in_ok-row_adds.ensures) (λ r holds both purses archive.
+    sum_more (row_adds r c.args.adds.now) c.deref-row-items.result.now c.loop-row.row-index c.row-item.result c.loop-row.sum c.in_ok-row_adds.field-0 c.in_ok-sum.sum within c.row-item.is
     (both.0 purses archive) (both.1 purses archive) c.in_ok-sum.ensures)
 
 pub returns : goal.returns

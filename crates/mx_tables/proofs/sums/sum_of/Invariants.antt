@@ -1,9 +1,9 @@
-use Rattle.std.proofs.Common.{◌≡◌, take}
+use Rattle.mx_tables.proofs.Common.{◌≡◌, take, going}
 use Rattle.std.specs.Prelude.{sum_by}
 use Rattle.mx_tables.specs.Answers.{ArePurses}
 use Rattle.mx_tables.specs.Counted.{row_adds}
 use Rattle.mx_tables.specs.Results.{AreDetails}
-use Rattle.mx_tables.specs.States.{Reads, going}
+use Rattle.mx_tables.specs.States.{Reads}
 use Rattle.mx_tables.proofs.sums.sum_of.Given as goal
 
 -- the rows of the book are as they were, and the sum is that of the rows so far

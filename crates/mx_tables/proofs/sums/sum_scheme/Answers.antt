@@ -1,4 +1,5 @@
-use Rattle.std.proofs.Common.{◌+◌, ◌∙◌, ap, ap₂}
+use Rattle.mx_tables.proofs.Common.{◌+◌, ◌∙◌}
+use Rattle.std.proofs.Common.{ap, ap₂}
 use Rattle.mx_tables.specs.declared.sums.Sums.{Sums}
 use Rattle.mx_tables.proofs.CallLemmas.{reads_to, reads_then}
 use Rattle.mx_tables.proofs.ToldLemmas.{tell_totals}
@@ -19,5 +20,5 @@ returns g c =
       redeemed = ap (λ (s : Sums). s.redeemed) sums k;
       balances = ap (λ (s : Sums). s.balances) sums k;
       transit = all.0.0.1 purses archive k;
-      lost = (c.in_ok-lost.ensures ∙ ap₂ ◌+◌ (all.0.1 purses archive) (all.1 purses archive)) k;
+      lost = (c.in_ok-plus.ensures ∙ ap₂ ◌+◌ (all.0.1 purses archive) (all.1 purses archive)) k;
     }))

@@ -1,4 +1,5 @@
-use Rattle.std.proofs.Common.{cond, sym, ap, ◌∙◌, Some}
+use Rattle.mx_tables.proofs.Common.{◌∙◌, Some}
+use Rattle.std.proofs.Common.{cond, sym, ap}
 use Rattle.std.specs.FinMap as fmap
 use Rattle.mx_pay.specs.Tokens.{token_cmp, is_token}
 use Rattle.mx_book.specs.declared.values.Caller.TheVariants.{Operator}
@@ -17,7 +18,7 @@ ask-requires g c = select_token_is.query
 pub returns-in-None : goal.returns-in-None
 returns-in-None g c = tell_caller g.S.Store _ (reads_to g.S.Store c.in_ok-rows.ensures.reads (λ rows holds shown.
     let t = c.args.token.now in
-    let text = c.text-text.ensures in
+    let text = c.text.ensures in
     let found = finds_token t _ _ _ (rw text.value at shown) text.valid rows holds in
     sym (ap (cond (is_token t rows.operator) (Some Operator)) (fmap.get-entries rows.tokens t)
     ∙ found_none token_cmp caller_shown t (book_tokens rows) _ found (c.in_ok-row.ensures ∙ ap one_or_none c.in-None.is))))
@@ -25,7 +26,7 @@ returns-in-None g c = tell_caller g.S.Store _ (reads_to g.S.Store c.in_ok-rows.e
 pub returns-in_ok-caller_in-in-Some : goal.returns-in_ok-caller_in-in-Some
 returns-in_ok-caller_in-in-Some g c = tell_caller g.S.Store _ (reads_to g.S.Store c.in_ok-rows.ensures.reads (λ rows holds shown.
     let t = c.args.token.now in
-    let text = c.text-text.ensures in
+    let text = c.text.ensures in
     let found = finds_token t _ _ _ (rw text.value at shown) text.valid rows holds in
     let one = found_one token_cmp caller_shown t (book_tokens rows) _ c.in-Some.row found (c.in_ok-row.ensures ∙ ap one_or_none c.in-Some.is) in
     let read = c.in_ok-caller_in-in-Some.ensures in

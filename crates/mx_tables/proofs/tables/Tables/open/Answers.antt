@@ -1,4 +1,4 @@
-use Rattle.sqlite.specs.Held.{state}
+use Rattle.mx_tables.proofs.Common.{state}
 use Rattle.mx_tables.proofs.StateLemmas.{no_worry, not_lied}
 use Rattle.mx_tables.proofs.tables.Tables.open.Goals as goal
 

@@ -1,0 +1,8 @@
+use Rattle.mx_tables.proofs.Common.{length, ◌∙◌}
+use Rattle.std.proofs.Common.{ap}
+use Rattle.mx_tables.proofs.OwnerLemmas.{looks_under}
+use Rattle.mx_tables.proofs.owners.count_purses.Goals as goal
+
+pub returns : goal.returns
+returns g c =
+    looks_under g.S.Store _ _ c.args.kept.now c.in_ok-held.held c.args.holder.now c.in_ok-held.ensures.stays c.in_ok-held.ensures.tells (λ rows is. c.count_held-count.ensures ∙ ap length is)

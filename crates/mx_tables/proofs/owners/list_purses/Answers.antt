@@ -1,0 +1,9 @@
+use Rattle.mx_tables.proofs.Common.{◌∙◌}
+use Rattle.mx_tables.proofs.OwnerLemmas.{looks_under}
+use Rattle.mx_tables.proofs.ToldLemmas.{tell_held}
+use Rattle.mx_tables.proofs.owners.list_purses.Goals as goal
+
+pub returns-in-Ok : goal.returns-in-Ok
+returns-in-Ok g c =
+    let looks = looks_under g.S.Store _ _ c.args.kept.now c.in_ok-held.held c.args.holder.now c.in_ok-held.ensures.stays c.in_ok-held.ensures.tells (λ rows is. c.in-Ok.ensures ∙ is) in
+    record { reads = λ ours was. tell_held g.S.Store _ (looks.reads ours was); index = looks.index }

@@ -1,0 +1,4 @@
+use Rattle.mx_tables.proofs.tables.TablesBook.purses_of.Goals as goal
+
+pub returns-clause-value : goal.returns-clause-value
+returns-clause-value g c w sure h = (c.list_purses.ensures.reads c.self.invariant.0 c.self.invariant.1).value c.self.invariant.0 w sure (rw c.self.view_is h)
