@@ -7,7 +7,7 @@ use Rattle.sqlite.specs.Held.{Held}
 use Rattle.sqlite.specs.State.{HasCleanDisk}
 use Rattle.mx_book.specs.declared.contract.StoreFault.{StoreFault}
 use Rattle.mx_tables.specs.Owners.{OwnerIndex}
-use Rattle.mx_tables.specs.States.{Brings, Makes, Reads, Steps, Runs, Writes, Finds}
+use Rattle.mx_tables.specs.States.{Brings, WritesWith, Reads, Steps, Runs, Writes, Finds}
 use Rattle.mx_tables.proofs.StateLemmas.{brings_same, brings_none, stays_same, stays_then, sure_before, within_none, within_then}
 use Rattle.mx_tables.proofs.WriteLemmas.{goes_as, goes_then}
 
@@ -87,7 +87,7 @@ module _ {S : Type 0} (g : Ghosts S) where
       → Runs g sql params old new r counts
       → ((count : ℕ) → counts count → (state g old.conn.now).now.schema ≡ office_schema
       → Executes sql params (state g old.conn.now) (state g new.conn.now) (Ok count) → Brings change index (state g old.conn.now) (state g new.conn.now))
-      → Makes g old new r change index
+      → WritesWith g old new r change index
   runs_to sql params h f = steps_to h (λ x it has. f it.0 it.1 has it.2)
 
   -- what a statement does that changed one row
@@ -106,14 +106,14 @@ module _ {S : Type 0} (g : Ghosts S) where
 
   -- a change as another that gives the same
   pub writes_as : {T : Type 0} {old new : Transaction S} {r : Result T StoreFault} {one two : Rows → Rows} {index : OwnerIndex → OwnerIndex}
-      → Makes g old new r one index → ((rows : Rows) → Holds (state g old.conn.now).now rows → one rows ≡ two rows) → Makes g old new r two index
+      → WritesWith g old new r one index → ((rows : Rows) → Holds (state g old.conn.now).now rows → one rows ≡ two rows) → WritesWith g old new r two index
   writes_as {old = old} {new = new} {one = one} {two = two} h same =
       steps_to h (λ x went has. goes_as one two _ (state g old.conn.now) (state g new.conn.now) same (went has))
 
   -- the same, where the index is another that is the same too
-  pub makes_as : {T : Type 0} {old new : Transaction S} {r : Result T StoreFault} {one two : Rows → Rows} {i j : OwnerIndex → OwnerIndex}
-      → Makes g old new r one i → ((rows : Rows) → one rows ≡ two rows) → ((held : OwnerIndex) → i held ≡ j held) → Makes g old new r two j
-  makes_as {old = old} {new = new} {r = r} {one = one} h rows owned = writes_as (subst (Makes g old new r one) (λ t held. owned held t) h) (λ r holds. rows r)
+  pub writes_with : {T : Type 0} {old new : Transaction S} {r : Result T StoreFault} {one two : Rows → Rows} {i j : OwnerIndex → OwnerIndex}
+      → WritesWith g old new r one i → ((rows : Rows) → one rows ≡ two rows) → ((held : OwnerIndex) → i held ≡ j held) → WritesWith g old new r two j
+  writes_with {old = old} {new = new} {r = r} {one = one} h rows owned = writes_as (subst (WritesWith g old new r one) (λ t held. owned held t) h) (λ r holds. rows r)
 
   -- no change yet
   pub writes_none : (a : Transaction S) → Writes g a a going (λ rows. rows)
@@ -139,7 +139,7 @@ module _ {S : Type 0} (g : Ghosts S) where
 
   -- a change after a change
   pub writes_then : {T U : Type 0} {a b c : Transaction S} {x : T} {r : Result U StoreFault} {one two : Rows → Rows} {i j : OwnerIndex → OwnerIndex}
-      → Makes g a b (Ok x) one i → Makes g b c r two j → Makes g a c r (λ rows. two (one rows)) (λ held. j (i held))
+      → WritesWith g a b (Ok x) one i → WritesWith g b c r two j → WritesWith g a c r (λ rows. two (one rows)) (λ held. j (i held))
   writes_then {a = a} {b = b} {c = c} {one = one} {two = two} {i = i} {j = j} first second =
       steps_to (steps_then first second) (λ y both has.
       let went = both.0 has in

@@ -129,13 +129,13 @@ pub record Steps {S T E : Type 0} (g : Ghosts S) (old new : Transaction S) (resu
   pub ok : HasCleanDisk (state g new.conn.now) → IsTrue old.conn.now.in_transaction → IfOk result does
 
 -- a step that makes this change of the rows, and of an index of purses by holder
-abbrev pub Makes : {S T : Type 0} → Ghosts S → Transaction S → Transaction S → Result T StoreFault → (Rows → Rows) → (OwnerIndex → OwnerIndex) → Type 0
-Makes g old new result change index =
+abbrev pub WritesWith : {S T : Type 0} → Ghosts S → Transaction S → Transaction S → Result T StoreFault → (Rows → Rows) → (OwnerIndex → OwnerIndex) → Type 0
+WritesWith g old new result change index =
     Steps g old new result (λ _. (state g old.conn.now).now.schema ≡ office_schema → Brings change index (state g old.conn.now) (state g new.conn.now))
 
 -- a step that makes this change of the rows, by which no purse comes in
 abbrev pub Writes : {S T : Type 0} → Ghosts S → Transaction S → Transaction S → Result T StoreFault → (Rows → Rows) → Type 0
-Writes g old new result change = Makes g old new result change (λ held. held)
+Writes g old new result change = WritesWith g old new result change (λ held. held)
 
 -- a step that leaves the rows, and gives what is so of them
 abbrev pub Finds : {S T : Type 0} → Ghosts S → Transaction S → Transaction S → Result T StoreFault → (Rows → T → Type 0) → Type 0

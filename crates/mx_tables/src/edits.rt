@@ -5,7 +5,7 @@ ghost use Rattle.sqlite.specs.State.{HasCleanDisk, IsUnchanged};
 ghost use Rattle.mx_book.specs.RowEdits.{rewritten};
 ghost use Rattle.mx_tables.specs.Owners.{indexed};
 ghost use Rattle.mx_tables.specs.Schema.{office_schema};
-ghost use Rattle.mx_tables.specs.States.{Applies, Brings, Commits, Finds, Makes, Steps, Stops, Writes};
+ghost use Rattle.mx_tables.specs.States.{Applies, Brings, Commits, Finds, Steps, Stops, Writes, WritesWith};
 
 use crate::asking::fault_of;
 use crate::collecting::collect;
@@ -102,7 +102,7 @@ fn edit_one<S: Alter>(
     expected: &mut Option<(Name, u64)>,
     edit: &Edit,
 ) -> Result<(), StoreFault>
-    ensures { Makes S.Store tx.old tx.new result
+    ensures { WritesWith S.Store tx.old tx.new result
         (λ r. rewritten r edit.now) (λ held. indexed held edit.now) }
 {
     match edit {
@@ -148,7 +148,7 @@ fn edit_each<S: Alter>(
     expected: Option<(Name, u64)>,
     edits: &[Edit],
 ) -> Result<(), StoreFault>
-    ensures { Makes S.Store tx.old tx.new result
+    ensures { WritesWith S.Store tx.old tx.new result
         (λ r. fold rewritten r edits.now) (λ held. fold indexed held edits.now) }
 {
     let mut expected = expected;

@@ -14,7 +14,7 @@ ghost use Rattle.mx_book.specs.declared.values.PurseRow.{PurseRow};
 ghost use Rattle.mx_tables.specs.Answers.{ArePurses, Raises, purse_columns, purse_shown, state_columns, state_shown};
 ghost use Rattle.mx_tables.specs.Owners.{indexed};
 ghost use Rattle.mx_tables.specs.Schema.{office_schema};
-ghost use Rattle.mx_tables.specs.States.{Finds, Makes, Reads, Steps, Writes, Tells};
+ghost use Rattle.mx_tables.specs.States.{Finds, Reads, Steps, Tells, Writes, WritesWith};
 ghost use Rattle.mx_book.specs.Reads.{account_of, own_purse, has_purse};
 
 use crate::asking::{About, ask_about, ask_about_inside, run, run_one};
@@ -37,7 +37,7 @@ pub fn insert_purse<S: Alter>(
     name: &Name,
     holder: &Name,
 ) -> Result<(), StoreFault>
-    ensures { Makes S.Store tx.old tx.new result
+    ensures { WritesWith S.Store tx.old tx.new result
         (λ r. rewritten r (NewPurse name.now holder.now))
         (λ held. indexed held (NewPurse name.now holder.now)) }
 {
