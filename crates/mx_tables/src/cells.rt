@@ -37,7 +37,7 @@ pub fn name_in(row: Option<Row>) -> Result<Option<Name>, StoreFault>
 }
 
 /// The integer in a column. Store where another value is there.
-pub fn whole_at(row: &Row, at: usize) -> Result<i64, StoreFault>
+pub fn integer_at(row: &Row, at: usize) -> Result<i64, StoreFault>
     ensures { IfOk result (λ n. column row.now at ≡ Int n) }
 {
     match row.get_ref(at) {
@@ -50,7 +50,7 @@ pub fn whole_at(row: &Row, at: usize) -> Result<i64, StoreFault>
 pub fn number_at(row: &Row, at: usize) -> Result<u64, StoreFault>
     ensures { IfOk result (λ n. column row.now at ≡ Int (pos n)) }
 {
-    u64::try_from(whole_at(row, at)?).map_err(|_| StoreFault::Store)
+    u64::try_from(integer_at(row, at)?).map_err(|_| StoreFault::Store)
 }
 
 /// The number in the first column of a row, where there is a row.

@@ -7,7 +7,7 @@ ghost use Rattle.mx_tables.specs.Owners.{IsKeptUp, Lists, index_of, indexed};
 ghost use Rattle.mx_tables.specs.States.{IsOurs, Looks, Reads, Stays, Tells, TellsOwners};
 
 use crate::asking::ask;
-use crate::cells::{name_at, whole_at};
+use crate::cells::{integer_at, name_at};
 use mx_book::held::{Held, count_held, names_held};
 use mx_book::{Edit, StoreFault};
 use mx_pay::Name;
@@ -22,7 +22,7 @@ fn index_rows(alloc: Global, rows: &[Row]) -> Result<Held, StoreFault>
     let mut held = Held::new(alloc);
     let mut last = i128::MIN;
     for row in rows {
-        let number = whole_at(row, 0)? as i128;
+        let number = integer_at(row, 0)? as i128;
         if number <= last {
             return Err(StoreFault::Store);
         }
