@@ -29,14 +29,6 @@ PAYMENT = (
     + [response('{"balance":40,"next":1,"purse":"p1","status":"eaFrom"}')]
     + [response('{"balance":60,"next":1,"purse":"q1","status":"eaTo"}')]
 )
-LOST_PAYMENT = (
-    [done("added"), done("granted")]
-    + 4 * [done("added")]
-    + [done("loaded"), STARTED, response('{"done":"aborted","logged":true}'), STARTED, done("value-sent"), done("ignored")]
-    + [response('{"done":"read","entry":"p1,q1,60,0,0"}'), response('{"archived":1}'), done("sent"), done("cleared")]
-    + [response('{"done":"read","entry":null}')]
-    + [response('{"balance":40,"next":1,"purse":"p1","status":"eaFrom"}')]
-)
 
 
 def sums(**changed):
@@ -52,6 +44,16 @@ def lines(*all_lines):
     return response('{"lines":[%s]}' % ",".join(forms))
 
 
+LOST_PAYMENT = (
+    [done("added"), done("granted")]
+    + 4 * [done("added")]
+    + [done("loaded"), STARTED, response('{"done":"aborted","logged":true}'), STARTED, done("value-sent"), done("ignored")]
+    + [response('{"done":"read","entry":"p1,q1,60,0,0"}'), response('{"archived":1}'), done("sent"), done("cleared")]
+    + [response('{"done":"read","entry":null}')]
+    + [response('{"balance":40,"next":1,"purse":"p1","status":"eaFrom"}')]
+    + [response('{"done":"read","entry":"p1,q1,60,0,0"}'), response('{"archived":1}'), done("settled")]
+    + [response('{"balance":100,"next":1,"purse":"p1","status":"eaFrom"}'), sums()]
+)
 STATEMENTS = (
     [done("added"), done("granted")]
     + 4 * [done("added")]

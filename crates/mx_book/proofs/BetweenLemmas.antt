@@ -1,6 +1,6 @@
 -- Value between purses: the sums over all details that occur are sums over the purses and what is archived for them.
 use Rattle.std.proofs.Common.{◌≡◌, ℕ, ◌+◌, Bool, true, false, cond, ◌&&◌, ◌||◌, List, [], ◌∷◌, ◌++◌, map, refl, sym, ◌∙◌, ap, subst, Option, Some, None, arith}
-use Rattle.std.specs.Prelude.{is_some, option_map, flat_map}
+use Rattle.std.specs.Prelude.{not, is_some, option_map, flat_map}
 use Rattle.std.specs.List.{list_any}
 use Rattle.std.proofs.lemmas.Bool.{or_left, or_right}
 use Rattle.std.proofs.lemmas.List.Folds.{list_any-append}
@@ -25,10 +25,11 @@ use Rattle.mx_book.specs.World.{Row, Name, result_cmp}
 use Rattle.mx_book.specs.Conditions.{IsWorld}
 use Rattle.mx_book.specs.Sums.{sum_values, sum_entries}
 use Rattle.mx_book.specs.Reads.{from_row}
+use Rattle.mx_book.specs.RowReads.{row_is_settled}
 use Rattle.mx_book.specs.Rows.{Rows, world_of, row_of}
 use Rattle.mx_book.specs.RowEdits.{log_at}
 use Rattle.mx_book.specs.RowTotals.{has_sent, has_left, awaited, lost_by, lost_in_log, lost_in_archive, row_transit_of, row_lost_of}
-use Rattle.mx_book.specs.Totals.{occurring, from_in_epa, from_logged, maybe_lost, definitely_lost, transit, lost}
+use Rattle.mx_book.specs.Totals.{occurring, from_in_epa, from_logged, maybe_lost, still_lost, transit, lost}
 use Rattle.mx_book.proofs.FoundLemmas.{inside}
 use Rattle.mx_book.proofs.NameLemmas.{names_total, names_exact, same_name, name_itself}
 use Rattle.mx_book.proofs.RowLemmas.{get_rows, there}
@@ -80,11 +81,11 @@ both_tests false true n = refl
 both_tests false false n = refl
 
 -- what is logged and what is archived but not logged are what is either
-lost_parts : (log archive left : Bool) (n : ℕ) → cond ((log || archive) && left) n 0 ≡ cond log (cond left n 0) 0 + cond archive (cond log 0 (cond left n 0)) 0
-lost_parts true true left n = omega arith
-lost_parts true false left n = omega arith
-lost_parts false true left n = omega arith
-lost_parts false false left n = refl
+lost_parts : (log archive left unsettled : Bool) (n : ℕ) → cond (((log || archive) && left) && unsettled) n 0 ≡ cond log (cond (left && unsettled) n 0) 0 + cond archive (cond log 0 (cond (left && unsettled) n 0)) 0
+lost_parts true true left unsettled n = omega arith
+lost_parts true false left unsettled n = omega arith
+lost_parts false true left unsettled n = omega arith
+lost_parts false false left unsettled n = refl
 
 module _ (r : Rows) where
   abbrev all : Entries
@@ -198,36 +199,43 @@ module _ (r : Rows) where
 
   -- ---- lost by logs
 
+  -- details that aren't settled, and the value of details where it has left the from purse and they aren't settled
+  abbrev unsettled : Details → Bool
+  unsettled d = not (row_is_settled r d)
+
+  abbrev lost_value : Details → ℕ
+  lost_value d = cond (left_of d && unsettled d) d.value 0
+
   abbrev logged_to : Details → Bool
   logged_to d = has_logged (log_at (fmap.get r.purses d.to)) d
 
   -- what details add to what is lost by the log of a purse
   abbrev in_log : Name → PurseRow → Details → ℕ
-  in_log p x d = cond (is_name d.to p) (cond (has_logged x.purse.log d) (left_value d) 0) 0
+  in_log p x d = cond (is_name d.to p) (cond (has_logged x.purse.log d) (lost_value d) 0) 0
 
-  log_is : (p : Name) (x : PurseRow) → fmap.get r.purses p ≡ Some x → total (in_log p x) (logged all) ≡ lost_in_log r.purses r.archive p x.purse.log
+  log_is : (p : Name) (x : PurseRow) → fmap.get r.purses p ≡ Some x → total (in_log p x) (logged all) ≡ lost_in_log r.purses r.archive r.settled p x.purse.log
   log_is p x at =
-      total_same (in_log p x) (λ d. cond (has_logged x.purse.log d) (lost_by r.purses r.archive p d) 0) (logged all) (λ d. grind arith)
-      ∙ sym (sum_within (lost_by r.purses r.archive p) x.purse.log all (λ d has. log_occurs p x at d (still_logged x.purse.log (pending x.purse.status) d has)))
-      ∙ sym (total_is (lost_by r.purses r.archive p) (logged x.purse.log))
+      total_same (in_log p x) (λ d. cond (has_logged x.purse.log d) (lost_by r.purses r.archive r.settled p d) 0) (logged all) (λ d. grind arith)
+      ∙ sym (sum_within (lost_by r.purses r.archive r.settled p) x.purse.log all (λ d has. log_occurs p x at d (still_logged x.purse.log (pending x.purse.status) d has)))
+      ∙ sym (total_is (lost_by r.purses r.archive r.settled p) (logged x.purse.log))
 
-  logged_is : (d : Details) (o : Option PurseRow) → value_of (λ x. cond (has_logged x.purse.log d) (left_value d) 0) o ≡ cond (has_logged (log_at o) d) (left_value d) 0
-  logged_is d None = ap (λ b. cond b (left_value d) 0) (sym (has-none_logged d))
+  logged_is : (d : Details) (o : Option PurseRow) → value_of (λ x. cond (has_logged x.purse.log d) (lost_value d) 0) o ≡ cond (has_logged (log_at o) d) (lost_value d) 0
+  logged_is d None = ap (λ b. cond b (lost_value d) 0) (sym (has-none_logged d))
   logged_is d (Some x) = refl
 
-  logs_are : sum_entries (λ p (x : PurseRow). lost_in_log r.purses r.archive p x.purse.log) r.purses ≡ total (λ d. cond (logged_to d) (left_value d) 0) (logged all)
+  logs_are : sum_entries (λ p (x : PurseRow). lost_in_log r.purses r.archive r.settled p x.purse.log) r.purses ≡ total (λ d. cond (logged_to d) (lost_value d) 0) (logged all)
   unfolding sum_entries
   logs_are =
-      total_is (λ (e : Name × PurseRow). lost_in_log r.purses r.archive e.0 e.1.purse.log) (fmap.entries r.purses)
-      ∙ sym (total_entries names_total (λ p x. total (in_log p x) (logged all)) (λ p x. lost_in_log r.purses r.archive p x.purse.log) r.purses log_is)
+      total_is (λ (e : Name × PurseRow). lost_in_log r.purses r.archive r.settled e.0 e.1.purse.log) (fmap.entries r.purses)
+      ∙ sym (total_entries names_total (λ p x. total (in_log p x) (logged all)) (λ p x. lost_in_log r.purses r.archive r.settled p x.purse.log) r.purses log_is)
       ∙ total_swap (λ (e : Name × PurseRow) d. in_log e.0 e.1 d) (fmap.entries r.purses) (logged all)
-      ∙ total_same _ _ (logged all) (λ d. total_key names_total names_exact (λ p x. cond (has_logged x.purse.log d) (left_value d) 0) d.to r.purses ∙ logged_is d (fmap.get r.purses d.to))
+      ∙ total_same _ _ (logged all) (λ d. total_key names_total names_exact (λ p x. cond (has_logged x.purse.log d) (lost_value d) 0) d.to r.purses ∙ logged_is d (fmap.get r.purses d.to))
 
   -- ---- and by what is archived
 
   -- the value of details that the log of the to purse hasn't any more
   abbrev cleared : Details → ℕ
-  cleared d = cond (logged_to d) 0 (left_value d)
+  cleared d = cond (logged_to d) 0 (lost_value d)
 
   -- what details add to what is lost by a result that is archived
   abbrev in_result : Name × Details → Details → ℕ
@@ -236,14 +244,14 @@ module _ (r : Rows) where
   result_pair : (p : Name) (d e : Details) → in_result (p, d) e ≡ cond (is_details d e) (cond (is_name e.to p) (cleared e) 0) 0
   result_pair p d e = grind (arith, tied_then (name_cmp e.to p) (details_cmp e d), details_turned d e)
 
-  result_at : (p : Name) (d : Details) (b : Bool) → is_name d.to p ≡ b → cond (is_name d.to p) (cleared d) 0 ≡ lost_in_archive r.purses r.archive (p, d)
+  result_at : (p : Name) (d : Details) (b : Bool) → is_name d.to p ≡ b → cond (is_name d.to p) (cleared d) 0 ≡ lost_in_archive r.purses r.archive r.settled (p, d)
   result_at p d true to =
       ap (λ b. cond b (cleared d) 0) to
-      ∙ ap (λ n. cond (has_logged (log_at (fmap.get r.purses n)) d) 0 (left_value d)) (same_name d.to p to)
-      ∙ ap (λ b. cond (has_logged (log_at (fmap.get r.purses p)) d) 0 (cond (b && left_of d) d.value 0)) (sym to)
+      ∙ ap (λ n. cond (has_logged (log_at (fmap.get r.purses n)) d) 0 (lost_value d)) (same_name d.to p to)
+      ∙ ap (λ b. cond (has_logged (log_at (fmap.get r.purses p)) d) 0 (cond (b && left_of d && unsettled d) d.value 0)) (sym to)
   result_at p d false to = grind (arith, to)
 
-  result_is : (result : Name × Details) (u : Unit {0}) → fmap.get r.archive result ≡ Some u → total (in_result result) (logged all) ≡ lost_in_archive r.purses r.archive result
+  result_is : (result : Name × Details) (u : Unit {0}) → fmap.get r.archive result ≡ Some u → total (in_result result) (logged all) ≡ lost_in_archive r.purses r.archive r.settled result
   result_is result u at =
       let d = result.1 in
       total_same (in_result result) (λ e. cond (is_details d e) (cond (is_name e.to result.0) (cleared e) 0) 0) (logged all) (λ e. result_pair result.0 d e)
@@ -255,11 +263,11 @@ module _ (r : Rows) where
   found_is d None = refl
   found_is d (Some u) = refl
 
-  results_are : sum_entries (λ result (u : Unit {0}). lost_in_archive r.purses r.archive result) r.archive ≡ total (λ d. cond (fmap.contains_key r.archive (d.to, d)) (cleared d) 0) (logged all)
+  results_are : sum_entries (λ result (u : Unit {0}). lost_in_archive r.purses r.archive r.settled result) r.archive ≡ total (λ d. cond (fmap.contains_key r.archive (d.to, d)) (cleared d) 0) (logged all)
   unfolding sum_entries
   results_are =
-      total_is (λ (e : (Name × Details) × Unit {0}). lost_in_archive r.purses r.archive e.0) (fmap.entries r.archive)
-      ∙ sym (total_entries (pair_total names_total details_total) (λ result u. total (in_result result) (logged all)) (λ result u. lost_in_archive r.purses r.archive result) r.archive result_is)
+      total_is (λ (e : (Name × Details) × Unit {0}). lost_in_archive r.purses r.archive r.settled e.0) (fmap.entries r.archive)
+      ∙ sym (total_entries (pair_total names_total details_total) (λ result u. total (in_result result) (logged all)) (λ result u. lost_in_archive r.purses r.archive r.settled result) r.archive result_is)
       ∙ total_swap (λ (e : (Name × Details) × Unit {0}) d. in_result e.0 d) (fmap.entries r.archive) (logged all)
       ∙ total_same _ _ (logged all) (λ d. total_key (pair_total names_total details_total) (pair_exact names_exact details_exact) (λ result u. cleared d) (d.to, d) r.archive ∙ found_is d (fmap.get r.archive (d.to, d)))
 
@@ -269,17 +277,17 @@ module _ (r : Rows) where
   logged_row d None = sym (has-none_logged d)
   logged_row d (Some x) = refl
 
-  definitely_is : (d : Details) → cond (definitely_lost (world_of r) d) d.value 0 ≡ cond (logged_to d) (left_value d) 0 + cond (fmap.contains_key r.archive (d.to, d)) (cleared d) 0
-  definitely_is d =
+  still_is : (d : Details) → cond (still_lost (world_of r) d) d.value 0 ≡ cond (logged_to d) (lost_value d) 0 + cond (fmap.contains_key r.archive (d.to, d)) (cleared d) 0
+  still_is d =
       let archived = fmap.contains_key r.archive (d.to, d) in
       let sent = from_logged (world_of r) d || from_in_epa (world_of r) d in
-      ap (λ b. cond ((b || archived) && sent) d.value 0) (ap (from_row false (λ x. has_logged x.holding.purse.log d)) (get_rows r d.to) ∙ logged_row d (fmap.get r.purses d.to))
-      ∙ ap (λ b. cond ((logged_to d || archived) && b) d.value 0) (or_turned (from_logged (world_of r) d) (from_in_epa (world_of r) d) ∙ sym (left_either d))
-      ∙ lost_parts (logged_to d) archived (left_of d) d.value
+      ap (λ b. cond (((b || archived) && sent) && unsettled d) d.value 0) (ap (from_row false (λ x. has_logged x.holding.purse.log d)) (get_rows r d.to) ∙ logged_row d (fmap.get r.purses d.to))
+      ∙ ap (λ b. cond (((logged_to d || archived) && b) && unsettled d) d.value 0) (or_turned (from_logged (world_of r) d) (from_in_epa (world_of r) d) ∙ sym (left_either d))
+      ∙ lost_parts (logged_to d) archived (left_of d) (unsettled d) d.value
 
   pub lost_is : lost (world_of r) ≡ row_lost_of r
   lost_is =
-      total_is (λ d. cond (definitely_lost (world_of r) d) d.value 0) (logged all)
-      ∙ total_same _ (λ d. cond (logged_to d) (left_value d) 0 + cond (fmap.contains_key r.archive (d.to, d)) (cleared d) 0) (logged all) definitely_is
-      ∙ total_add (λ d. cond (logged_to d) (left_value d) 0) (λ d. cond (fmap.contains_key r.archive (d.to, d)) (cleared d) 0) (logged all)
+      total_is (λ d. cond (still_lost (world_of r) d) d.value 0) (logged all)
+      ∙ total_same _ (λ d. cond (logged_to d) (lost_value d) 0 + cond (fmap.contains_key r.archive (d.to, d)) (cleared d) 0) (logged all) still_is
+      ∙ total_add (λ d. cond (logged_to d) (lost_value d) 0) (λ d. cond (fmap.contains_key r.archive (d.to, d)) (cleared d) 0) (logged all)
       ∙ sym (λ i. logs_are i + results_are i)

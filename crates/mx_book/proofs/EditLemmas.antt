@@ -25,7 +25,7 @@ use Rattle.mx_book.specs.declared.values.PurseRow.{PurseRow}
 use Rattle.mx_book.specs.declared.values.Redemption.{Redemption}
 use Rattle.mx_book.specs.declared.values.LineRow.{LineRow}
 use Rattle.mx_book.specs.declared.edits.Edit.{Edit}
-use Rattle.mx_book.specs.declared.edits.Edit.TheVariants.{NewMember, SetMember, NewHolder, NewPurse, SetPurse, AddMessage, DropMessage, AddLine, AddLoad, AddRedemption, AddTray, ArchiveTray, Collect}
+use Rattle.mx_book.specs.declared.edits.Edit.TheVariants.{NewMember, SetMember, NewHolder, NewPurse, SetPurse, AddMessage, DropMessage, AddLine, AddLoad, AddRedemption, AddTray, ArchiveTray, Collect, AddSettled}
 use Rattle.mx_book.specs.Under.{pair_cmp, under, remake}
 use Rattle.mx_book.specs.Rows.{Rows, world_of, row_of, IsProper, Spelled, line_row, amount_of, mark_of}
 use Rattle.mx_book.specs.Edits.{edited, all_edited, AllSuit, Suits}
@@ -194,6 +194,7 @@ edit_is r (AddRedemption p ref amount) h fits = let x = found r p (λ row. IsNon
 edit_is r (AddTray p d) h fits = record { world = refl; proper = h }
 edit_is r (ArchiveTray p) h fits = record { world = refl; proper = h }
 edit_is r (Collect m) h fits = collect r m h
+edit_is r (AddSettled d) h fits = record { world = refl; proper = h }
 
 -- and so of a list of edits
 pub edit_spelled : (r : Rows) (w : World) (e : Edit) → Spelled r w → Suits w e → Spelled (rewritten r e) (edited w e)

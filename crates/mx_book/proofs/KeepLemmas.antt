@@ -51,6 +51,7 @@ module _ (w : World) (tokens : fmap.FinMap token_cmp Caller) (members : fmap.Fin
     inboxes = record { each = h.inboxes.each };
     lines = record { each = h.lines.each };
     results = record { archived = h.results.archived; details = h.results.details; logged = h.results.logged; apart = h.results.apart };
+    settled = h.settled;
     clears = record { each = λ p r n m at there. may_lie w with_heads (λ q d there. there) p m (h.clears.each p r n m at there) };
     payments = record { each = h.payments.each };
   }
@@ -90,6 +91,7 @@ module _ (w : World) (rows : fmap.FinMap name_cmp Row) where
       logged = λ p d there. let r = h.results.logged p d there in let s = stays p r.0 r.1 in (s.0, s.1, s.2 d there r.2);
       apart = h.results.apart;
     };
+    settled = h.settled;
     clears = record { each = λ p r n m at there. may_lie w with_rows (λ q d there. there) p m ((each p r at).clears n m there) };
     payments = record { each = λ p r at. (each p r at).paid };
   }

@@ -9,6 +9,7 @@ use Rattle.mx_pay.specs.Tokens.{token_cmp, IsToken}
 use Rattle.mx_book.specs.declared.values.MemberRow.{MemberRow}
 use Rattle.mx_book.specs.Sums.{sum_values}
 use Rattle.mx_book.specs.Under.{pair_cmp, remake}
+use Rattle.mx_pay.specs.Details.{details_cmp}
 use Rattle.mx_book.specs.World.{World, Row, Name, Token, opening, result_cmp}
 use Rattle.mx_book.specs.Conditions.{IsWorld, all_granted}
 use Rattle.mx_book.specs.Rows.{Rows, world_of, row_of}
@@ -56,6 +57,7 @@ opening_is t whole = record {
     logged = λ p d. none_some _ (fmap.get-empty result_cmp (p, d));
     apart = λ p d. none_some _ (fmap.get-empty result_cmp (p, d));
   };
+  settled = λ d. none_some _ (fmap.get-empty details_cmp d);
   clears = record { each = λ p r n m. none_found _ r (fmap.get-empty name_cmp p) };
   payments = record { each = λ p r. none_found _ r (fmap.get-empty name_cmp p) };
 }

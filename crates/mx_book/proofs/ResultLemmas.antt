@@ -1,5 +1,5 @@
 -- Results of read log in the tray and in the archive.
-use Rattle.std.proofs.Common.{◌≡◌, ◌⊎◌, ℕ, ◌+◌, inl, inr, Bool, true, false, not, ◌&&◌, ◌||◌, List, [], ◌∷◌, sym, ◌∙◌, ap, subst, Option, Some, None, IsSome, is_some, arith}
+use Rattle.std.proofs.Common.{refl, ◌≡◌, ◌⊎◌, ℕ, ◌+◌, inl, inr, Bool, true, false, not, ◌&&◌, ◌||◌, List, [], ◌∷◌, sym, ◌∙◌, ap, subst, Option, Some, None, IsSome, is_some, arith}
 use Rattle.std.specs.Prelude.{IsSomeAnd, slice_get, option_map}
 use Rattle.std.specs.Ordering.{eq_by_cmp}
 use Rattle.std.specs.List.{list_any}
@@ -9,10 +9,10 @@ use Rattle.std.specs.FinMap.{IsAntisymmetric}
 use Rattle.std.specs.FinSet.{FinSet}
 use Rattle.mx_pay.specs.Names.{name_cmp, is_name}
 use Rattle.mx_pay.specs.Details.{Details, IsDetails, details_cmp, is_details}
-use Rattle.mx_pay.specs.Log.{Entries, logged, log_len, has_logged, is_within}
+use Rattle.mx_pay.specs.Log.{Entries, logged, log_len, has_logged, is_within, with_entry}
 use Rattle.mx_pay.specs.Orders.{details_exact}
 use Rattle.mx_pay.proofs.LogLemmas.{details_total}
-use Rattle.mx_pay.proofs.SameLemmas.{within_means}
+use Rattle.mx_pay.proofs.SameLemmas.{within_means, same_details, has-with_entry}
 use Rattle.mx_pay.proofs.TestLemmas.{is_equal}
 use Rattle.mx_book.specs.Under.{under}
 use Rattle.mx_book.specs.World.{World, Row, Name, result_cmp, results_of, results_but, and_results, with_archived}
@@ -21,8 +21,8 @@ use Rattle.mx_book.specs.Rows.{Rows, row_of, world_of}
 use Rattle.mx_book.specs.RowEdits.{log_at, row_laid_of}
 use Rattle.mx_book.proofs.RowLemmas.{get_rows}
 use Rattle.mx_book.specs.Reads.{tray_of}
-use Rattle.mx_book.specs.Conditions.{IsWorld, IsEntry, ResultsHold}
-use Rattle.mx_book.specs.declared.edits.Edit.TheVariants.{AddTray, ArchiveTray}
+use Rattle.mx_book.specs.Conditions.{IsWorld, AreSettled, IsEntry, ResultsHold}
+use Rattle.mx_book.specs.declared.edits.Edit.TheVariants.{AddTray, ArchiveTray, AddSettled}
 use Rattle.mx_book.specs.Edits.{edited, Suits}
 use Rattle.mx_book.proofs.NameLemmas.{names_total, names_exact, same_name}
 use Rattle.mx_book.proofs.UnderLemmas.{pair_total, pair_exact}
@@ -157,6 +157,7 @@ module _ (w : World) (tray archive : FinSet result_cmp) where
     inboxes = record { each = h.inboxes.each };
     lines = record { each = h.lines.each };
     results = hold;
+    settled = h.settled;
     clears = record { each = λ p r n m at there. may_lie w with_results stay p m (h.clears.each p r n m at there) };
     payments = record { each = h.payments.each };
   }
@@ -215,3 +216,27 @@ archive_suits w p h there =
     let r = value_found _ there in
     subst (λ (o : Option Row). IsSomeAnd o (λ x. (d : Details) → fmap.contains_key w.tray (p, d) ≡ true → has_logged x.holding.purse.log d ≡ true)) (sym r.1)
     (λ d laid. let x = h.results.logged p d laid in subst (λ (s : Row). has_logged s.holding.purse.log d ≡ true) (inside x.0 r.0 (sym x.1 ∙ r.1)) x.2)
+
+-- ---- what is settled
+
+-- settled details, and more of them
+also_settled : (settled : Entries) (d : Details) → IsDetails d → AreSettled settled → AreSettled (with_entry settled d)
+also_settled settled d details are e has = by_case (is_details e d) refl
+  where
+    by_case : (b : Bool) → is_details e d ≡ b → IsDetails e
+    by_case true same = subst IsDetails (sym (same_details e d same)) details
+    by_case false other = are e (grind (arith, has-with_entry settled d e, has, other))
+
+-- a World stays one with settled details more
+pub also_settled_stays : (w : World) (d : Details) → IsDetails d → IsWorld w → IsWorld (edited w (AddSettled d))
+also_settled_stays w d details h = record {
+  tokens = record { operator_bytes = h.tokens.operator_bytes; bytes = h.tokens.bytes; operator = h.tokens.operator; owners = h.tokens.owners; clerks = h.tokens.clerks; holders = h.tokens.holders; single = h.tokens.single };
+  members = record { named = h.members.named; granted = h.members.granted; floats = h.members.floats; holders = h.members.holders };
+  purses = record { each = λ p r at. let x = h.purses.each p r at in record { text = x.text; named = x.named; holder = x.holder; purse = x.purse }; few = h.purses.few };
+  inboxes = record { each = h.inboxes.each };
+  lines = record { each = h.lines.each };
+  results = record { archived = h.results.archived; details = h.results.details; logged = h.results.logged; apart = h.results.apart };
+  settled = also_settled w.settled d details h.settled;
+  clears = record { each = λ p r n m at there. may_lie w (edited w (AddSettled d)) (λ q e there. there) p m (h.clears.each p r n m at there) };
+  payments = record { each = h.payments.each };
+}

@@ -5,8 +5,8 @@ use Rattle.mx_pay.specs.Details.{Details}
 use Rattle.mx_book.specs.declared.edits.Edit.{Edit}
 use Rattle.mx_book.specs.World.{World, Name, Token}
 use Rattle.mx_book.specs.Rows.{Rows, world_of}
-use Rattle.mx_book.specs.Reads.{who_of, member_of, holder_of, purses_of, account_of, has_purse, own_purse, finds_place, message_of, inbox_of, lines_of, members_of, load_of, redemption_of, is_archived, tray_of, uncollected_of}
-use Rattle.mx_book.specs.RowReads.{row_who_of, row_holder_of, row_purses_of, row_account_of, row_own_purse, row_finds_place, row_inbox_of, row_lines_of, row_members_of, row_load_of, row_redemption_of, row_is_archived, row_uncollected_of}
+use Rattle.mx_book.specs.Reads.{who_of, member_of, holder_of, purses_of, account_of, has_purse, own_purse, finds_place, message_of, inbox_of, lines_of, members_of, load_of, redemption_of, is_archived, is_settled, tray_of, uncollected_of}
+use Rattle.mx_book.specs.RowReads.{row_who_of, row_holder_of, row_purses_of, row_account_of, row_own_purse, row_finds_place, row_inbox_of, row_lines_of, row_members_of, row_load_of, row_redemption_of, row_is_archived, row_is_settled, row_uncollected_of}
 use Rattle.mx_book.specs.Edits.{all_edited, Fits}
 use Rattle.mx_book.specs.RowEdits.{all_rewritten, all_able, row_laid_of}
 use Rattle.std.proofs.Props.{props}
@@ -72,6 +72,9 @@ redemption_at r w p ref h = read_at (λ z. redemption_of z p ref) r w _ h (redem
 
 pub archived_at : (r : Rows) (w : World) (p : Name) (d : Details) → Spells r w → row_is_archived r p d ≡ is_archived w p d
 archived_at r w p d h = read_at (λ z. is_archived z p d) r w _ h refl
+
+pub settled_at : (r : Rows) (w : World) (d : Details) → Spells r w → row_is_settled r d ≡ is_settled w d
+settled_at r w d h = read_at (λ z. is_settled z d) r w _ h refl
 
 -- what is in the tray of a purse is an entry of its log, so it is found from there
 pub tray_at : (r : Rows) (w : World) (p : Name) → Spells r w → row_laid_of r p ≡ tray_of w p

@@ -1,7 +1,7 @@
 -- What has the same word is the same.
 use Rattle.std.proofs.Common.{◌≡◌, ℕ, List, ◌∷◌, refl, ap, arith}
 use Rattle.mx_book.specs.declared.values.LineKind.{LineKind}
-use Rattle.mx_book.specs.declared.values.LineKind.TheVariants.{Loaded, Redeemed, Sent, Received, Logged}
+use Rattle.mx_book.specs.declared.values.LineKind.TheVariants.{Loaded, Redeemed, Sent, Received, Logged, Settled}
 use Rattle.mx_book.specs.Words.{kind_text}
 
 -- the words differ in their third bytes
@@ -15,4 +15,5 @@ same_kind Redeemed Redeemed w = refl
 same_kind Sent Sent w = refl
 same_kind Received Received w = refl
 same_kind Logged Logged w = refl
+same_kind Settled Settled w = refl
 same_kind k l w = absurd (let n = ap third w in omega (arith, n))

@@ -115,6 +115,10 @@ pub record ResultsHold (w : World) : Type 0 where
   pub logged : (p : Name) (d : Details) → fmap.contains_key w.tray (p, d) ≡ Bool.true → IsEntry w p d
   pub apart : (p : Name) (d : Details) → fmap.contains_key w.tray (p, d) ≡ Bool.true → fmap.contains_key w.archive (p, d) ≡ Bool.false
 
+-- settled details are within their limits
+abbrev pub AreSettled : Entries → Type 0
+AreSettled settled = (d : Details) → has_logged settled d ≡ Bool.true → IsDetails d
+
 -- a set of details may be cleared from a purse's log: it isn't empty, and is archived for the purse in full
 pub record MayClear (w : World) (p : Name) (set : Entries) : Type 0 where
   pub some : 0 < log_len set
@@ -147,5 +151,6 @@ pub record IsWorld (w : World) : Type 0 where
   pub inboxes : InboxesHold w
   pub lines : LinesHold w
   pub results : ResultsHold w
+  pub settled : AreSettled w.settled
   pub clears : ClearsHold w
   pub payments : PaymentsHold w

@@ -4,12 +4,12 @@ use Rattle.std.specs.FinMap as fmap
 use Rattle.mx_book.specs.Limits.{most_messages}
 use Rattle.mx_pay.specs.Limits.{most_number}
 use Rattle.mx_pay.specs.Details.{Details}
-use Rattle.mx_pay.specs.Log.{has_logged}
+use Rattle.mx_pay.specs.Log.{has_logged, with_entry}
 use Rattle.mx_book.specs.declared.values.Caller.TheVariants.{Clerk, Holder}
 use Rattle.mx_book.specs.declared.edits.Edit.{Edit}
-use Rattle.mx_book.specs.declared.edits.Edit.TheVariants.{NewMember, SetMember, NewHolder, NewPurse, SetPurse, AddMessage, DropMessage, AddLine, AddLoad, AddRedemption, AddTray, ArchiveTray, Collect}
+use Rattle.mx_book.specs.declared.edits.Edit.TheVariants.{NewMember, SetMember, NewHolder, NewPurse, SetPurse, AddMessage, DropMessage, AddLine, AddLoad, AddRedemption, AddTray, ArchiveTray, Collect, AddSettled}
 use Rattle.mx_book.specs.World.{World, delivered, new_row, set_row, change_row, change_holding, all_collected, with_archived}
-use Rattle.mx_book.specs.Reads.{who_of}
+use Rattle.mx_book.specs.Reads.{who_of, is_settled}
 use Rattle.mx_book.specs.Conditions.{IsWorld, AreNumbered}
 
 -- the World after an edit
@@ -27,10 +27,11 @@ edited w (AddRedemption p reference amount) = change_holding w p (λ a. record a
 edited w (AddTray p d) = record w { tray = fmap.insert w.tray (p, d) tt }
 edited w (ArchiveTray p) = with_archived w p
 edited w (Collect m) = all_collected w m
+edited w (AddSettled d) = record w { settled = with_entry w.settled d }
 
 -- the rows that an edit names are there, those that it adds are new, and its own condition holds: a message
--- finds a place, a line is numbered as the next one, a result is in neither the tray nor the archive, and a tray that
--- is archived is a part of its purse's log
+-- finds a place, a line is numbered as the next one, a result is in neither the tray nor the archive, a tray that is
+-- archived is a part of its purse's log, and details that are settled weren't
 abbrev pub Suits : World → Edit → Type 0
 Suits w (NewMember m t) = IsNone (fmap.get w.members m) × IsNone (who_of w t)
 Suits w (SetMember m granted float) = IsSome (fmap.get w.members m)
@@ -45,6 +46,7 @@ Suits w (AddRedemption p reference amount) = IsSomeAnd (fmap.get w.rows p) (λ r
 Suits w (AddTray p d) = IsSome (fmap.get w.rows p) × (fmap.contains_key w.tray (p, d) ≡ Bool.false) × (fmap.contains_key w.archive (p, d) ≡ Bool.false)
 Suits w (ArchiveTray p) = IsSomeAnd (fmap.get w.rows p) (λ r. (d : Details) → fmap.contains_key w.tray (p, d) ≡ Bool.true → has_logged r.holding.purse.log d ≡ Bool.true)
 Suits w (Collect m) = IsSome (fmap.get w.members m)
+Suits w (AddSettled d) = is_settled w d ≡ Bool.false
 
 -- the World after edits, in order
 abbrev pub all_edited : World → List Edit → World

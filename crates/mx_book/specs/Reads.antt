@@ -90,6 +90,10 @@ redemption_of w p reference = of_purse None (λ r. fmap.get r.holding.redemption
 abbrev pub is_archived : World → Name → Details → Bool
 is_archived w p d = fmap.contains_key w.archive (p, d)
 
+-- whether details are settled
+abbrev pub is_settled : World → Details → Bool
+is_settled w d = fmap.contains_key w.settled d
+
 -- the results in the tray of a purse
 abbrev pub tray_of : World → Name → Entries
 tray_of w p = under name_cmp details_cmp p w.tray

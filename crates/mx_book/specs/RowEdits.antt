@@ -4,12 +4,12 @@ use Rattle.std.specs.FinMap as fmap
 use Rattle.mx_pay.specs.Limits.{most_entries, most_number}
 use Rattle.mx_pay.specs.Names.{name_cmp}
 use Rattle.mx_pay.specs.Details.{details_cmp}
-use Rattle.mx_pay.specs.Log.{Entries, none_logged, is_within}
+use Rattle.mx_pay.specs.Log.{Entries, none_logged, is_within, with_entry}
 use Rattle.mx_purse.specs.State.{new_purse}
 use Rattle.mx_book.specs.declared.values.Caller.TheVariants.{Clerk, Holder}
 use Rattle.mx_book.specs.declared.values.PurseRow.{PurseRow}
 use Rattle.mx_book.specs.declared.edits.Edit.{Edit}
-use Rattle.mx_book.specs.declared.edits.Edit.TheVariants.{NewMember, SetMember, NewHolder, NewPurse, SetPurse, AddMessage, DropMessage, AddLine, AddLoad, AddRedemption, AddTray, ArchiveTray, Collect}
+use Rattle.mx_book.specs.declared.edits.Edit.TheVariants.{NewMember, SetMember, NewHolder, NewPurse, SetPurse, AddMessage, DropMessage, AddLine, AddLoad, AddRedemption, AddTray, ArchiveTray, Collect, AddSettled}
 use Rattle.mx_book.specs.declared.values.Redemption.{Redemption}
 use Rattle.mx_book.specs.Under.{under, remake}
 use Rattle.mx_book.specs.World.{Name, is_of, results_of, results_but, and_results}
@@ -48,6 +48,7 @@ rewritten r (AddRedemption p reference amount) = record r { redemptions = fmap.i
 rewritten r (AddTray p d) = record r { tray = fmap.insert r.tray (p, d) tt }
 rewritten r (ArchiveTray p) = record r { tray = results_but p r.tray; archive = and_results r.archive (fmap.keys (results_of p r.tray)) }
 rewritten r (Collect m) = record r { redemptions = remake (marked r.purses r.holders m) r.redemptions }
+rewritten r (AddSettled d) = record r { settled = with_entry r.settled d }
 
 -- the rows after edits, in order
 abbrev pub all_rewritten : Rows → List Edit → Rows

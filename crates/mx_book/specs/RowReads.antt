@@ -88,6 +88,10 @@ row_redemption_of r p reference = option_map (λ (x : Redemption). x.amount) (fm
 abbrev pub row_is_archived : Rows → Name → Details → Bool
 row_is_archived r p d = fmap.contains_key r.archive (p, d)
 
+-- whether details are settled
+abbrev pub row_is_settled : Rows → Details → Bool
+row_is_settled r d = fmap.contains_key r.settled d
+
 -- whether a purse counts: each for the whole scheme, and for a member those of its holders
 abbrev pub is_counted : fmap.FinMap name_cmp Name → Scope → Option PurseRow → Bool
 is_counted holders Scheme x = Bool.true

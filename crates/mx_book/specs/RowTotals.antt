@@ -1,5 +1,5 @@
 -- What the books come to, from their rows.
-use Rattle.std.specs.Prelude.{ℕ, ◌+◌, Bool, ◌&&◌, ◌||◌, List, map, Option, Some, None, option_map, sum_by, if◌then◌else◌}
+use Rattle.std.specs.Prelude.{ℕ, ◌+◌, Bool, ◌&&◌, ◌||◌, not, List, map, Option, Some, None, option_map, sum_by, if◌then◌else◌}
 use Rattle.std.specs.FinMap as fmap
 use Rattle.std.specs.FinSet.{FinSet}
 use Rattle.mx_pay.specs.Names.{name_cmp, is_name}
@@ -58,22 +58,25 @@ awaited purses archive _ = 0
 abbrev pub row_transit_of : Rows → ℕ
 row_transit_of r = sum_values (λ (x : PurseRow). awaited r.purses r.archive x.purse.status) r.purses
 
--- the value of details that are logged for the purse p, where they are to p and it has left the other purse
-abbrev pub lost_by : fmap.FinMap name_cmp PurseRow → FinSet result_cmp → Name → Details → ℕ
-lost_by purses archive p d = if is_name d.to p && has_left purses archive d then d.value else 0
+-- the value of details that are logged for the purse p, where they are to p, it has left the other purse, and they
+-- aren't settled
+abbrev pub lost_by : fmap.FinMap name_cmp PurseRow → FinSet result_cmp → Entries → Name → Details → ℕ
+lost_by purses archive settled p d =
+    if is_name d.to p && has_left purses archive d && not (fmap.contains_key settled d) then d.value else 0
 
 -- what is lost by the log of the purse p
-abbrev pub lost_in_log : fmap.FinMap name_cmp PurseRow → FinSet result_cmp → Name → Entries → ℕ
-lost_in_log purses archive p log = sum_by (lost_by purses archive p) (logged log)
+abbrev pub lost_in_log : fmap.FinMap name_cmp PurseRow → FinSet result_cmp → Entries → Name → Entries → ℕ
+lost_in_log purses archive settled p log = sum_by (lost_by purses archive settled p) (logged log)
 
 -- what is lost by details that are archived for a purse, where its log hasn't them still
-abbrev pub lost_in_archive : fmap.FinMap name_cmp PurseRow → FinSet result_cmp → Name × Details → ℕ
-lost_in_archive purses archive result = if has_logged (log_at (fmap.get purses result.0)) result.1 then 0 else lost_by purses archive result.0 result.1
+abbrev pub lost_in_archive : fmap.FinMap name_cmp PurseRow → FinSet result_cmp → Entries → Name × Details → ℕ
+lost_in_archive purses archive settled result =
+    if has_logged (log_at (fmap.get purses result.0)) result.1 then 0 else lost_by purses archive settled result.0 result.1
 
 abbrev pub row_lost_of : Rows → ℕ
 row_lost_of r =
-    sum_entries (λ p (x : PurseRow). lost_in_log r.purses r.archive p x.purse.log) r.purses
-    + sum_entries (λ result _. lost_in_archive r.purses r.archive result) r.archive
+    sum_entries (λ p (x : PurseRow). lost_in_log r.purses r.archive r.settled p x.purse.log) r.purses
+    + sum_entries (λ result _. lost_in_archive r.purses r.archive r.settled result) r.archive
 
 -- ---- the sums
 

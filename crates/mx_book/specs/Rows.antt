@@ -5,6 +5,7 @@ use Rattle.std.specs.Ordering.{nat_cmp}
 use Rattle.std.specs.FinMap as fmap
 use Rattle.std.specs.FinSet.{FinSet}
 use Rattle.mx_pay.specs.Names.{name_cmp}
+use Rattle.mx_pay.specs.Log.{Entries}
 use Rattle.mx_pay.specs.Tokens.{token_cmp}
 use Rattle.mx_purse.specs.declared.message.Message.{Message}
 use Rattle.mx_book.specs.declared.values.Caller.{Caller}
@@ -33,6 +34,7 @@ pub record Rows : Type 0 where
   pub lines : fmap.FinMap (pair_cmp name_cmp nat_cmp) LineRow
   pub tray : FinSet result_cmp
   pub archive : FinSet result_cmp
+  pub settled : Entries
   -- amounts by purse and reference
   pub loads : fmap.FinMap (pair_cmp name_cmp name_cmp) ℕ
   -- redemptions by purse and reference
@@ -72,7 +74,7 @@ row_of r p x = row_from x (under name_cmp nat_cmp p r.inbox) (under name_cmp nat
 
 -- the World of the rows
 abbrev pub world_of : Rows → World
-world_of r = record { operator = r.operator; tokens = r.tokens; members = r.members; holders = r.holders; rows = remake (row_of r) r.purses; tray = r.tray; archive = r.archive }
+world_of r = record { operator = r.operator; tokens = r.tokens; members = r.members; holders = r.holders; rows = remake (row_of r) r.purses; tray = r.tray; archive = r.archive; settled = r.settled }
 
 -- each row of this map is of a purse that is there
 abbrev pub NoStray : {K V : Type 0} (R : K → K → Ordering) → fmap.FinMap name_cmp PurseRow → fmap.FinMap (pair_cmp name_cmp R) V → Type 0

@@ -2,6 +2,7 @@
 use Rattle.std.specs.Prelude.{ℕ, ◌≤◌, ◌+◌}
 use Rattle.std.specs.Ordering.{nat_cmp}
 use Rattle.mx_pay.specs.Names.{name_cmp}
+use Rattle.mx_pay.specs.Details.{details_cmp}
 use Rattle.mx_pay.specs.Tokens.{token_cmp}
 use Rattle.mx_book.specs.Under.{pair_cmp}
 use Rattle.mx_book.specs.World.{result_cmp}
@@ -21,6 +22,7 @@ rows_of s = record {
   lines = map_of (pair_cmp name_cmp nat_cmp) s.lines;
   tray = map_of result_cmp s.tray;
   archive = map_of result_cmp s.archive;
+  settled = map_of details_cmp s.settled;
   loads = map_of (pair_cmp name_cmp name_cmp) s.loads;
   redemptions = map_of (pair_cmp name_cmp name_cmp) s.redemptions;
 }
@@ -35,6 +37,7 @@ pub record HasRoom (n m : ℕ) (s : Shelves) : Type 0 where
   pub lines : n ≤ s.lines.room
   pub tray : n ≤ s.tray.room
   pub archive : m ≤ s.archive.room
+  pub settled : n ≤ s.settled.room
   pub loads : n ≤ s.loads.room
   pub redemptions : n ≤ s.redemptions.room
   pub due : n ≤ s.due.room
@@ -49,6 +52,7 @@ pub record SpendsOne (m : ℕ) (old new : Shelves) : Type 0 where
   pub lines : old.lines.room ≤ new.lines.room + 1
   pub tray : old.tray.room ≤ new.tray.room + 1
   pub archive : old.archive.room ≤ new.archive.room + m
+  pub settled : old.settled.room ≤ new.settled.room + 1
   pub loads : old.loads.room ≤ new.loads.room + 1
   pub redemptions : old.redemptions.room ≤ new.redemptions.room + 1
   pub due : old.due.room ≤ new.due.room + 1

@@ -13,7 +13,7 @@ pub record Spells (r : Rows) (w : World) : Type 0 where
 
 -- no rows but the operator's token
 abbrev pub opening_rows : Token → Rows
-opening_rows t = record { operator = t; tokens = fmap.empty; members = fmap.empty; holders = fmap.empty; purses = fmap.empty; inbox = fmap.empty; lines = fmap.empty; tray = fmap.empty; archive = fmap.empty; loads = fmap.empty; redemptions = fmap.empty }
+opening_rows t = record { operator = t; tokens = fmap.empty; members = fmap.empty; holders = fmap.empty; purses = fmap.empty; inbox = fmap.empty; lines = fmap.empty; tray = fmap.empty; archive = fmap.empty; settled = fmap.empty; loads = fmap.empty; redemptions = fmap.empty }
 
 -- rows spell one World at most
 pub one_world : (r : Rows) (v w : World) → Spells r v → Spells r w → v ≡ w

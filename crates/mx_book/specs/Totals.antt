@@ -1,5 +1,5 @@
 -- What the books of a World come to.
-use Rattle.std.specs.Prelude.{ℕ, ◌&&◌, ◌||◌, Bool, if◌then◌else◌, List, ◌++◌, flat_map, map, sum_by, Option, option_map}
+use Rattle.std.specs.Prelude.{ℕ, ◌&&◌, ◌||◌, not, Bool, if◌then◌else◌, List, ◌++◌, flat_map, map, sum_by, Option, option_map}
 use Rattle.std.specs.FinMap as fmap
 use Rattle.mx_pay.specs.Details.{Details}
 use Rattle.mx_pay.specs.Log.{Entries, has_logged, logged, marks}
@@ -10,7 +10,7 @@ use Rattle.mx_book.specs.declared.values.Totals.{Totals}
 use Rattle.mx_book.specs.Sums.{sum_values}
 use Rattle.mx_book.specs.World.{World, Row, Name, is_of_member}
 use Rattle.mx_book.specs.Conditions.{all_granted}
-use Rattle.mx_book.specs.Reads.{of_purse, is_archived, uncollected_row}
+use Rattle.mx_book.specs.Reads.{of_purse, is_archived, is_settled, uncollected_row}
 
 -- ---- value between purses (PRG-126: the schema AuxWorld)
 
@@ -36,6 +36,10 @@ to_in_epv w d = of_purse Bool.false (λ r. expects_val r.holding.purse.status d)
 abbrev pub definitely_lost : World → Details → Bool
 definitely_lost w d = to_logged w d && (from_logged w d || from_in_epa w d)
 
+-- their value is lost, and nobody has it back (own)
+abbrev pub still_lost : World → Details → Bool
+still_lost w d = definitely_lost w d && not (is_settled w d)
+
 -- their value has left the from purse, and the to purse waits for it
 abbrev pub maybe_lost : World → Details → Bool
 maybe_lost w d = (from_in_epa w d || from_logged w d) && to_in_epv w d
@@ -54,7 +58,7 @@ abbrev pub transit : World → ℕ
 transit w = value_where (maybe_lost w) (occurring w)
 
 abbrev pub lost : World → ℕ
-lost w = value_where (definitely_lost w) (occurring w)
+lost w = value_where (still_lost w) (occurring w)
 
 -- ---- what a purse adds to the sums
 

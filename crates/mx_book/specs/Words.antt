@@ -2,7 +2,7 @@
 use Rattle.std.specs.Prelude.{ℕ, List, codes}
 use Rattle.mx_pay.specs.Codes.{entry_text}
 use Rattle.mx_book.specs.declared.values.LineKind.{LineKind}
-use Rattle.mx_book.specs.declared.values.LineKind.TheVariants.{Loaded, Redeemed, Sent, Received, Logged}
+use Rattle.mx_book.specs.declared.values.LineKind.TheVariants.{Loaded, Redeemed, Sent, Received, Logged, Settled}
 use Rattle.mx_book.specs.declared.values.Note.{Note}
 use Rattle.mx_book.specs.declared.values.Note.TheVariants.{Reference, Details}
 
@@ -13,6 +13,7 @@ kind_text Redeemed = codes "redeemed"
 kind_text Sent = codes "sent"
 kind_text Received = codes "received"
 kind_text Logged = codes "logged"
+kind_text Settled = codes "settled"
 
 -- what a line refers to: a reference, or one entry
 abbrev pub note_text : Note → List ℕ

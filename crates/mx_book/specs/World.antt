@@ -8,6 +8,7 @@ use Rattle.mx_pay.specs.Limits.{most_number}
 use Rattle.mx_pay.specs.Names.{name_cmp, is_name}
 use Rattle.mx_pay.specs.Tokens.{token_cmp}
 use Rattle.mx_pay.specs.Details.{Details, details_cmp}
+use Rattle.mx_pay.specs.Log.{Entries}
 use Rattle.mx_purse.specs.State.{State, new_purse}
 use Rattle.mx_purse.specs.declared.message.Message.{Message}
 use Rattle.mx_book.specs.declared.values.Caller.{Caller}
@@ -60,10 +61,12 @@ pub record World : Type 0 where
   pub tray : FinSet result_cmp
   -- those that are archived
   pub archive : FinSet result_cmp
+  -- the details of the payments whose lost value was given back
+  pub settled : Entries
 
 -- a World that has nothing but an operator's token
 abbrev pub opening : Token → World
-opening t = record { operator = t; tokens = fmap.empty; members = fmap.empty; holders = fmap.empty; rows = fmap.empty; tray = fmap.empty; archive = fmap.empty }
+opening t = record { operator = t; tokens = fmap.empty; members = fmap.empty; holders = fmap.empty; rows = fmap.empty; tray = fmap.empty; archive = fmap.empty; settled = fmap.empty }
 
 -- what is a holder's own of a new purse
 abbrev pub new_holding : Name → Holding

@@ -2,7 +2,7 @@
 ghost use Rattle.std.specs.Prelude.{◌≡◌, ℕ, ◌≤◌, is_some, IfErr, OnOk, OnErr, ◌⊎◌};
 ghost use Rattle.mx_book.specs.World.{World};
 ghost use Rattle.mx_book.specs.Conditions.{IsWorld};
-ghost use Rattle.mx_book.specs.Reads.{who_of, member_of, holder_of, account_of, has_purse, own_purse, finds_place, purses_of, inbox_of, message_of, lines_of, members_of, load_of, redemption_of, is_archived, tray_of, uncollected_of};
+ghost use Rattle.mx_book.specs.Reads.{who_of, member_of, holder_of, account_of, has_purse, own_purse, finds_place, purses_of, inbox_of, message_of, lines_of, members_of, load_of, redemption_of, is_archived, is_settled, tray_of, uncollected_of};
 ghost use Rattle.mx_book.specs.Totals.{totals_of, member_totals_of, members_totals_of};
 ghost use Rattle.mx_book.specs.Edits.{Fits, all_edited};
 ghost use Rattle.mx_book.specs.Keeps.{Keeps, Gives, MayLeave};
@@ -204,6 +204,13 @@ pub trait Book {
             (λ w b. b ≡ is_archived w purse details.now) }
         ensures fault { IfErr result fails };
 
+    /// Whether details are settled.
+    fn settled(&mut self, alloc: Global, details: &PayDetails) -> Result<bool, StoreFault>
+        ensures keeps { Keeps doubt rows leaves self.old self.new }
+        ensures value { Gives doubt rows spells self.old self.new result
+            (λ w b. b ≡ is_settled w details.now) }
+        ensures fault { IfErr result fails };
+
     /// The results of read log of a purse that were sent and aren't archived; none where there is no such purse.
     fn tray(&mut self, alloc: Global, purse: Name) -> Result<Log, StoreFault>
         ensures keeps { Keeps doubt rows leaves self.old self.new }
@@ -264,5 +271,5 @@ pub trait Book {
     ghost single: { (r : Rows) (v w : World) → spells r v → spells r w → v ≡ w };
 
     /// While there is no doubt, a stop leaves the rows as they are, if it leaves any.
-    ghost settled: { (b : Self) (r : Rows) → doubt b ≡ 0 → leaves b r → r ≡ rows b };
+    ghost steady: { (b : Self) (r : Rows) → doubt b ≡ 0 → leaves b r → r ≡ rows b };
 }

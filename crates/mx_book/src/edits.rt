@@ -104,6 +104,11 @@ pub enum Edit {
         /// The member.
         member: Name,
     },
+    /// The lost value of a payment is given back to the purse that paid it.
+    AddSettled {
+        /// The details of the payment, which weren't settled before.
+        details: PayDetails,
+    },
 }
 
 /// A name, for the edit that fills a place that no edit takes.

@@ -167,6 +167,10 @@ impl Book for PlainBook {
         Ok(self.shelves.is_archived(purse, details))
     }
 
+    fn settled(&mut self, _alloc: Global, details: &PayDetails) -> Result<bool, StoreFault> {
+        Ok(self.shelves.is_settled(details))
+    }
+
     fn tray(&mut self, _alloc: Global, purse: Name) -> Result<Log, StoreFault> {
         Ok(self.shelves.tray_of(purse))
     }
@@ -206,5 +210,5 @@ impl Book for PlainBook {
 
     ghost single = { one_world };
 
-    ghost settled = { λ b r h left. absurd left };
+    ghost steady = { λ b r h left. absurd left };
 }

@@ -7,7 +7,7 @@ ghost use Rattle.mx_book.specs.declared.totals.Scope.TheVariants.{Member};
 ghost use Rattle.mx_book.specs.declared.values.LineRow.{LineRow as KeptLine};
 ghost use Rattle.mx_book.specs.declared.values.MemberRow.{MemberRow as KeptMember};
 ghost use Rattle.mx_book.specs.RowEdits.{rewritten, all_rewritten, able, all_able, archive_rows, is_archiving, row_laid_of};
-ghost use Rattle.mx_book.specs.RowReads.{row_who_of, row_holder_of, row_purses_of, row_account_of, row_own_purse, row_finds_place, row_inbox_of, row_lines_of, row_members_of, row_load_of, row_redemption_of, row_is_archived, row_uncollected_of, line_of_row, of_name};
+ghost use Rattle.mx_book.specs.RowReads.{row_who_of, row_holder_of, row_purses_of, row_account_of, row_own_purse, row_finds_place, row_inbox_of, row_lines_of, row_members_of, row_load_of, row_redemption_of, row_is_archived, row_is_settled, row_uncollected_of, line_of_row, of_name};
 ghost use Rattle.mx_book.specs.Blocks.{first_of};
 ghost use Rattle.mx_book.specs.Left.{rows_left};
 ghost use Rattle.mx_book.specs.Due.{is_fit, all_fit};
@@ -52,6 +52,7 @@ impl Shelves {
             lines: Table::new(alloc),
             tray: Table::new(alloc),
             archive: Table::new(alloc),
+            settled: Table::new(alloc),
             loads: Table::new(alloc),
             redemptions: Table::new(alloc),
             due: Table::new(alloc),
@@ -102,6 +103,7 @@ impl Shelves {
             Edit::AddTray { purse, details } => self.tray.put((*purse, *details), ()),
             Edit::ArchiveTray { purse } => self.archive_tray(*purse),
             Edit::Collect { member } => self.collect(*member),
+            Edit::AddSettled { details } => self.settled.put(*details, ()),
         }
     }
 
@@ -134,6 +136,7 @@ impl Shelves {
         self.lines.reserve(more)?;
         self.tray.reserve(more)?;
         self.archive.reserve(archived)?;
+        self.settled.reserve(more)?;
         self.loads.reserve(more)?;
         self.redemptions.reserve(more)?;
         self.due.reserve(more)?;
@@ -278,6 +281,13 @@ impl Shelves {
         ensures { result ≡ row_is_archived (rows_of self.now) purse details.now }
     {
         self.archive.get((purse, *details)).is_some()
+    }
+
+    /// Whether details are settled.
+    pub fn is_settled(&self, details: &PayDetails) -> bool
+        ensures { result ≡ row_is_settled (rows_of self.now) details.now }
+    {
+        self.settled.get(*details).is_some()
     }
 
     /// The entries of a purse's log that lie in its tray.

@@ -4,7 +4,7 @@ ghost use Rattle.std.specs.FinMap.{get};
 ghost use Rattle.mx_pay.specs.Limits.{most_amount};
 ghost use Rattle.mx_pay.specs.Log.{has_logged};
 ghost use Rattle.mx_pay.specs.Names.{name_cmp};
-ghost use Rattle.mx_pay.specs.Details.{Details};
+ghost use Rattle.mx_pay.specs.Details.{Details, details_cmp};
 ghost use Rattle.mx_book.specs.declared.values.MemberRow.{MemberRow as KeptMember};
 ghost use Rattle.mx_book.specs.declared.values.PurseRow.{PurseRow as KeptPurse};
 ghost use Rattle.mx_book.specs.declared.values.Redemption.{Redemption as Kept};
@@ -219,17 +219,22 @@ pub(crate) fn transit_in(
     sum
 }
 
-/// The value of details that are logged for a purse, where they are to it and it has left the other purse.
+/// The value of details that are logged for a purse, where they are to it, it has left the other purse, and they aren't
+/// settled.
 fn lost_by(
     purses: &Purses,
     archive: &Table<(Name, PayDetails), ()>,
+    settled: &Table<PayDetails, ()>,
     purse: Name,
     details: &PayDetails,
 ) -> u64
-    ensures value { result ≡ lost_by (map_of name_cmp purses.now) (map_of result_cmp archive.now) purse details.now }
+    ensures value { result ≡ lost_by (map_of name_cmp purses.now) (map_of result_cmp archive.now) (map_of details_cmp settled.now) purse details.now }
     ensures limit { result ≤ most_amount }
 {
-    if same_name(&details.to(), &purse) && has_left(purses, archive, details) {
+    if same_name(&details.to(), &purse)
+        && has_left(purses, archive, details)
+        && settled.get(*details).is_none()
+    {
         details.value().get()
     } else {
         0
@@ -240,16 +245,17 @@ fn lost_by(
 fn lost_in_log(
     purses: &Purses,
     archive: &Table<(Name, PayDetails), ()>,
+    settled: &Table<PayDetails, ()>,
     purse: Name,
     log: &Log,
 ) -> u128
-    ensures value { result ≡ lost_in_log (map_of name_cmp purses.now) (map_of result_cmp archive.now) purse log.now }
+    ensures value { result ≡ lost_in_log (map_of name_cmp purses.now) (map_of result_cmp archive.now) (map_of details_cmp settled.now) purse log.now }
     ensures limit { result ≤ 2 ^ 48 }
 {
     let mut sum = 0;
     for place in 0..log.len() {
         if let Some(details) = log.at(place) {
-            sum += lost_by(purses, archive, purse, &details) as u128;
+            sum += lost_by(purses, archive, settled, purse, &details) as u128;
         }
     }
     sum
@@ -260,13 +266,14 @@ pub(crate) fn lost_in_logs(
     rows: Rows<'_, Name, PurseRow>,
     purses: &Purses,
     archive: &Table<(Name, PayDetails), ()>,
+    settled: &Table<PayDetails, ()>,
 ) -> u128
-    ensures value { result ≡ sum_by (λ (e : List ℕ × KeptPurse). lost_in_log (map_of name_cmp purses.now) (map_of result_cmp archive.now) e.0 e.1.purse.log) (rows_left rows.entry) }
+    ensures value { result ≡ sum_by (λ (e : List ℕ × KeptPurse). lost_in_log (map_of name_cmp purses.now) (map_of result_cmp archive.now) (map_of details_cmp settled.now) e.0 e.1.purse.log) (rows_left rows.entry) }
     ensures limit { result ≤ 2 ^ 112 }
 {
     let mut sum = 0;
     for row in rows {
-        sum += lost_in_log(purses, archive, row.0, &row.1.purse.log());
+        sum += lost_in_log(purses, archive, settled, row.0, &row.1.purse.log());
     }
     sum
 }
@@ -275,16 +282,17 @@ pub(crate) fn lost_in_logs(
 fn lost_in_archive(
     purses: &Purses,
     archive: &Table<(Name, PayDetails), ()>,
+    settled: &Table<PayDetails, ()>,
     purse: Name,
     details: &PayDetails,
 ) -> u64
-    ensures value { result ≡ lost_in_archive (map_of name_cmp purses.now) (map_of result_cmp archive.now) (purse, details.now) }
+    ensures value { result ≡ lost_in_archive (map_of name_cmp purses.now) (map_of result_cmp archive.now) (map_of details_cmp settled.now) (purse, details.now) }
     ensures limit { result ≤ most_amount }
 {
     if is_logged(purses, purse, details) {
         0
     } else {
-        lost_by(purses, archive, purse, details)
+        lost_by(purses, archive, settled, purse, details)
     }
 }
 
@@ -303,13 +311,14 @@ pub(crate) fn lost_in_results(
     rows: Rows<'_, (Name, PayDetails), ()>,
     purses: &Purses,
     archive: &Table<(Name, PayDetails), ()>,
+    settled: &Table<PayDetails, ()>,
 ) -> u128
-    ensures value { result ≡ sum_by (λ (e : (NameOf × Details) × Unit {0}). lost_in_archive (map_of name_cmp purses.now) (map_of result_cmp archive.now) e.0) (rows_left rows.entry) }
+    ensures value { result ≡ sum_by (λ (e : (NameOf × Details) × Unit {0}). lost_in_archive (map_of name_cmp purses.now) (map_of result_cmp archive.now) (map_of details_cmp settled.now) e.0) (rows_left rows.entry) }
     ensures limit { result ≤ 2 ^ 112 }
 {
     let mut sum = 0;
     for row in rows {
-        sum += lost_in_archive(purses, archive, row.0.0, &row.0.1) as u128;
+        sum += lost_in_archive(purses, archive, settled, row.0.0, &row.0.1) as u128;
     }
     sum
 }

@@ -68,6 +68,8 @@ pub enum LineKind {
     Received,
     /// The purse logged a payment.
     Logged,
+    /// The purse got back the lost value of a payment.
+    Settled,
 }
 
 /// What a line of a statement refers to.

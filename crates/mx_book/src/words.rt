@@ -6,7 +6,7 @@ use crate::values::{LineKind, Note};
 use mx_pay::push_entry;
 use std::alloc::AllocError;
 
-/// The word for a line: `loaded`, `redeemed`, `sent`, `received` or `logged`.
+/// The word for a line: `loaded`, `redeemed`, `sent`, `received`, `logged` or `settled`.
 pub fn kind_text(kind: LineKind) -> &'static str
     ensures { result.now ≡ kind_text kind }
 {
@@ -16,6 +16,7 @@ pub fn kind_text(kind: LineKind) -> &'static str
         LineKind::Sent => "sent",
         LineKind::Received => "received",
         LineKind::Logged => "logged",
+        LineKind::Settled => "settled",
     }
 }
 
@@ -29,6 +30,7 @@ pub fn read_kind(word: &str) -> Option<LineKind>
         "sent" => Some(LineKind::Sent),
         "received" => Some(LineKind::Received),
         "logged" => Some(LineKind::Logged),
+        "settled" => Some(LineKind::Settled),
         _ => None,
     }
 }

@@ -7,7 +7,7 @@ use Rattle.mx_pay.specs.Names.{is_name}
 use Rattle.mx_pay.specs.Details.{Details}
 use Rattle.mx_pay.specs.Log.{Entries, logged}
 use Rattle.mx_book.specs.Sums.{sum_entries, sum_values}
-use Rattle.mx_book.specs.Totals.{balance_row, of_all, maybe_lost, definitely_lost, occurring, value_where, transit, lost}
+use Rattle.mx_book.specs.Totals.{balance_row, of_all, maybe_lost, still_lost, occurring, value_where, transit, lost}
 use Rattle.mx_book.specs.World.{World, Row, Name}
 use Rattle.mx_book.proofs.NameLemmas.{names_total, names_exact, same_name, name_itself}
 use Rattle.mx_book.proofs.SumLemmas.{value_of, total, total_is, total_same, total_swap, total_key}
@@ -17,8 +17,8 @@ use Rattle.mx_office.proofs.ConservedLemmas.{value_split}
 use Rattle.mx_office.proofs.EntrySumLemmas.{two_sums, sum_values-remake, sum_entries-add, values_are}
 use Rattle.mx_office.proofs.FateLemmas.{never_received, never_lost, one_of_two}
 use Rattle.mx_office.proofs.SaneCommandLemmas.{reachable_sane}
-use Rattle.mx_office.proofs.SeenLemmas.{clash, both_parts}
-use Rattle.mx_office.proofs.SeenWorldLemmas.{Invariant, flowing, side_there}
+use Rattle.mx_office.proofs.SeenLemmas.{clash}
+use Rattle.mx_office.proofs.SeenWorldLemmas.{Invariant, flowing, flow_parts, side_there}
 
 -- ---- the details of each purse are all details
 
@@ -61,10 +61,10 @@ module _ (w : World) (i : Invariant w) (c : ChosenLost) where
   flows_case d t false h k = clash t k (h refl)
 
   received_there : (d : Details) → counts_received w c d ≡ true → is_some (fmap.get w.rows d.to) ≡ true
-  received_there d h = side_there w i _ d.to d (fmap.get w.rows d.to) refl (both_parts _ _ (flows_case d _ (flowing w d) (never_received w i c d) h)).1
+  received_there d h = side_there w i _ d.to d (fmap.get w.rows d.to) refl (flow_parts w d (flows_case d _ (flowing w d) (never_received w i c d) h)).1
 
   lost_there : (d : Details) → counts_lost w c d ≡ true → is_some (fmap.get w.rows d.from) ≡ true
-  lost_there d h = side_there w i _ d.from d (fmap.get w.rows d.from) refl (both_parts _ _ (flows_case d _ (flowing w d) (never_lost w i c d) h)).0
+  lost_there d h = side_there w i _ d.from d (fmap.get w.rows d.from) refl (flow_parts w d (flows_case d _ (flowing w d) (never_lost w i c d) h)).0
 
   balances_are : sum_values (λ (x : AbstractPurse). x.balance) (abstract_of w c) ≡ of_all w balance_row + value_where (counts_received w c) (occurring w)
   balances_are =
@@ -87,7 +87,7 @@ module _ (w : World) (i : Invariant w) (c : ChosenLost) where
       two_sums (λ d. cond (counts_received w c d) d.value 0) (λ d. cond (counts_lost w c d) d.value 0) (λ d. cond (flowing w d) d.value 0)
       (λ d. counted_once (flowing w d) (counts_received w c d) (counts_lost w c d) d.value (one_of_two w i c d) (never_received w i c d) (never_lost w i c d)) all in
       let e2 : transit w + lost w ≡ sum_by (λ d. cond (flowing w d) d.value 0) all =
-      two_sums (λ d. cond (maybe_lost w d) d.value 0) (λ d. cond (definitely_lost w d) d.value 0) (λ d. cond (flowing w d) d.value 0) (value_split w i) all in
+      two_sums (λ d. cond (maybe_lost w d) d.value 0) (λ d. cond (still_lost w d) d.value 0) (λ d. cond (flowing w d) d.value 0) (value_split w i) all in
       let e3 : sum_values (λ (x : AbstractPurse). x.balance) (abstract_of w c) ≡ of_all w balance_row + value_where (counts_received w c) (occurring w) = balances_are in
       let e4 : sum_values (λ (x : AbstractPurse). x.lost) (abstract_of w c) ≡ value_where (counts_lost w c) (occurring w) = losses_are in
       omega (arith, e1, e2, e3, e4)

@@ -3,13 +3,14 @@ use Rattle.std.proofs.Common.{◌≡◌, ℕ, ◌+◌, ◌-◌, ◌≤◌, Bool,
 use Rattle.std.specs.Prelude.{nat_le}
 use Rattle.std.specs.FinMap as fmap
 use Rattle.mx_pay.specs.Names.{name_cmp, is_name}
+use Rattle.mx_pay.specs.Log.{Entries}
 use Rattle.mx_pay.specs.Details.{Details, is_details}
 use Rattle.mx_book.specs.World.{World, Row, Name, set_row}
 use Rattle.mx_book.proofs.NameLemmas.{names_total, names_exact, same_name, name_itself}
 use Rattle.mx_book.proofs.UnderLemmas.{get-remake}
 use Rattle.mx_office.specs.declared.values.Command.{Command}
 use Rattle.mx_office.specs.declared.values.Reply.{Reply}
-use Rattle.mx_office.specs.Abstract.{AbstractPurse, AbstractWorld, Act, ChosenLost, IsAct, allows, perform, performed, changed, change, has_funds, may_transfer, gains, pays, loses, counts_lost, counts_received, received_by, losses_of, abstract_purse, abstract_of}
+use Rattle.mx_office.specs.Abstract.{AbstractPurse, AbstractWorld, Act, ChosenLost, IsAct, allows, perform, performed, changed, change, has_funds, may_transfer, gains, pays, loses, recovers, counts_lost, counts_received, received_by, losses_of, abstract_purse, abstract_of}
 use Rattle.mx_office.proofs.FateLemmas as fate
 use Rattle.mx_office.proofs.ConservedLemmas.{maybe_is}
 use Rattle.mx_office.proofs.FateLemmas.{share, never_received, never_lost, one_of_two}
@@ -79,25 +80,30 @@ purses_are m n k l e f = λ i. record { balance = e i; lost = f i }
 -- ---- one row
 
 module _ (w : World) (p : Name) (r s : Row) (at : fmap.get w.rows p ≡ Some r) (b c : ChosenLost) where
-  row_each : (E : Effect) → ((q : Name) → is_name q p ≡ false → (x : Row) → E q (abstract_purse w b q x) ≡ abstract_purse (set_row w p s) c q x) → E p (abstract_purse w b p r) ≡ abstract_purse (set_row w p s) c p s
-      → (q : Name) → option_map (E q) (option_map (abstract_purse w b q) (fmap.get w.rows q)) ≡ option_map (abstract_purse (set_row w p s) c q) (fmap.get (set_row w p s).rows q)
-  row_each E each one q = row_case (is_name q p) refl ∙ ap (option_map (abstract_purse (set_row w p s) c q)) (sym (fmap.get-insert names_total w.rows p s q))
-    where
-      other_case : (o : Option Row) → is_name q p ≡ false → option_map (E q) (option_map (abstract_purse w b q) o) ≡ option_map (abstract_purse (set_row w p s) c q) o
-      other_case None t = refl
-      other_case (Some x) t = ap Some (each q t x)
+  module _ (settled : Entries) where
+    -- the row is set, and so is what is settled
+    abbrev turned_to : World
+    turned_to = record (set_row w p s) { settled = settled }
 
-      row_case : (t : Bool) → is_name q p ≡ t → option_map (E q) (option_map (abstract_purse w b q) (fmap.get w.rows q)) ≡ option_map (abstract_purse (set_row w p s) c q) (cond t (Some s) (fmap.get w.rows q))
-      row_case true t =
-          subst (λ y. option_map (E y) (option_map (abstract_purse w b y) (fmap.get w.rows y)) ≡ option_map (abstract_purse (set_row w p s) c y) (Some s)) (sym (same_name q p t))
-          (ap (λ o. option_map (E p) (option_map (abstract_purse w b p) o)) at ∙ ap Some one)
-      row_case false t = other_case (fmap.get w.rows q) t
+    pub row_each : (E : Effect) → ((q : Name) → is_name q p ≡ false → (x : Row) → E q (abstract_purse w b q x) ≡ abstract_purse turned_to c q x) → E p (abstract_purse w b p r) ≡ abstract_purse turned_to c p s
+        → (q : Name) → option_map (E q) (option_map (abstract_purse w b q) (fmap.get w.rows q)) ≡ option_map (abstract_purse turned_to c q) (fmap.get turned_to.rows q)
+    row_each E each one q = row_case (is_name q p) refl ∙ ap (option_map (abstract_purse turned_to c q)) (sym (fmap.get-insert names_total w.rows p s q))
+      where
+        other_case : (o : Option Row) → is_name q p ≡ false → option_map (E q) (option_map (abstract_purse w b q) o) ≡ option_map (abstract_purse turned_to c q) o
+        other_case None t = refl
+        other_case (Some x) t = ap Some (each q t x)
+
+        row_case : (t : Bool) → is_name q p ≡ t → option_map (E q) (option_map (abstract_purse w b q) (fmap.get w.rows q)) ≡ option_map (abstract_purse turned_to c q) (cond t (Some s) (fmap.get w.rows q))
+        row_case true t =
+            subst (λ y. option_map (E y) (option_map (abstract_purse w b y) (fmap.get w.rows y)) ≡ option_map (abstract_purse turned_to c y) (Some s)) (sym (same_name q p t))
+            (ap (λ o. option_map (E p) (option_map (abstract_purse w b p) o)) at ∙ ap Some one)
+        row_case false t = other_case (fmap.get w.rows q) t
 
   -- the abstract purse of the row
   pub found_at : fmap.get (abstract_of w b) p ≡ Some (abstract_purse w b p r)
   found_at = get-abstract w b p ∙ ap (option_map (abstract_purse w b p)) at
 
-le_true : (m n : ℕ) → m ≤ n → nat_le m n ≡ true
+pub le_true : (m n : ℕ) → m ≤ n → nat_le m n ≡ true
 le_true m n h = grind arith
 
 some_map : {X Y : Type 0} (f : X → Y) (o : Option X) → is_some (option_map f o) ≡ is_some o
@@ -135,6 +141,10 @@ module _ (e : Details) (m n R L Q K : ℕ) where
   value_case false true money received lost = purses_are _ _ _ _ (omega (arith, money, received)) (omega (arith, lost))
   value_case false false money received lost = purses_are _ _ _ _ (omega (arith, money, received)) (omega (arith, lost))
 
+  pub recover_case : (from : Bool) → n ≡ cond from (m + e.value) m → Q ≡ R → K + share from true e ≡ L + share from false e → cond from (recovers e.value had) had ≡ has
+  recover_case true money received lost = purses_are _ _ _ _ (omega (arith, money, received)) (omega (arith, lost))
+  recover_case false money received lost = purses_are _ _ _ _ (omega (arith, money, received)) (omega (arith, lost))
+
 -- ---- what a change of one row is
 
 module _ (w : World) (p : Name) (r s : Row) (at : fmap.get w.rows p ≡ Some r) (i : Invariant w) (j : Invariant (set_row w p s)) (step : Step (seen w) (seen (set_row w p s))) (c : ChosenLost) where
@@ -149,7 +159,7 @@ module _ (w : World) (p : Name) (r s : Row) (at : fmap.get w.rows p ≡ Some r) 
     simulated : (act : Act) (E : Effect) → IsAct w asked x act → allows (abstract_of w choice_before) act ≡ true → ((a : AbstractWorld) (q : Name) → fmap.get (performed a act) q ≡ option_map (E q) (fmap.get a q))
         → ((q : Name) → is_name q p ≡ false → (y : Row) → E q (abstract_purse w choice_before q y) ≡ abstract_purse with_row c q y) → E p (abstract_purse w choice_before p r) ≡ abstract_purse with_row c p s
         → Simulated w asked with_row x c
-    simulated act E is allowed gets each one = record { before = choice_before; act = act; is = is; leads = leads_to w with_row choice_before c act E allowed gets (row_each w p r s at choice_before c E each one) }
+    simulated act E is allowed gets each one = record { before = choice_before; act = act; is = is; leads = leads_to w with_row choice_before c act E allowed gets (row_each w p r s at choice_before c w.settled E each one) }
 
     -- ---- what is under way stays
 
@@ -158,7 +168,7 @@ module _ (w : World) (p : Name) (r s : Row) (at : fmap.get w.rows p ≡ Some r) 
       received q = sym (fate.still_received w with_row i j step c flow q)
 
       lost : (q : Name) → losses_of w choice_before q ≡ losses_of with_row c q
-      lost q = sym (fate.still_lost w with_row i j step c flow q)
+      lost q = sym (fate.losses_stay w with_row i j step c flow q)
 
       pub still_nothing : s.holding.purse.balance ≡ r.holding.purse.balance → IsAct w asked x Act.Ignore → Simulated w asked with_row x c
       still_nothing money is = simulated Act.Ignore (λ q y. y) is refl (λ a q. sym (map_same (fmap.get a q)))

@@ -6,7 +6,7 @@ use Rattle.mx_pay.specs.Log.{has_logged}
 use Rattle.mx_purse.specs.State.{State}
 use Rattle.mx_purse.specs.Operations.{expects_val, expects_ack}
 use Rattle.mx_book.specs.Reads.{from_row, of_purse, is_archived}
-use Rattle.mx_book.specs.Totals.{maybe_lost, definitely_lost}
+use Rattle.mx_book.specs.Totals.{maybe_lost, still_lost}
 use Rattle.mx_book.specs.World.{World, Row, Name, set_row}
 use Rattle.mx_book.proofs.NameLemmas.{names_total, names_exact}
 use Rattle.mx_office.specs.declared.values.Command.{Command}
@@ -24,6 +24,7 @@ purse_of o = option_map (λ (r : Row). r.holding.purse) o
 pub record Alike (w v : World) : Type 0 where
   pub purses : (q : Name) → purse_of (fmap.get v.rows q) ≡ purse_of (fmap.get w.rows q)
   pub archive : v.archive ≡ w.archive
+  pub settled : v.settled ≡ w.settled
 
 abbrev from_purse : (State → Bool) → Option State → Bool
 from_purse g None = false
@@ -49,10 +50,11 @@ module _ (w v : World) (a : Alike w v) where
   maybe_alike d =
       (λ k. (tests (λ q. expects_ack q.status d) d.from k || (tests (λ q. has_logged q.log d) d.from k || archives d.from d k)) && tests (λ q. expects_val q.status d) d.to k)
 
-  lost_alike : (d : Details) → definitely_lost v d ≡ definitely_lost w d
+  lost_alike : (d : Details) → still_lost v d ≡ still_lost w d
   lost_alike d =
-      (λ k. (tests (λ q. has_logged q.log d) d.to k || archives d.to d k)
+      (λ k. ((tests (λ q. has_logged q.log d) d.to k || archives d.to d k)
       && ((tests (λ q. has_logged q.log d) d.from k || archives d.from d k) || tests (λ q. expects_ack q.status d) d.from k))
+      && not (fmap.contains_key (a.settled k) d))
 
   pub abstract_alike : (c : ChosenLost) → abstract_of v c ≡ abstract_of w c
   abstract_alike c = fmap.same_map names_total names_exact (abstract_of v c) (abstract_of w c) each
@@ -72,7 +74,7 @@ module _ (w v : World) (a : Alike w v) where
 -- ---- what leads to such a World
 
 pub alike_itself : (w : World) → Alike w w
-alike_itself w = record { purses = λ q. refl; archive = refl }
+alike_itself w = record { purses = λ q. refl; archive = refl; settled = refl }
 
 pub alike_simulated : (w v : World) (asked : Command) (x : Reply) (c : ChosenLost) → Alike w v → IsAct w asked x Act.Ignore → Simulated w asked v x c
 alike_simulated w v asked x c a is = record { before = c; act = Act.Ignore; is = is; leads = ap Some (sym (abstract_alike w v a c)) }
@@ -81,8 +83,8 @@ pub then_alike : (w v u : World) (asked : Command) (x : Reply) (c : ChosenLost) 
 then_alike w v u asked x c s a = record { before = s.before; act = s.act; is = s.is; leads = s.leads ∙ ap Some (sym (abstract_alike v u a c)) }
 
 pub row_alike : (w : World) (p : Name) (r s : Row) → fmap.get w.rows p ≡ Some r → s.holding.purse ≡ r.holding.purse → Alike w (set_row w p s)
-row_alike w p r s at same = record { purses = λ q. over_row w p r s at (λ a b. purse_of b ≡ purse_of a) q (λ o. refl) (λ _. ap Some same); archive = refl }
+row_alike w p r s at same = record { purses = λ q. over_row w p r s at (λ a b. purse_of b ≡ purse_of a) q (λ o. refl) (λ _. ap Some same); archive = refl; settled = refl }
 
--- rows and archive stay
-pub apart_alike : (w v : World) → v.rows ≡ w.rows → v.archive ≡ w.archive → Alike w v
-apart_alike w v rows archive = record { purses = λ q. ap (λ m. purse_of (fmap.get m q)) rows; archive = archive }
+-- rows, archive and what is settled stay
+pub apart_alike : (w v : World) → v.rows ≡ w.rows → v.archive ≡ w.archive → v.settled ≡ w.settled → Alike w v
+apart_alike w v rows archive settled = record { purses = λ q. ap (λ m. purse_of (fmap.get m q)) rows; archive = archive; settled = settled }

@@ -3,7 +3,8 @@ use Rattle.std.proofs.Common.{◌≡◌, ℕ, ◌+◌, ◌-◌, ◌≤◌, Bool,
 use Rattle.std.specs.Prelude.{is_none}
 use Rattle.std.specs.FinMap as fmap
 use Rattle.mx_pay.specs.Names.{name_cmp}
-use Rattle.mx_purse.specs.Operations.{load_refusal}
+use Rattle.mx_pay.specs.Details.{Details}
+use Rattle.mx_purse.specs.Operations.{load_refusal, credit_refusal}
 use Rattle.mx_book.specs.declared.values.Caller.{Caller}
 use Rattle.mx_book.specs.declared.values.MemberRow.{MemberRow}
 use Rattle.mx_book.specs.Sums.{sum_entries, sum_values}
@@ -16,7 +17,7 @@ use Rattle.mx_office.specs.declared.values.Command.{Command}
 use Rattle.mx_book.specs.Totals.{issued_row, redeemed_row}
 use Rattle.mx_office.specs.Balance.{IsBalanced, is_chosen, of_purses}
 use Rattle.mx_office.specs.Reachable.{IsReachable}
-use Rattle.mx_office.specs.Step.{loaded_holding, loaded_row, base, step}
+use Rattle.mx_office.specs.Step.{loaded_holding, loaded_row, settled_holding, base, step}
 use Rattle.mx_office.proofs.BalanceLemmas.{Choice, IsAccounted, IsRow, left, right, left_row, account_accounted, counted, is_counted, none_counts, same_change, left_member, right_member, new_member_accounted, left_set, right_set, rows_stay, new_row_accounted, new_holder_accounted, opening_accounted, is_balanced}
 use Rattle.mx_office.proofs.CaseLemmas.{by_cond, by_after, by_collected, by_reachable}
 use Rattle.mx_office.proofs.MoveCaseLemmas.{IsLoad, with_member, by_moves}
@@ -172,6 +173,12 @@ module _ (w : World) (m : Name) where
         rows = collected_rows is;
       }
 
+-- ---- a settlement
+
+pub settled_redemptions : (a : Holding) (d : Details) → (settled_holding a d).redemptions ≡ a.redemptions
+unfolding settled_holding
+settled_redemptions a d = by_cond (λ b. b.redemptions ≡ a.redemptions) (is_none (credit_refusal a.purse d.value)) _ a (λ _. refl) (λ _. refl)
+
 -- ---- each command
 
 base_accounted : (w : World) → IsAccounted w → (caller : Caller) (c : Command) → IsAccounted (base w caller c).state
@@ -189,6 +196,7 @@ base_accounted w is = by_moves w (λ _ _ d. IsAccounted d.state) (record {
   collect = λ m row at room. collected_accounted w m row at is;
   archive = λ p. record { equal = is.equal; rows = is.rows };
   clear = λ p set may. is;
+  settle = λ d s. let new = account_accounted w d.from s.row (settled_holding s.row.holding d) s.at is {may = false} (Same (settled_redemptions s.row.holding d)) in record { equal = new.equal; rows = new.rows };
   own = λ h c p f r e at owned. account_accounted w p r (f r.holding).state at is (subst (EachKeeps c) e (each_keeps c) r.holding).redeems;
 })
 

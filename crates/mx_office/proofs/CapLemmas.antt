@@ -21,7 +21,7 @@ use Rattle.mx_office.specs.Reachable.{IsReachable}
 use Rattle.mx_office.proofs.BalanceCommandLemmas.{reachable_balanced}
 use Rattle.mx_office.proofs.EntrySumLemmas.{number, values_are, sum_values-same, sum_entries-add, sum_entries-same}
 use Rattle.mx_office.proofs.SeenLemmas.{clash}
-use Rattle.mx_office.proofs.SeenWorldLemmas.{Invariant}
+use Rattle.mx_office.proofs.SeenWorldLemmas.{flowing}
 use Rattle.mx_office.proofs.HandleLemmas.{value_left}
 use Rattle.mx_office.proofs.OutLemmas.{Books}
 use Rattle.mx_office.proofs.SaneLemmas.{Sane}
@@ -96,18 +96,20 @@ uncollected_within w m =
 -- ---- what fits
 
 module _ (w : World) (s : Sane w) (is : IsWorld w) (balanced : IsBalanced w) where
-  -- a value that is sent fits into the balance of a purse that waits for it
-  value_fits : HasRoom w
-  value_fits p r d n at was sent =
-      let i : Invariant w = s.invariant in
+  -- what is under way fits each purse
+  pub flow_fits : (d : Details) (p : Name) (r : Row) → fmap.get w.rows p ≡ Some r → flowing w d ≡ true → balance_row r + d.value ≤ most_number
+  flow_fits d p r at flows =
       let b : Books w = s.books in
-      let left = value_left w p r at i d (ap (λ x. expects_val x d) was ∙ details_itself d) (i.timely p r at n (message.Val d) sent) in
-      let value : number (fmap.get b.out d) ≡ d.value = b.covers d ∙ ap (λ x. cond x d.value 0) left.2 in
+      let value : number (fmap.get b.out d) ≡ d.value = b.covers d ∙ ap (λ x. cond x d.value 0) flows in
       let within : number (fmap.get b.out d) ≤ sum_values (λ n. n) b.out = one_within b.out d in
       let balance : balance_row r ≤ of_all w balance_row = balance_within w p r at in
       let sum : ((floats w + of_all w uncollected_row) + of_all w balance_row) + sum_values (λ n. n) b.out ≡ all_granted w = whole_sum w s is balanced in
       let cap : all_granted w ≤ most_number = is.members.granted in
       omega (arith, value, within, balance, sum, cap)
+
+  -- a value that is sent fits into the balance of a purse that waits for it
+  value_fits : HasRoom w
+  value_fits p r d n at was sent = flow_fits d p r at (value_left w p r at s.invariant d (ap (λ x. expects_val x d) was ∙ details_itself d) (s.invariant.timely p r at n (message.Val d) sent)).2
 
   -- a load that the float covers fits the purse
   pub load_fits : (p m : Name) (r : Row) (row : MemberRow) (amount : ℕ) → fmap.get w.rows p ≡ Some r → fmap.get w.members m ≡ Some row → amount ≤ row.float → balance_row r + amount ≤ most_number

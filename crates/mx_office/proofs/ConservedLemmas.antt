@@ -16,9 +16,9 @@ use Rattle.mx_pay.proofs.SameLemmas.{details_itself, has-with_entry}
 use Rattle.mx_purse.specs.declared.status.Status.{Status}
 use Rattle.mx_purse.specs.declared.status.Status.TheVariants.{EaFrom, EaTo, Epr, Epv, Epa}
 use Rattle.mx_purse.specs.Operations.{pending, with_pending, aborted, expects_val, expects_ack}
-use Rattle.mx_book.specs.Reads.{from_row, is_archived}
+use Rattle.mx_book.specs.Reads.{from_row, is_archived, is_settled}
 use Rattle.mx_book.specs.Sums.{sum_values}
-use Rattle.mx_book.specs.Totals.{of_all, balance_row, issued_row, redeemed_row, from_logged, to_logged, from_in_epa, to_in_epv, definitely_lost, maybe_lost, occurring, value_where, transit, lost}
+use Rattle.mx_book.specs.Totals.{of_all, balance_row, issued_row, redeemed_row, from_logged, to_logged, from_in_epa, to_in_epv, still_lost, maybe_lost, occurring, value_where, transit, lost}
 use Rattle.mx_book.specs.Under.{remake}
 use Rattle.mx_book.specs.World.{World, Row, Name, result_cmp}
 use Rattle.mx_book.proofs.FoundLemmas.{inside}
@@ -27,9 +27,9 @@ use Rattle.mx_book.proofs.UnderLemmas.{get-remake}
 use Rattle.mx_office.specs.Conservation.{IsConserved}
 use Rattle.mx_office.specs.Reachable.{IsReachable}
 use Rattle.mx_office.proofs.EntrySumLemmas.{number, two_sums, sum-keys, sum-keys-within}
-use Rattle.mx_office.proofs.SeenLemmas.{clash, either_true, both_parts, neither, or_cases}
+use Rattle.mx_office.proofs.SeenLemmas.{clash, either_true, neither, or_cases}
 use Rattle.mx_office.proofs.SoundLemmas.{IsPresent, details_turned, expects_val_is}
-use Rattle.mx_office.proofs.SeenWorldLemmas.{Invariant, seen, side, has_status, flowing}
+use Rattle.mx_office.proofs.SeenWorldLemmas.{Invariant, seen, side, has_status, flowing, flow_parts, waits_open}
 use Rattle.mx_office.proofs.DeedLemmas.{not_some}
 use Rattle.mx_office.proofs.SaneLemmas.{Sane}
 use Rattle.mx_office.proofs.SaneCommandLemmas.{reachable_sane}
@@ -51,40 +51,41 @@ not_both : (w : World) → Invariant w → (d : Details) (o : Option Row) → fm
 not_both w i d None at h = clash false h refl
 not_both w i d (Some r) at h = let x : IsPresent r.holding.purse (is_archived w d.to) (Epv d) = subst (IsPresent r.holding.purse (is_archived w d.to)) (expects_val_is r.holding.purse.status d h) (i.sound d.to r at).present in x.fresh
 
-maybe_case : (g c d : Bool) → (g && c) ≡ ((g && (c || d)) && c)
-maybe_case false c d = refl
-maybe_case true true d = refl
-maybe_case true false d = sym (neither d false refl)
+maybe_case : (g c d s : Bool) → (c ≡ true → s ≡ false) → (g && c) ≡ (((g && (c || d)) && not s) && c)
+maybe_case false c d s h = refl
+maybe_case true true d s h = ap (λ x. not x && true) (sym (h refl))
+maybe_case true false d s h = sym (neither (d && not s) false refl)
 
-lost_case : (g c d : Bool) → (c ≡ true → d ≡ false) → (d && g) ≡ ((g && (c || d)) && not c)
-lost_case false c d h = neither d false refl
-lost_case true true d h = ap (λ x. x && true) (h refl)
-lost_case true false true h = refl
-lost_case true false false h = refl
+lost_case : (g c d s : Bool) → (c ≡ true → d ≡ false) → ((d && g) && not s) ≡ (((g && (c || d)) && not s) && not c)
+lost_case false c d s h = ap (λ x. x && not s) (neither d false refl)
+lost_case true true d s h = ap (λ x. (x && true) && not s) (h refl) ∙ sym (neither (not s) false refl)
+lost_case true false true true h = refl
+lost_case true false true false h = refl
+lost_case true false false s h = refl
 
 pub or_turned : (a b : Bool) → (a || b) ≡ (b || a)
 or_turned true b = sym (either_true b true refl)
 or_turned false true = refl
 or_turned false false = refl
 
--- what is maybe lost and what is definitely lost, by what is under way and what is waited for
+-- what is maybe lost and what is still lost, by what is under way and what is waited for
 module _ (w : World) (i : Invariant w) (d : Details) where
-  parts : (flowing w d ≡ ((from_in_epa w d || from_logged w d) && (to_in_epv w d || to_logged w d))) × ((seen w).epv d ≡ to_in_epv w d)
+  parts : (flowing w d ≡ (((from_in_epa w d || from_logged w d) && (to_in_epv w d || to_logged w d)) && not (is_settled w d))) × ((seen w).epv d ≡ to_in_epv w d)
   parts = (
-    (λ k. split_side expects_ack (fmap.get w.rows d.from) (is_archived w d.from d) d k && split_side expects_val (fmap.get w.rows d.to) (is_archived w d.to d) d k),
+    (λ k. (split_side expects_ack (fmap.get w.rows d.from) (is_archived w d.from d) d k && split_side expects_val (fmap.get w.rows d.to) (is_archived w d.to d) d k) && not (is_settled w d)),
     waits_as expects_val (fmap.get w.rows d.to) d,
   )
 
   pub maybe_is : maybe_lost w d ≡ (flowing w d && (seen w).epv d)
-  maybe_is = maybe_case (from_in_epa w d || from_logged w d) (to_in_epv w d) (to_logged w d) ∙ (λ k. sym parts.0 k && sym parts.1 k)
+  maybe_is = maybe_case (from_in_epa w d || from_logged w d) (to_in_epv w d) (to_logged w d) (is_settled w d) (λ t. waits_open w i d (parts.1 ∙ t)) ∙ (λ k. sym parts.0 k && sym parts.1 k)
 
-  pub lost_is : definitely_lost w d ≡ (flowing w d && not ((seen w).epv d))
+  pub lost_is : still_lost w d ≡ (flowing w d && not ((seen w).epv d))
   lost_is =
-      ap (λ b. to_logged w d && b) (or_turned (from_logged w d) (from_in_epa w d))
-      ∙ lost_case (from_in_epa w d || from_logged w d) (to_in_epv w d) (to_logged w d) (not_both w i d (fmap.get w.rows d.to) refl)
+      ap (λ b. (to_logged w d && b) && not (is_settled w d)) (or_turned (from_logged w d) (from_in_epa w d))
+      ∙ lost_case (from_in_epa w d || from_logged w d) (to_in_epv w d) (to_logged w d) (is_settled w d) (not_both w i d (fmap.get w.rows d.to) refl)
       ∙ (λ k. sym parts.0 k && not (sym parts.1 k))
 
-  pub value_split : cond (maybe_lost w d) d.value 0 + cond (definitely_lost w d) d.value 0 ≡ cond (flowing w d) d.value 0
+  pub value_split : cond (maybe_lost w d) d.value 0 + cond (still_lost w d) d.value 0 ≡ cond (flowing w d) d.value 0
   value_split = (λ k. cond (maybe_is k) d.value 0 + cond (lost_is k) d.value 0) ∙ both_halves (flowing w d) ((seen w).epv d) d.value
     where
       both_halves : (f x : Bool) (n : ℕ) → cond (f && x) n 0 + cond (f && not x) n 0 ≡ cond f n 0
@@ -190,8 +191,8 @@ value_within f g x y more there =
 -- transit and lost come to the value of the payments under way
 pub out_is : (w : World) → (s : Sane w) → transit w + lost w ≡ sum_values (λ n. n) s.books.out
 out_is w s =
-    two_sums (λ d. cond (maybe_lost w d) d.value 0) (λ d. cond (definitely_lost w d) d.value 0) (λ d. cond (flowing w d) d.value 0) (value_split w s.invariant) (logged (occurring w))
-    ∙ where_is (flowing w) (occurring w) (λ d t. due_occurs w d (both_parts _ _ t).1) s.books.out s.books.covers
+    two_sums (λ d. cond (maybe_lost w d) d.value 0) (λ d. cond (still_lost w d) d.value 0) (λ d. cond (flowing w d) d.value 0) (value_split w s.invariant) (logged (occurring w))
+    ∙ where_is (flowing w) (occurring w) (λ d t. due_occurs w d (flow_parts w d t).1) s.books.out s.books.covers
 
 pub conserved : (w : World) → Sane w → IsConserved w
 conserved w s =

@@ -1,5 +1,5 @@
 -- Each rule on a purse, but for messages, keeps the invariant and the scheme's equation, and is an operation.
-use Rattle.std.proofs.Common.{◌≡◌, ℕ, ◌+◌, ◌-◌, ◌≤◌, zero, suc, Bool, true, false, cond, List, [], ◌∷◌, refl, sym, ◌∙◌, ap, subst, Option, Some, None, ◌&&◌, ◌||◌, inl, arith, is_some, is_none, option_map}
+use Rattle.std.proofs.Common.{◌≡◌, ℕ, ◌+◌, ◌-◌, ◌≤◌, zero, suc, Bool, true, false, cond, not, List, [], ◌∷◌, refl, sym, ◌∙◌, ap, subst, Option, Some, None, ◌&&◌, ◌||◌, inl, arith, is_some, is_none, option_map}
 use Rattle.std.specs.Prelude.{nat_lt, slice_get, ◌==◌}
 use Rattle.std.specs.Cmp.{nat_cmp_total}
 use Rattle.std.specs.List.{list_any}
@@ -15,7 +15,7 @@ use Rattle.mx_purse.specs.declared.status.Status.TheVariants.{Epr, Epv}
 use Rattle.mx_purse.specs.declared.refusals.StartRefusal.{StartRefusal}
 use Rattle.mx_purse.specs.declared.refusals.RedeemRefusal.{RedeemRefusal}
 use Rattle.mx_purse.specs.Operations.{aborted, started, from_details, to_details, start_from_refusal, start_to_refusal, expects_val, read_entry, redeem_refusal, redeemed}
-use Rattle.mx_book.specs.Reads.{from_row, is_archived, redemption_of}
+use Rattle.mx_book.specs.Reads.{from_row, is_archived, is_settled, redemption_of}
 use Rattle.mx_book.specs.Sums.{sum_values}
 use Rattle.mx_book.specs.Totals.{redeemed_row}
 use Rattle.mx_book.specs.World.{World, Row, Holding, Name, set_row}
@@ -58,7 +58,7 @@ pub done_books : (w : World) (p : Name) (r : Row) (a : Holding) (asked : Command
 done_books w p r a asked x at b (Rests flow money redeemed is) = books_keep w p (Some r) (with_holding r a) at b flow (omega (arith, money, redeemed))
 done_books w p r a asked x at b (Redeems n flow enough money redeemed is) = books_keep w p (Some r) (with_holding r a) at b flow (omega (arith, enough, money, redeemed))
 done_books w p r a asked x at b (Requests e other own rests due flows apart enough money redeemed moves loses) =
-    books_move w p (Some r) (with_holding r a) at b e other e.value 0 (ap (λ y. cond y e.value 0) (sym flows)) (ap (λ y. cond (y && (seen w).due e) e.value 0) (sym rests)) (omega (arith, enough, money, redeemed))
+    books_move w p (Some r) (with_holding r a) at b e other e.value 0 (ap (λ y. cond y e.value 0) (sym flows)) (ap (λ y. cond ((y && (seen w).due e) && not (is_settled w e)) e.value 0) (sym rests)) (omega (arith, enough, money, redeemed))
 done_books w p r a asked x at b (Receives e other own flows waits rests money redeemed is) =
     books_move w p (Some r) (with_holding r a) at b e other 0 e.value (ap (λ y. cond y e.value 0) (sym rests)) (ap (λ y. cond y e.value 0) (sym flows)) (omega (arith, money, redeemed))
 

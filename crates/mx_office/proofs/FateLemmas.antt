@@ -9,7 +9,7 @@ use Rattle.mx_pay.proofs.LogLemmas.{details_total}
 use Rattle.mx_purse.specs.Operations.{expects_val}
 use Rattle.mx_book.specs.Reads.{is_archived}
 use Rattle.mx_book.specs.Sums.{sum_values}
-use Rattle.mx_book.specs.Totals.{from_in_epa, from_logged, to_in_epv, to_logged, maybe_lost, definitely_lost, occurring, value_where}
+use Rattle.mx_book.specs.Totals.{from_in_epa, from_logged, to_in_epv, to_logged, maybe_lost, definitely_lost, still_lost, occurring, value_where}
 use Rattle.mx_book.specs.World.{World, Name}
 use Rattle.mx_book.proofs.SumLemmas.{sum_values-insert}
 use Rattle.mx_office.specs.Abstract.{ChosenLost, counts_lost, counts_received, received_by, losses_of}
@@ -17,7 +17,7 @@ use Rattle.mx_office.proofs.ConservedLemmas.{split_side, due_occurs, maybe_is, l
 use Rattle.mx_office.proofs.EntrySumLemmas.{number}
 use Rattle.mx_office.proofs.SecurityLemmas.{lost_occurs}
 use Rattle.mx_office.proofs.SeenLemmas.{Step, clash, both_parts, neither, or_cases}
-use Rattle.mx_office.proofs.SeenWorldLemmas.{Invariant, seen, flowing}
+use Rattle.mx_office.proofs.SeenWorldLemmas.{Invariant, seen, flowing, flow_parts}
 use Rattle.mx_office.proofs.SoundLemmas.{details_turned}
 use Rattle.mx_pay.proofs.SameLemmas.{same_details}
 
@@ -51,7 +51,7 @@ received_occurs : (w : World) (c : ChosenLost) (d : Details) → counts_received
 received_occurs w c d h = maybe_occurs w d (both_parts (maybe_lost w d) _ h).0
 
 counted_occurs : (w : World) (c : ChosenLost) (d : Details) → counts_lost w c d ≡ true → is_some (fmap.get (occurring w) d) ≡ true
-counted_occurs w c d h = or_cases (definitely_lost w d) _ (lost_occurs w d) (λ t. maybe_occurs w d (both_parts (maybe_lost w d) _ t).0) h
+counted_occurs w c d h = or_cases (still_lost w d) _ (λ t. lost_occurs w d (both_parts (definitely_lost w d) _ t).0) (λ t. maybe_occurs w d (both_parts (maybe_lost w d) _ t).0) h
 
 -- ---- the sums of a purse
 
@@ -106,7 +106,7 @@ counts_case true false false h k = refl
 -- as it did
 module _ (w v : World) (i : Invariant w) (j : Invariant v) (step : Step (seen w) (seen v)) (c : ChosenLost) (d : Details) (flow : flowing v d ≡ flowing w d) where
   waited : flowing w d ≡ true → (seen v).epv d ≡ true → (seen w).epv d ≡ true
-  waited flows t = elim (step.epv d t) [ inl h ↦ h | inr past ↦ clash ((seen w).to_past d) (i.known d (both_parts _ _ flows).0) past ]
+  waited flows t = elim (step.epv d t) [ inl h ↦ h | inr past ↦ clash ((seen w).to_past d) (i.known d (flow_parts w d flows).0) past ]
 
   after_lost : counts_lost v c d ≡ ((flowing w d && not ((seen v).epv d)) || ((flowing w d && (seen v).epv d) && c d))
   after_lost = (λ k. lost_is v j d k || (maybe_is v j d k && c d)) ∙ (λ k. (flow k && not ((seen v).epv d)) || ((flow k && (seen v).epv d) && c d))
@@ -130,8 +130,8 @@ module _ (w v : World) (i : Invariant w) (j : Invariant v) (step : Step (seen w)
     pub still_received : (q : Name) → received_by v c q ≡ received_by w (counts_lost v c) q
     still_received = received_same w v (counts_lost v c) c (λ d. received_stays w v i j step c d (flow d))
 
-    pub still_lost : (q : Name) → losses_of v c q ≡ losses_of w (counts_lost v c) q
-    still_lost = lost_same w v (counts_lost v c) c (λ d. counts_stays w v i j step c d (flow d))
+    pub losses_stay : (q : Name) → losses_of v c q ≡ losses_of w (counts_lost v c) q
+    losses_stay = lost_same w v (counts_lost v c) c (λ d. counts_stays w v i j step c d (flow d))
 
   module _ (e : Details) (other : (d : Details) → is_details e d ≡ false → flowing v d ≡ flowing w d) (x y : Bool) where
     pub received_now : counts_received w (counts_lost v c) e ≡ x → counts_received v c e ≡ y → (q : Name) → received_by v c q + share (is_name q e.to) x e ≡ received_by w (counts_lost v c) q + share (is_name q e.to) y e

@@ -1,23 +1,25 @@
 -- No command is refused because a purse or a float is full.
-use Rattle.std.proofs.Common.{◌≡◌, ℕ, ◌+◌, ◌≤◌, Bool, true, false, cond, List, [], ◌∷◌, refl, ◌∙◌, ap, Option, Some, None, option_map, arith, is_none}
+use Rattle.std.proofs.Common.{◌≡◌, ℕ, ◌+◌, ◌≤◌, Bool, true, false, cond, ◌&&◌, List, [], ◌∷◌, refl, ◌∙◌, ap, Option, Some, None, option_map, arith, is_none}
 use Rattle.std.specs.Prelude.{nat_lt, nat_le, ◌==◌}
 use Rattle.std.proofs.lemmas.Bool.Decides.{nat_tests}
 use Rattle.std.specs.FinMap as fmap
 use Rattle.mx_pay.specs.Limits.{most_number}
+use Rattle.mx_pay.specs.Details.{Details}
 use Rattle.mx_purse.specs.declared.refusals.StartRefusal.{StartRefusal}
 use Rattle.mx_purse.specs.declared.refusals.StartRefusal.TheVariants as start
 use Rattle.mx_purse.specs.declared.refusals.LoadRefusal.TheVariants as load_as
 use Rattle.mx_purse.specs.declared.refusals.RedeemRefusal.{RedeemRefusal}
 use Rattle.mx_purse.specs.declared.refusals.RedeemRefusal.TheVariants as redeem_as
-use Rattle.mx_purse.specs.Operations.{start_from_refusal, start_to_refusal, load_refusal, redeem_refusal}
+use Rattle.mx_purse.specs.declared.refusals.CreditRefusal.TheVariants as credit_as
+use Rattle.mx_purse.specs.Operations.{start_from_refusal, start_to_refusal, load_refusal, redeem_refusal, credit_refusal}
 use Rattle.mx_book.specs.declared.values.Caller.{Caller}
 use Rattle.mx_book.specs.declared.values.Caller.TheVariants.{Operator, Clerk, Holder}
 use Rattle.mx_book.specs.declared.values.MemberRow.{MemberRow}
 use Rattle.mx_book.specs.Conditions.{IsWorld, all_granted}
-use Rattle.mx_book.specs.Reads.{uncollected_of}
+use Rattle.mx_book.specs.Reads.{from_row, uncollected_of, is_archived, is_settled}
 use Rattle.mx_book.specs.World.{World, Row, Holding, Name, is_of_member, change_holding}
 use Rattle.mx_office.specs.declared.values.Command.{Command}
-use Rattle.mx_office.specs.declared.values.Command.TheVariants.{NewMember, Grant, Archive, Clear, NewHolder, NewPurse, Load, Collect, Reconcile, Show, StartFrom, StartTo, Handle, Discard, Abort, ReadLog, Redeem, Inbox, Statement}
+use Rattle.mx_office.specs.declared.values.Command.TheVariants.{NewMember, Grant, Archive, Clear, NewHolder, NewPurse, Load, Collect, Reconcile, Settle, Show, StartFrom, StartTo, Handle, Discard, Abort, ReadLog, Redeem, Inbox, Statement}
 use Rattle.mx_office.specs.declared.values.Refusal.{Refusal}
 use Rattle.mx_office.specs.declared.values.Refusal.TheVariants as refusal
 use Rattle.mx_office.specs.declared.values.Reply.{Reply}
@@ -25,12 +27,13 @@ use Rattle.mx_office.specs.declared.values.Reply.TheVariants as reply
 use Rattle.mx_office.specs.Balance.{IsBalanced}
 use Rattle.mx_office.specs.Conservation.{IsNeverFull}
 use Rattle.mx_office.specs.Reachable.{IsReachable}
-use Rattle.mx_office.specs.Step.{Deed, Asks, unless, unless_told, on_found, idle, first_refusal, refusal_of_start, refusal_of_load, refusal_of_redeem, in_place, own_holding, on_world, asks, float_of, show, start_from, start_to, handle, discard, abort, read_log, redeem, inbox, statement, new_load_refusal, idle_load_at, idle_load, new_member_refusal, new_holder_refusal, new_purse_refusal, grant_refusal, collect_refusal, archive_refusal, clear_refusal, base, step}
+use Rattle.mx_office.specs.Step.{Deed, Asks, unless, unless_told, on_found, idle, first_refusal, refusal_of_start, refusal_of_load, refusal_of_redeem, refusal_of_credit, settle_refusal, in_place, own_holding, on_world, asks, float_of, show, start_from, start_to, handle, discard, abort, read_log, redeem, inbox, statement, new_load_refusal, idle_load_at, idle_load, new_member_refusal, new_holder_refusal, new_purse_refusal, grant_refusal, collect_refusal, archive_refusal, clear_refusal, base, step}
 use Rattle.mx_office.proofs.BalanceCommandLemmas.{reachable_balanced}
-use Rattle.mx_office.proofs.CapLemmas.{load_fits, grant_fits, collect_fits}
+use Rattle.mx_office.proofs.CapLemmas.{flow_fits, load_fits, grant_fits, collect_fits}
 use Rattle.mx_office.proofs.MoneyLemmas.{float_there}
 use Rattle.mx_office.proofs.OwnLemmas.{present}
 use Rattle.mx_office.proofs.SeenLemmas.{clash}
+use Rattle.mx_office.proofs.SeenWorldLemmas.{archived_flows}
 use Rattle.mx_office.proofs.SaneLemmas.{Sane}
 use Rattle.mx_office.proofs.SaneCommandLemmas.{reachable_sane}
 use Rattle.mx_office.proofs.StepLemmas.{reachable_world}
@@ -189,6 +192,25 @@ module _ (w : World) (s : Sane w) (is : IsWorld w) (balanced : IsBalanced w) whe
   unfolding idle_load
   load_other m p amount reference = load_at m p amount reference (fmap.get w.rows p) (fmap.get w.members m) refl refl
 
+  -- the guards of a credit, and so of a settlement
+  credit_case : (worn over : Bool) → over ≡ false → none_full (option_map refusal_of_credit (cond worn (Some credit_as.Worn) (cond over (Some credit_as.OverCap) None))) ≡ false
+  credit_case true over f = refl
+  credit_case false true f = clash true refl f
+  credit_case false false f = refl
+
+  settle_at : (d : Details) (settled from to : Bool) (o : Option Row) → is_settled w d ≡ settled → is_archived w d.from d ≡ from → is_archived w d.to d ≡ to → fmap.get w.rows d.from ≡ o
+      → none_full (cond settled (Some refusal.AlreadySettled) (cond (from && to) (from_row (Some refusal.NotLost) (λ r. option_map refusal_of_credit (credit_refusal r.holding.purse d.value)) o) (Some refusal.NotLost))) ≡ false
+  settle_at d true from to o s f t at = refl
+  settle_at d false false to o s f t at = refl
+  settle_at d false true false o s f t at = refl
+  settle_at d false true true None s f t at = refl
+  settle_at d false true true (Some r) fresh f t at =
+      credit_case (nat_le most_number r.holding.purse.lines) _ (not_above _ _ (flow_fits w s is balanced d d.from r at (archived_flows w d f t fresh)))
+
+  settle_other : (d : Details) → none_full (settle_refusal w d) ≡ false
+  unfolding settle_refusal
+  settle_other d = settle_at d (is_settled w d) (is_archived w d.from d) (is_archived w d.to d) (fmap.get w.rows d.from) refl refl refl refl
+
   -- ---- each command
 
   base_other : (caller : Caller) (c : Command) → is_full (base w caller c).reply ≡ false
@@ -197,6 +219,7 @@ module _ (w : World) (s : Sane w) (is : IsWorld w) (balanced : IsBalanced w) whe
   base_other Operator (Archive p) = unless_other w (archive_refusal w p) _ (first_other _ (λ _. refl, λ _. tt)) refl
   base_other Operator (Clear p set) = unless_other w (clear_refusal w p set) _ (first_other _ (λ _. refl, λ _. (λ _. refl, λ _. tt))) refl
   base_other Operator Reconcile = refl
+  base_other Operator (Settle d) = unless_other w (settle_refusal w d) _ (settle_other d) refl
   base_other (Clerk m) (NewHolder h t) = unless_other w (new_holder_refusal w m h t) _ (first_other _ (λ _. refl, λ _. (λ _. refl, λ _. (λ _. refl, λ _. tt)))) refl
   base_other (Clerk m) (NewPurse p h) = unless_other w (new_purse_refusal w m p h) _ (first_other _ (λ _. refl, λ _. (λ _. refl, λ _. (λ _. refl, λ _. tt)))) refl
   base_other (Clerk m) (Load p amount reference) = told_other w (idle_load w m p amount reference) _ (load_other m p amount reference) refl

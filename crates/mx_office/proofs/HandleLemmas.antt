@@ -1,5 +1,5 @@
 -- A message that is handled, and so each rule on a purse, keeps the invariant and the scheme's equation, and is an operation.
-use Rattle.std.proofs.Common.{◌≡◌, ℕ, ◌+◌, Bool, true, false, cond, refl, sym, ◌∙◌, ap, subst, Option, Some, None, ◌&&◌, ◌||◌, inl, inr}
+use Rattle.std.proofs.Common.{◌≡◌, ℕ, ◌+◌, Bool, true, false, cond, not, refl, sym, ◌∙◌, ap, subst, Option, Some, None, ◌&&◌, ◌||◌, inl, inr}
 use Rattle.std.specs.Prelude.{nat_le}
 use Rattle.std.specs.FinMap as fmap
 use Rattle.mx_pay.specs.Limits.{most_number}
@@ -14,7 +14,7 @@ use Rattle.mx_purse.specs.declared.message.Handled.TheVariants as took
 use Rattle.mx_purse.specs.declared.status.Status.{Status}
 use Rattle.mx_purse.specs.declared.status.Status.TheVariants.{Epr}
 use Rattle.mx_purse.specs.Operations.{pending, aborted, expects_req, expects_val, expects_ack, expects_clear, after_message, sent_for}
-use Rattle.mx_book.specs.Reads.{is_archived}
+use Rattle.mx_book.specs.Reads.{is_archived, is_settled}
 use Rattle.mx_book.specs.World.{World, Row, Holding, Name, set_row}
 use Rattle.mx_book.proofs.FoundLemmas.{inside}
 use Rattle.mx_book.proofs.NameLemmas.{get-inserted}
@@ -25,7 +25,7 @@ use Rattle.mx_office.specs.declared.values.Refusal.TheVariants as refusal
 use Rattle.mx_office.specs.Step.{Deed, Asks, on_found, with_purse, message_line, handle_message, asks, show, handle, inbox, statement}
 use Rattle.mx_office.proofs.SeenLemmas.{IsTimely, clash, both_parts, neither}
 use Rattle.mx_office.proofs.SoundLemmas.{IsPresent, IsReceiver, Turns, none_moves, restarted, request_turns, value_turns, finish_turns, expects_req_is, expects_val_is, expects_ack_is}
-use Rattle.mx_office.proofs.SeenWorldLemmas.{Invariant, seen, flowing, side_of, has_status, waits_due, due_past, due_left, turn_step, turn_flow}
+use Rattle.mx_office.proofs.SeenWorldLemmas.{Invariant, seen, flowing, side_of, has_status, waits_due, waits_open, stays_open, due_past, due_left, turn_step, turn_flow}
 use Rattle.mx_office.proofs.OutLemmas.{Books}
 use Rattle.mx_office.proofs.DeedLemmas.{IsKept, Rests, Requests, Receives, with_holding, not_some, turned_kept, told_kept, same_kept, still_logged, abort_kept, read_kept, discard_kept, start_from_kept, start_to_kept, redeem_kept}
 
@@ -41,7 +41,7 @@ value_left w p r at i d t timely =
     let x : IsReceiver r.holding.purse (is_archived w p) d = subst (IsPresent r.holding.purse (is_archived w p)) (expects_val_is r.holding.purse.status d t) (i.sound p r at).present in
     let waits : (seen w).epv d ≡ true = waits_at expects_val w p r at d d.to (x.own ∙ i.named p r at) t in
     let gone : (seen w).gone d ≡ true = timely.1 waits in
-    (gone, waits, (λ k. gone k && waits_due d (fmap.get w.rows d.to) (is_archived w d.to d) waits k))
+    (gone, waits, (λ k. (gone k && waits_due d (fmap.get w.rows d.to) (is_archived w d.to d) waits k) && not (waits_open w i d waits k)))
 
 module _ (w : World) (p : Name) (r : Row) (at : fmap.get w.rows p ≡ Some r) (i : Invariant w) (asked : Command) where
   abbrev taker : State
@@ -80,7 +80,7 @@ module _ (w : World) (p : Name) (r : Row) (at : fmap.get w.rows p ≡ Some r) (i
       let gone : (seen v).gone d ≡ true = side_of expects_ack v p s (get-inserted w.rows p s) d d.from own ∙ ap (λ y. y || (has_logged taker.log d || in_archive d)) (details_itself d) in
       let still_due : (seen v).due d ≡ true = elim (due_left w p r s at i (is_details d) turns d due) [ inl h ↦ h | inr y ↦ clash _ y.0 rests ] in
       turned_kept w p r at i asked (deed_of (took.Req d)) (is_details d) turns (λ k m h. h) (λ e _ h. h)
-      (Requests d (turn_flow w p r s at i (is_details d) turns) own rests due (λ k. gone k && still_due k) (names_unlike d.from d.to (λ same. x.0.other (sym same ∙ x.0.own))) x.1 refl refl (inl refl) (inr refl))
+      (Requests d (turn_flow w p r s at i (is_details d) turns) own rests due (λ k. (gone k && still_due k) && not (stays_open w i d rests k)) (names_unlike d.from d.to (λ same. x.0.other (sym same ∙ x.0.own))) x.1 refl refl (inl refl) (inr refl))
       (λ m h. subst (λ (y : Name × Message). IsTimely (seen v) y.0 y.1) (inside (d.to, message.Val d) m h) ((turn_step w p r s at i (is_details d) turns).to_past d (due_past w i d due), λ _. gone))
       (λ c h. not_some c h)
 
@@ -97,7 +97,7 @@ module _ (w : World) (p : Name) (r : Row) (at : fmap.get w.rows p ≡ Some r) (i
       let turns : Turns (seen w) in_archive (is_details d) taker s.holding.purse = value_turns (seen w) in_archive taker d s.holding.purse.balance s.holding.purse.lines (i.sound p r at) was left.0 in
       let late : (seen v).due d ≡ false = side_of expects_val v p s (get-inserted w.rows p s) d d.to own ∙ x.fresh in
       turned_kept w p r at i asked (deed_of (took.Val d)) (is_details d) turns (λ k m h. h) (λ e _ h. h)
-      (Receives d (turn_flow w p r s at i (is_details d) turns) own left.2 left.1 (neither _ _ late) refl refl refl)
+      (Receives d (turn_flow w p r s at i (is_details d) turns) own left.2 left.1 (ap (λ b. b && not (is_settled w d)) (neither _ _ late)) refl refl refl)
       (λ m h. subst (λ (y : Name × Message). IsTimely (seen v) y.0 y.1) (inside (d.from, message.Ack d) m h) ((turn_step w p r s at i (is_details d) turns).to_past d timely.0, late))
       (λ c h. not_some c h)
 

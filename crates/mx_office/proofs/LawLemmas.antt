@@ -16,7 +16,7 @@ use Rattle.mx_book.specs.Reads.{purses_of}
 use Rattle.mx_book.proofs.MapLemmas.{get-pick, entries-pick, pick-insert, pick-skip}
 use Rattle.mx_book.proofs.NameLemmas.{names_total, names_exact, same_name}
 use Rattle.mx_office.specs.declared.values.Command.{Command}
-use Rattle.mx_office.specs.declared.values.Command.TheVariants.{NewMember, Grant, Archive, Clear, NewHolder, NewPurse, Load, Collect, Reconcile}
+use Rattle.mx_office.specs.declared.values.Command.TheVariants.{NewMember, Grant, Archive, Clear, NewHolder, NewPurse, Load, Collect, Reconcile, Settle}
 use Rattle.mx_book.specs.declared.contract.StoreFault.{StoreFault}
 use Rattle.mx_office.specs.declared.values.Outcome.{Outcome}
 use Rattle.mx_office.specs.declared.values.Outcome.TheVariants.{Reply as Replied, Unavailable}
@@ -24,7 +24,7 @@ use Rattle.mx_office.specs.declared.values.Refusal.{Refusal}
 use Rattle.mx_office.specs.declared.values.Refusal.TheVariants.{NoSuchPurse}
 use Rattle.mx_office.specs.declared.values.Reply.{Reply}
 use Rattle.mx_office.specs.declared.values.Reply.TheVariants as reply
-use Rattle.mx_office.specs.Step.{Deed, Asks, Asked, Course, ends, tell, unless, unless_told, on_found, in_place, asks, holding_for, own_holding, on_world, loaded_holding, loaded_row, loaded_world, idle_load, change_member, new_purse_refusal, base, put_sent, with_result, step, steps, course}
+use Rattle.mx_office.specs.Step.{Deed, Asks, Asked, Course, ends, tell, unless, unless_told, on_found, in_place, asks, holding_for, own_holding, on_world, loaded_holding, loaded_row, loaded_world, idle_load, change_member, new_purse_refusal, settled_holding, settled_row, with_settled, settle_refusal, base, put_sent, with_result, step, steps, course}
 use Rattle.mx_office.proofs.CaseLemmas.{by_told, by_tray, collected_same}
 use Rattle.mx_office.proofs.OwnLemmas.{absent, none_refused, own_at, is_owned}
 use Rattle.mx_office.specs.Run.{IsRun, answered, replies}
@@ -161,7 +161,7 @@ issued_law : (w : World) (h m p g : Name) (o : Option Refusal) → new_purse_ref
 issued_law w h m p g (Some r) e = refl
 issued_law w h m p g None e = issued_case w h p g (absent _ (none_refused _ _ _ (none_refused _ _ _ e).1).0) (is_name h g) refl
 
--- ---- grants, loads and collects
+-- ---- grants, loads, settlements and collects
 
 member_case : (w : World) (h m : Name) (f : MemberRow → MemberRow) (o : Option MemberRow) → cut (option_map_or (λ row. let v : World = record w { members = fmap.insert w.members m (f row) } in v) o w) h ≡ cut w h
 member_case w h m f None = refl
@@ -179,6 +179,15 @@ load_law w h m p amount reference None =
     event_law w h p (λ a. loaded_holding a amount reference) (Event.Loaded p reference amount) _ refl (λ none a at. let there = ap is_some at in cc)
     ∙ ap silent (sym (cut-member (change_row w p (loaded_row amount reference)) h m _
     ∙ cut-change w h p (loaded_row amount reference) (λ a. loaded_holding a amount reference) (λ r. refl) (λ r. refl)))
+
+-- a settlement is an event where it isn't refused
+settled_law : (w : World) (h : Name) (d : Details) (o : Option Refusal)
+    → local (cut w h) (only_if (is_none o && is_some (own_holding w h d.from)) (Event.Settled d.from d))
+    ≡ silent (cut (unless w o (tell (with_settled (change_row w d.from (settled_row d)) d) reply.Settled)).state h)
+settled_law w h d (Some r) = refl
+settled_law w h d None =
+    event_law w h d.from (λ a. settled_holding a d) (Event.Settled d.from d) _ refl (λ none a at. let there = ap is_some at in cc)
+    ∙ ap silent (sym (cut-change w h d.from (settled_row d) (λ a. settled_holding a d) (λ r. refl) (λ r. refl)))
 
 -- collected redemptions are none of what is cut out
 cut-collected : (w : World) (h m : Name) → cut (all_collected w m) h ≡ cut w h
@@ -201,6 +210,7 @@ base_law w h Operator (Grant m amount) = quiet w h _ _ (cut-member w h m _)
 base_law w h Operator (Archive p) = quiet w h _ _ refl
 base_law w h Operator (Clear p set) = quiet w h _ _ refl
 base_law w h Operator Reconcile = refl
+base_law w h Operator (Settle d) = settled_law w h d (settle_refusal w d)
 base_law w h (Clerk m) (NewHolder g t) = quiet w h _ _ refl
 base_law w h (Clerk m) (NewPurse p g) = issued_law w h m p g (new_purse_refusal w m p g) refl
 base_law w h (Clerk m) (Load p amount reference) = load_law w h m p amount reference (idle_load w m p amount reference)

@@ -8,6 +8,7 @@ pub mod LawLemmas
 pub mod RuleLemmas
 pub mod MoveCaseLemmas
 pub mod StayLemmas
+pub mod ViewLemmas
 pub mod OutcomeLemmas
 pub mod EntrySumLemmas
 pub mod BalanceLemmas

@@ -1,36 +1,41 @@
--- Grants, loads and collects: each decision is the step's.
-use Rattle.std.proofs.Common.{◌≡◌, ℕ, ◌+◌, ◌-◌, ◌^◌, ◌≤◌, Bool, true, false, cond, List, [], ◌∷◌, ◌++◌, Option, Some, None, Ok, Err, refl, sym, ◌∙◌, ap, subst, arith, is_none, option_map, IsSome, IsTrue}
+-- Grants, loads, collects and settlements: each decision is the step's.
+use Rattle.std.proofs.Common.{◌≡◌, ℕ, ◌+◌, ◌-◌, ◌^◌, ◌≤◌, Bool, true, false, cond, List, [], ◌∷◌, ◌++◌, Option, Some, None, Ok, Err, refl, sym, ◌∙◌, ap, subst, arith, is_none, option_map, option_and_then, IsSome, IsTrue}
 use Rattle.std.specs.Prelude.{nat_lt, ◌==◌, ◌<◌, min, unwrap_or}
 use Rattle.std.proofs.lemmas.Bool.Decides.{nat_tests}
 use Rattle.std.specs.FinMap as fmap
+use Rattle.std.specs.Cmp.{first_so, second_so}
 use Rattle.mx_pay.specs.Names.{is_name_text}
+use Rattle.mx_pay.specs.Details.{Details, IsDetails}
 use Rattle.mx_purse.specs.State.{State, IsPurse}
 use Rattle.mx_purse.specs.declared.refusals.LoadRefusal.{LoadRefusal}
-use Rattle.mx_purse.specs.Operations.{or_refused, unless_refused, load_refusal, loaded}
+use Rattle.mx_purse.specs.declared.refusals.CreditRefusal.{CreditRefusal}
+use Rattle.mx_purse.specs.Operations.{or_refused, unless_refused, load_refusal, loaded, credit_refusal, credited}
 use Rattle.mx_purse.proofs.OperationLemmas.{loaded_is}
 use Rattle.mx_book.specs.declared.edits.Edit.{Edit}
-use Rattle.mx_book.specs.declared.edits.Edit.TheVariants.{SetMember, SetPurse, AddLoad, Collect}
+use Rattle.mx_book.specs.declared.edits.Edit.TheVariants.{SetMember, SetPurse, AddLoad, Collect, AddSettled}
+use Rattle.mx_book.specs.declared.values.Account.{Account}
 use Rattle.mx_book.specs.declared.values.Line.{Line}
 use Rattle.mx_book.specs.declared.values.LineKind.TheVariants as kind
 use Rattle.mx_book.specs.declared.values.MemberRow.{MemberRow}
-use Rattle.mx_book.specs.World.{World, Row, Name, is_of_member, all_collected, set_row}
+use Rattle.mx_book.specs.World.{World, Row, Name, is_of_member, all_collected, set_row, change_row}
 use Rattle.mx_pay.specs.Limits.{most_amount, most_number}
 use Rattle.mx_book.specs.Conditions.{IsWorld, all_granted}
-use Rattle.mx_book.specs.Reads.{from_row, load_of, uncollected_of}
+use Rattle.mx_book.specs.Reads.{from_row, account_of, account_with, load_of, uncollected_of, is_archived, is_settled}
 use Rattle.mx_book.specs.Edits.{AllSuit, edited, all_edited}
-use Rattle.mx_book.proofs.FoundLemmas.{some_of}
-use Rattle.mx_book.proofs.PurseLemmas.{with_lines, line_edits, edits_append, suits_append}
+use Rattle.mx_book.proofs.FoundLemmas.{inside, some_of}
+use Rattle.mx_book.proofs.ResultLemmas.{also_settled_stays}
+use Rattle.mx_book.proofs.PurseLemmas.{with_lines, line_edits, change_there, edits_append, suits_append, purse_leads, purse_suits, purse_stays}
 use Rattle.mx_book.proofs.MoneyLemmas.{with_load, set_member_stays, granted_after, loads_stay, load_leads, load_suits, collect_stays}
 use Rattle.mx_office.specs.declared.values.Decided.{Decided}
 use Rattle.mx_office.specs.declared.values.Reply.{Reply}
 use Rattle.mx_office.specs.declared.values.Reply.TheVariants as reply
 use Rattle.mx_office.specs.declared.values.Refusal.TheVariants as refusal
-use Rattle.mx_office.specs.Step.{tell, unless, unless_told, idle, money_line, refusal_of_load, float_of, change_member, grant, grant_refusal, collect, collect_refusal, loaded_holding, loaded_row, new_load_refusal, idle_load_at, idle_load, loaded_world, load_purse}
-use Rattle.mx_office.specs.Decides.{Decides, member_purse, load_edits}
-use Rattle.mx_office.proofs.DecideLemmas.{edits_decide, told_decides, edit_decides}
+use Rattle.mx_office.specs.Step.{tell, unless, unless_told, idle, money_line, refusal_of_load, float_of, change_member, grant, grant_refusal, collect, collect_refusal, loaded_holding, loaded_row, new_load_refusal, idle_load_at, idle_load, loaded_world, load_purse, payment_line, refusal_of_credit, settled_holding, settled_row, is_archived_for_both, settle_refusal, with_settled, settle}
+use Rattle.mx_office.specs.Decides.{Decides, member_purse, load_edits, settlement_edits}
+use Rattle.mx_office.proofs.DecideLemmas.{edits_decide, told_decides, edit_decides, refused_decides}
 use Rattle.mx_office.proofs.OwnLemmas.{first, next, none_left, change_to}
 use Rattle.mx_office.proofs.AccountLemmas.{IsFound, IsNext, is_found, is_next}
-use Rattle.mx_office.proofs.MoveCaseLemmas.{IsLoad, load_is, with_member}
+use Rattle.mx_office.proofs.MoveCaseLemmas.{IsLoad, load_is, with_member, IsSettlement}
 use Rattle.mx_office.proofs.CommandLemmas.{nothing, is_refused, not_refused}
 
 -- ---- a member's row
@@ -214,3 +219,97 @@ module _ (w : World) (m p : Name) (amount : ℕ) (reference : Name) (q : State) 
         } in
         let now_is : after ≡ loaded own.row.holding.purse amount = after_is ∙ ap (λ o. unless_refused o q (loaded q amount)) free ∙ ap (λ x. loaded x amount) (sym own.purse) in
         load_decides w m p amount reference l is text small d reply_is (edits_is ∙ ap (λ x. load_edits x amount reference m member) now_is)
+
+-- ---- a settlement
+
+-- what a credit allows a load allows
+as_load : (p : State) (amount : ℕ) → credit_refusal p amount ≡ None → load_refusal p amount ≡ None
+as_load p amount free = grind arith
+
+-- a settlement that isn't refused
+module _ (w : World) (d : Details) (s : IsSettlement w d) (is : IsWorld w) (details : IsDetails d) where
+  abbrev credited_now : State
+  credited_now = credited s.row.holding.purse d.value
+
+  abbrev settled_lines : List Line
+  settled_lines = payment_line credited_now kind.Settled d ∷ []
+
+  abbrev with_credit : World
+  with_credit = set_row w d.from (with_lines s.row credited_now settled_lines)
+
+  credited_whole : IsPurse credited_now
+  credited_whole = loaded_is s.row.holding.purse d.value (is.purses.each d.from s.row s.at).purse (as_load s.row.holding.purse d.value s.free)
+
+  settled_next : IsNext w d.from s.row credited_now settled_lines
+  settled_next = is_next w d.from (λ r. true) s.row.holding.purse (record { row = s.row; at = s.at; passes = refl; purse = refl }) credited_now settled_lines is
+      (record { name = refl; whole = credited_whole; numbered = (refl, tt); counted = omega arith; valid = (record { amount = details.value; balance = credited_whole.balance; note = details }, tt); logged = λ x kept there. there })
+
+  settled_row_is : settled_row d s.row ≡ with_lines s.row credited_now settled_lines
+  unfolding settled_holding
+  settled_row_is = rw s.free refl
+
+  credit_stays : IsWorld (with_settled with_credit d)
+  credit_stays = also_settled_stays with_credit d details
+      (purse_stays w d.from s.row credited_now settled_lines s.at settled_next.named credited_whole settled_next.numbered settled_next.counted (record { amount = details.value; balance = credited_whole.balance; note = details }, tt) settled_next.logged is)
+
+  pub settlement_stays : IsWorld (with_settled (set_row w d.from (settled_row d s.row)) d)
+  settlement_stays = rw settled_row_is credit_stays
+
+  settle_is : settle w d ≡ tell (with_settled (set_row w d.from (settled_row d s.row)) d) reply.Settled
+  unfolding settle_refusal
+  settle_is =
+      let none : settle_refusal w d ≡ None = rw (s.fresh, s.from, s.to, s.at, s.free) refl in
+      ap (λ o. unless w o (tell (with_settled (change_row w d.from (settled_row d)) d) reply.Settled)) none
+      ∙ ap (λ v. tell (with_settled v d) reply.Settled) (change_there w d.from (settled_row d) s.row s.at)
+
+  settle_decides : (x : Decided) → x.reply ≡ reply.Settled → x.edits ≡ settlement_edits credited_now d → Decides w (settle w d) x
+  settle_decides x reply_is edits_is =
+      let firsts : List Edit = SetPurse credited_now ∷ line_edits d.from settled_lines in
+      let lead : all_edited w firsts ≡ with_credit = purse_leads w d.from s.row credited_now settled_lines s.at settled_next.named in
+      edits_decide w (settle w d) (tell (with_settled with_credit d) reply.Settled) (firsts ++ AddSettled d ∷ []) x
+      (settle_is ∙ ap (λ r. tell (with_settled (set_row w d.from r) d) reply.Settled) settled_row_is)
+      (suits_append w firsts (AddSettled d ∷ []) (purse_suits w d.from s.row credited_now settled_lines s.at settled_next.named settled_next.numbered) (subst (λ v. AllSuit v (AddSettled d ∷ [])) (sym lead) (s.fresh, tt)))
+      (edits_append w firsts (AddSettled d ∷ []) ∙ ap (λ v. edited v (AddSettled d)) lead)
+      credit_stays reply_is (edits_is ∙ ap (λ es. es ++ AddSettled d ∷ []) settled_next.edits)
+
+-- the row of a purse whose account is given
+module _ (w : World) (p : Name) (account : Account) where
+  account_case : (r : Row) (o : Option Name) → fmap.get w.rows p ≡ Some r → option_map (account_with r) o ≡ Some account → IsFound w p (λ x. true) account.purse
+  account_case r None at e = absurd (cc)
+  account_case r (Some m) at e = record { row = r; at = at; passes = refl; purse = ap (λ (x : Account). x.purse) (inside _ account e) }
+
+  account_row : (o : Option Row) → fmap.get w.rows p ≡ o → option_and_then (λ r. option_map (account_with r) (fmap.get w.holders r.holder)) o ≡ Some account → IsFound w p (λ x. true) account.purse
+  account_row None at e = absurd (cc)
+  account_row (Some r) at e = account_case r (fmap.get w.holders r.holder) at e
+
+module _ (w : World) (d : Details) (x : Decided) (is : IsWorld w) where
+  pub settled_already : is_settled w d ≡ true → x.reply ≡ reply.Refused refusal.AlreadySettled → x.edits ≡ [] → Decides w (settle w d) x
+  unfolding settle_refusal
+  settled_already settled = refused_decides w (settle_refusal w d) _ refusal.AlreadySettled x is (rw settled refl)
+
+  pub settles_nothing : is_settled w d ≡ false → is_archived_for_both w d ≡ false → x.reply ≡ reply.Refused refusal.NotLost → x.edits ≡ [] → Decides w (settle w d) x
+  unfolding settle_refusal
+  settles_nothing fresh lacks = refused_decides w (settle_refusal w d) _ refusal.NotLost x is (rw (fresh, lacks) refl)
+
+  module _ (account : Account) (fresh : is_settled w d ≡ false) (archived : is_archived_for_both w d ≡ true) (given : account_of w d.from ≡ Some account) where
+    abbrev payer : IsFound w d.from (λ r. true) account.purse
+    payer = account_row w d.from account (fmap.get w.rows d.from) refl given
+
+    pub settle_refuses : (r : CreditRefusal) → or_refused (credit_refusal account.purse d.value) nothing ≡ Err r → x.reply ≡ reply.Refused (refusal_of_credit r) → x.edits ≡ [] → Decides w (settle w d) x
+    unfolding settle_refusal
+    settle_refuses r refused = refused_decides w (settle_refusal w d) _ (refusal_of_credit r) x is (rw (fresh, archived, payer.at, payer.purse, is_refused (credit_refusal account.purse d.value) _ r refused) refl)
+
+    pub settle_made : (after : State) → IsDetails d → or_refused (credit_refusal account.purse d.value) nothing ≡ Ok nothing → after ≡ unless_refused (credit_refusal account.purse d.value) account.purse (credited account.purse d.value)
+        → x.reply ≡ reply.Settled → x.edits ≡ settlement_edits after d → Decides w (settle w d) x
+    settle_made after details accepted after_is reply_is edits_is =
+        let free : credit_refusal account.purse d.value ≡ None = not_refused _ _ nothing accepted in
+        let s : IsSettlement w d = record {
+          row = payer.row;
+          at = payer.at;
+          fresh = fresh;
+          from = first_so (is_archived w d.from d) _ archived;
+          to = second_so (is_archived w d.from d) _ archived;
+          free = ap (λ q. credit_refusal q d.value) payer.purse ∙ free;
+        } in
+        let now_is : after ≡ credited payer.row.holding.purse d.value = after_is ∙ ap (λ o. unless_refused o account.purse (credited account.purse d.value)) free ∙ ap (λ q. credited q d.value) (sym payer.purse) in
+        settle_decides w d s is details x reply_is (edits_is ∙ ap (λ q. settlement_edits q d) now_is)

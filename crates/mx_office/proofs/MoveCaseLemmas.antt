@@ -1,29 +1,30 @@
--- Which move each command is: nothing changes, or it is one of nine moves, whose guards tell what stands before it.
-use Rattle.std.proofs.Common.{◌≡◌, ℕ, ◌+◌, ◌-◌, ◌≤◌, Bool, true, false, not, cond, List, refl, sym, ◌∙◌, ap, subst, Option, Some, None, IsSome, option_map, arith}
+-- Which move each command is: nothing changes, or it is one of ten moves, whose guards tell what stands before it.
+use Rattle.std.proofs.Common.{◌≡◌, ℕ, ◌+◌, ◌-◌, ◌≤◌, Bool, true, false, not, cond, ◌&&◌, List, refl, sym, ◌∙◌, ap, subst, Option, Some, None, IsSome, option_map, arith}
 use Rattle.std.specs.Prelude.{nat_lt, nat_le, length}
 use Rattle.std.proofs.lemmas.Bool.Decides.{nat_tests}
 use Rattle.std.specs.FinMap as fmap
 use Rattle.mx_pay.specs.Limits.{most_number}
+use Rattle.mx_pay.specs.Details.{Details}
 use Rattle.mx_pay.specs.Log.{Entries, log_len}
 use Rattle.mx_pay.specs.Names.{is_name}
 use Rattle.mx_purse.specs.declared.message.Message.TheVariants as message
-use Rattle.mx_purse.specs.Operations.{load_refusal}
+use Rattle.mx_purse.specs.Operations.{load_refusal, credit_refusal}
 use Rattle.mx_book.specs.declared.values.Caller.{Caller}
 use Rattle.mx_book.specs.declared.values.Caller.TheVariants.{Operator, Clerk, Holder}
 use Rattle.mx_book.specs.declared.values.MemberRow.{MemberRow}
 use Rattle.mx_book.specs.declared.values.Totals.{Totals}
 use Rattle.mx_book.specs.Conditions.{all_granted}
 use Rattle.mx_book.specs.Limits.{most_purses}
-use Rattle.mx_book.specs.Reads.{who_of, purses_of, uncollected_of, tray_of}
+use Rattle.mx_book.specs.Reads.{from_row, who_of, purses_of, uncollected_of, tray_of, is_archived, is_settled}
 use Rattle.mx_book.specs.World.{World, Row, Holding, Name, Token, is_of_member, all_collected, with_archived, set_row, new_row, change_holding}
 use Rattle.mx_book.proofs.PurseLemmas.{change_there}
 use Rattle.mx_office.specs.declared.values.Command.{Command}
-use Rattle.mx_office.specs.declared.values.Command.TheVariants.{NewMember, Grant, Archive, Clear, NewHolder, NewPurse, Load, Collect, Reconcile}
+use Rattle.mx_office.specs.declared.values.Command.TheVariants.{NewMember, Grant, Archive, Clear, NewHolder, NewPurse, Load, Collect, Reconcile, Settle}
 use Rattle.mx_office.specs.declared.values.Refusal.{Refusal}
-use Rattle.mx_office.specs.declared.values.Refusal.TheVariants.{NoSuchPurse}
+use Rattle.mx_office.specs.declared.values.Refusal.TheVariants.{NoSuchPurse, NotLost, AlreadySettled}
 use Rattle.mx_office.specs.declared.values.Reply.{Reply}
 use Rattle.mx_office.specs.declared.values.Reply.TheVariants as reply
-use Rattle.mx_office.specs.Step.{Deed, Asks, tell, unless, unless_told, idle, in_place, asks, own_holding, on_world, new_member_refusal, new_holder_refusal, new_purse_refusal, float_of, change_member, grant_refusal, loaded_row, new_load_refusal, idle_load_at, idle_load, loaded_world, load_purse, collect_refusal, archive_refusal, may_clear, clear_refusal, base}
+use Rattle.mx_office.specs.Step.{Deed, Asks, tell, unless, unless_told, idle, in_place, asks, own_holding, on_world, new_member_refusal, new_holder_refusal, new_purse_refusal, float_of, change_member, grant_refusal, loaded_row, new_load_refusal, idle_load_at, idle_load, loaded_world, load_purse, collect_refusal, archive_refusal, may_clear, clear_refusal, settle_refusal, settled_row, with_settled, refusal_of_credit, base}
 use Rattle.mx_office.proofs.CaseLemmas.{by_refusal, by_found, new_reference}
 use Rattle.mx_office.proofs.OwnLemmas.{absent, present, none_refused, of_there, change_to, is_owned}
 
@@ -43,6 +44,10 @@ pub record IsLoad (w : World) (m p : Name) (amount : ℕ) (reference : Name) : T
   pub fresh : fmap.get row.loads reference ≡ None
   pub enough : amount ≤ member.float
   pub free : load_refusal row.holding.purse amount ≡ None
+
+unmapped : {A B : Type 0} (f : A → B) (o : Option A) → option_map f o ≡ None → o ≡ None
+unmapped f None e = refl
+unmapped f (Some x) e = cc
 
 enough_case : (amount float : ℕ) (before : Option ℕ) (x : Refusal) (o : Option Refusal) (r : Reply) (b : Bool) → nat_lt float amount ≡ b → idle before amount r (cond b (Some x) o) ≡ None → amount ≤ float
 enough_case amount float None x o r true t e = cc
@@ -91,6 +96,30 @@ module _ (w : World) (m p : Name) (amount : ℕ) (reference : Name) where
       ap (λ o. unless_told w o (tell (loaded_world w m p amount reference) reply.Loaded)) none
       ∙ ap (λ v. tell v reply.Loaded) (ap (λ x. change_member x m fall) (change_there w p (loaded_row amount reference) l.row l.at) ∙ change_to (set_row w p (loaded_row amount reference l.row)) m fall l.member l.there)
 
+-- ---- a settlement
+
+-- what a settlement that isn't refused is of
+pub record IsSettlement (w : World) (d : Details) : Type 0 where
+  pub row : Row
+  pub at : fmap.get w.rows d.from ≡ Some row
+  pub fresh : is_settled w d ≡ false
+  pub from : is_archived w d.from d ≡ true
+  pub to : is_archived w d.to d ≡ true
+  pub free : credit_refusal row.holding.purse d.value ≡ None
+
+module _ (w : World) (d : Details) where
+  settlement_row : (settled from to : Bool) (o : Option Row) → is_settled w d ≡ settled → is_archived w d.from d ≡ from → is_archived w d.to d ≡ to → fmap.get w.rows d.from ≡ o
+      → cond settled (Some AlreadySettled) (cond (from && to) (from_row (Some NotLost) (λ r. option_map refusal_of_credit (credit_refusal r.holding.purse d.value)) o) (Some NotLost)) ≡ None → IsSettlement w d
+  settlement_row true from to o s f t at e = cc
+  settlement_row false false to o s f t at e = cc
+  settlement_row false true false o s f t at e = cc
+  settlement_row false true true None s f t at e = cc
+  settlement_row false true true (Some r) s f t at e = record { row = r; at = at; fresh = s; from = f; to = t; free = unmapped _ _ e }
+
+  pub is_settlement : settle_refusal w d ≡ None → IsSettlement w d
+  unfolding settle_refusal
+  is_settlement e = settlement_row (is_settled w d) (is_archived w d.from d) (is_archived w d.to d) (fmap.get w.rows d.from) refl refl refl refl e
+
 -- ---- the moves
 
 -- what is told where nothing changes: a refusal, the names of purses, the sums, or a load that is idle
@@ -116,6 +145,7 @@ pub record Moves (w : World) (P : Caller → Command → Deed World → Type 0) 
       → P (Clerk m) Collect (tell (with_member (all_collected w m) m (record row { float = row.float + uncollected_of w m })) (reply.Collected (uncollected_of w m)))
   pub archive : (p : Name) → P Operator (Archive p) (tell (with_archived w p) (reply.Archived (log_len (tray_of w p))))
   pub clear : (p : Name) (set : Entries) → not (may_clear w p set) ≡ false → P Operator (Clear p set) (record { state = w; reply = reply.Sent; sent = Some (p, message.Clear set); result = None })
+  pub settle : (d : Details) (s : IsSettlement w d) → P Operator (Settle d) (tell (with_settled (set_row w d.from (settled_row d s.row)) d) reply.Settled)
   pub own : (h : Name) (c : Command) (p : Name) (f : Holding → Deed Holding) (r : Row) → asks c ≡ Asks.OnPurse p f → fmap.get w.rows p ≡ Some r → is_name h r.holder ≡ true
       → P (Holder h) c (in_place (λ b. set_row w p (record r { holding = b })) (f r.holding))
 
@@ -144,6 +174,9 @@ module _ (w : World) (P : Caller → Command → Deed World → Type 0) (moves :
   by_moves Operator (Archive p) = unless_done _ _ (archive_refusal w p) _ (λ e. moves.archive p)
   by_moves Operator (Clear p set) = unless_done _ _ (clear_refusal w p set) _ (λ e. moves.clear p set (none_refused _ _ _ (none_refused _ _ _ e).1).0)
   by_moves Operator Reconcile = moves.told Operator Reconcile _ (Sums Operator Reconcile _)
+  by_moves Operator (Settle d) = unless_done _ _ (settle_refusal w d) _ (λ e.
+      let s = is_settlement w d e in
+      subst (λ v. P Operator (Settle d) (tell (with_settled v d) reply.Settled)) (sym (change_there w d.from (settled_row d) s.row s.at)) (moves.settle d s))
   by_moves (Clerk m) (NewHolder h t) = unless_done _ _ (new_holder_refusal w m h t) _ (λ e.
       let there = none_refused _ _ _ e in
       let free = none_refused _ _ _ there.1 in

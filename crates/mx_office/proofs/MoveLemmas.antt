@@ -8,9 +8,9 @@ use Rattle.mx_book.specs.World.{World, Row, Holding, Name, set_row, new_row}
 use Rattle.mx_book.proofs.NameLemmas.{names_total}
 use Rattle.mx_book.proofs.SumLemmas.{value_of, sum_values-insert}
 use Rattle.mx_office.specs.declared.values.Command.{Command}
-use Rattle.mx_office.specs.Conservation.{is_load as loads, is_redemption as redeems}
-use Rattle.mx_office.specs.Step.{loaded_row, base, step}
-use Rattle.mx_office.proofs.BalanceCommandLemmas.{loaded_redemptions}
+use Rattle.mx_office.specs.Conservation.{is_load as loads, is_redemption as redeems, is_settlement as settles}
+use Rattle.mx_office.specs.Step.{loaded_row, settled_row, base, step}
+use Rattle.mx_office.proofs.BalanceCommandLemmas.{loaded_redemptions, settled_redemptions}
 use Rattle.mx_office.proofs.CaseLemmas.{by_after}
 use Rattle.mx_office.proofs.MoveCaseLemmas.{by_moves}
 use Rattle.mx_office.proofs.EntrySumLemmas.{sum_values-new, sum_values-empty}
@@ -19,24 +19,26 @@ use Rattle.mx_office.proofs.SaneLemmas.{Sane}
 use Rattle.mx_office.proofs.SaneMoneyLemmas.{same_sum}
 use Rattle.mx_office.proofs.SeenLemmas.{clash}
 
--- what was issued stays but for a load, what was redeemed stays but for a redemption, and it never falls
+-- what was issued stays but for a load, what was redeemed stays but for a redemption, and it never falls; what is settled
+-- stays but for a settlement
 pub record IsMoved (w v : World) (c : Command) : Type 0 where
   pub issued : loads c ≡ false → of_all v issued_row ≡ of_all w issued_row
   pub redeemed : redeems c ≡ false → of_all v redeemed_row ≡ of_all w redeemed_row
   pub grows : of_all w redeemed_row ≤ of_all v redeemed_row
+  pub settled : settles c ≡ false → v.settled ≡ w.settled
 
 no_less : (m n : ℕ) → n ≡ m → m ≤ n
 no_less m n e = omega (arith, e)
 
--- both stay
-stays_moved : (w v : World) (c : Command) → of_all v issued_row ≡ of_all w issued_row → of_all v redeemed_row ≡ of_all w redeemed_row → IsMoved w v c
-stays_moved w v c issued redeemed = record { issued = λ _. issued; redeemed = λ _. redeemed; grows = no_less _ _ redeemed }
+-- all stay
+stays_moved : (w v : World) (c : Command) → v.settled ≡ w.settled → of_all v issued_row ≡ of_all w issued_row → of_all v redeemed_row ≡ of_all w redeemed_row → IsMoved w v c
+stays_moved w v c settled issued redeemed = record { issued = λ _. issued; redeemed = λ _. redeemed; grows = no_less _ _ redeemed; settled = λ _. settled }
 
--- after that both stay
-then_stays : (w v u : World) (c : Command) → IsMoved w v c → of_all u issued_row ≡ of_all v issued_row → of_all u redeemed_row ≡ of_all v redeemed_row → IsMoved w u c
-then_stays w v u c m issued redeemed =
+-- after that all stay
+then_stays : (w v u : World) (c : Command) → IsMoved w v c → u.settled ≡ v.settled → of_all u issued_row ≡ of_all v issued_row → of_all u redeemed_row ≡ of_all v redeemed_row → IsMoved w u c
+then_stays w v u c m settled issued redeemed =
     let grows : of_all w redeemed_row ≤ of_all v redeemed_row = m.grows in
-    record { issued = λ e. issued ∙ m.issued e; redeemed = λ e. redeemed ∙ m.redeemed e; grows = omega (arith, grows, redeemed) }
+    record { issued = λ e. issued ∙ m.issued e; redeemed = λ e. redeemed ∙ m.redeemed e; grows = omega (arith, grows, redeemed); settled = λ e. settled ∙ m.settled e }
 
 -- ---- a row that is set
 
@@ -70,24 +72,28 @@ redeems_more r b (More may reference amount gone is) =
 
 base_moved : (w : World) → Sane w → (caller : Caller) (c : Command) → IsMoved w (base w caller c).state c
 base_moved w s = by_moves w (λ _ c d. IsMoved w d.state c) (record {
-  told = λ caller c x is. stays_moved w w c refl refl;
-  member = λ m t none free. stays_moved w _ _ refl refl;
-  grant = λ m amount row there small room. stays_moved w _ _ refl refl;
-  holder = λ m h t row there none free. stays_moved w _ _ refl refl;
-  purse = λ m p h there none few. stays_moved w _ _ (new_same w p h issued_row none (sum_values-empty (λ n. n))) (new_same w p h redeemed_row none (sum_values-empty (λ n. n)));
+  told = λ caller c x is. stays_moved w w c refl refl refl;
+  member = λ m t none free. stays_moved w _ _ refl refl refl;
+  grant = λ m amount row there small room. stays_moved w _ _ refl refl refl;
+  holder = λ m h t row there none free. stays_moved w _ _ refl refl refl;
+  purse = λ m p h there none few. stays_moved w _ _ refl (new_same w p h issued_row none (sum_values-empty (λ n. n))) (new_same w p h redeemed_row none (sum_values-empty (λ n. n)));
   load = λ m p amount reference l.
       let same : of_all (set_row w p (loaded_row amount reference l.row)) redeemed_row ≡ of_all w redeemed_row =
       row_same w p l.row _ redeemed_row l.at (ap (sum_values (λ n. n)) (loaded_redemptions l.row.holding amount reference)) in
-      record { issued = λ never. clash true refl never; redeemed = λ _. same; grows = no_less _ _ same };
-  collect = λ m row there room. stays_moved w _ _ (same_sum w m s issued_row (λ r. refl)) (same_sum w m s redeemed_row (λ r. refl));
-  archive = λ p. stays_moved w _ _ refl refl;
-  clear = λ p set may. stays_moved w w _ refl refl;
+      record { issued = λ never. clash true refl never; redeemed = λ _. same; grows = no_less _ _ same; settled = λ _. refl };
+  collect = λ m row there room. stays_moved w _ _ refl (same_sum w m s issued_row (λ r. refl)) (same_sum w m s redeemed_row (λ r. refl));
+  archive = λ p. stays_moved w _ _ refl refl refl;
+  clear = λ p set may. stays_moved w w _ refl refl refl;
+  settle = λ d m.
+      let same : of_all (set_row w d.from (settled_row d m.row)) redeemed_row ≡ of_all w redeemed_row = row_same w d.from m.row _ redeemed_row m.at (ap (sum_values (λ n. n)) (settled_redemptions m.row.holding d)) in
+      record { issued = λ _. row_same w d.from m.row (settled_row d m.row) issued_row m.at refl; redeemed = λ _. same; grows = no_less _ _ same; settled = λ never. clash true refl never };
   own = λ h c p f r e at owned.
       let keeps : Redeems (redeems c) r.holding (f r.holding).state = (subst (EachKeeps c) e (each_keeps c) r.holding).redeems in
       record {
         issued = λ never. row_same w p r _ issued_row at refl;
         redeemed = λ never. row_same w p r _ redeemed_row at (ap (sum_values (λ n. n)) (redeems_none _ _ keeps never));
         grows = row_more w p r _ redeemed_row at (redeems_more r (f r.holding).state keeps);
+        settled = λ _. refl;
       };
 })
 
@@ -96,4 +102,4 @@ unfolding step
 step_moved w s caller c =
     let d = base w caller c in
     let left = base_moved w s caller c in
-    by_after (λ v. IsMoved w v c) d left (λ m r e at. then_stays w d.state _ c left (row_same d.state m.0 r _ issued_row at refl) (row_same d.state m.0 r _ redeemed_row at refl)) (λ v x now e f. then_stays w v _ c now refl refl)
+    by_after (λ v. IsMoved w v c) d left (λ m r e at. then_stays w d.state _ c left refl (row_same d.state m.0 r _ issued_row at refl) (row_same d.state m.0 r _ redeemed_row at refl)) (λ v x now e f. then_stays w v _ c now refl refl refl)

@@ -1,7 +1,8 @@
 -- Each rule on a purse keeps the scheme's equation, and is an operation of the abstract world.
-use Rattle.std.proofs.Common.{◌≡◌, refl, ap, Some, ◌&&◌}
+use Rattle.std.proofs.Common.{◌≡◌, not, refl, ap, Some, ◌&&◌}
 use Rattle.std.specs.FinMap as fmap
 use Rattle.mx_purse.specs.Operations.{expects_val}
+use Rattle.mx_book.specs.Reads.{is_settled}
 use Rattle.mx_book.specs.World.{World, Row, Holding, Name, set_row}
 use Rattle.mx_office.specs.declared.values.Command.{Command}
 use Rattle.mx_office.specs.Abstract.{ChosenLost}
@@ -17,7 +18,7 @@ module _ (w : World) (p : Name) (r : Row) (at : fmap.get w.rows p ≡ Some r) (i
   done_act (Rests flow money redeemed is) = still_nothing w p r (with_holding r d.state) at i k.invariant k.step c asked d.reply flow money is
   done_act (Redeems n flow enough money redeemed is) = still_redeem w p r (with_holding r d.state) at i k.invariant k.step c asked d.reply flow n enough money is
   done_act (Requests e other own rests due flows apart enough money redeemed moves loses) =
-      request_simulated w p r (with_holding r d.state) at i k.invariant k.step c asked d.reply e other own (ap (λ b. b && (seen w).due e) rests) flows (side_there w i expects_val e.to e (fmap.get w.rows e.to) refl due) apart enough money moves loses
+      request_simulated w p r (with_holding r d.state) at i k.invariant k.step c asked d.reply e other own (ap (λ b. (b && (seen w).due e) && not (is_settled w e)) rests) flows (side_there w i expects_val e.to e (fmap.get w.rows e.to) refl due) apart enough money moves loses
   done_act (Receives e other own flows waits rests money redeemed is) = value_simulated w p r (with_holding r d.state) at i k.invariant k.step c asked d.reply e other own flows waits rests money is
 
 -- what a rule that is asked of a purse is in the abstract world

@@ -79,6 +79,7 @@ base_leaves w = by_moves w (λ _ _ d. Leaves w d) (record {
   collect = λ m row there room. accepted_leaves w _ refl;
   archive = λ p. accepted_leaves w _ refl;
   clear = λ p set may. accepted_leaves w _ refl;
+  settle = λ d s. accepted_leaves w _ refl;
   own = λ h c p f r e at owned x is.
       let same = (subst (EachKeeps c) e (each_keeps c) r.holding).leaves x is in
       (ap (λ b. set_row w p (record r { holding = b })) same.0 ∙ set_same w p r at, same.1, same.2);

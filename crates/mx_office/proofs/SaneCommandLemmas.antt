@@ -8,7 +8,7 @@ use Rattle.mx_purse.specs.declared.message.Message.{Message}
 use Rattle.mx_purse.specs.declared.message.Message.TheVariants as message
 use Rattle.mx_purse.specs.Operations.{expects_ack}
 use Rattle.mx_book.specs.declared.values.Caller.{Caller}
-use Rattle.mx_book.specs.Reads.{is_archived}
+use Rattle.mx_book.specs.Reads.{is_archived, is_settled}
 use Rattle.mx_book.specs.Totals.{balance_row, issued_row, redeemed_row}
 use Rattle.mx_book.specs.World.{World, Name, Token, result_cmp, opening}
 use Rattle.mx_book.proofs.FoundLemmas.{inside}
@@ -25,7 +25,7 @@ use Rattle.mx_office.proofs.DeedLemmas.{not_some}
 use Rattle.mx_office.proofs.HandleLemmas.{EachKept, each_kept}
 use Rattle.mx_office.proofs.SaneLemmas.{Sane, IsSaneDeed, IsNextSane, told_sane, apart_sane, row_sane, after_sane}
 use Rattle.mx_office.proofs.SaneRowLemmas.{new_sane, archive_sane}
-use Rattle.mx_office.proofs.SaneMoneyLemmas.{load_sane, collect_sane}
+use Rattle.mx_office.proofs.SaneMoneyLemmas.{load_sane, settle_sane, collect_sane}
 
 -- ---- each command
 
@@ -50,6 +50,7 @@ base_sane w s = by_moves w (λ caller c d. IsSaneDeed w d) (record {
     sent = λ m h. subst (λ (y : Name × Message). IsTimely (seen w) y.0 y.1) (inside (p, message.Clear set) m h) (clear_means w p set (not_not _ may)).archived;
     read = λ result h. not_some result h;
   };
+  settle = λ d m. let next = settle_sane w s d m in told_sane w _ _ next.sane next.lost;
   own = λ h c p f r e at owned. row_sane w p r c (f r.holding) at s ((subst (EachKept w c) e (each_kept w s.invariant s.books c)).each r at);
 })
 
@@ -63,6 +64,7 @@ pub opening_sane : (t : Token) → Sane (opening t)
 opening_sane t =
     let none : (p : Name) → fmap.get (opening t).rows p ≡ None = λ p. fmap.get-empty name_cmp p in
     let never : (p : Name) (d : Details) → is_archived (opening t) p d ≡ false = λ p d. ap is_some (fmap.get-empty result_cmp (p, d)) in
+    let unsettled : (d : Details) → is_settled (opening t) d ≡ false = λ d. ap is_some (fmap.get-empty details_cmp d) in
     let gone : (d : Details) → (seen (opening t)).gone d ≡ false = λ d. ap (λ o. side expects_ack o (is_archived (opening t) d.from d) d) (none d.from) ∙ never d.from d in
     record {
       invariant = record {
@@ -72,12 +74,13 @@ opening_sane t =
         tray = λ p d h. clash _ h (never p d);
         shelf = λ p d h. clash _ h (never p d);
         once = λ p d h. never p d;
+        settled = λ d h. clash _ h (unsettled d);
         timely = λ p r at. not_some r (sym (none p) ∙ at);
         known = λ d h. clash _ h (gone d);
       };
       books = record {
         out = fmap.empty;
-        covers = λ d. ap number (fmap.get-empty details_cmp d) ∙ ap (λ b. cond b d.value 0) (sym (ap (λ b. b && (seen (opening t)).due d) (gone d)));
+        covers = λ d. ap number (fmap.get-empty details_cmp d) ∙ ap (λ b. cond b d.value 0) (sym (ap (λ b. (b && (seen (opening t)).due d) && not (is_settled (opening t) d)) (gone d)));
         equal = (λ k. (sum_values-empty balance_row k + sum-empty details_total k) + sum_values-empty redeemed_row k) ∙ sym (sum_values-empty issued_row);
       };
     }

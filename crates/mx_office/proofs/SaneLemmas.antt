@@ -77,7 +77,7 @@ apart_sane w tokens members holders s =
     let i : Invariant w = s.invariant in
     let b : Books w = s.books in
     record {
-      invariant = record { named = i.named; sound = i.sound; held = i.held; tray = i.tray; shelf = i.shelf; once = i.once; timely = i.timely; known = i.known };
+      invariant = record { named = i.named; sound = i.sound; held = i.held; tray = i.tray; shelf = i.shelf; once = i.once; settled = i.settled; timely = i.timely; known = i.known };
       books = record { out = b.out; covers = b.covers; equal = b.equal };
     }
 
@@ -155,6 +155,7 @@ tray_sane w p d s fresh logged =
             (λ e. subst (λ (y : Name × Details). (r : Row) → fmap.get w.rows y.0 ≡ Some r → has_logged r.holding.purse.log y.1 ≡ true) (sym e) (λ r at. ap (λ o. logs o d) (sym at) ∙ logged)) (λ t. i.tray x c t);
         shelf = λ x c h. tray_split w p x d c h (λ e. subst (λ (y : Name × Details). is_some (fmap.get w.rows y.0) ≡ true) (sym e) (logs_there _ d logged)) (λ t. i.shelf x c t);
         once = λ x c h. tray_split w p x d c h (λ e. subst (λ (y : Name × Details). is_archived w y.0 y.1 ≡ false) (sym e) fresh) (λ t. i.once x c t);
+        settled = i.settled;
         timely = i.timely;
         known = i.known;
       };

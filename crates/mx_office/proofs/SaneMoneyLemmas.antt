@@ -1,28 +1,31 @@
 -- Loads, and redemptions that are collected, keep the invariant.
-use Rattle.std.proofs.Common.{◌≡◌, ℕ, ◌+◌, Bool, true, false, cond, refl, sym, ◌∙◌, ap, subst, Option, Some, None, ◌||◌, arith, is_some, is_none, option_map}
+use Rattle.std.proofs.Common.{◌≡◌, ℕ, ◌+◌, Bool, true, false, cond, refl, sym, ◌∙◌, ap, subst, Option, Some, None, ◌||◌, ◌&&◌, not, arith, is_some, is_none, option_map}
 use Rattle.std.specs.Prelude.{nat_lt}
 use Rattle.std.specs.FinMap as fmap
-use Rattle.mx_pay.specs.Details.{Details}
-use Rattle.mx_pay.specs.Log.{has_logged}
+use Rattle.mx_pay.specs.Details.{Details, is_details}
+use Rattle.mx_pay.specs.Log.{has_logged, with_entry}
 use Rattle.mx_pay.specs.Names.{name_cmp}
 use Rattle.mx_purse.specs.declared.message.Message.{Message}
 use Rattle.mx_purse.specs.declared.refusals.LoadRefusal.{LoadRefusal}
-use Rattle.mx_purse.specs.Operations.{expects_req, expects_val, expects_ack, load_refusal, loaded}
+use Rattle.mx_purse.specs.declared.refusals.CreditRefusal.{CreditRefusal}
+use Rattle.mx_purse.specs.Operations.{expects_req, expects_val, expects_ack, load_refusal, loaded, credit_refusal, credited}
 use Rattle.mx_book.specs.declared.values.LineKind.TheVariants as kind
-use Rattle.mx_book.specs.Reads.{is_archived}
+use Rattle.mx_book.specs.Reads.{is_archived, is_settled}
 use Rattle.mx_book.specs.Sums.{sum_values}
 use Rattle.mx_book.specs.Totals.{of_all, balance_row, issued_row, redeemed_row}
 use Rattle.mx_book.specs.World.{World, Row, Holding, Name, set_row, is_of_member, with_collected, all_collected}
 use Rattle.mx_book.proofs.FoundLemmas.{inside}
 use Rattle.mx_book.proofs.NameLemmas.{names_exact}
 use Rattle.mx_book.proofs.UnderLemmas.{get-remake}
-use Rattle.mx_office.specs.Step.{with_purse, money_line, loaded_holding, loaded_row}
+use Rattle.mx_office.specs.Step.{with_purse, money_line, payment_line, loaded_holding, loaded_row, settled_holding, settled_row, with_settled}
 use Rattle.mx_office.proofs.AccountLemmas.{in_tray}
 use Rattle.mx_office.proofs.EntrySumLemmas.{sum_values-new, sum_values-remake, sum_entries-same, values_are}
-use Rattle.mx_office.proofs.SeenLemmas.{Step, IsTimely, timely-step, known-step}
-use Rattle.mx_office.proofs.SoundLemmas.{IsSound, Turns, none_moves, still}
-use Rattle.mx_office.proofs.SeenWorldLemmas.{Invariant, seen, side, has_status, entry_of, is_past, flow-same, turn_step, turn_flow, turn_keeps}
-use Rattle.mx_office.proofs.OutLemmas.{Books, books_keep}
+use Rattle.mx_office.proofs.SeenLemmas.{Step, IsTimely, neither, or_cases, timely-step, known-step}
+use Rattle.mx_office.proofs.MoveCaseLemmas.{IsSettlement}
+use Rattle.mx_pay.proofs.SameLemmas.{same_details, details_itself, has-with_entry}
+use Rattle.mx_office.proofs.SoundLemmas.{IsSound, Turns, details_turned, none_moves, still}
+use Rattle.mx_office.proofs.SeenWorldLemmas.{Invariant, seen, side, has_status, entry_of, is_past, flowing, flow-same, archived_flows, turn_step, turn_out, turn_flow, turn_keeps}
+use Rattle.mx_office.proofs.OutLemmas.{Books, books_keep, books_turn}
 use Rattle.mx_office.proofs.DeedLemmas.{not_some}
 use Rattle.mx_office.proofs.SaneLemmas.{Sane, IsNextSane, stays_lost}
 use Rattle.mx_office.proofs.SaneRowLemmas.{like_step}
@@ -54,6 +57,62 @@ module _ (w : World) (p : Name) (r : Row) (at : fmap.get w.rows p ≡ Some r) (s
   pub load_sane : load_refusal r.holding.purse amount ≡ None → IsNextSane w (set_row w p (loaded_row amount reference r))
   unfolding loaded_holding
   load_sane e = load_guarded (load_refusal r.holding.purse amount) e
+
+-- ---- a settlement
+
+module _ (w : World) (s : Sane w) (d : Details) (m : IsSettlement w d) where
+  -- the row, and the World, where the guard of the credit answers so
+  abbrev pub credited_by_guard : Option CreditRefusal → Row
+  credited_by_guard o = record m.row {
+    holding = cond (is_none o) (with_purse m.row.holding (credited m.row.holding.purse d.value) (Some (payment_line (credited m.row.holding.purse d.value) kind.Settled d))) m.row.holding;
+  }
+
+  abbrev pub settled_by_guard : Option CreditRefusal → World
+  settled_by_guard o = with_settled (set_row w d.from (credited_by_guard o)) d
+
+  pub settle_turns : Turns (seen w) (is_archived w d.from) none_moves m.row.holding.purse (credited_by_guard None).holding.purse
+  settle_turns = still (seen w) (is_archived w d.from) m.row.holding.purse (m.row.holding.purse.balance + d.value) (m.row.holding.purse.lines + 1) (omega arith) (s.invariant.sound d.from m.row m.at)
+
+  -- it was under way, and isn't any more
+  pub settle_flowed : flowing w d ≡ true
+  settle_flowed = archived_flows w d m.from m.to m.fresh
+
+  pub settle_rests : flowing (settled_by_guard None) d ≡ false
+  settle_rests = neither _ _ (ap not (has-with_entry w.settled d d ∙ ap (λ b. b || has_logged w.settled d) (details_itself d)))
+
+  pub others_flow : (c : Details) → is_details d c ≡ false → flowing (settled_by_guard None) c ≡ flowing w c
+  others_flow c apart =
+      let same : is_settled (settled_by_guard None) c ≡ is_settled w c = has-with_entry w.settled d c ∙ ap (λ b. b || has_logged w.settled c) (details_turned c d ∙ apart) in
+      (λ k. turn_out w d.from m.row (credited_by_guard None) m.at s.invariant none_moves settle_turns c refl k && not (same k))
+
+  settle_guarded : (o : Option CreditRefusal) → o ≡ None → IsNextSane w (settled_by_guard o)
+  settle_guarded (Some x) e = not_some x (sym e)
+  settle_guarded None e =
+      let i : Invariant w = s.invariant in
+      let t : Row = credited_by_guard None in
+      let j : Invariant (set_row w d.from t) = turn_keeps w d.from m.row t m.at i none_moves settle_turns (i.timely d.from m.row m.at) (λ c h. i.tray d.from c h m.row m.at) in
+      record {
+        sane = record {
+          invariant = record {
+            named = j.named;
+            sound = j.sound;
+            held = j.held;
+            tray = j.tray;
+            shelf = j.shelf;
+            once = j.once;
+            settled = λ c h. or_cases (is_details c d) _ (λ same. subst (λ (x : Details). (is_archived w x.from x ≡ true) × (is_archived w x.to x ≡ true)) (sym (same_details c d same)) (m.from, m.to)) (i.settled c)
+                (sym (has-with_entry w.settled d c) ∙ h);
+            timely = j.timely;
+            known = j.known;
+          };
+          books = books_turn w d.from (Some m.row) t m.at s.books (with_entry w.settled d) d others_flow 0 d.value (ap (λ b. cond b d.value 0) (sym settle_rests)) (ap (λ b. cond b d.value 0) (sym settle_flowed)) (omega arith);
+        };
+        lost = stays_lost w (set_row w d.from t) (turn_step w d.from m.row t m.at i none_moves settle_turns);
+      }
+
+  pub settle_sane : IsNextSane w (with_settled (set_row w d.from (settled_row d m.row)) d)
+  unfolding settled_holding
+  settle_sane = settle_guarded (credit_refusal m.row.holding.purse d.value) m.free
 
 -- ---- redemptions that are collected
 
@@ -125,12 +184,13 @@ module _ (w : World) (m : Name) (s : Sane w) where
             tray = λ q d t y e. over_rows (λ x a. (c : Details) → in_tray w x c ≡ true → has_logged a.purse.log c ≡ true) (λ x z at c u. i.tray x c u z at) q y e d t;
             shelf = λ q d t. over_taken (λ x y. is_some x ≡ true → is_some y ≡ true) q (λ u. u) (λ r u. refl) (i.shelf q d t);
             once = i.once;
+            settled = i.settled;
             timely = over_rows (λ x a. (k : ℕ) (n : Message) → fmap.get a.inbox k ≡ Some n → IsTimely (seen collected_world) x n) (λ x r at k n e. timely-step _ _ collect_step x n (i.timely x r at k n e));
             known = known-step _ _ collect_step i.known;
           };
           books = record {
             out = b.out;
-            covers = λ d. b.covers d ∙ ap (λ x. cond x d.value 0) (sym (flow-same collected_world w d (collect_gone d) (collect_due d)));
+            covers = λ d. b.covers d ∙ ap (λ x. cond x d.value 0) (sym (flow-same collected_world w d (collect_gone d) (collect_due d) refl));
             equal = (λ k. (same_sum balance_row (λ r. refl) k + sum_values (λ n. n) b.out) + same_sum redeemed_row (λ r. refl) k) ∙ b.equal ∙ sym (same_sum issued_row (λ r. refl));
           };
         };

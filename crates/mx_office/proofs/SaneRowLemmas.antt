@@ -78,7 +78,7 @@ module _ (w : World) (p h : Name) (none : fmap.get w.rows p ≡ None) (s : Sane 
           invariant = kept_with w p None y none s.invariant new_step
               (record { present = tt; entries = λ d t. clash (has_logged none_logged d || is_archived w p d) t (ap (λ x. x || is_archived w p d) (has-none_logged d) ∙ no_archive d) }) refl
               (λ k m e. not_some m (sym (fmap.get-empty nat_cmp k) ∙ e)) (λ c u. clash _ u (no_tray c));
-          books = books_keep w p None y none s.books (λ d. flow-same (set_row w p y) w d (new_gone d) (new_due d)) (omega (arith, redeemed, issued));
+          books = books_keep w p None y none s.books (λ d. flow-same (set_row w p y) w d (new_gone d) (new_due d) refl) (omega (arith, redeemed, issued));
         };
         lost = stays_lost w (set_row w p y) new_step;
       }
@@ -141,12 +141,13 @@ module _ (w : World) (p : Name) (s : Sane w) where
             tray = λ x c t. i.tray x c (still_tray x c t).0;
             shelf = λ x c t. i.shelf x c (still_tray x c t).0;
             once = λ x c t. now_archived x c ∙ (λ k. i.once x c (still_tray x c t).0 k || neither (in_tray w x c) _ (not_false _ (still_tray x c t).1) k);
+            settled = λ d t. let x = i.settled d t in (now_archived d.from d ∙ or_left _ _ x.0, now_archived d.to d ∙ or_left _ _ x.1);
             timely = λ x r at k m e. timely-step _ _ archive_step x m (i.timely x r at k m e);
             known = known-step _ _ archive_step i.known;
           };
           books = record {
             out = b.out;
-            covers = λ d. b.covers d ∙ ap (λ x. cond x d.value 0) (sym (flow-same (with_archived w p) w d (side_same expects_ack d.from d _ refl) (side_same expects_val d.to d _ refl)));
+            covers = λ d. b.covers d ∙ ap (λ x. cond x d.value 0) (sym (flow-same (with_archived w p) w d (side_same expects_ack d.from d _ refl) (side_same expects_val d.to d _ refl) refl));
             equal = b.equal;
           };
         };

@@ -1,5 +1,5 @@
 -- The security properties of the purses, for each command.
-use Rattle.std.proofs.Common.{◌≡◌, ℕ, ◌+◌, ◌≤◌, true, false, refl, sym, ◌∙◌, ap, subst, Option, Some, None, ◌&&◌, ◌||◌, arith, is_some}
+use Rattle.std.proofs.Common.{◌≡◌, ℕ, ◌+◌, ◌≤◌, true, false, not, refl, sym, ◌∙◌, ap, subst, Option, Some, None, ◌&&◌, ◌||◌, arith, is_some}
 use Rattle.std.proofs.lemmas.Bool.{or_parts}
 use Rattle.std.specs.FinMap as fmap
 use Rattle.mx_pay.specs.Details.{Details}
@@ -12,15 +12,15 @@ use Rattle.mx_purse.specs.State.{State}
 use Rattle.mx_purse.specs.Operations.{expects_req, expects_val, expects_ack, handled}
 use Rattle.mx_book.specs.declared.values.Caller.{Caller}
 use Rattle.mx_book.specs.declared.values.Caller.TheVariants.{Holder}
-use Rattle.mx_book.specs.Reads.{from_row, is_archived}
-use Rattle.mx_book.specs.Totals.{of_all, balance_row, issued_row, redeemed_row, from_logged, from_in_epa, to_logged, definitely_lost, occurring, transit, lost}
+use Rattle.mx_book.specs.Reads.{from_row, is_archived, is_settled}
+use Rattle.mx_book.specs.Totals.{of_all, balance_row, issued_row, redeemed_row, from_logged, from_in_epa, to_logged, definitely_lost, still_lost, occurring, transit, lost}
 use Rattle.mx_book.specs.World.{World, Row, Holding as Held, Name, change_holding}
 use Rattle.mx_office.specs.declared.values.Command.{Command}
 use Rattle.mx_office.specs.declared.values.Command.TheVariants.{Handle}
 use Rattle.mx_office.specs.declared.values.Refusal.TheVariants.{NoSuchPurse, NoSuchMessage}
 use Rattle.mx_office.specs.declared.values.Reply.{Reply}
 use Rattle.mx_office.specs.declared.values.Reply.TheVariants as reply
-use Rattle.mx_office.specs.Conservation.{CreatesNoValue, AccountsAllValue, AcceptsAuthentic, IsAuthentic, PaysCovered, is_load, is_redemption}
+use Rattle.mx_office.specs.Conservation.{CreatesNoValue, AccountsAllValue, AcceptsAuthentic, IsAuthentic, PaysCovered, is_load, is_redemption, is_settlement}
 use Rattle.mx_office.specs.Reachable.{IsReachable}
 use Rattle.mx_office.specs.Step.{on_found, in_place, own_holding, handle, handle_message, step}
 use Rattle.mx_office.proofs.ConservedLemmas.{or_turned, split_side, value_within, due_occurs, conserved}
@@ -46,22 +46,29 @@ lost_occurs w d h = due_occurs w d (waits (fmap.get w.rows d.to) (both_parts _ _
     waits None t = t
     waits (Some r) t = either_true (expects_val r.holding.purse.status d) _ t
 
-lost_grows : (w v : World) → StaysLost w v → lost w ≤ lost v
-lost_grows w v stays = value_within (definitely_lost w) (definitely_lost v) (occurring w) (occurring v) (λ d t. lost_seen v d ∙ stays d (sym (lost_seen w d) ∙ t)) (lost_occurs v)
+-- where nothing is settled
+lost_grows : (w v : World) → StaysLost w v → v.settled ≡ w.settled → lost w ≤ lost v
+lost_grows w v stays same = value_within (still_lost w) (still_lost v) (occurring w) (occurring v)
+    (λ d t. let parts = both_parts (definitely_lost w d) _ t in
+    let gone : definitely_lost v d ≡ true = lost_seen v d ∙ stays d (sym (lost_seen w d) ∙ parts.0) in
+    let still : not (is_settled v d) ≡ true = ap (λ x. not (fmap.contains_key x d)) same ∙ parts.1 in
+    (λ k. gone k && still k))
+    (λ d t. lost_occurs v d (both_parts (definitely_lost v d) _ t).0)
 
 -- ---- no value created, and all value accounted
 
 pub creates_none : (w : World) (caller : Caller) (c : Command) → IsReachable w → CreatesNoValue w caller c
-creates_none w caller c r no_load =
+creates_none w caller c r neither =
     let s : Sane w = reachable_sane w r in
     let v : World = (step w caller c).world in
     let next : IsNextSane w v = step_sane w s caller c in
     let moved : IsMoved w v c = step_moved w s caller c in
     let e1 : ((of_all w balance_row + transit w) + lost w) + of_all w redeemed_row ≡ of_all w issued_row = conserved w s in
     let e2 : ((of_all v balance_row + transit v) + lost v) + of_all v redeemed_row ≡ of_all v issued_row = conserved v next.sane in
-    let e3 : of_all v issued_row ≡ of_all w issued_row = moved.issued no_load in
+    let no = or_parts (is_load c) (is_settlement c) neither in
+    let e3 : of_all v issued_row ≡ of_all w issued_row = moved.issued no.0 in
     let e4 : of_all w redeemed_row ≤ of_all v redeemed_row = moved.grows in
-    let e5 : lost w ≤ lost v = lost_grows w v next.lost in
+    let e5 : lost w ≤ lost v = lost_grows w v next.lost (moved.settled no.1) in
     omega (arith, e1, e2, e3, e4, e5)
 
 pub all_accounted : (w : World) (caller : Caller) (c : Command) → IsReachable w → AccountsAllValue w caller c

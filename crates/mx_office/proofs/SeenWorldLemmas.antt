@@ -1,5 +1,5 @@
 -- The invariant of a World under which value is conserved, what is under way, and the change of one row.
-use Rattle.std.proofs.Common.{◌≡◌, ℕ, Bool, true, false, cond, refl, sym, ◌∙◌, ap, subst, Option, Some, None, ◌&&◌, ◌||◌, ◌⊎◌, inl, inr}
+use Rattle.std.proofs.Common.{◌≡◌, ℕ, Bool, true, false, not, cond, refl, sym, ◌∙◌, ap, subst, Option, Some, None, ◌&&◌, ◌||◌, ◌⊎◌, inl, inr}
 use Rattle.std.specs.Prelude.{nat_lt, is_some}
 use Rattle.std.specs.Cmp.{both_ways}
 use Rattle.std.specs.FinMap as fmap
@@ -10,13 +10,13 @@ use Rattle.mx_purse.specs.declared.message.Message.{Message}
 use Rattle.mx_purse.specs.declared.status.Status.{Status}
 use Rattle.mx_purse.specs.declared.status.Status.TheVariants.{Epr, Epv, Epa}
 use Rattle.mx_purse.specs.Operations.{expects_req, expects_val, expects_ack}
-use Rattle.mx_book.specs.Reads.{from_row, is_archived}
+use Rattle.mx_book.specs.Reads.{from_row, is_archived, is_settled}
 use Rattle.mx_book.specs.Totals.{is_entry}
 use Rattle.mx_book.specs.World.{World, Row, Name, set_row}
 use Rattle.mx_book.proofs.FoundLemmas.{each_inserted}
 use Rattle.mx_book.proofs.NameLemmas.{names_total, same_name}
 use Rattle.mx_office.proofs.AccountLemmas.{in_tray}
-use Rattle.mx_office.proofs.SeenLemmas.{Seen, Step, IsTimely, IsKnown, clash, not_true, both_parts, or_cases, timely-step, known-step}
+use Rattle.mx_office.proofs.SeenLemmas.{Seen, Step, IsTimely, IsKnown, clash, not_true, both_parts, either_true, or_cases, timely-step, known-step}
 use Rattle.mx_office.proofs.SoundLemmas.{IsSound, IsPresent, Turns, marked, expects_req_is, expects_val_is, expects_ack_is}
 
 -- ---- what is seen of a World
@@ -52,15 +52,28 @@ seen w = record {
   kept = is_entry w;
 }
 
--- whether the value of a payment has left its from purse and is still due
+-- whether the value of a payment has left its from purse and is still due, and isn't settled
 abbrev pub flowing : World → Details → Bool
-flowing w d = (seen w).gone d && (seen w).due d
+flowing w d = ((seen w).gone d && (seen w).due d) && not (is_settled w d)
 
-pub flow-same : (v w : World) (d : Details) → (seen v).gone d ≡ (seen w).gone d → (seen v).due d ≡ (seen w).due d → flowing v d ≡ flowing w d
-flow-same v w d gone due = (λ i. gone i && due i)
+pub flow-same : (v w : World) (d : Details) → (seen v).gone d ≡ (seen w).gone d → (seen v).due d ≡ (seen w).due d → is_settled v d ≡ is_settled w d → flowing v d ≡ flowing w d
+flow-same v w d gone due settled = (λ i. (gone i && due i) && not (settled i))
+
+pub flow_parts : (w : World) (d : Details) → flowing w d ≡ true → ((seen w).gone d ≡ true) × ((seen w).due d ≡ true)
+flow_parts w d h = both_parts _ _ (both_parts _ _ h).0
+
+-- what is archived has left the from purse, and is due to the to purse
+side_archived : (f : Status → Details → Bool) (o : Option Row) (a : Bool) (d : Details) → a ≡ true → side f o a d ≡ true
+side_archived f None a d h = h
+side_archived f (Some r) a d h = either_true (f r.holding.purse.status d) _ (either_true (has_logged r.holding.purse.log d) a h)
+
+-- what is archived for both purses and isn't settled is under way
+pub archived_flows : (w : World) (d : Details) → is_archived w d.from d ≡ true → is_archived w d.to d ≡ true → is_settled w d ≡ false → flowing w d ≡ true
+archived_flows w d from to fresh = (λ k. (side_archived expects_ack (fmap.get w.rows d.from) _ d from k && side_archived expects_val (fmap.get w.rows d.to) _ d to k) && not (fresh k))
 
 -- what each command keeps: purses are kept under their names and are sound, what is archived or in the tray is of purses
--- that are there, what is in the tray is logged and not archived, and messages are timely
+-- that are there, what is in the tray is logged and not archived, what is settled is archived for both purses, and messages
+-- are timely
 pub record Invariant (w : World) : Type 0 where
   pub named : (p : Name) (r : Row) → fmap.get w.rows p ≡ Some r → r.holding.purse.name ≡ p
   pub sound : (p : Name) (r : Row) → fmap.get w.rows p ≡ Some r → IsSound r.holding.purse (is_archived w p)
@@ -68,6 +81,7 @@ pub record Invariant (w : World) : Type 0 where
   pub tray : (p : Name) (d : Details) → in_tray w p d ≡ true → (r : Row) → fmap.get w.rows p ≡ Some r → has_logged r.holding.purse.log d ≡ true
   pub shelf : (p : Name) (d : Details) → in_tray w p d ≡ true → is_some (fmap.get w.rows p) ≡ true
   pub once : (p : Name) (d : Details) → in_tray w p d ≡ true → is_archived w p d ≡ false
+  pub settled : (d : Details) → is_settled w d ≡ true → (is_archived w d.from d ≡ true) × (is_archived w d.to d ≡ true)
   pub timely : (p : Name) (r : Row) → fmap.get w.rows p ≡ Some r → (k : ℕ) (m : Message) → fmap.get r.holding.inbox k ≡ Some m → IsTimely (seen w) p m
   pub known : IsKnown (seen w)
 
@@ -104,6 +118,22 @@ module _ (w : World) (i : Invariant w) where
   pub due_past : (d : Details) → (seen w).due d ≡ true → (seen w).to_past d ≡ true
   due_past d h = due_at d (fmap.get w.rows d.to) refl h
 
+  -- what is settled has left the from purse, and the to purse doesn't wait for it
+  pub stays_open : (d : Details) → (seen w).gone d ≡ false → is_settled w d ≡ false
+  stays_open d rests = not_true _ (λ t. clash _ (side_archived expects_ack (fmap.get w.rows d.from) _ d (i.settled d t).0) rests)
+
+  waits_at_most : (d : Details) (o : Option Row) → fmap.get w.rows d.to ≡ o → has_status expects_val o d ≡ true → is_archived w d.to d ≡ false
+  waits_at_most d None at h = clash false h refl
+  waits_at_most d (Some r) at h =
+      let x : IsPresent r.holding.purse (is_archived w d.to) (Epv d) = subst (IsPresent r.holding.purse (is_archived w d.to)) (expects_val_is r.holding.purse.status d h) (i.sound d.to r at).present in
+      not_true _ (λ t. clash _ (either_true (has_logged r.holding.purse.log d) _ t) x.fresh)
+
+  pub kept_rests : (d : Details) → is_archived w d.to d ≡ true → (seen w).epv d ≡ false
+  kept_rests d kept = not_true _ (λ h. clash _ kept (waits_at_most d (fmap.get w.rows d.to) refl h))
+
+  pub waits_open : (d : Details) → (seen w).epv d ≡ true → is_settled w d ≡ false
+  waits_open d h = not_true _ (λ t. clash _ h (kept_rests d (i.settled d t).1))
+
 -- what is waited for is due
 pub waits_due : (d : Details) (o : Option Row) (a : Bool) → has_status expects_val o d ≡ true → side expects_val o a d ≡ true
 waits_due d None a t = clash false t refl
@@ -137,6 +167,7 @@ module _ (w : World) (p : Name) (before : Option Row) (s : Row) (at : fmap.get w
     tray = λ q d h y e. each_inserted w.rows p s (λ x z. (c : Details) → in_tray w x c ≡ true → has_logged z.holding.purse.log c ≡ true) tray (λ x z a c t. i.tray x c t z a) q y e d h;
     shelf = λ q d h. over_set (λ a b. is_some a ≡ true → is_some b ≡ true) q (λ o t. t) (λ e t. refl) (i.shelf q d h);
     once = i.once;
+    settled = i.settled;
     timely = each_inserted w.rows p s (λ x y. (k : ℕ) (m : Message) → fmap.get y.holding.inbox k ≡ Some m → IsTimely (seen (set_row w p s)) x m)
         (λ k m e. timely-step _ _ step p m (inbox k m e))
         (λ x y a k m e. timely-step _ _ step x m (i.timely x y a k m e));
@@ -211,11 +242,14 @@ module _ (w : World) (p : Name) (r s : Row) (at : fmap.get w.rows p ≡ Some r) 
           (λ e. subst (λ y. entry_of (Some r) (is_archived w y d) d ≡ true → entry_of (Some s) (is_archived w y d) d ≡ true) (sym e) (t.kept d));
     }
 
-    -- what is under way stays, but for what begins or ends to be
-    pub turn_flow : (d : Details) → moves d ≡ false → flowing row_set d ≡ flowing w d
-    turn_flow d rests = both_ways _ _
+    pub turn_out : (d : Details) → moves d ≡ false → ((seen row_set).gone d && (seen row_set).due d) ≡ ((seen w).gone d && (seen w).due d)
+    turn_out d rests = both_ways _ _
         (λ h. let x = both_parts _ _ h in elim (gone_came d x.0) [ inl gone ↦ (λ k. gone k && still_due d gone x.1 k) | inr y ↦ clash _ y.1 rests ])
         (λ h. let x = both_parts _ _ h in elim (gone_left d x.0) [ inr late ↦ clash _ x.1 late | inl gone ↦ elim (due_left d x.1) [ inl due ↦ (λ k. gone k && due k) | inr y ↦ clash _ y.1 rests ] ])
+
+    -- what is under way stays, but for what begins or ends to be
+    pub turn_flow : (d : Details) → moves d ≡ false → flowing row_set d ≡ flowing w d
+    turn_flow d rests = (λ k. turn_out d rests k && not (is_settled w d))
 
     -- the invariant stays, where messages leave the inbox and what is in the tray is logged
     pub turn_keeps : ((k : ℕ) (m : Message) → fmap.get s.holding.inbox k ≡ Some m → IsTimely (seen w) p m) → ((d : Details) → in_tray w p d ≡ true → has_logged s.holding.purse.log d ≡ true) → Invariant row_set

@@ -6,7 +6,7 @@ use Rattle.std.specs.Option.{option_map_or}
 use Rattle.std.specs.FinMap as fmap
 use Rattle.mx_pay.specs.Names.{name_cmp}
 use Rattle.mx_pay.specs.Details.{Details}
-use Rattle.mx_purse.specs.Operations.{pending, aborted, lines_with, start_from_refusal, start_to_refusal, handled, after_message, load_refusal, loaded, redeem_refusal, redeemed}
+use Rattle.mx_purse.specs.Operations.{pending, aborted, lines_with, start_from_refusal, start_to_refusal, handled, after_message, load_refusal, loaded, redeem_refusal, redeemed, credit_refusal, credited}
 use Rattle.mx_purse.specs.State.{State}
 use Rattle.mx_purse.specs.declared.message.Handled.{Handled}
 use Rattle.mx_purse.specs.declared.message.Handled.TheVariants as took
@@ -23,7 +23,7 @@ use Rattle.mx_office.specs.declared.values.Reply.TheVariants as reply
 use Rattle.mx_office.specs.Isolation.{Event, Holdings, view, on_holdings, after_event, local, cut}
 use Rattle.mx_office.specs.Reachable.{IsReachable}
 use Rattle.mx_office.specs.Statement.{Item, item_of, balance_after, lines_from, balance_at_end, items_seen, statement_of, IsStated}
-use Rattle.mx_office.specs.Step.{Deed, Asks, Asked, idle, refusal_of_start, refusal_of_redeem, in_place, listed, abort_line, message_line, payment_line, money_line, with_purse, with_aborted, with_redemption, handle_message, asks, show, start_from, start_to, handle, discard, abort, read_log, redeem, inbox, statement, loaded_holding, holding_for, own_holding, steps}
+use Rattle.mx_office.specs.Step.{Deed, Asks, Asked, idle, refusal_of_start, refusal_of_redeem, in_place, listed, abort_line, message_line, payment_line, money_line, with_purse, with_aborted, with_redemption, handle_message, asks, show, start_from, start_to, handle, discard, abort, read_log, redeem, inbox, statement, loaded_holding, settled_holding, holding_for, own_holding, steps}
 use Rattle.mx_office.proofs.CaseLemmas.{by_cond, by_told, by_named, by_found, by_room}
 use Rattle.mx_office.proofs.LawLemmas.{run_law}
 use Rattle.mx_office.proofs.OwnLemmas.{own_at}
@@ -127,6 +127,10 @@ load_lined : (amount : ℕ) (reference : Name) (a : Holding) → IsLined a → I
 unfolding loaded_holding
 load_lined amount reference a h = by_cond IsLined (is_none (load_refusal a.purse amount)) _ a (λ _. one_line a _ (money_line (loaded a.purse amount) kind.Loaded amount reference) refl refl refl refl refl h) (λ _. h)
 
+settled_lined : (d : Details) (a : Holding) → IsLined a → IsLined (settled_holding a d)
+unfolding settled_holding
+settled_lined d a h = by_cond IsLined (is_none (credit_refusal a.purse d.value)) _ a (λ _. one_line a _ (payment_line (credited a.purse d.value) kind.Settled d) refl refl refl refl refl h) (λ _. h)
+
 new_lined : (p : Name) → IsLined (new_holding p)
 new_lined p = record { stated = record { lines = refl; balance = refl }; counted = refl }
 
@@ -154,6 +158,7 @@ event_lined : (m : Holdings) (e : Event) → AllLined m → AllLined (after_even
 event_lined m (Event.Own c) h = asks_lined m (asks c) h (each_lined c)
 event_lined m (Event.Issued p) h = insert_lined m p (new_holding p) h (new_lined p)
 event_lined m (Event.Loaded p reference amount) h = changed_lined m p (λ a. loaded_holding a amount reference) (fmap.get m p) refl h (load_lined amount reference)
+event_lined m (Event.Settled p d) h = changed_lined m p (λ a. settled_holding a d) (fmap.get m p) refl h (settled_lined d)
 event_lined m (Event.Put p message) h = changed_lined m p (λ a. with_message a message) (fmap.get m p) refl h (λ a h. by_room IsLined a message h (same_lines a _ refl refl refl h))
 
 local_lined : (m : Holdings) (es : List Event) → AllLined m → AllLined (local m es).end

@@ -10,7 +10,7 @@ use Rattle.mx_book.specs.World.{World, Row, Name, Token, set_row, new_row}
 use Rattle.mx_book.proofs.FoundLemmas.{kept_value}
 use Rattle.mx_book.proofs.NameLemmas.{names_total, same_name}
 use Rattle.mx_office.specs.declared.values.Command.{Command}
-use Rattle.mx_office.specs.Step.{Asked, base, loaded_row, step, steps}
+use Rattle.mx_office.specs.Step.{Asked, base, loaded_row, settled_row, step, steps}
 use Rattle.mx_office.proofs.CaseLemmas.{by_after, collected_same}
 use Rattle.mx_office.proofs.MoveCaseLemmas.{by_moves}
 
@@ -78,15 +78,19 @@ base_stays w = by_moves w (λ _ _ d. Stays w d.state) (record {
   collect = λ m row there room. record { tokens = λ t c at. at; holders = λ h n at. at; purses = λ q g at. collected_same (option_map (λ (r : Row). r.holder)) w m q (λ r. refl) ∙ at };
   archive = λ p. record { tokens = λ t c at. at; holders = λ h n at. at; purses = λ q g at. at };
   clear = λ p set may. stays_itself w;
+  settle = λ d is. let s = same_holder_stays w d.from is.row (settled_row d is.row) is.at refl in record { tokens = s.tokens; holders = s.holders; purses = s.purses };
   own = λ h c p f r e at owned. same_holder_stays w p r _ at refl;
 })
 
-pub step_stays : (w : World) (caller : Caller) (c : Command) → Stays w (step w caller c).world
+-- what it sends leaves them
+pub after_stays : (w : World) (caller : Caller) (c : Command) → Stays (base w caller c).state (step w caller c).world
 unfolding step
-step_stays w caller c =
+after_stays w caller c =
     let d = base w caller c in
-    let left = base_stays w caller c in
-    by_after (Stays w) d left (λ m r e at. stays_on w d.state _ left (same_holder_stays d.state m.0 r _ at refl)) (λ v x s e f. record { tokens = s.tokens; holders = s.holders; purses = s.purses })
+    by_after (Stays d.state) d (stays_itself d.state) (λ m r e at. same_holder_stays d.state m.0 r _ at refl) (λ v x s e f. record { tokens = s.tokens; holders = s.holders; purses = s.purses })
+
+pub step_stays : (w : World) (caller : Caller) (c : Command) → Stays w (step w caller c).world
+step_stays w caller c = stays_on w (base w caller c).state (step w caller c).world (base_stays w caller c) (after_stays w caller c)
 
 pub steps_stay : (w : World) (cs : List Asked) → Stays w (steps w cs).end
 steps_stay w [] = stays_itself w

@@ -39,7 +39,7 @@ use Rattle.mx_office.proofs.AccountLemmas.{IsOwn, IsSent, is_own, own_there}
 use Rattle.mx_office.proofs.CaseLemmas.{by_reachable}
 use Rattle.mx_office.proofs.MoveCaseLemmas.{by_moves}
 use Rattle.mx_office.proofs.CommandLemmas.{nothing, whole, purse_told, inbox_decides, statement_decides, no_message_decides, discard_decides, nothing_handled_decides, handle_decides, abort_decides, start_refused, start_decides, redeem_repeated, redeem_refuses, redeem_made}
-use Rattle.mx_office.proofs.MoneyLemmas.{float_there, granted_stays, collected_stays, load_stays}
+use Rattle.mx_office.proofs.MoneyLemmas.{float_there, granted_stays, collected_stays, load_stays, settlement_stays}
 
 -- what is done leaves a World
 abbrev LeavesWorld : Deed World → Type 0
@@ -146,6 +146,7 @@ step_world w caller c value is = by_moves w (λ _ c d. IsCommand c → LeavesWor
   collect = λ m row at room valid. let float = float_there w m row at in collected_stays w m row at (grind (arith, nat_tests, room, float)) is;
   archive = λ p valid. archived_stays w p is;
   clear = λ p set may valid. put_stays w p (Clear set) valid.1 (clear_means w p set (grind (arith, may))) is;
+  settle = λ d s valid. settlement_stays w d s is valid;
   own = λ h c p f r e at owned valid.
       let own : IsOwn w h p r.holding.purse = record { row = r; at = at; passes = owned; purse = refl } in
       let there : own_purse w h p ≡ Some r.holding.purse =

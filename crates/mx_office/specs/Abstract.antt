@@ -8,7 +8,7 @@ use Rattle.mx_purse.specs.declared.message.Handled.TheVariants as took
 use Rattle.mx_book.specs.declared.values.Caller.{Caller}
 use Rattle.mx_book.specs.Reads.{load_of, redemption_of}
 use Rattle.mx_book.specs.Sums.{sum_values}
-use Rattle.mx_book.specs.Totals.{definitely_lost, maybe_lost, occurring, totals_of, value_where}
+use Rattle.mx_book.specs.Totals.{still_lost, maybe_lost, occurring, totals_of, value_where}
 use Rattle.mx_book.specs.Under.{remake}
 use Rattle.mx_book.specs.World.{World, Row, Name, Token, opening}
 use Rattle.mx_office.specs.declared.values.Command.{Command}
@@ -31,7 +31,7 @@ AbstractWorld = fmap.FinMap name_cmp AbstractPurse
 -- ---- its operations
 
 -- nothing (AbIgnore), a transfer (AbTransferOkay), and one whose value is lost (AbTransferLost); and this office's own: a
--- new purse, a load, a redemption
+-- new purse, a load, a redemption, and lost value that comes back
 pub data Act : Type 0 where
   Ignore : Act
   TransferOkay : Details → Act
@@ -39,11 +39,17 @@ pub data Act : Type 0 where
   Issue : Name → Act
   Load : Name → ℕ → Act
   Redeem : Name → ℕ → Act
+  Settle : Name → ℕ → Act
 
 -- whether a purse is there and has so much (SufficientFundsProperty)
 abbrev pub has_funds : Option AbstractPurse → ℕ → Bool
 has_funds None n = Bool.false
 has_funds (Some x) n = nat_le n x.balance
+
+-- whether a purse is there and has lost so much
+abbrev pub has_lost : Option AbstractPurse → ℕ → Bool
+has_lost None n = Bool.false
+has_lost (Some x) n = nat_le n x.lost
 
 -- whether a transfer is allowed: the from purse has the value, and the to purse is there and is another (AuthenticPurse,
 -- SufficientFundsProperty)
@@ -58,8 +64,10 @@ allows a (Act.TransferLost d) = may_transfer a d
 allows a (Act.Issue p) = is_none (fmap.get a p)
 allows a (Act.Load p n) = is_some (fmap.get a p)
 allows a (Act.Redeem p n) = has_funds (fmap.get a p) n
+allows a (Act.Settle p n) = has_lost (fmap.get a p) n
 
--- a purse to which so much comes, from which so much goes, and from which so much goes and is lost
+-- a purse to which so much comes, from which so much goes, from which so much goes and is lost, and to which so much comes
+-- that was lost
 abbrev pub gains : ℕ → AbstractPurse → AbstractPurse
 gains n x = record x { balance = x.balance + n }
 
@@ -68,6 +76,9 @@ pays n x = record x { balance = x.balance - n }
 
 abbrev pub loses : ℕ → AbstractPurse → AbstractPurse
 loses n x = record { balance = x.balance - n; lost = x.lost + n }
+
+abbrev pub recovers : ℕ → AbstractPurse → AbstractPurse
+recovers n x = record { balance = x.balance + n; lost = x.lost - n }
 
 -- the purse of a name is changed, where it is there
 abbrev pub changed : AbstractWorld → Name → (AbstractPurse → AbstractPurse) → Option AbstractPurse → AbstractWorld
@@ -85,6 +96,7 @@ performed a (Act.TransferLost d) = change a d.from (loses d.value)
 performed a (Act.Issue p) = fmap.insert a p (record { balance = 0; lost = 0 })
 performed a (Act.Load p n) = change a p (gains n)
 performed a (Act.Redeem p n) = change a p (pays n)
+performed a (Act.Settle p n) = change a p (recovers n)
 
 -- the abstract world after an operation, where it is allowed
 abbrev pub perform : AbstractWorld → Act → Option AbstractWorld
@@ -101,9 +113,9 @@ perform_all a (act ∷ acts) = option_and_then (λ b. perform_all b acts) (perfo
 abbrev pub ChosenLost : Type 0
 ChosenLost = Details → Bool
 
--- what counts as lost: what is definitely lost, and what is maybe lost and chosen
+-- what counts as lost: what is definitely lost and isn't settled, and what is maybe lost and chosen
 abbrev pub counts_lost : World → ChosenLost → Details → Bool
-counts_lost w chosen d = definitely_lost w d || (maybe_lost w d && chosen d)
+counts_lost w chosen d = still_lost w d || (maybe_lost w d && chosen d)
 
 -- what counts as received: what is maybe lost and not chosen
 abbrev pub counts_received : World → ChosenLost → Details → Bool
@@ -133,13 +145,14 @@ AccountsFor w chosen =
 
 -- ---- the operation that a command is
 
--- by its reply: an accepted req is a transfer, whose value is lost or isn't; a load and a redemption under a new reference
--- and a new purse are the operations of these names; and every other command, and every other reply, is nothing
+-- by its reply: an accepted req is a transfer, whose value is lost or isn't; a load and a redemption under a new reference,
+-- a new purse and a settlement are the operations of these names; and every other command, and every other reply, is nothing
 abbrev pub IsAct : World → Command → Reply → Act → Type 0
 IsAct w c (reply.Handled (took.Req d)) act = (act ≡ Act.TransferOkay d) ⊎ (act ≡ Act.TransferLost d)
 IsAct w (command.Load p n reference) reply.Loaded act = act ≡ (if is_none (load_of w p reference) then Act.Load p n else Act.Ignore)
 IsAct w (command.Redeem p n reference) reply.Redeemed act = act ≡ (if is_none (redemption_of w p reference) then Act.Redeem p n else Act.Ignore)
 IsAct w (command.NewPurse p h) reply.Added act = act ≡ Act.Issue p
+IsAct w (command.Settle d) reply.Settled act = act ≡ Act.Settle d.from d.value
 IsAct w c x act = act ≡ Act.Ignore
 
 -- the operations of commands, one a command

@@ -3,12 +3,13 @@ use Rattle.std.specs.Prelude.{◌≤◌, IsTrue}
 use Rattle.mx_pay.specs.Limits.{most_amount, most_number}
 use Rattle.mx_pay.specs.Names.{is_name_text}
 use Rattle.mx_pay.specs.Tokens.{IsToken}
+use Rattle.mx_pay.specs.Details.{IsDetails}
 use Rattle.mx_pay.specs.Log.{IsLogValue}
 use Rattle.mx_book.specs.declared.values.Caller.{Caller}
 use Rattle.mx_book.specs.declared.values.Caller.TheVariants.{Operator, Clerk, Holder}
 use Rattle.mx_book.specs.World.{Name}
 use Rattle.mx_office.specs.declared.values.Command.{Command}
-use Rattle.mx_office.specs.declared.values.Command.TheVariants.{NewMember, Grant, Archive, Clear, NewHolder, NewPurse, Load, Collect, Purses, Show, StartFrom, StartTo, Handle, Discard, Abort, ReadLog, Redeem, Inbox, Statement, Reconcile}
+use Rattle.mx_office.specs.declared.values.Command.TheVariants.{NewMember, Grant, Archive, Clear, NewHolder, NewPurse, Load, Collect, Purses, Show, StartFrom, StartTo, Handle, Discard, Abort, ReadLog, Redeem, Inbox, Statement, Reconcile, Settle}
 use Rattle.mx_office.specs.Step.{Asked}
 
 -- a name has the text of one
@@ -22,7 +23,7 @@ IsCaller (Clerk member) = IsNamed member
 IsCaller (Holder holder) = IsNamed holder
 
 -- the names of a command are names, its amount and its number are within their limits, its token has its bytes, and
--- its details are those of a log
+-- its details are those of a log or of a payment
 abbrev pub IsCommand : Command → Type 0
 IsCommand (NewMember member token) = IsNamed member × IsToken token
 IsCommand (Grant member amount) = IsNamed member × (amount ≤ most_amount)
@@ -44,6 +45,7 @@ IsCommand (Redeem purse amount reference) = IsNamed purse × (amount ≤ most_am
 IsCommand (Inbox purse) = IsNamed purse
 IsCommand (Statement purse after) = IsNamed purse × (after ≤ most_number)
 IsCommand Reconcile = Unit {0}
+IsCommand (Settle d) = IsDetails d
 
 -- a command that is a value, and so is who asks
 abbrev pub IsAsked : Asked → Type 0

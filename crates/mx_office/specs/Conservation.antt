@@ -12,7 +12,7 @@ use Rattle.mx_book.specs.declared.values.Totals.{Totals}
 use Rattle.mx_book.specs.World.{World, Row, Name}
 use Rattle.mx_book.specs.Totals.{totals_of, from_in_epa, from_logged}
 use Rattle.mx_office.specs.declared.values.Command.{Command}
-use Rattle.mx_office.specs.declared.values.Command.TheVariants.{Load, Redeem, Handle}
+use Rattle.mx_office.specs.declared.values.Command.TheVariants.{Load, Redeem, Handle, Settle}
 use Rattle.mx_office.specs.declared.values.Outcome.{Outcome}
 use Rattle.mx_office.specs.declared.values.Outcome.TheVariants.{Reply as Replied, Unavailable}
 use Rattle.mx_office.specs.declared.values.Refusal.TheVariants.{OverCap, FloatFull}
@@ -59,11 +59,18 @@ abbrev pub is_redemption : Command → Bool
 is_redemption (Redeem p amount reference) = Bool.true
 is_redemption command = Bool.false
 
--- no value created (PRG-126: NoValueCreation): what purses hold and what is under way doesn't rise, but by a load
-abbrev pub CreatesNoValue : World → Caller → Command → Type 0
-CreatesNoValue w caller command = is_load command ≡ Bool.false → (after w caller command).balances + (after w caller command).transit ≤ (before w).balances + (before w).transit
+-- and whether it is a settlement
+abbrev pub is_settlement : Command → Bool
+is_settlement (Settle d) = Bool.true
+is_settlement command = Bool.false
 
--- all value accounted (PRG-126: AllValueAccounted): with what is lost it stays, but by a load and a redemption
+-- no value created (PRG-126: NoValueCreation): what purses hold and what is under way doesn't rise, but by a load and by a
+-- settlement
+abbrev pub CreatesNoValue : World → Caller → Command → Type 0
+CreatesNoValue w caller command = (is_load command || is_settlement command) ≡ Bool.false → (after w caller command).balances + (after w caller command).transit ≤ (before w).balances + (before w).transit
+
+-- all value accounted (PRG-126: AllValueAccounted): with what is lost it stays, but by a load and a redemption; so by a
+-- settlement it rises by no more than what is lost falls
 abbrev pub AccountsAllValue : World → Caller → Command → Type 0
 AccountsAllValue w caller command =
     (is_load command || is_redemption command) ≡ Bool.false

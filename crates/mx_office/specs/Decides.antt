@@ -5,7 +5,7 @@ use Rattle.mx_pay.specs.Details.{Details}
 use Rattle.mx_purse.specs.State.{State}
 use Rattle.mx_purse.specs.declared.message.Message.{Message}
 use Rattle.mx_book.specs.declared.edits.Edit.{Edit}
-use Rattle.mx_book.specs.declared.edits.Edit.TheVariants.{SetMember, SetPurse, AddLine, AddMessage, AddLoad, AddRedemption, AddTray}
+use Rattle.mx_book.specs.declared.edits.Edit.TheVariants.{SetMember, SetPurse, AddLine, AddMessage, AddLoad, AddRedemption, AddTray, AddSettled}
 use Rattle.mx_book.specs.declared.values.Line.{Line}
 use Rattle.mx_book.specs.declared.values.LineKind.TheVariants as kind
 use Rattle.mx_book.specs.declared.values.MemberRow.{MemberRow}
@@ -13,7 +13,7 @@ use Rattle.mx_book.specs.World.{World, Name, is_of, is_of_member}
 use Rattle.mx_book.specs.Reads.{of_purse, finds_place, purses_of}
 use Rattle.mx_book.specs.Edits.{Fits, all_edited}
 use Rattle.mx_office.specs.declared.values.Decided.{Decided}
-use Rattle.mx_office.specs.Step.{Deed, world_after, is_kept, listed, money_line}
+use Rattle.mx_office.specs.Step.{Deed, world_after, is_kept, listed, money_line, payment_line}
 
 -- the reply of what is done, and edits that fit the World and lead to what is done, with what is sent
 pub record Decides (w : World) (to : Deed World) (d : Decided) : Type 0 where
@@ -70,3 +70,7 @@ load_edits q amount reference m row =
 abbrev pub redeem_edits : State → Option Line → ℕ → Name → List Edit
 redeem_edits q logged amount reference =
     purse_and_lines q (listed logged ++ money_line q kind.Redeemed amount reference ∷ []) ++ AddRedemption q.name reference amount ∷ []
+
+-- the edits of a settlement: the purse as it is now, its line, and the settled details
+abbrev pub settlement_edits : State → Details → List Edit
+settlement_edits q d = purse_and_lines q (payment_line q kind.Settled d ∷ []) ++ AddSettled d ∷ []

@@ -4,7 +4,7 @@ use Rattle.std.specs.Option.{option_map_or}
 use Rattle.std.specs.FinMap as fmap
 use Rattle.mx_book.specs.declared.values.Line.{Line}
 use Rattle.mx_book.specs.declared.values.LineKind.{LineKind}
-use Rattle.mx_book.specs.declared.values.LineKind.TheVariants.{Loaded, Redeemed, Sent, Received, Logged}
+use Rattle.mx_book.specs.declared.values.LineKind.TheVariants.{Loaded, Redeemed, Sent, Received, Logged, Settled}
 use Rattle.mx_book.specs.declared.values.Note.{Note}
 use Rattle.mx_book.specs.World.{Holding, Name}
 use Rattle.mx_office.specs.Isolation.{Event, Holdings, local}
@@ -18,10 +18,11 @@ pub record Item : Type 0 where
 abbrev pub item_of : Line → Item
 item_of l = record { kind = l.kind; amount = l.amount; note = l.note }
 
--- the balance after an item: loaded and received are gain, sent and redeemed are loss
+-- the balance after an item: loaded, received and settled are gain, sent and redeemed are loss
 abbrev pub balance_after : ℕ → LineKind → ℕ → ℕ
 balance_after b Loaded amount = b + amount
 balance_after b Received amount = b + amount
+balance_after b Settled amount = b + amount
 balance_after b Sent amount = b - amount
 balance_after b Redeemed amount = b - amount
 balance_after b Logged amount = b

@@ -7,7 +7,7 @@ use Rattle.std.specs.List.{list_all}
 use Rattle.std.specs.FinMap as fmap
 use Rattle.mx_pay.specs.Names.{is_name}
 use Rattle.mx_pay.specs.Details.{Details}
-use Rattle.mx_pay.specs.Log.{Entries, log_len, logged}
+use Rattle.mx_pay.specs.Log.{Entries, log_len, logged, with_entry}
 use Rattle.mx_purse.specs.State.{State}
 use Rattle.mx_purse.specs.declared.status.Status.TheVariants.{Epr, Epv}
 use Rattle.mx_purse.specs.declared.message.Message.{Message}
@@ -20,7 +20,9 @@ use Rattle.mx_purse.specs.declared.refusals.LoadRefusal.{LoadRefusal}
 use Rattle.mx_purse.specs.declared.refusals.LoadRefusal.TheVariants as no_load
 use Rattle.mx_purse.specs.declared.refusals.RedeemRefusal.{RedeemRefusal}
 use Rattle.mx_purse.specs.declared.refusals.RedeemRefusal.TheVariants as no_redeem
-use Rattle.mx_purse.specs.Operations.{pending, aborted, start_from_refusal, start_to_refusal, from_details, to_details, started, handled, after_message, sent_for, read_entry, load_refusal, loaded, redeem_refusal, redeemed}
+use Rattle.mx_purse.specs.declared.refusals.CreditRefusal.{CreditRefusal}
+use Rattle.mx_purse.specs.declared.refusals.CreditRefusal.TheVariants as no_credit
+use Rattle.mx_purse.specs.Operations.{pending, aborted, start_from_refusal, start_to_refusal, from_details, to_details, started, handled, after_message, sent_for, read_entry, load_refusal, loaded, redeem_refusal, redeemed, credit_refusal, credited}
 use Rattle.mx_book.specs.declared.values.Caller.{Caller}
 use Rattle.mx_book.specs.declared.values.Caller.TheVariants.{Operator, Clerk, Holder}
 use Rattle.mx_book.specs.declared.values.Line.{Line}
@@ -30,12 +32,12 @@ use Rattle.mx_book.specs.declared.values.MemberRow.{MemberRow}
 use Rattle.mx_book.specs.declared.values.Note.TheVariants as note
 use Rattle.mx_book.specs.World.{World, Row, Holding, Name, Token, is_of, is_of_member, set_row, change_row, change_holding, all_collected, with_archived, new_row, put}
 use Rattle.mx_book.specs.Conditions.{all_granted}
-use Rattle.mx_book.specs.Reads.{who_of, purses_of, page, is_archived, tray_of, uncollected_of}
+use Rattle.mx_book.specs.Reads.{who_of, purses_of, page, of_purse, is_archived, is_settled, tray_of, uncollected_of}
 use Rattle.mx_book.specs.Totals.{totals_of}
 use Rattle.mx_office.specs.declared.values.Command.{Command}
-use Rattle.mx_office.specs.declared.values.Command.TheVariants.{NewMember, Grant, Archive, Clear, NewHolder, NewPurse, Load, Collect, Purses, Show, StartFrom, StartTo, Handle, Discard, Abort, ReadLog, Redeem, Inbox, Statement, Reconcile}
+use Rattle.mx_office.specs.declared.values.Command.TheVariants.{NewMember, Grant, Archive, Clear, NewHolder, NewPurse, Load, Collect, Purses, Show, StartFrom, StartTo, Handle, Discard, Abort, ReadLog, Redeem, Inbox, Statement, Reconcile, Settle}
 use Rattle.mx_office.specs.declared.values.Refusal.{Refusal}
-use Rattle.mx_office.specs.declared.values.Refusal.TheVariants.{NotForCaller, NoSuchPurse, NoSuchHolder, NoSuchMember, NoSuchMessage, NameTaken, TokenTaken, TooManyPurses, SamePurse, NotEnough, LogFull, Worn, RefReused, FloatTooSmall, FloatFull, GrantTooLarge, OverCap, NotArchived}
+use Rattle.mx_office.specs.declared.values.Refusal.TheVariants.{NotForCaller, NoSuchPurse, NoSuchHolder, NoSuchMember, NoSuchMessage, NameTaken, TokenTaken, TooManyPurses, SamePurse, NotEnough, LogFull, Worn, RefReused, FloatTooSmall, FloatFull, GrantTooLarge, OverCap, NotArchived, NotLost, AlreadySettled}
 use Rattle.mx_office.specs.declared.values.Reply.{Reply}
 use Rattle.mx_office.specs.declared.values.Reply.TheVariants as reply
 
@@ -120,7 +122,7 @@ with_aborted a q = with_purse a q (abort_line q (pending a.purse.status))
 
 -- ---- the rules on a purse: what a holder's command does to what is the holder's own of it
 
--- the refusal of a start, as the office names it, and so those of a load and of a redemption
+-- the refusal of a start, as the office names it, and so those of a load, of a redemption and of a credit
 abbrev pub refusal_of_start : StartRefusal → Refusal
 refusal_of_start start.SamePurse = SamePurse
 refusal_of_start start.NotEnough = NotEnough
@@ -134,6 +136,10 @@ refusal_of_load no_load.OverCap = OverCap
 abbrev pub refusal_of_redeem : RedeemRefusal → Refusal
 refusal_of_redeem no_redeem.NotEnough = NotEnough
 refusal_of_redeem no_redeem.Worn = Worn
+
+abbrev pub refusal_of_credit : CreditRefusal → Refusal
+refusal_of_credit no_credit.Worn = Worn
+refusal_of_credit no_credit.OverCap = OverCap
 
 -- show: the purse
 unfoldable pub show : Holding → Deed Holding
@@ -351,6 +357,35 @@ clear_refusal w p set = first_refusal ((is_none (fmap.get w.rows p), NoSuchPurse
 abbrev pub clear : World → Name → Entries → Deed World
 clear w p set = unless w (clear_refusal w p set) (record { state = w; reply = reply.Sent; sent = Some (p, message.Clear set); result = None })
 
+-- what is the holder's own of a purse after a settlement, with its line; where the purse's guard fails it stays
+unfoldable pub settled_holding : Holding → Details → Holding
+settled_holding a d =
+    let q = credited a.purse d.value in
+    if is_none (credit_refusal a.purse d.value) then with_purse a q (Some (payment_line q kind.Settled d)) else a
+
+-- a row after a settlement
+abbrev pub settled_row : Details → Row → Row
+settled_row d r = record r { holding = settled_holding r.holding d }
+
+-- whether details are archived for both of their purses
+abbrev pub is_archived_for_both : World → Details → Bool
+is_archived_for_both w d = is_archived w d.from d && is_archived w d.to d
+
+-- settle, by the operator: the lost value of details that are archived for both purses comes back to the from purse, once
+unfoldable pub settle_refusal : World → Details → Option Refusal
+settle_refusal w d =
+    if is_settled w d then Some AlreadySettled else
+    (if is_archived_for_both w d
+    then of_purse (Some NotLost) (λ r. option_map refusal_of_credit (credit_refusal r.holding.purse d.value)) w d.from
+    else Some NotLost)
+
+-- a World in which details are settled
+abbrev pub with_settled : World → Details → World
+with_settled w d = record w { settled = with_entry w.settled d }
+
+abbrev pub settle : World → Details → Deed World
+settle w d = unless w (settle_refusal w d) (tell (with_settled (change_row w d.from (settled_row d)) d) reply.Settled)
+
 -- reconcile, by the operator: the sums of the whole scheme
 abbrev pub reconcile : World → Deed World
 reconcile w = tell w (reply.Reconciled (totals_of w))
@@ -364,6 +399,7 @@ base w Operator (Grant m amount) = grant w m amount
 base w Operator (Archive p) = archive w p
 base w Operator (Clear p set) = clear w p set
 base w Operator Reconcile = reconcile w
+base w Operator (Settle d) = settle w d
 base w (Clerk m) (NewHolder h t) = new_holder w m h t
 base w (Clerk m) (NewPurse p h) = new_purse w m p h
 base w (Clerk m) (Load p amount reference) = load_purse w m p amount reference

@@ -1,19 +1,22 @@
-//! The operator's commands on the results of read log: archives and clears.
+//! The operator's commands on the results of read log: archives, clears and settlements.
 ghost use Rattle.std.specs.Prelude.{◌≡◌, OnOk, IfErr};
 ghost use Rattle.mx_book.specs.Keeps.{Keeps, Gives};
 ghost use Rattle.mx_book.specs.World.{World};
 ghost use Rattle.mx_office.specs.Commands.{IsCommand};
-ghost use Rattle.mx_office.specs.Decides.{Decides};
-ghost use Rattle.mx_office.specs.Step.{archive, clear, may_clear};
+ghost use Rattle.mx_office.specs.Decides.{Decides, settlement_edits};
+ghost use Rattle.mx_office.specs.Step.{archive, clear, is_archived_for_both, may_clear, settle};
 ghost use Rattle.mx_office.specs.declared.values.Command.{Command};
 
-use crate::decisions::{make, make_message, refuse, tell};
+use crate::decisions::{
+    credit_refusal, make, make_message, make_purse, payment_line, refuse, tell,
+};
 use crate::purses::placed;
 use crate::values::{Decided, Refusal, Reply};
 use mx_book::contract::{Book, StoreFault};
 use mx_book::edits::Edit;
-use mx_pay::{Log, Name};
-use mx_purse::Message;
+use mx_book::values::LineKind;
+use mx_pay::{Log, Name, PayDetails};
+use mx_purse::{Message, Purse};
 use std::alloc::Global;
 
 /// What lies in the tray of the purse goes to the archive. Where nothing lies there, nothing is to change.
@@ -89,5 +92,63 @@ pub(crate) fn clear<B: Book>(
     }
     let message = placed(book, alloc, Some((purse, Message::Clear(*details))))?;
     make_message(decided, Reply::Sent, message);
+    Ok(())
+}
+
+/// Whether these details are archived for both of their purses.
+fn is_archived_for_both<B: Book>(
+    book: &mut B,
+    alloc: Global,
+    details: &PayDetails,
+) -> Result<bool, StoreFault>
+    ensures keeps { Keeps B.doubt B.rows B.leaves book.old book.new }
+    ensures value { Gives B.doubt B.rows B.spells book.old book.new result
+        (λ w b. b ≡ is_archived_for_both w details.now) }
+    ensures fault { IfErr result B.fails }
+{
+    if !book.archived(alloc, details.from(), details)? {
+        return Ok(false);
+    }
+    book.archived(alloc, details.to(), details)
+}
+
+/// A settlement, by the edits for the purse that paid as it is now, its line, and the settled details.
+fn make_settlement(decided: &mut Decided, purse: &Purse, details: &PayDetails)
+    ensures reply { decided.new.reply ≡ Reply.Settled }
+    ensures edits { decided.new.edits ≡ settlement_edits purse.now details.now }
+{
+    let line = payment_line(purse, LineKind::Settled, *details);
+    make_purse(decided, Reply::Settled, purse, Some(line), None);
+    decided.edits.push(&Edit::AddSettled { details: *details });
+}
+
+/// The lost value of a payment comes back to the purse that paid it, where the details are archived for both purses, once.
+pub(crate) fn settle<B: Book>(
+    book: &mut B,
+    alloc: Global,
+    details: &PayDetails,
+    decided: &mut Decided,
+) -> Result<(), StoreFault>
+    ensures keeps { Keeps B.doubt B.rows B.leaves book.old book.new }
+    ensures decides { (w : World) → IsCommand (Command.Settle details.now) → B.doubt book.new ≡ 0 → B.spells (B.rows book.old) w → OnOk result (Decides w (settle w details.now) decided.new) }
+    ensures fault { IfErr result B.fails }
+{
+    if book.settled(alloc, details)? {
+        refuse(decided, Refusal::AlreadySettled);
+        return Ok(());
+    }
+    if !is_archived_for_both(book, alloc, details)? {
+        refuse(decided, Refusal::NotLost);
+        return Ok(());
+    }
+    let Some(account) = book.purse(alloc, details.from())? else {
+        refuse(decided, Refusal::NotLost);
+        return Ok(());
+    };
+    let mut after = account.purse;
+    match after.credit(details.value()) {
+        Err(refusal) => refuse(decided, credit_refusal(refusal)),
+        Ok(()) => make_settlement(decided, &after, details),
+    }
     Ok(())
 }

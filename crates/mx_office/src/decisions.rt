@@ -2,14 +2,14 @@
 ghost use Rattle.std.specs.Prelude.{◌≡◌, ◌<◌, ◌==◌, ◌∷◌, ◌++◌, [], length, map, if◌then◌else◌};
 ghost use Rattle.mx_book.specs.declared.edits.Edit.TheVariants.{AddLine};
 ghost use Rattle.mx_purse.specs.Operations.{sent_for};
-ghost use Rattle.mx_office.specs.Step.{abort_line, listed, message_line, money_line, payment_line, refusal_of_load, refusal_of_redeem, refusal_of_start};
+ghost use Rattle.mx_office.specs.Step.{abort_line, listed, message_line, money_line, payment_line, refusal_of_credit, refusal_of_load, refusal_of_redeem, refusal_of_start};
 ghost use Rattle.mx_office.specs.Decides.{purse_edits, put_edits, read_edits, redeem_edits};
 
 use crate::values::{Decided, Refusal, Reply};
 use mx_book::edits::{Edit, Edits};
 use mx_book::values::{Line, LineKind, Note};
 use mx_pay::{Amount, Name, PayDetails};
-use mx_purse::{Handled, LoadRefusal, Message, Purse, RedeemRefusal, StartRefusal};
+use mx_purse::{CreditRefusal, Handled, LoadRefusal, Message, Purse, RedeemRefusal, StartRefusal};
 
 /// The command is refused, and nothing is to change.
 pub(crate) fn refuse(decided: &mut Decided, refusal: Refusal)
@@ -50,7 +50,7 @@ pub(crate) fn start_refusal(refusal: StartRefusal) -> Refusal
 }
 
 /// The line of a payment of these details in a purse that is now so.
-fn payment_line(purse: &Purse, kind: LineKind, details: PayDetails) -> Line
+pub(crate) fn payment_line(purse: &Purse, kind: LineKind, details: PayDetails) -> Line
     ensures { result ≡ payment_line purse.now kind details }
 {
     Line {
@@ -180,6 +180,16 @@ pub(crate) fn redeem_refusal(refusal: RedeemRefusal) -> Refusal
     match refusal {
         RedeemRefusal::NotEnough => Refusal::NotEnough,
         RedeemRefusal::Worn => Refusal::Worn,
+    }
+}
+
+/// The refusal of a credit, as the office names it.
+pub(crate) fn credit_refusal(refusal: CreditRefusal) -> Refusal
+    ensures { result ≡ refusal_of_credit refusal }
+{
+    match refusal {
+        CreditRefusal::Worn => Refusal::Worn,
+        CreditRefusal::OverCap => Refusal::OverCap,
     }
 }
 

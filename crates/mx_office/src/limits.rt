@@ -1,5 +1,6 @@
 //! What callers and commands keep by their types, said for what follows.
 ghost use Rattle.std.specs.Prelude.{◌≤◌};
+ghost use Rattle.mx_pay.specs.Details.{IsDetails};
 ghost use Rattle.mx_pay.specs.Limits.{most_amount, most_number};
 ghost use Rattle.mx_pay.specs.Log.{IsLogValue};
 ghost use Rattle.mx_pay.specs.Tokens.{IsToken};
@@ -7,7 +8,7 @@ ghost use Rattle.mx_office.specs.Commands.{IsCaller, IsCommand, IsNamed};
 
 use crate::values::Command;
 use mx_book::values::Caller;
-use mx_pay::{Amount, Log, Name, Seq, Token};
+use mx_pay::{Amount, Log, Name, PayDetails, Seq, Token};
 
 /// A name is one.
 fn is_name(name: Name)
@@ -41,6 +42,13 @@ fn is_log(name: Name, details: &Log)
 {
     is_name(name);
     let _entries = details.len();
+}
+
+/// The details of a payment are within their limits.
+fn is_details(details: &PayDetails)
+    ensures { IsDetails details.now }
+{
+    let _value = details.value();
 }
 
 /// A name is one, and an amount is within its limit.
@@ -90,7 +98,7 @@ pub(crate) fn is_caller(caller: &Caller)
 }
 
 /// The names of a command are names, its amount and its number are within their limits, its token has its bytes, and
-/// its details are those of a log.
+/// its details are those of a log or of a payment.
 pub(crate) fn is_command(command: &Command)
     ensures { IsCommand command.now }
 {
@@ -102,6 +110,7 @@ pub(crate) fn is_command(command: &Command)
         | Command::ReadLog { purse, .. }
         | Command::Inbox { purse } => is_name(purse),
         Command::Clear { purse, ref details } => is_log(purse, details),
+        Command::Settle { ref details } => is_details(details),
         Command::NewMember { member, token } => is_new(member, token),
         Command::NewHolder { holder, token } => is_new(holder, token),
         Command::NewPurse { purse, holder } => are_names(purse, holder),

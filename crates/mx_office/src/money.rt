@@ -1,4 +1,4 @@
-//! The commands that bring value into the office and settle what left it: grants, loads and collects.
+//! The commands that bring value into the office and make up for what left it: grants, loads and collects.
 ghost use Rattle.std.specs.Prelude.{◌≡◌, ◌≤◌, ◌⊎◌, [], OnOk, IfErr};
 ghost use Rattle.mx_book.specs.declared.contract.StoreFault.TheVariants.{Memory};
 ghost use Rattle.mx_book.specs.Conditions.{all_granted};

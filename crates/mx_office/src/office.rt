@@ -19,7 +19,7 @@ ghost use Rattle.mx_office.specs.Reachable.{IsReachable, StandsBalanced};
 ghost use Rattle.mx_office.specs.Run.{Leads, answered, replies};
 ghost use Rattle.mx_office.specs.Step.{base, step};
 
-use crate::archive::{archive, clear};
+use crate::archive::{archive, clear, settle};
 use crate::decisions::refuse;
 use crate::limits::{is_caller, is_command};
 use crate::members::{new_holder, new_member, new_purse};
@@ -219,6 +219,7 @@ fn decide_operator<B: Book>(
         Command::Archive { purse } => archive(book, alloc, purse, decided),
         Command::Clear { purse, ref details } => clear(book, alloc, purse, details, decided),
         Command::Reconcile => reconcile(book, alloc, decided),
+        Command::Settle { ref details } => settle(book, alloc, details, decided),
         _ => {
             refuse(decided, Refusal::NotForCaller);
             Ok(())

@@ -143,6 +143,12 @@ pub enum Command {
     },
     /// The operator asks what the books come to.
     Reconcile,
+    /// The operator gives the lost value of a payment back to the purse that paid it. The details have to be archived
+    /// for both purses.
+    Settle {
+        /// The details of the payment.
+        details: PayDetails,
+    },
 }
 
 /// Why a command is refused. Each command has its refusals in an order, and the first that applies is given.
@@ -184,6 +190,10 @@ pub enum Refusal {
     OverCap,
     /// The details to clear are none, or one of them isn't archived for the purse.
     NotArchived,
+    /// The details to settle aren't archived for both of their purses.
+    NotLost,
+    /// The details are settled already.
+    AlreadySettled,
 }
 
 impl Refusal {
@@ -210,6 +220,8 @@ impl Refusal {
             Refusal::GrantTooLarge => "grant too large",
             Refusal::OverCap => "over cap",
             Refusal::NotArchived => "not archived",
+            Refusal::NotLost => "not lost",
+            Refusal::AlreadySettled => "already settled",
         }
     }
 }
@@ -359,6 +371,8 @@ pub enum Reply {
     Statement(Lines),
     /// The books come to this.
     Reconciled(Totals),
+    /// The lost value came back to the purse that paid it.
+    Settled,
 }
 
 /// What a command would do: the reply, and the edits of the book that lead to its World.

@@ -6,7 +6,7 @@ mod random;
 use mx_office::Refusal;
 
 /// Refusals, and the words of each in a line.
-const REFUSALS: [Refusal; 18] = [
+const REFUSALS: [Refusal; 20] = [
     Refusal::NotForCaller,
     Refusal::NoSuchPurse,
     Refusal::NoSuchHolder,
@@ -25,6 +25,8 @@ const REFUSALS: [Refusal; 18] = [
     Refusal::GrantTooLarge,
     Refusal::OverCap,
     Refusal::NotArchived,
+    Refusal::NotLost,
+    Refusal::AlreadySettled,
 ];
 
 const REFUSAL_WORDS: &str = "not for this caller
@@ -44,7 +46,9 @@ float too small
 float full
 grant too large
 over cap
-not archived";
+not archived
+not lost
+already settled";
 
 /// Each refusal has its words.
 #[test]

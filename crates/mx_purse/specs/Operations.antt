@@ -18,6 +18,8 @@ use Rattle.mx_purse.specs.declared.refusals.LoadRefusal.{LoadRefusal}
 use Rattle.mx_purse.specs.declared.refusals.LoadRefusal.TheVariants as load
 use Rattle.mx_purse.specs.declared.refusals.RedeemRefusal.{RedeemRefusal}
 use Rattle.mx_purse.specs.declared.refusals.RedeemRefusal.TheVariants as redeem
+use Rattle.mx_purse.specs.declared.refusals.CreditRefusal.{CreditRefusal}
+use Rattle.mx_purse.specs.declared.refusals.CreditRefusal.TheVariants as credit
 use Rattle.mx_purse.specs.State.{State}
 
 -- ---- an answer and a purse, by the first guard that fails
@@ -149,3 +151,13 @@ redeem_refusal p amount = if nat_lt p.balance amount then Some redeem.NotEnough 
 -- the purse after an abort and a redemption: the balance falls, and there is one line more
 abbrev pub redeemed : State → ℕ → State
 redeemed p amount = record (aborted p) { balance = p.balance - amount; lines = (aborted p).lines + 1 }
+
+-- ---- credits (own): value that was lost comes back, as a load comes
+
+-- the first guard of credit that fails: the line count is below 10^15, and the balance stays within 10^15
+abbrev pub credit_refusal : State → ℕ → Option CreditRefusal
+credit_refusal p amount = if nat_le most_number p.lines then Some credit.Worn else (if nat_lt most_number (p.balance + amount) then Some credit.OverCap else None)
+
+-- the purse after a credit, as after a load: the balance rises, and there is one line more; it doesn't abort
+abbrev pub credited : State → ℕ → State
+credited = loaded

@@ -10,5 +10,5 @@ pub mod words;
 
 pub use message::{Handled, Message};
 pub use purse::Purse;
-pub use refusals::{LoadRefusal, RedeemRefusal, StartRefusal};
+pub use refusals::{CreditRefusal, LoadRefusal, RedeemRefusal, StartRefusal};
 pub use status::Status;

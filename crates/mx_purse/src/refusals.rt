@@ -31,3 +31,12 @@ pub enum RedeemRefusal {
     /// The purse has 10^15 statement lines or more.
     Worn,
 }
+
+/// Why a purse refuses a credit, in the order in which the guards are looked at.
+#[derive(Clone, Copy, Debug, PartialEq, Eq)]
+pub enum CreditRefusal {
+    /// The purse has 10^15 statement lines or more.
+    Worn,
+    /// The balance would be above 10^15.
+    OverCap,
+}

@@ -53,7 +53,7 @@ use Rattle.mx_purse.specs.declared.status.Status.{Status}
 use Rattle.mx_purse.specs.declared.status.Status.TheVariants.{Epv}
 use Rattle.mx_book.proofs.MapLemmas.{AllEntries, all_entries}
 use Rattle.mx_purse.specs.Words.{status_word, status_details}
-use Rattle.mx_tables.specs.Results.{AreDetails}
+use Rattle.mx_tables.specs.Results.{AreEntries}
 use Rattle.mx_tables.specs.declared.sums.Adds.{Adds}
 use Rattle.mx_tables.specs.declared.sums.Adds.TheVariants.{Counted, Waiting, Logged, Archived}
 
@@ -256,24 +256,24 @@ module _ (r : Rows) (row : Row) where
   pub wait_is : (d : Details) → column row 0 ≡ Text (entry_text d) → IsDetails d → left_value r.purses r.archive d ≡ waiting_row r.purses r.archive row
   wait_is d is valid = sym (ap (λ v. if_some (left_value r.purses r.archive) (entry_of (text_of v))) is ∙ entry_back (left_value r.purses r.archive) d valid)
 
-  none_lost : (p : Name) → lost_in_log r.purses r.archive p none_logged ≡ 0
-  none_lost p = ap (sum_by (lost_by r.purses r.archive p)) none_is
+  none_lost : (p : Name) → lost_in_log r.purses r.archive r.settled p none_logged ≡ 0
+  none_lost p = ap (sum_by (lost_by r.purses r.archive r.settled p)) none_is
 
-  pub log_is : (p : Name) (log : Entries) → column row 0 ≡ Text p → column row 1 ≡ Text (code log) → IsLogValue log → lost_in_log r.purses r.archive p log ≡ log_row r.purses r.archive row
+  pub log_is : (p : Name) (log : Entries) → column row 0 ≡ Text p → column row 1 ≡ Text (code log) → IsLogValue log → lost_in_log r.purses r.archive r.settled p log ≡ log_row r.purses r.archive r.settled row
   log_is p log named is valid =
-      sym (ap₂ (λ v w. if_some (lost_in_log r.purses r.archive (text_of v)) (entries_of most_entries (text_of w) none_logged)) named is
-      ∙ log_back (lost_in_log r.purses r.archive p) (none_lost p) log valid)
+      sym (ap₂ (λ v w. if_some (lost_in_log r.purses r.archive r.settled (text_of v)) (entries_of most_entries (text_of w) none_logged)) named is
+      ∙ log_back (lost_in_log r.purses r.archive r.settled p) (none_lost p) log valid)
 
-  pub result_is : (p : Name) (d : Details) → column row 0 ≡ Text p → column row 1 ≡ Text (entry_text d) → IsDetails d → lost_in_archive r.purses r.archive (p, d) ≡ result_row r.purses r.archive row
+  pub result_is : (p : Name) (d : Details) → column row 0 ≡ Text p → column row 1 ≡ Text (entry_text d) → IsDetails d → lost_in_archive r.purses r.archive r.settled (p, d) ≡ result_row r.purses r.archive r.settled row
   result_is p d named is valid =
-      sym (ap₂ (λ v w. if_some (λ x. lost_in_archive r.purses r.archive (text_of v, x)) (entry_of (text_of w))) named is
-      ∙ entry_back (λ x. lost_in_archive r.purses r.archive (p, x)) d valid)
+      sym (ap₂ (λ v w. if_some (λ x. lost_in_archive r.purses r.archive r.settled (text_of v, x)) (entry_of (text_of w))) named is
+      ∙ entry_back (λ x. lost_in_archive r.purses r.archive r.settled (p, x)) d valid)
 
 module _ (r : Rows) (p : Name) (d : Details) where
-  pub logged_still : has_logged (log_at (fmap.get r.purses p)) d ≡ true → 0 ≡ lost_in_archive r.purses r.archive (p, d)
+  pub logged_still : has_logged (log_at (fmap.get r.purses p)) d ≡ true → 0 ≡ lost_in_archive r.purses r.archive r.settled (p, d)
   logged_still h = rw h refl
 
-  pub logged_no_more : has_logged (log_at (fmap.get r.purses p)) d ≡ false → lost_by r.purses r.archive p d ≡ lost_in_archive r.purses r.archive (p, d)
+  pub logged_no_more : has_logged (log_at (fmap.get r.purses p)) d ≡ false → lost_by r.purses r.archive r.settled p d ≡ lost_in_archive r.purses r.archive r.settled (p, d)
   logged_no_more h = rw h refl
 
 -- ---- what all rows say
@@ -285,19 +285,19 @@ module _ (r : Rows) where
   awaits (Epv d) valid = entry_back (left_value r.purses r.archive) d valid
   awaits s valid = refl
 
-  pub sum_is : (a : Adds) (old new : State) (rows : List Row) → Shown (adds_text a) [] old new rows → Holds old.now r → ArePurses r → AreDetails r.archive → sum_by (row_adds r a) rows ≡ sum_of r a
+  pub sum_is : (a : Adds) (old new : State) (rows : List Row) → Shown (adds_text a) [] old new rows → Holds old.now r → ArePurses r → AreEntries r → sum_by (row_adds r a) rows ≡ sum_of r a
   unfolding sum_values sum_entries
-  sum_is (Counted amounts scope) old new rows shown h purses archive = amounts_summed r scope amounts old new rows shown h
-  sum_is Waiting old new rows shown h purses archive =
+  sum_is (Counted amounts scope) old new rows shown h purses entries = amounts_summed r scope amounts old new rows shown h
+  sum_is Waiting old new rows shown h purses entries =
       summed kept.purses (waiting_row r.purses r.archive) _ _ _ _ waiting_is (λ e. is_epv e.1.purse.status) waiting_shown _
       (λ id e. and_true _ ∙ same_text (status_word e.1.purse.status) (codes "epv") ∙ epv_text e.1.purse.status) (λ id e. refl) old new rows shown r h
       (λ p x at. awaits x.purse.status (purses p x at).1.details)
-  sum_is Logged old new rows shown h purses archive =
-      summed kept.purses (log_row r.purses r.archive) _ _ _ _ logs_is (λ _. true) log_shown _ (λ id e. refl) (λ id e. refl) old new rows shown r h
+  sum_is Logged old new rows shown h purses entries =
+      summed kept.purses (log_row r.purses r.archive r.settled) _ _ _ _ logs_is (λ _. true) log_shown _ (λ id e. refl) (λ id e. refl) old new rows shown r h
       (λ p x at. sym (log_is r (log_shown (p, x)) p x.purse.log refl refl (purses p x at).1.log))
-  sum_is Archived old new rows shown h purses archive =
-      summed kept.archive (result_row r.purses r.archive) _ _ _ _ archived_is (λ _. true) result_shown _ (λ id e. refl) (λ id e. refl) old new rows shown r h
-      (λ k x at. sym (result_is r (result_shown (k, x)) k.0 k.1 refl refl (archive k x at)))
+  sum_is Archived old new rows shown h purses entries =
+      summed kept.archive (result_row r.purses r.archive r.settled) _ _ _ _ archived_is (λ _. true) result_shown _ (λ id e. refl) (λ id e. refl) old new rows shown r h
+      (λ k x at. sym (result_is r (result_shown (k, x)) k.0 k.1 refl refl (entries.archive k x at)))
 
 -- after all rows
 pub sum_all_rows : (f : Row → ℕ) (at : ℕ) (rows items : List Row) (sum : ℕ) → length rows ≤ at → rows ≡ items → sum ≡ sum_by f (take at rows) → sum ≡ sum_by f items

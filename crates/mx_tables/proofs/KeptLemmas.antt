@@ -1,11 +1,13 @@
 -- The tables of the office, each as one value: how it is made, where it stands, how its rows are stored and what is stored of a row. A database spells one World at most.
-use Rattle.mx_tables.proofs.Common.{◌≡◌, ℕ, ℤ, List, [], ◌∷◌, Option, Some, refl, ◌∙◌, arith, fold, codes, nat_cmp, Ordering, AllByRecursion, Int, column, Database, name_cmp, Name, Rows, PurseRow, Holds, rewritten}
+use Rattle.mx_tables.proofs.Common.{◌≡◌, ℕ, ℤ, List, [], ◌∷◌, ◌++◌, Option, Some, refl, ◌∙◌, arith, fold, codes, nat_cmp, Ordering, AllByRecursion, Int, column, Database, name_cmp, Name, Rows, PurseRow, Holds, rewritten}
 use Rattle.std.proofs.Common.{suc, map, slice_get, sym, ap, subst}
 use Rattle.std.specs.FinMap as fmap
 use Rattle.std.specs.Cmp.{nat_cmp_total}
 use Rattle.std.specs.FinMap.{nat_cmp-IsAntisymmetric}
 use Rattle.mx_pay.specs.Tokens.{token_cmp, token_of, IsToken}
-use Rattle.mx_pay.specs.Details.{Details, IsDetails}
+use Rattle.mx_pay.specs.Details.{Details, IsDetails, details_cmp}
+use Rattle.mx_pay.specs.Orders.{details_exact}
+use Rattle.mx_pay.proofs.LogLemmas.{details_total}
 use Rattle.mx_purse.specs.declared.message.Message.{Message}
 use Rattle.mx_book.specs.World.{result_cmp, World, Token}
 use Rattle.mx_book.specs.Under.{pair_cmp}
@@ -18,7 +20,7 @@ use Rattle.mx_book.proofs.UnderLemmas.{pair_total, pair_exact}
 use Rattle.mx_book.proofs.DueLemmas.{keys_total, keys_exact}
 use Rattle.mx_book.proofs.ResultLemmas.{results_total, results_exact}
 use Rattle.mx_tables.specs.Schema as schema
-use Rattle.mx_tables.specs.Schema.{Contents, member_cells, token_cells, holder_cells, purse_cells, message_cells, line_cells, result_cells, load_cells, redemption_cells, tokens_of, cells_of, rows_of}
+use Rattle.mx_tables.specs.Schema.{Contents, member_cells, token_cells, holder_cells, purse_cells, message_cells, line_cells, result_cells, load_cells, redemption_cells, settled_cells, tokens_of, cells_of, rows_of}
 use Rattle.mx_tables.specs.Holds.{HasContents, Spells, SpellsOne}
 use Rattle.hex.specs.Hex.{encode_lower}
 use Rattle.mx_pay.proofs.TextLemmas.{same_entry}
@@ -30,7 +32,7 @@ use Rattle.mx_book.specs.Spells.{one_world}
 use Rattle.mx_book.specs.Conditions.{IsNote}
 use Rattle.mx_book.proofs.WordLemmas.{same_kind}
 use Rattle.mx_tables.proofs.ValueLemmas.{token_back, same_caller, purse_back, same_note}
-use Rattle.mx_tables.proofs.SoundLemmas.{messages_valid, purses_valid, lines_valid, tray_valid, archive_valid}
+use Rattle.mx_tables.proofs.SoundLemmas.{messages_valid, purses_valid, lines_valid, tray_valid, archive_valid, settled_valid}
 use Rattle.mx_tables.specs.Answers.{purse_shown}
 use Rattle.mx_book.specs.RowEdits.{all_rewritten}
 use Rattle.mx_book.specs.Edits.{Fits, all_edited}
@@ -39,7 +41,10 @@ use Rattle.mx_book.proofs.SpellLemmas.{applied}
 use Rattle.mx_tables.proofs.Places.{Place, IsKey, Ties, Kept, Written, Belongs, stored, listed_once, same_lists, but_number}
 use Rattle.sqlite.specs.Listing.{understood}
 use Rattle.sqlite_tied.specs.Compute.{everything}
-use Rattle.mx_tables.specs.Made.{Makes, made, also}
+use Rattle.mx_tables.specs.Made.{Makes, made, also, schema_of}
+use Rattle.mx_tables.specs.declared.making.Version.{Version}
+use Rattle.mx_tables.specs.declared.making.Version.TheVariants.{One, Two}
+use Rattle.sqlite_schema.specs.declared.schema.Schema.{Schema}
 
 -- ---- the orders of keys
 
@@ -54,6 +59,9 @@ references_key = record { total = keys_total; exact = keys_exact }
 
 pub results_key : IsKey result_cmp
 results_key = record { total = results_total; exact = results_exact }
+
+pub details_key : IsKey details_cmp
+details_key = record { total = details_total; exact = details_exact }
 
 -- ---- members
 
@@ -246,11 +254,28 @@ redemptions = belongs redemption_place references_key (λ i j k v w. ((refl, ref
 tells_redemption : (e f : (Name × Name) × Redemption) → Unit {0} → Unit {0} → redemption_cells e ≡ redemption_cells f → e ≡ f
 tells_redemption e f _ _ h = grind (arith, h)
 
+-- ---- settled details
+
+abbrev pub settled_place : Place details_cmp (Unit {0})
+settled_place = record {
+  at = 10;
+  table = record schema.settled { tree = 22 };
+  cells = settled_cells;
+  list = record { get = λ c. c.settled; put = λ l c. record c { settled = l } };
+  map = record { get = λ r. r.settled; put = λ m r. record r { settled = m } };
+}
+
+pub settled : Belongs settled_place
+settled = belongs settled_place details_key (λ i j k v w. ((refl, refl), tt)) refl (λ c. refl) (λ c. refl) (λ l c. record { listed = refl; cells = refl; tokens = refl; rows = refl })
+
+tells_settled : (e f : Details × Unit {0}) → IsDetails e.0 → IsDetails f.0 → settled_cells e ≡ settled_cells f → e ≡ f
+tells_settled e f one two h = let details = same_entry e.0 f.0 one two (cc) in grind (arith, h, details)
+
 -- ---- how they are made
 
--- the statements that make the tables, in the order of the schema
-abbrev pub office_texts : List (List ℕ)
-office_texts =
+-- the statements that make the tables of version 1, in the order of the schema
+abbrev pub texts_1 : List (List ℕ)
+texts_1 =
     codes "CREATE TABLE meta (id INTEGER PRIMARY KEY, version INTEGER NOT NULL) STRICT"
     ∷ codes "CREATE TABLE member (name TEXT NOT NULL PRIMARY KEY, granted INTEGER NOT NULL, unspent INTEGER NOT NULL) STRICT"
     ∷ codes "CREATE TABLE token (token TEXT NOT NULL PRIMARY KEY, kind TEXT NOT NULL, name TEXT NOT NULL, UNIQUE (kind, name)) STRICT"
@@ -265,9 +290,9 @@ office_texts =
     ∷ []
 
 -- each makes its table
-pub makes_office : Makes schema.no_schema office_texts schema.office_schema
+makes_1 : Makes schema.no_schema texts_1 schema.schema_11
 unfolding understood everything
-makes_office =
+makes_1 =
     also schema.meta (record { creates = (refl, refl); plain = (refl, refl); defined = refl; uncounted = refl }) (
     also schema.member (record { creates = (refl, refl); plain = (refl, refl); defined = refl; uncounted = refl }) (
     also schema.token (record { creates = (refl, refl); plain = (refl, refl); defined = refl; uncounted = refl }) (
@@ -280,6 +305,27 @@ makes_office =
     also schema.load (record { creates = (refl, refl); plain = (refl, refl); defined = refl; uncounted = refl }) (
     also schema.redemption (record { creates = (refl, refl); plain = (refl, refl); defined = refl; uncounted = refl }) (
     made)))))))))))
+
+-- and the statements after these make the others
+abbrev pub later_texts : List (List ℕ)
+later_texts = codes "CREATE TABLE settled (details TEXT NOT NULL PRIMARY KEY) STRICT" ∷ []
+
+makes_later : Makes schema.schema_11 later_texts schema.office_schema
+unfolding understood everything
+makes_later = also schema.settled (record { creates = (refl, refl); plain = (refl, refl); defined = refl; uncounted = refl }) made
+
+makes_then : {first second third : Schema} {texts more : List (List ℕ)} → Makes first texts second → Makes second more third → Makes first (texts ++ more) third
+makes_then made later = later
+makes_then (also table is rest) later = also table is (makes_then rest later)
+
+-- the statements of a version
+abbrev pub texts_of : Version → List (List ℕ)
+texts_of One = texts_1
+texts_of Two = texts_1 ++ later_texts
+
+pub makes_version : (v : Version) → Makes schema.no_schema (texts_of v) (schema_of v)
+makes_version One = makes_1
+makes_version Two = makes_then makes_1 makes_later
 
 -- ---- all tables
 
@@ -308,6 +354,7 @@ one_spelled db v w h g =
       archive = listed_once archive (λ e. IsDetails e.0.1) tells_result db r s h.holds g.holds (archive_valid r v h.spells) (archive_valid s w g.spells) i;
       loads = listed_once loads (λ _. Unit {0}) tells_load db r s h.holds g.holds (λ _ _ _. tt) (λ _ _ _. tt) i;
       redemptions = listed_once redemptions (λ _. Unit {0}) tells_redemption db r s h.holds g.holds (λ _ _ _. tt) (λ _ _ _. tt) i;
+      settled = listed_once settled (λ e. IsDetails e.0) tells_settled db r s h.holds g.holds (settled_valid r v h.spells) (settled_valid s w g.spells) i;
     } in
     let same : r ≡ s = sym h.holds.rows ∙ ap rows_of contents ∙ g.holds.rows in
     one_world s v w (subst (λ (x : Rows). book.Spells x v) same h.spells) g.spells

@@ -18,6 +18,7 @@ pub mod InboxLemmas
 pub mod SoundLemmas
 pub mod LineLemmas
 pub mod ResultLemmas
+pub mod SettledLemmas
 pub mod CountedSums
 pub mod LoadLemmas
 pub mod ToldLemmas

@@ -15,7 +15,7 @@ use Rattle.sqlite.specs.State.{State, Writes, ExecutesInside, Shown}
 use Rattle.sqlite.proofs.Callers.{command_of, statement_of, runs_as, reads_as}
 use Rattle.sqlite_rules.proofs.ProbeLemmas.{has_mapped, mapped_has}
 use Rattle.mx_tables.specs.Schema.{meta, token_cells, opening_contents}
-use Rattle.mx_tables.specs.Made.{Creates, IsCreate, Blank, Fresh, new_cells, IsVersion1, version_shown, Makes, made, also}
+use Rattle.mx_tables.specs.Made.{Creates, IsCreate, Blank, Fresh, new_cells, HasVersion, schema_of, version_shown, Makes, made, also}
 use Rattle.std.proofs.ByRecursion.{All-push}
 use Rattle.sqlite_trees.proofs.ListLemmas.{all_both}
 use Rattle.mx_tables.proofs.Statements.{went, same_value, inserted, puts, picked, env, passes}
@@ -26,7 +26,8 @@ use Rattle.sqlite_schema.specs.declared.schema.Constraint.TheVariants.{Unique}
 use Rattle.mx_book.specs.Spells.{opening_rows}
 use Rattle.mx_book.proofs.Opening.{opening_spelled}
 use Rattle.mx_tables.specs.Holds.{HasContents, Spells, Stores, AllStore, meta_rows}
-use Rattle.mx_tables.proofs.Texts.{insert_meta, insert_meta_is, insert_token, insert_token_is, is_first, select_version, select_version_is}
+use Rattle.mx_tables.specs.declared.making.Version.{Version}
+use Rattle.mx_tables.proofs.Texts.{insert_meta, insert_meta_is, insert_token, insert_token_is, is_first, select_version, asks_version}
 use Rattle.mx_tables.proofs.StoredLemmas.{stores_put, cast_int, cast_null, if_truth, and_true, permuted}
 use Rattle.mx_tables.proofs.KeptLemmas.{token_place}
 use Rattle.mx_tables.proofs.Places.{trees_apart, stores_at}
@@ -80,17 +81,17 @@ all_nothing : (db : Trees) (ts : List Table) → AllByRecursion (λ (t : Table).
 all_nothing db [] none = tt
 all_nothing db (t ∷ ts) none = (subst (λ rows. Stores rows []) (sym none.0) (record { rise = tt; have = tt }), all_nothing db ts none.1)
 
-one_meta : Stores meta_rows ((Null ∷ number 1 ∷ []) ∷ [])
+one_meta : Stores meta_rows ((Null ∷ number 2 ∷ []) ∷ [])
 one_meta = record { rise = (tt, tt); have = ((pos 1, refl), tt) }
 
 pub freshens : (old new : State) (count : ℕ) → Blank office_schema old → Executes insert_meta [] old new (Ok count) → Fresh new
 freshens old new count blank h =
-    let wrote = (puts office_schema 0 meta_table refl (no_actions meta_table) insert_meta [] old new blank.schema_is insert_meta_is.plain count h _ _ meta_rows insert_meta_is.is refl (rw (cast_int (pos 1), cast_null) refl)).0 in
+    let wrote = (puts office_schema 0 meta_table refl (no_actions meta_table) insert_meta [] old new blank.schema_is insert_meta_is.plain count h _ _ meta_rows insert_meta_is.is refl (rw (cast_int (pos 1), cast_int (pos 2), cast_null) refl)).0 in
     let meta : new.now.trees 0 ≡ meta_rows = wrote.rows_are ∙ rw (blank.empty.0) refl in
     record {
       schema = wrote.schema_is;
       meta = meta;
-      tables = one_stores old.now.trees new.now.trees 0 meta_table _ (subst (λ rows. Stores rows ((Null ∷ number 1 ∷ []) ∷ [])) (sym meta) one_meta) office_schema.tables (map (λ _. []) office_schema.tables)
+      tables = one_stores old.now.trees new.now.trees 0 meta_table _ (subst (λ rows. Stores rows ((Null ∷ number 2 ∷ []) ∷ [])) (sym meta) one_meta) office_schema.tables (map (λ _. []) office_schema.tables)
           refl trees_apart wrote.others (all_nothing old.now.trees office_schema.tables blank.empty);
     }
 
@@ -131,34 +132,34 @@ passing (r ∷ rows) =
     let same : passes (is_first ∷ []) [] r ≡ has_rowid (pos 1) r = and_true _ ∙ same_as_first (column r 0) in
     grind (arith, same, passing rows)
 
-pub finds_version : (old new : State) (rows : List Row) → Shown select_version [] old new rows → old.now.schema ≡ office_schema → IsPermutation (map version_shown (first_rows (old.now.trees 0))) rows
-finds_version old new rows h has =
-    let text = select_version_is in
-    let read = reads_as select_version [] old new office_schema has _ text.is text.query.plain text.unlisted rows h in
+pub finds_version : (v : Version) (old new : State) (rows : List Row) → Shown select_version [] old new rows → old.now.schema ≡ schema_of v → IsPermutation (map version_shown (first_rows (old.now.trees 0))) rows
+finds_version v old new rows h has =
+    let text = asks_version v in
+    let read = reads_as select_version [] old new (schema_of v) has _ text.is text.plain text.unlisted rows h in
     subst (λ all. IsPermutation all rows) (passing (old.now.trees 0)) (picked 0 (is_first ∷ []) (col 1 2 ∷ []) [] (codes "version" ∷ []) old.now [] rows read)
 
 none_there : {X : Type 0} (xs : List X) (x : X) → length xs ≡ 0 → ¬ Has xs x
 none_there [] x e there = there
 none_there (y ∷ xs) x e there = omega (arith, e)
 
-module _ (db : Database) (rows : List Row) (h : IsPermutation (map version_shown (first_rows (db.trees 0))) rows) where
+module _ (n : ℕ) (db : Database) (rows : List Row) (h : IsPermutation (map version_shown (first_rows (db.trees 0))) rows) where
   -- the first row of `meta` is shown
-  is_shown : (v : IsVersion1 db) → Has rows (version_shown v.0)
+  is_shown : (v : HasVersion n db) → Has rows (version_shown v.0)
   is_shown v = permuted _ rows h (version_shown v.0) (mapped_has version_shown (first_rows (db.trees 0)) v.0 (has_kept (has_rowid (pos 1)) (db.trees 0) v.0 v.1 v.2))
 
-  pub version_there : (x : Row) → rows ≡ x ∷ [] → column x 0 ≡ number 1 → IsVersion1 db
+  pub version_there : (x : Row) → rows ≡ x ∷ [] → column x 0 ≡ number n → HasVersion n db
   version_there x one is =
       let it = has_mapped version_shown (first_rows (db.trees 0)) x (permuted rows _ (IsPermutation-sym _ _ h) x (subst (λ xs. Has xs x) (sym one) (inl refl))) in
       let there = has_filtered (has_rowid (pos 1)) (db.trees 0) it.0 it.1 in
       (it.0, there.0, there.1, sym (ap (λ r. column r 0) it.2) ∙ is)
 
-  pub version_missing : length rows ≡ 0 → ¬ IsVersion1 db
+  pub version_missing : length rows ≡ 0 → ¬ HasVersion n db
   version_missing none v = none_there rows (version_shown v.0) none (is_shown v)
 
-  pub version_other : (x : Row) (n : ℕ) → rows ≡ x ∷ [] → column x 0 ≡ number n → n ≢ 1 → ¬ IsVersion1 db
-  version_other x n one is other v =
+  pub version_other : (x : Row) (k : ℕ) → rows ≡ x ∷ [] → column x 0 ≡ number k → k ≢ n → ¬ HasVersion n db
+  version_other x k one is other v =
       let there : Has (x ∷ []) (version_shown v.0) = subst (λ xs. Has xs (version_shown v.0)) one (is_shown v) in
       elim there [
-        | inl same ↦ other (let e : number n ≡ number 1 = sym is ∙ sym (ap (λ r. column r 0) same) ∙ v.3 in cc)
+        | inl same ↦ other (let e : number k ≡ number n = sym is ∙ sym (ap (λ r. column r 0) same) ∙ v.3 in cc)
         | inr never ↦ absurd never
       ]

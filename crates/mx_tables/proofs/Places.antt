@@ -95,7 +95,7 @@ abbrev own_key : Table → Option (List ℕ × Order) × Bool
 own_key t = (Some (t.primary, plain), false)
 
 keys_guarded : AllByRecursion (λ t. key_of t ≡ own_key t) (drop 1 office_schema.tables)
-keys_guarded = (refl, (refl, (refl, (refl, (refl, (refl, (refl, (refl, (refl, (refl, tt))))))))))
+keys_guarded = (refl, (refl, (refl, (refl, (refl, (refl, (refl, (refl, (refl, (refl, (refl, tt)))))))))))
 
 -- ---- no two typed rows have the same key
 

@@ -120,7 +120,7 @@ finds_tray p = answers kept.tray select_tray _ _ _ select_tray_is (Text p ∷ []
     (λ id e. rw (same_text e.0.0 p) (and_true _ ∙ names_turned e.0.0 p)) (λ id e. refl)
 
 -- texts of details within their limits are the same where the details are
-same_texts : (d e : Details) → IsDetails d → IsDetails e → eq_by_cmp (slice_cmp nat_cmp) (entry_text e) (entry_text d) ≡ is_details d e
+pub same_texts : (d e : Details) → IsDetails d → IsDetails e → eq_by_cmp (slice_cmp nat_cmp) (entry_text e) (entry_text d) ≡ is_details d e
 same_texts d e one two = both_ways _ _
     (λ t. let same : d ≡ e = same_entry d e one two (same_name (entry_text d) (entry_text e) (names_turned (entry_text d) (entry_text e) ∙ t)) in rw (← same) (ap is_eq (tied_itself details_total d)))
     (λ t. let same : d ≡ e = details_exact d e (is_equal _ t) in rw same (name_itself (entry_text e)))

@@ -7,7 +7,8 @@ use Rattle.mx_pay.specs.Limits.{most_number}
 use Rattle.mx_book.specs.World.{World}
 use Rattle.mx_book.specs.Reads.{tray_of}
 use Rattle.mx_book.specs.RowEdits.{row_tray_of}
-use Rattle.mx_tables.specs.Results.{AreDetails}
+use Rattle.mx_tables.specs.Results.{AreDetails, AreEntries}
+use Rattle.mx_pay.specs.Details.{Details, IsDetails}
 use Rattle.mx_book.specs.Rows.{world_of, row_of, line_at}
 use Rattle.mx_book.specs.Conditions.{IsWorld, IsLine, IsNote, AreNumbered}
 use Rattle.mx_book.specs.Spells.{Spells}
@@ -73,6 +74,12 @@ module _ (r : Rows) (w : World) (h : Spells r w) where
 
   pub archive_valid : AreDetails r.archive
   archive_valid k x at = own.results.details k.0 k.1 (some_of (fmap.get r.archive k) x at)
+
+  pub settled_valid : (d : Details) (x : Unit {0}) → fmap.get r.settled d ≡ Some x → IsDetails d
+  settled_valid d x at = own.settled d (some_of (fmap.get r.settled d) x at)
+
+  pub entries_valid : AreEntries r
+  entries_valid = record { archive = archive_valid; settled = own.settled }
 
   pub tray_valid : AreDetails r.tray
   tray_valid k x at =

@@ -21,7 +21,7 @@ use Rattle.sqlite.specs.Listing.{understood, listing_schema, if_select}
 use Rattle.sqlite.specs.State.{State, HasCleanDisk, IsUnchanged, IsRolledBack, Shows, Fails, FailsToQuery, FailsToShow, IsNotRun, Shown, ShowsRows, KeepsCommit, ExecutesInside, IsTooLate, Survives, CommitsShowing}
 use Rattle.mx_book.specs.declared.contract.StoreFault.{StoreFault}
 use Rattle.mx_tables.specs.Owners.{OwnerIndex, IndexSlots, index_of, Owned, IsKeptUp}
-use Rattle.mx_tables.specs.States.{worry, IsOurs, IsText, IsSilent, ShowsNothing, Stays, Within, Stops, Brings, Applies, Commits, TellsOwners}
+use Rattle.mx_tables.specs.States.{worry, IsAt, IsOurs, IsText, IsSilent, ShowsNothing, Stays, StaysAt, Within, Stops, Brings, Applies, Commits, TellsOwners}
 
 -- a statement that fails changes nothing, or its transaction is rolled back
 abbrev pub Quits : State → State → Type 0
@@ -80,39 +80,31 @@ pub showed : (sql : List ℕ) (params : Row) (old new : State) (rows : List Row)
 unfolding Shown
 showed sql params old new rows h = rows_showed old new sql h.0 _ rows h.0.returning h.2
 
-pub shown_same : (sql : List ℕ) (params : Row) (old new : State) (rows : List Row) → IsText sql → old.now.schema ≡ office_schema → Shown sql params old new rows → IsUnchanged old new
-unfolding Shown
-shown_same sql params old new rows text has h =
-    let known = sym h.1.is ∙ ap (λ s. understood s sql) has in
-    let bare = subst IsPlain (sym known) text in
-    let it = rw bare.0 at h.2 in
-    it.3
-
 pub quits : (old new : State) → Quits old new → KeepsCommit old new
 quits old new (inl same) = record { was_open = λ _. same.0.was_open; committed = λ _. same.0.committed_is }
 quits old new (inr undone) = record { was_open = undone.was_open; committed = λ o. (undone.undone o).1 }
 
 quits_now : (old new : State) → Quits old new → IsTrue new.is_open → old.committed ≡ old.now → (new.now ≡ old.now) × (new.committed ≡ old.now)
-quits_now old new (inl same) live settled = (same.0.now_is, same.0.committed_is ∙ settled)
-quits_now old new (inr undone) live settled = let it = undone.undone live in (it.0 ∙ settled, it.1 ∙ settled)
+quits_now old new (inl same) live steady = (same.0.now_is, same.0.committed_is ∙ steady)
+quits_now old new (inr undone) live steady = let it = undone.undone live in (it.0 ∙ steady, it.1 ∙ steady)
 
 -- an index tells the same of a database that is the same
 pub index_kept : (old new : State) → worry old ≤ worry new → (worry new ≡ 0 → new.now ≡ old.now) → (held : Option IndexSlots) → TellsOwners old held → TellsOwners new held
 index_kept old new later same None tells = tt
 index_kept old new later same (Some held) tells = λ h. subst (λ (d : Database). Owned (d.trees 8) (index_of held)) (sym (same h)) (tells (sure_before old new later h))
 
-pub stays : (old new : State) → IsOurs old → (old.in_transaction ≡ false → new.in_transaction ≡ false) → doubt old.is_clean ≤ doubt new.is_clean
-    → (HasCleanDisk new → IsTrue new.is_open → IsTrue old.is_open) → (worry new ≡ 0 → old.now.schema ≡ office_schema → Quits old new)
-    → (HasCleanDisk new → (db : Trees) → new.may_leave db → old.may_leave db) → Stays old new
+pub stays : {of : Schema} (old new : State) → IsAt of old → (old.in_transaction ≡ false → new.in_transaction ≡ false) → doubt old.is_clean ≤ doubt new.is_clean
+    → (HasCleanDisk new → IsTrue new.is_open → IsTrue old.is_open) → (worry new ≡ 0 → old.now.schema ≡ of → Quits old new)
+    → (HasCleanDisk new → (db : Trees) → new.may_leave db → old.may_leave db) → StaysAt of old new
 stays old new ours mode clean opened quits crash =
     let later = worry_later old new clean opened in
     let both = λ (h : worry new ≡ 0).
     let before = sure_before old new later h in
-    quits_now old new (quits h (ours.schema before)) (sure new h).0 (ours.settled before) in
+    quits_now old new (quits h (ours.schema before)) (sure new h).0 (ours.steady before) in
     record {
       ours = record {
         autocommit = mode ours.autocommit;
-        settled = λ h. (both h).1 ∙ sym (both h).0;
+        steady = λ h. (both h).1 ∙ sym (both h).0;
         schema = λ h. ap (λ (d : Database). d.schema) (both h).0 ∙ ours.schema (sure_before old new later h);
       };
       later = later;
@@ -121,10 +113,14 @@ stays old new ours mode clean opened quits crash =
       index = index_kept old new later (λ h. (both h).0);
     }
 
-pub stays_same : (a : State) → IsOurs a → Stays a a
+-- what is idle and steady is so in its schema
+pub is_at : (of : Schema) (s : State) → s.in_transaction ≡ false → (IsTrue s.is_open → s.now ≡ s.committed) → s.now.schema ≡ of → IsAt of s
+is_at of s idle steady has = record { autocommit = idle; steady = λ h. sym (steady (sure s h).0); schema = λ _. has }
+
+pub stays_same : {of : Schema} (a : State) → IsAt of a → StaysAt of a a
 stays_same a ours = record { ours = ours; later = omega arith; same = λ h. refl; stops = λ h db left. left; index = λ held tells. tells }
 
-pub stays_then : (a b c : State) → Stays a b → Stays b c → Stays a c
+pub stays_then : {of : Schema} (a b c : State) → StaysAt of a b → StaysAt of b c → StaysAt of a c
 stays_then a b c one two = record {
   ours = two.ours;
   later = omega (arith, one.later, two.later);
@@ -154,7 +150,12 @@ understood_silent : (schema : Schema) (sql : List ℕ) (c : Compiled) → IsSile
 unfolding understood
 understood_silent schema sql c silent h = grind (arith, h, compiled_silent listing_schema sql c silent, compiled_silent schema sql c silent, was_compiled (compiled listing_schema sql) c)
 
--- such a query commits nothing
+-- such a query leaves the database, whatever the schema is
+pub shown_same : (sql : List ℕ) (params : Row) (old new : State) (rows : List Row) → IsSilent sql → Shown sql params old new rows → IsUnchanged old new
+unfolding Shown
+shown_same sql params old new rows silent h = let it = rw (understood_silent old.now.schema sql h.0 silent h.1.is) at h.2 in it.3
+
+-- and it commits nothing
 never_commits : (sql : List ℕ) (params : Row) (s : State) (db : Trees) → IsSilent sql → CommitsShowing sql params s db → ⊥
 unfolding CommitsShowing
 never_commits sql params s db silent h = let none = understood_silent s.now.schema sql h.0 silent h.1.is in let some = rw none at h.2 in absurd (cc)
@@ -228,17 +229,17 @@ module _ {S X : Type 0} (g : Ghosts S) (old new : Held S) (change : Rows → Row
 
   pub left_as_was : (r : Result X StoreFault) → Commits g old new r (Changed g old new change index) → worry (state g new) ≡ 0 → OnErr r ((state g new).now ≡ (state g old).now)
   left_as_was (Ok x) it h = tt
-  left_as_was (Err e) it h = (it.none (sure (state g new) h).1 (sure (state g new) h).0).0 ∙ ours.settled (was_sure (Err e) it h)
+  left_as_was (Err e) it h = (it.none (sure (state g new) h).1 (sure (state g new) h).0).0 ∙ ours.steady (was_sure (Err e) it h)
 
   pub ours_after : (r : Result X StoreFault) → Commits g old new r (Changed g old new change index) → IsOurs (state g new)
   ours_after (Ok x) it = record {
     autocommit = it.ended;
-    settled = λ h. (it.all (sure (state g new) h).1).1;
+    steady = λ h. (it.all (sure (state g new) h).1).1;
     schema = λ h. ((it.all (sure (state g new) h).1).0 (ours.schema (was_sure (Ok x) it h))).schema;
   }
   ours_after (Err e) it = record {
     autocommit = it.ended;
-    settled = λ h. let left = it.none (sure (state g new) h).1 (sure (state g new) h).0 in left.1 ∙ sym left.0;
+    steady = λ h. let left = it.none (sure (state g new) h).1 (sure (state g new) h).0 in left.1 ∙ sym left.0;
     schema = λ h. ap (λ (d : Database). d.schema) (left_as_was (Err e) it h) ∙ ours.schema (was_sure (Err e) it h);
   }
 

@@ -14,6 +14,11 @@ use Rattle.sqlite.specs.Listing.{understood, reads_listing}
 use Rattle.sqlite.proofs.Callers.{command_of}
 use Rattle.sqlite_value.specs.Keys.{ascending}
 use Rattle.mx_tables.specs.States.{IsText, IsQuery}
+use Rattle.mx_tables.specs.Made.{schema_of}
+use Rattle.mx_tables.specs.declared.making.Version.{Version}
+use Rattle.mx_tables.specs.declared.making.Version.TheVariants.{One, Two}
+use Rattle.sqlite.specs.Given.{IsPlain}
+use Rattle.sqlite_schema.specs.declared.schema.Schema.{Schema}
 
 -- the rows of one tree that pass the terms, in this order
 abbrev pub scan : ℕ → List Term → List Term → List (Term × Key) → Query
@@ -107,9 +112,9 @@ unfolding understood everything
 update_member_is = record { is = refl; plain = (refl, refl) }
 
 abbrev pub insert_meta : List ℕ
-insert_meta = codes "INSERT INTO meta (id, version) VALUES (1, 1)"
+insert_meta = codes "INSERT INTO meta (id, version) VALUES (1, 2)"
 
-pub insert_meta_is : IsInsert insert_meta 0 (lit (Int (pos 1)) ∷ lit Null ∷ lit (Int (pos 1)) ∷ []) 3
+pub insert_meta_is : IsInsert insert_meta 0 (lit (Int (pos 1)) ∷ lit Null ∷ lit (Int (pos 2)) ∷ []) 3
 unfolding understood everything
 insert_meta_is = record { is = refl; plain = (refl, refl) }
 
@@ -120,9 +125,20 @@ is_first = op2 (Compare Eq Binary) (col 1 0) (lit (Int (pos 1)))
 abbrev pub select_version : List ℕ
 select_version = codes "SELECT version FROM meta WHERE id = 1"
 
-pub select_version_is : IsSelect select_version 0 (is_first ∷ []) (col 1 2 ∷ []) [] (codes "version" ∷ [])
+pub version_query : IsQuery select_version
 unfolding understood everything
-select_version_is = record { is = refl; query = record { plain = (refl, refl); silent = λ _ _. refl }; unlisted = refl }
+version_query = record { plain = (refl, refl); silent = λ _ _. refl }
+
+-- what it is in the schema of a version
+pub record AsksVersion (schema : Schema) : Type 0 where
+  pub is : command_of (understood schema select_version) ≡ Select (alone (scan 0 (is_first ∷ []) (col 1 2 ∷ []) [])) (codes "version" ∷ [])
+  pub plain : IsPlain (understood schema select_version)
+  pub unlisted : reads_listing schema select_version ≡ false
+
+pub asks_version : (v : Version) → AsksVersion (schema_of v)
+unfolding understood everything
+asks_version One = record { is = refl; plain = (refl, refl); unlisted = refl }
+asks_version Two = record { is = refl; plain = (refl, refl); unlisted = refl }
 
 abbrev pub insert_purse : List ℕ
 insert_purse = codes "INSERT INTO purse (name, holder, balance, next_number, status, details, log, line_count, next_message) VALUES (?1, ?2, 0, 0, 'eaFrom', '', '', 0, 0)"

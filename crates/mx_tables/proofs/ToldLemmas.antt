@@ -25,9 +25,9 @@ use Rattle.mx_book.specs.declared.values.MemberTotals.{MemberTotals}
 use Rattle.mx_book.proofs.SpellLemmas as spell
 use Rattle.mx_tables.specs.Answers.{ArePurses, AreMessages, HaveNumbers}
 use Rattle.mx_tables.specs.Pages.{AreLines}
-use Rattle.mx_tables.specs.Results.{AreDetails}
+use Rattle.mx_tables.specs.Results.{AreDetails, AreEntries}
 use Rattle.mx_tables.specs.States.{Reads, Tells}
-use Rattle.mx_tables.proofs.SoundLemmas.{messages_valid, numbers_valid, purses_valid, lines_valid, archive_valid, tray_valid, tray_as}
+use Rattle.mx_tables.proofs.SoundLemmas.{messages_valid, numbers_valid, purses_valid, lines_valid, entries_valid, tray_valid, tray_as}
 
 module _ {S : Type 0} (g : Ghosts S) {old new : Held S} where
   tell : {T : Type 0} {r : Result T StoreFault} {is : Rows → T → Type 0} {says : World → T → Type 0}
@@ -85,12 +85,12 @@ module _ {S : Type 0} (g : Ghosts S) {old new : Held S} where
   tell_tray p = tell (λ rows w s log is. is (tray_valid rows w s) ∙ tray_as rows w s p)
 
   pub tell_totals : {r : Result Totals StoreFault}
-      → Reads g old new r (λ rows v. ArePurses rows → AreDetails rows.archive → v ≡ row_totals_of rows) → Tells g old new r (λ w v. v ≡ totals_of w)
-  tell_totals = tell (λ rows w s v is. is (purses_valid rows w s) (archive_valid rows w s) ∙ spell.totals_at rows w s)
+      → Reads g old new r (λ rows v. ArePurses rows → AreEntries rows → v ≡ row_totals_of rows) → Tells g old new r (λ w v. v ≡ totals_of w)
+  tell_totals = tell (λ rows w s v is. is (purses_valid rows w s) (entries_valid rows w s) ∙ spell.totals_at rows w s)
 
   pub tell_member_totals : {r : Result (Option MemberTotals) StoreFault} (m : Name)
-      → Reads g old new r (λ rows v. ArePurses rows → AreDetails rows.archive → v ≡ row_member_totals_of rows m) → Tells g old new r (λ w v. v ≡ member_totals_of w m)
-  tell_member_totals m = tell (λ rows w s v is. is (purses_valid rows w s) (archive_valid rows w s) ∙ spell.member_totals_at rows w m s)
+      → Reads g old new r (λ rows v. ArePurses rows → AreEntries rows → v ≡ row_member_totals_of rows m) → Tells g old new r (λ w v. v ≡ member_totals_of w m)
+  tell_member_totals m = tell (λ rows w s v is. is (purses_valid rows w s) (entries_valid rows w s) ∙ spell.member_totals_at rows w m s)
 
   -- ---- lists
 

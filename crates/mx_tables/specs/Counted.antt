@@ -23,7 +23,7 @@ use Rattle.mx_tables.specs.declared.member_sums.MemberSums.{MemberSums}
 use Rattle.std.specs.FinSet.{FinSet}
 use Rattle.mx_pay.specs.Limits.{most_entries}
 use Rattle.mx_pay.specs.Details.{Details}
-use Rattle.mx_pay.specs.Log.{none_logged}
+use Rattle.mx_pay.specs.Log.{Entries, none_logged}
 use Rattle.mx_pay.specs.Codes.{code, entry_text}
 use Rattle.mx_pay.specs.Reading.{entry_of, entries_of}
 use Rattle.mx_purse.specs.Words.{status_details}
@@ -155,18 +155,18 @@ module _ (purses : fmap.FinMap name_cmp PurseRow) (archive : FinSet result_cmp) 
   abbrev pub waiting_row : Row → ℕ
   waiting_row row = if_some left_value (entry_of (text_of (column row 0)))
 
-  abbrev pub log_row : Row → ℕ
-  log_row row = if_some (lost_in_log purses archive (text_of (column row 0))) (entries_of most_entries (text_of (column row 1)) none_logged)
+  abbrev pub log_row : Entries → Row → ℕ
+  log_row settled row = if_some (lost_in_log purses archive settled (text_of (column row 0))) (entries_of most_entries (text_of (column row 1)) none_logged)
 
-  abbrev pub result_row : Row → ℕ
-  result_row row = if_some (λ d. lost_in_archive purses archive (text_of (column row 0), d)) (entry_of (text_of (column row 1)))
+  abbrev pub result_row : Entries → Row → ℕ
+  result_row settled row = if_some (λ d. lost_in_archive purses archive settled (text_of (column row 0), d)) (entry_of (text_of (column row 1)))
 
 -- what is lost by all logs, and by all archived results
 abbrev pub logs_lost : Rows → ℕ
-logs_lost r = sum_entries (λ p (x : PurseRow). lost_in_log r.purses r.archive p x.purse.log) r.purses
+logs_lost r = sum_entries (λ p (x : PurseRow). lost_in_log r.purses r.archive r.settled p x.purse.log) r.purses
 
 abbrev pub results_lost : Rows → ℕ
-results_lost r = sum_entries (λ result _. lost_in_archive r.purses r.archive result) r.archive
+results_lost r = sum_entries (λ result _. lost_in_archive r.purses r.archive r.settled result) r.archive
 
 -- the query of what is summed
 abbrev pub adds_text : Adds → List ℕ
@@ -179,8 +179,8 @@ adds_text Archived = codes "SELECT purse, details FROM archive"
 abbrev pub row_adds : Rows → Adds → Row → ℕ
 row_adds r (Counted amounts scope) row = counted_row r.purses r.holders scope row
 row_adds r Waiting row = waiting_row r.purses r.archive row
-row_adds r Logged row = log_row r.purses r.archive row
-row_adds r Archived row = result_row r.purses r.archive row
+row_adds r Logged row = log_row r.purses r.archive r.settled row
+row_adds r Archived row = result_row r.purses r.archive r.settled row
 
 -- the sum
 abbrev pub sum_of : Rows → Adds → ℕ

@@ -31,9 +31,9 @@ AllStore db [] (c ∷ cs) = ⊥
 AllStore db (t ∷ ts) [] = ⊥
 AllStore db (t ∷ ts) (c ∷ cs) = Stores (db t.tree) c × AllStore db ts cs
 
--- the one row of `meta`: number 1, version 1
+-- the one row of `meta`: number 1, version 2
 abbrev pub meta_rows : List Row
-meta_rows = (Int (pos 1) ∷ Null ∷ number 1 ∷ []) ∷ []
+meta_rows = (Int (pos 1) ∷ Null ∷ number 2 ∷ []) ∷ []
 
 -- the database has the schema of the office and the rows of these contents, and no two rows of a table have the same key
 pub record HasContents (db : Database) (c : Contents) : Type 0 where

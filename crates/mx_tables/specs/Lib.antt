@@ -2,7 +2,7 @@ pub mod Holds
 pub mod Schema
 pub mod Owners
 pub mod States
-pub mod Settled
+pub mod Steady
 pub mod Answers
 pub mod Pages
 pub mod Made

@@ -1,5 +1,7 @@
 -- How the tables are made.
-use Rattle.mx_tables.specs.Schema.{office_schema, number}
+use Rattle.mx_tables.specs.Schema.{schema_11, office_schema, number}
+use Rattle.mx_tables.specs.declared.making.Version.{Version}
+use Rattle.mx_tables.specs.declared.making.Version.TheVariants.{One, Two}
 use Rattle.mx_tables.specs.Holds.{meta_rows, AllStore}
 use Rattle.sqlite_value.specs.Order.{Row, column}
 use Rattle.sqlite_value.specs.declared.value.Value.TheVariants.{Null}
@@ -48,7 +50,7 @@ pub record Blank (schema : Schema) (s : State) : Type 0 where
 
 -- the cells of new tables, which have no row but that of `meta`
 abbrev pub new_cells : List (List Row)
-new_cells = ((Null ∷ number 1 ∷ []) ∷ []) ∷ map (λ _. []) (drop 1 office_schema.tables)
+new_cells = ((Null ∷ number 2 ∷ []) ∷ []) ∷ map (λ _. []) (drop 1 office_schema.tables)
 
 -- a transaction is open, and sees the tables with no row but that of `meta`
 pub record Fresh (s : State) : Type 0 where
@@ -56,9 +58,14 @@ pub record Fresh (s : State) : Type 0 where
   pub meta : s.now.trees 0 ≡ meta_rows
   pub tables : AllStore s.now.trees office_schema.tables new_cells
 
--- `meta` has a row of number 1 with version 1
-abbrev pub IsVersion1 : Database → Type 0
-IsVersion1 db = (r : Row) × Has (db.trees 0) r × (has_rowid (pos 1) r ≡ true) × (column r 2 ≡ number 1)
+-- the schema of each version: the first has no settled details
+abbrev pub schema_of : Version → Schema
+schema_of One = schema_11
+schema_of Two = office_schema
+
+-- `meta` has a row of number 1 with this version
+abbrev pub HasVersion : ℕ → Database → Type 0
+HasVersion n db = (r : Row) × Has (db.trees 0) r × (has_rowid (pos 1) r ≡ true) × (column r 2 ≡ number n)
 
 abbrev pub version_shown : Row → Row
 version_shown r = column r 2 ∷ []

@@ -12,6 +12,8 @@ use Rattle.mx_pay.specs.Details.{Details, IsDetails, is_details}
 use Rattle.mx_pay.specs.Codes.{entry_text}
 use Rattle.mx_pay.specs.Log.{Entries, has_logged}
 use Rattle.mx_book.specs.World.{Name, result_cmp}
+use Rattle.mx_book.specs.Rows.{Rows}
+use Rattle.mx_book.specs.Conditions.{AreSettled}
 
 abbrev pub details_shown : Details → Row
 details_shown d = Text (entry_text d) ∷ []
@@ -23,6 +25,11 @@ first_one r = column r 0 ∷ []
 -- each of these results has details within their limits
 abbrev pub AreDetails : FinSet result_cmp → Type 0
 AreDetails s = (k : Name × Details) (x : Unit {0}) → fmap.get s k ≡ Some x → IsDetails k.1
+
+-- what is archived and what is settled has details within their limits
+pub record AreEntries (r : Rows) : Type 0 where
+  pub archive : AreDetails r.archive
+  pub settled : AreSettled r.settled
 
 -- a log has the details that rows show, and no others
 pub record Shows (log : Entries) (rows : List Row) : Type 0 where

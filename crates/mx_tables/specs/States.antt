@@ -28,17 +28,25 @@ worry_at live clean = if clean then (if live then 0 else 1) else 2
 abbrev pub worry : State → ℕ
 worry s = worry_at s.is_open s.is_clean
 
--- between calls no transaction is open, all is committed, and the schema is that of the office
-pub record IsOurs (s : State) : Type 0 where
+-- between calls no transaction is open, all is committed, and the schema is this one
+pub record IsAt (of : Schema) (s : State) : Type 0 where
   pub autocommit : s.in_transaction ≡ false
-  pub settled : worry s ≡ 0 → s.committed ≡ s.now
-  pub schema : worry s ≡ 0 → s.now.schema ≡ office_schema
+  pub steady : worry s ≡ 0 → s.committed ≡ s.now
+  pub schema : worry s ≡ 0 → s.now.schema ≡ of
 
--- what tables may find that are opened after a stop at this moment
-pub record Leaves (s : State) (db : Database) : Type 0 where
-  pub ours : IsOurs s
-  pub schema : db.schema ≡ office_schema
+-- and it is that of the office
+abbrev pub IsOurs : State → Type 0
+IsOurs = IsAt office_schema
+
+-- what may be found in this schema after a stop at this moment
+pub record LeavesAt (of : Schema) (s : State) (db : Database) : Type 0 where
+  pub ours : IsAt of s
+  pub schema : db.schema ≡ of
   pub trees : s.may_leave db.trees
+
+-- what tables may find that are opened then
+abbrev pub Leaves : State → Database → Type 0
+Leaves = LeavesAt office_schema
 
 -- without worry an index that is kept tells exactly the purses that are there
 abbrev pub TellsOwners : State → Option IndexSlots → Type 0
@@ -46,12 +54,16 @@ TellsOwners s None = Unit {0}
 TellsOwners s (Some held) = worry s ≡ 0 → Owned (s.now.trees 8) (index_of held)
 
 -- A read: doubt doesn't fall, and without any in the end the database is as it was. While the disk didn't lie, a stop leaves what it could leave before.
-pub record Stays (old new : State) : Type 0 where
-  pub ours : IsOurs new
+pub record StaysAt (of : Schema) (old new : State) : Type 0 where
+  pub ours : IsAt of new
   pub later : worry old ≤ worry new
   pub same : worry new ≡ 0 → new.now ≡ old.now
-  pub stops : worry new ≤ 1 → (db : Database) → Leaves new db → Leaves old db
+  pub stops : worry new ≤ 1 → (db : Database) → LeavesAt of new db → LeavesAt of old db
   pub index : (held : Option IndexSlots) → TellsOwners old held → TellsOwners new held
+
+-- a read of the tables
+abbrev pub Stays : State → State → Type 0
+Stays = StaysAt office_schema
 
 -- A step inside a transaction: no fault is forgotten, nothing is committed, the transaction goes on, and a stop leaves what it could leave before.
 pub record Within {T E : Type 0} (old new : State) (result : Result T E) : Type 0 where

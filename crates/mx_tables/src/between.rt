@@ -5,12 +5,13 @@ ghost use Rattle.mx_book.specs.RowEdits.{log_at};
 ghost use Rattle.mx_book.specs.RowTotals.{has_sent, lost_by};
 ghost use Rattle.mx_tables.specs.Answers.{ArePurses};
 ghost use Rattle.mx_tables.specs.Counted.{left_value, log_row, result_row};
-ghost use Rattle.mx_tables.specs.Results.{AreDetails};
+ghost use Rattle.mx_tables.specs.Results.{AreDetails, AreEntries};
 ghost use Rattle.mx_tables.specs.States.{Reads};
 
 use crate::cells::{entry_at, log_at, name_at};
 use crate::purses::find_purse;
 use crate::results::find_archived;
+use crate::settled::find_settled;
 use crate::sums::plus;
 use mx_book::totals::is_sent_by;
 use mx_book::{PurseRow, StoreFault};
@@ -57,7 +58,8 @@ pub fn value_left<S: Alter>(
     Ok(if found { value } else { 0 })
 }
 
-/// The value of details that are logged for a purse, where they are to it and it has left the other purse.
+/// The value of details that are logged for a purse, where they are to it, it has left the other purse, and they aren't
+/// settled.
 fn lost_by<S: Alter>(
     alloc: Global,
     conn: &mut Connection<S>,
@@ -65,13 +67,17 @@ fn lost_by<S: Alter>(
     details: &PayDetails,
 ) -> Result<u128, StoreFault>
     ensures { Reads S.Store conn.old conn.new result
-        (λ r n. ArePurses r → AreDetails r.archive
-        → n ≡ lost_by r.purses r.archive purse.now details.now) }
+        (λ r n. ArePurses r → AreEntries r
+        → n ≡ lost_by r.purses r.archive r.settled purse.now details.now) }
 {
-    if same_name(&details.to(), purse) {
-        value_left(alloc, conn, details)
-    } else {
+    if !same_name(&details.to(), purse) {
+        return Ok(0);
+    }
+    let settled = find_settled(alloc, conn, details)?;
+    if settled {
         Ok(0)
+    } else {
+        value_left(alloc, conn, details)
     }
 }
 
@@ -82,7 +88,8 @@ pub fn lose_row<S: Alter>(
     row: &Row,
 ) -> Result<u128, StoreFault>
     ensures { Reads S.Store conn.old conn.new result
-        (λ r n. ArePurses r → AreDetails r.archive → n ≡ log_row r.purses r.archive row.now) }
+        (λ r n. ArePurses r → AreEntries r
+        → n ≡ log_row r.purses r.archive r.settled row.now) }
 {
     let purse = name_at(row, 0)?;
     let log = log_at(row, 1)?;
@@ -101,7 +108,8 @@ pub fn lose_result<S: Alter>(
     row: &Row,
 ) -> Result<u128, StoreFault>
     ensures { Reads S.Store conn.old conn.new result
-        (λ r n. ArePurses r → AreDetails r.archive → n ≡ result_row r.purses r.archive row.now) }
+        (λ r n. ArePurses r → AreEntries r
+        → n ≡ result_row r.purses r.archive r.settled row.now) }
 {
     let purse = name_at(row, 0)?;
     let details = entry_at(row, 1)?;

@@ -17,6 +17,7 @@ use crate::members::{insert_member, update_member};
 use crate::purses::{insert_purse, next_number, raise_next, set_purse};
 use crate::redemptions::insert_redemption;
 use crate::results::{archive_tray, insert_tray};
+use crate::settled::insert_settled;
 use crate::tokens::insert_token;
 use mx_book::{Caller, Edit, StoreFault};
 use mx_pay::names::same_name;
@@ -138,6 +139,7 @@ fn edit_one<S: Alter>(
             amount,
         } => insert_redemption(tx, purse, reference, *amount),
         Edit::Collect { member } => collect(tx, member),
+        Edit::AddSettled { details } => insert_settled(alloc, tx, details),
     }
 }
 

@@ -21,6 +21,7 @@ mod purses;
 mod redemptions;
 mod results;
 mod same;
+mod settled;
 mod sums;
 pub mod tables;
 mod tokens;

@@ -4,7 +4,7 @@ ghost use Rattle.sqlite.specs.Held.{state};
 ghost use Rattle.sqlite_catalog.specs.Change.{created};
 ghost use Rattle.mx_book.specs.Spells.{opening_rows};
 ghost use Rattle.mx_tables.specs.Holds.{Holds};
-ghost use Rattle.mx_tables.specs.Made.{Blank, Builds, Fresh, IsCreate, Makes};
+ghost use Rattle.mx_tables.specs.Made.{Blank, Builds, Fresh, IsCreate, Makes, schema_of};
 ghost use Rattle.mx_tables.specs.Schema.{no_schema, office_schema};
 ghost use Rattle.mx_tables.specs.States.{Steps};
 
@@ -28,7 +28,7 @@ fn make<S: Alter>(tx: &mut Transaction<'_, S>, sql: &str) -> Result<(), Error>
 }
 
 /// The statements that make the tables, in the order of the schema.
-const TABLES: [&str; 11] = [
+const TABLES: [&str; 12] = [
     "CREATE TABLE meta (id INTEGER PRIMARY KEY, version INTEGER NOT NULL) STRICT",
     "CREATE TABLE member (name TEXT NOT NULL PRIMARY KEY, granted INTEGER NOT NULL, unspent INTEGER NOT NULL) STRICT",
     "CREATE TABLE token (token TEXT NOT NULL PRIMARY KEY, kind TEXT NOT NULL, name TEXT NOT NULL, UNIQUE (kind, name)) STRICT",
@@ -40,7 +40,20 @@ const TABLES: [&str; 11] = [
     "CREATE TABLE archive (purse TEXT NOT NULL, details TEXT NOT NULL, PRIMARY KEY (purse, details)) STRICT",
     "CREATE TABLE load (purse TEXT NOT NULL, reference TEXT NOT NULL, amount INTEGER NOT NULL, PRIMARY KEY (purse, reference)) STRICT",
     "CREATE TABLE redemption (purse TEXT NOT NULL, reference TEXT NOT NULL, amount INTEGER NOT NULL, collected INTEGER NOT NULL, PRIMARY KEY (purse, reference)) STRICT",
+    "CREATE TABLE settled (details TEXT NOT NULL PRIMARY KEY) STRICT",
 ];
+
+/// How many of them version 1 had.
+const IN_VERSION_1: usize = 11;
+
+/// A version of the schema.
+#[derive(Clone, Copy)]
+pub enum Version {
+    /// All tables but that of the settled details.
+    One,
+    /// All tables.
+    Two,
+}
 
 /// Makes one table after another.
 fn make_each<S: Alter>(tx: &mut Transaction<'_, S>, texts: &[&str]) -> Result<(), Error>
@@ -55,11 +68,14 @@ fn make_each<S: Alter>(tx: &mut Transaction<'_, S>, texts: &[&str]) -> Result<()
     Ok(())
 }
 
-/// Makes all tables.
-pub fn make_tables<S: Alter>(tx: &mut Transaction<'_, S>) -> Result<(), Error>
-    ensures { Builds S.Store tx.old tx.new result no_schema office_schema }
+/// Makes all tables of a version.
+pub fn make_tables<S: Alter>(tx: &mut Transaction<'_, S>, version: Version) -> Result<(), Error>
+    ensures { Builds S.Store tx.old tx.new result no_schema (schema_of version) }
 {
-    make_each(tx, &TABLES)
+    match version {
+        Version::One => make_each(tx, &TABLES[..IN_VERSION_1]),
+        Version::Two => make_each(tx, &TABLES),
+    }
 }
 
 /// Adds the row of `meta`.
@@ -68,7 +84,7 @@ fn insert_meta<S: Alter>(tx: &mut Transaction<'_, S>) -> Result<(), StoreFault>
         (λ _. Blank office_schema (state S.Store tx.old.conn.now)
         → Fresh (state S.Store tx.new.conn.now)) }
 {
-    run(tx, "INSERT INTO meta (id, version) VALUES (1, 1)", &[])
+    run(tx, "INSERT INTO meta (id, version) VALUES (1, 2)", &[])
 }
 
 /// Adds the row of `meta` and the operator's token.

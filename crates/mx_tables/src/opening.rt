@@ -1,5 +1,5 @@
 //! New tables, and tables that are there.
-ghost use Rattle.std.specs.Prelude.{◌≡◌, ◌≤◌, ◌≢◌, ◌⊎◌, IfErr, IfOk, IsTrue, OnOk, codes, false, filter, map, pos};
+ghost use Rattle.std.specs.Prelude.{◌≡◌, ◌≤◌, ◌≢◌, ◌⊎◌, IfErr, IfOk, IfSome, IsTrue, OnOk, codes, false, filter, map, pos};
 ghost use Rattle.std.specs.List.Sorted.{IsPermutation};
 ghost use Rattle.sqlite.specs.Held.{state};
 ghost use Rattle.sqlite.specs.State.{HasCleanDisk};
@@ -7,14 +7,14 @@ ghost use Rattle.sqlite_schema.specs.Names.{table_named};
 ghost use Rattle.sqlite_trees.specs.Tree.{has_rowid};
 ghost use Rattle.mx_book.specs.Spells.{opening_rows};
 ghost use Rattle.mx_tables.specs.Holds.{Holds};
-ghost use Rattle.mx_tables.specs.Made.{IsVersion1, version_shown};
-ghost use Rattle.mx_tables.specs.Schema.{no_schema, office_schema};
-ghost use Rattle.mx_tables.specs.States.{Commits, IsOurs, Stays, worry};
+ghost use Rattle.mx_tables.specs.Made.{HasVersion, schema_of, version_shown};
+ghost use Rattle.mx_tables.specs.Schema.{no_schema};
+ghost use Rattle.mx_tables.specs.States.{Commits, IsAt, IsOurs, StaysAt, worry};
 ghost use Rattle.mx_tables.specs.declared.opening.OpenFault.TheVariants.{NotThisSchema};
 
 use crate::asking::ask;
 use crate::cells::number_at;
-use crate::making::{fill, make_tables};
+use crate::making::{Version, fill, make_tables};
 use crate::same::same_schema;
 use mx_book::StoreFault;
 use mx_pay::Token;
@@ -30,7 +30,7 @@ pub enum OpenFault {
     Memory,
     /// The store refused a statement, or its schema is another one.
     Store,
-    /// The tables can't be made beside those that are there, or `meta` has no row of id 1 with version 1.
+    /// The tables can't be made beside those that are there, or `meta` has no row of id 1 with version 2.
     NotThisSchema,
 }
 
@@ -85,7 +85,7 @@ pub(crate) fn make_office<S: Alter>(
     operator: &Token,
 ) -> Result<(), OpenFault>
     requires idle { conn.old.in_transaction ≡ false }
-    requires settled { IsTrue (state S.Store conn.old).is_open
+    requires steady { IsTrue (state S.Store conn.old).is_open
         → (state S.Store conn.old).now ≡ (state S.Store conn.old).committed }
     ensures commits { Commits S.Store conn.old conn.new result
         (Holds (state S.Store conn.new).now (opening_rows operator.now)) }
@@ -94,7 +94,7 @@ pub(crate) fn make_office<S: Alter>(
 {
     let blank = is_blank(conn.schema());
     let mut tx = conn.transaction();
-    if let Err(error) = make_tables(&mut tx) {
+    if let Err(error) = make_tables(&mut tx, Version::Two) {
         return Err(refused_create(blank, error));
     }
     if !blank {
@@ -109,14 +109,14 @@ pub(crate) fn make_office<S: Alter>(
     }
 }
 
-/// A connection in memory with the tables of the office and no row.
-fn model_of_office(alloc: Global) -> Result<Connection<MemStore>, OpenFault>
-    ensures schema { IfOk result (λ c. c.schema ≡ office_schema) }
+/// A connection in memory with the tables of a version and no row.
+fn model_of(alloc: Global, version: Version) -> Result<Connection<MemStore>, OpenFault>
+    ensures schema { IfOk result (λ c. c.schema ≡ schema_of version) }
     ensures fault { IfErr result (λ fault. fault ≢ NotThisSchema) }
 {
     let mut conn = Connection::open_in_memory(alloc).map_err(|_| OpenFault::Memory)?;
     let mut tx = conn.transaction();
-    if let Err(error) = make_tables(&mut tx) {
+    if let Err(error) = make_tables(&mut tx, version) {
         return Err(refused_create(true, error));
     }
     match tx.commit() {
@@ -125,21 +125,33 @@ fn model_of_office(alloc: Global) -> Result<Connection<MemStore>, OpenFault>
     }
 }
 
-/// Whether a schema is that of the office.
-fn is_office(alloc: Global, schema: &Schema) -> Result<bool, OpenFault>
-    ensures same { IfOk result (λ same. IsTrue same → schema.now ≡ office_schema) }
+/// Whether a schema is that of a version.
+fn is_version(alloc: Global, schema: &Schema, version: Version) -> Result<bool, OpenFault>
+    ensures same { IfOk result (λ same. IsTrue same → schema.now ≡ schema_of version) }
     ensures fault { IfErr result (λ fault. fault ≢ NotThisSchema) }
 {
-    let model = model_of_office(alloc)?;
+    let model = model_of(alloc, version)?;
     same_schema(alloc, schema, model.schema()).map_err(|_| OpenFault::Memory)
+}
+
+/// The version whose schema this is, or None where it is another one.
+fn version_of(alloc: Global, schema: &Schema) -> Result<Option<Version>, OpenFault>
+    ensures same { IfOk result
+        (λ found. IfSome found (λ version. schema.now ≡ schema_of version)) }
+    ensures fault { IfErr result (λ fault. fault ≢ NotThisSchema) }
+{
+    if is_version(alloc, schema, Version::Two)? {
+        return Ok(Some(Version::Two));
+    }
+    Ok(is_version(alloc, schema, Version::One)?.then_some(Version::One))
 }
 
 /// The version that `meta` has, in the rows of id 1.
 fn version_rows<S: Alter>(conn: &mut Connection<S>) -> Result<Vec<Row>, StoreFault>
-    ensures stays { IsOurs (state S.Store conn.old)
-        → Stays (state S.Store conn.old) (state S.Store conn.new) }
-    ensures rows { worry (state S.Store conn.new) ≡ 0
-        → (state S.Store conn.old).now.schema ≡ office_schema → IfOk result
+    ensures stays { (schema : _) → IsAt schema (state S.Store conn.old)
+        → StaysAt schema (state S.Store conn.old) (state S.Store conn.new) }
+    ensures rows { (version : _) → worry (state S.Store conn.new) ≡ 0
+        → (state S.Store conn.old).now.schema ≡ schema_of version → IfOk result
         (λ rows. IsPermutation
         (map version_shown (filter (has_rowid (pos 1)) ((state S.Store conn.old).now.trees 0))) rows.items) }
     ensures live { HasCleanDisk (state S.Store conn.new)
@@ -148,16 +160,19 @@ fn version_rows<S: Alter>(conn: &mut Connection<S>) -> Result<Vec<Row>, StoreFau
     ask(conn, "SELECT version FROM meta WHERE id = 1", &[])
 }
 
-/// Whether the version is 1; NotThisSchema exactly where it isn't, or isn't there.
-fn check_version<S: Alter>(conn: &mut Connection<S>) -> Result<(), OpenFault>
-    ensures stays { IsOurs (state S.Store conn.old)
-        → Stays (state S.Store conn.old) (state S.Store conn.new) }
+/// Whether the version that `meta` has is 2; NotThisSchema exactly where it isn't, or isn't there. Tables of version 1
+/// where it is 2 are Store.
+fn check_version<S: Alter>(conn: &mut Connection<S>, version: Version) -> Result<(), OpenFault>
+    ensures stays { (schema : _) → IsAt schema (state S.Store conn.old)
+        → StaysAt schema (state S.Store conn.old) (state S.Store conn.new) }
+    ensures ours { IsAt (schema_of version) (state S.Store conn.old)
+        → OnOk result (IsOurs (state S.Store conn.new)) }
     ensures known { worry (state S.Store conn.new) ≡ 0
-        → (state S.Store conn.old).now.schema ≡ office_schema
-        → OnOk result (IsVersion1 (state S.Store conn.old).now) }
+        → (state S.Store conn.old).now.schema ≡ schema_of version
+        → OnOk result (HasVersion 2 (state S.Store conn.old).now) }
     ensures unknown { worry (state S.Store conn.new) ≡ 0
-        → (state S.Store conn.old).now.schema ≡ office_schema → IfErr result
-        (λ fault. fault ≡ NotThisSchema → ¬ IsVersion1 (state S.Store conn.old).now) }
+        → (state S.Store conn.old).now.schema ≡ schema_of version → IfErr result
+        (λ fault. fault ≡ NotThisSchema → ¬ HasVersion 2 (state S.Store conn.old).now) }
     ensures live { HasCleanDisk (state S.Store conn.new)
         → OnOk result (IsTrue (state S.Store conn.new).is_open) }
 {
@@ -168,7 +183,8 @@ fn check_version<S: Alter>(conn: &mut Connection<S>) -> Result<(), OpenFault>
     match rows.as_slice() {
         [] => Err(OpenFault::NotThisSchema),
         [row] => match number_at(row, 0) {
-            Ok(1) => Ok(()),
+            Ok(2) if matches!(version, Version::Two) => Ok(()),
+            Ok(2) => Err(OpenFault::Store),
             Ok(_) => Err(OpenFault::NotThisSchema),
             Err(fault) => Err(open_fault(fault)),
         },
@@ -176,13 +192,13 @@ fn check_version<S: Alter>(conn: &mut Connection<S>) -> Result<(), OpenFault>
     }
 }
 
-/// Whether a store has the tables of the office, and `meta` the version 1.
+/// Whether a store has the tables of the office, and `meta` the version 2.
 pub(crate) fn check_office<S: Alter>(
     alloc: Global,
     conn: &mut Connection<S>,
 ) -> Result<(), OpenFault>
     requires idle { conn.old.in_transaction ≡ false }
-    requires settled { IsTrue (state S.Store conn.old).is_open
+    requires steady { IsTrue (state S.Store conn.old).is_open
         → (state S.Store conn.old).now ≡ (state S.Store conn.old).committed }
     ensures ours { OnOk result (IsOurs (state S.Store conn.new)) }
     ensures later { worry (state S.Store conn.old) ≤ worry (state S.Store conn.new) }
@@ -190,19 +206,19 @@ pub(crate) fn check_office<S: Alter>(
         → (state S.Store conn.new).now ≡ (state S.Store conn.old).now }
     ensures idle { conn.new.in_transaction ≡ false }
     ensures known { worry (state S.Store conn.new) ≡ 0
-        → OnOk result (IsVersion1 (state S.Store conn.old).now) }
+        → OnOk result (HasVersion 2 (state S.Store conn.old).now) }
     ensures unknown { worry (state S.Store conn.new) ≡ 0 → IfErr result
         (λ fault. fault ≡ NotThisSchema
         → (table_named (state S.Store conn.old).now.schema (codes "meta") ≡ None)
-        ⊎ ¬ IsVersion1 (state S.Store conn.old).now) }
+        ⊎ ¬ HasVersion 2 (state S.Store conn.old).now) }
     ensures live { HasCleanDisk (state S.Store conn.new)
         → OnOk result (IsTrue (state S.Store conn.new).is_open) }
 {
-    if !is_office(alloc, conn.schema())? {
+    let Some(version) = version_of(alloc, conn.schema())? else {
         return match conn.schema().table_named("meta".as_bytes()) {
             Some(_) => Err(OpenFault::Store),
             None => Err(OpenFault::NotThisSchema),
         };
-    }
-    check_version(conn)
+    };
+    check_version(conn, version)
 }

@@ -7,7 +7,7 @@ ghost use Rattle.mx_book.specs.RowReads.{is_counted};
 ghost use Rattle.mx_book.specs.Sums.{sum_values};
 ghost use Rattle.mx_tables.specs.Answers.{ArePurses};
 ghost use Rattle.mx_tables.specs.Counted.{adds_text, amounts_text, counted_row, number_of, row_adds, row_sums, sum_of};
-ghost use Rattle.mx_tables.specs.Results.{AreDetails};
+ghost use Rattle.mx_tables.specs.Results.{AreEntries};
 ghost use Rattle.mx_tables.specs.States.{Reads, Tells};
 ghost use Rattle.mx_book.specs.Totals.{member_totals_of, totals_of};
 
@@ -135,7 +135,7 @@ fn row_adds<S: Alter>(
     row: &Row,
 ) -> Result<u128, StoreFault>
     ensures { Reads S.Store conn.old conn.new result
-        (λ r n. ArePurses r → AreDetails r.archive → n ≡ row_adds r adds.now row.now) }
+        (λ r n. ArePurses r → AreEntries r → n ≡ row_adds r adds.now row.now) }
 {
     match adds {
         Adds::Counted(_, scope) => count_row(conn, scope, row),
@@ -152,7 +152,7 @@ pub fn sum_of<S: Alter>(
     adds: &Adds,
 ) -> Result<u128, StoreFault>
     ensures { Reads S.Store conn.old conn.new result
-        (λ r n. ArePurses r → AreDetails r.archive → n ≡ sum_of r adds.now) }
+        (λ r n. ArePurses r → AreEntries r → n ≡ sum_of r adds.now) }
 {
     let rows = ask(conn, adds.text(), &[])?;
     let mut sum = 0;
@@ -169,7 +169,7 @@ pub fn sum_uncollected<S: Alter>(
     scope: &Scope,
 ) -> Result<u128, StoreFault>
     ensures { Reads S.Store conn.old conn.new result
-        (λ r n. ArePurses r → AreDetails r.archive → n ≡ (row_sums r scope.now).uncollected) }
+        (λ r n. ArePurses r → AreEntries r → n ≡ (row_sums r scope.now).uncollected) }
 {
     sum_of(alloc, conn, &Adds::Counted(Amounts::Uncollected, *scope))
 }
@@ -194,7 +194,7 @@ fn sum_all<S: Alter>(
     scope: &Scope,
 ) -> Result<Sums, StoreFault>
     ensures { Reads S.Store conn.old conn.new result
-        (λ r sums. ArePurses r → AreDetails r.archive → sums ≡ row_sums r scope.now) }
+        (λ r sums. ArePurses r → AreEntries r → sums ≡ row_sums r scope.now) }
 {
     Ok(Sums {
         uncollected: sum_of(alloc, conn, &Adds::Counted(Amounts::Uncollected, *scope))?,

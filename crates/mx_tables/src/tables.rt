@@ -5,9 +5,9 @@ ghost use Rattle.mx_book.specs.World.{opening};
 ghost use Rattle.mx_tables.specs.Schema.{no_schema};
 ghost use Rattle.mx_tables.specs.declared.opening.OpenFault.TheVariants.{NotThisSchema};
 ghost use Rattle.sqlite_schema.specs.Names.{table_named};
-ghost use Rattle.mx_tables.specs.Made.{IsVersion1};
+ghost use Rattle.mx_tables.specs.Made.{HasVersion};
 ghost use Rattle.mx_tables.specs.States.{worry, IsOurs, Leaves};
-ghost use Rattle.mx_tables.specs.Settled.{left_as_is};
+ghost use Rattle.mx_tables.specs.Steady.{left_as_is};
 ghost use Rattle.sqlite.specs.Effect.{Database};
 ghost use Rattle.mx_tables.specs.Holds.{SpellsOne};
 
@@ -23,6 +23,7 @@ use crate::owners::{keep_up, list_purses};
 use crate::purses::{find_has_purse, find_is_own, find_own, find_place, read_account};
 use crate::redemptions::find_redemption;
 use crate::results::{find_archived, list_tray};
+use crate::settled::find_settled;
 use crate::sums::{sum_member, sum_scheme, sum_uncollected};
 use crate::tokens::find_caller;
 use mx_book::held::Held;
@@ -102,7 +103,7 @@ impl<S: Alter> Tables<S> {
     }
 
     /// A book of the tables that a store has. A store that is refused is left as it was: for want of memory; as
-    /// NotThisSchema, only where it has no table `meta`, or `meta` has no row of id 1 with version 1; or as Store,
+    /// NotThisSchema, only where it has no table `meta`, or `meta` has no row of id 1 with version 2; or as Store,
     /// where the store refuses a statement for another cause, its tables are others, or a transaction is open on it.
     pub fn open(alloc: Global, mut store: Connection<S>) -> Result<Tables<S>, OpenRefused<S>>
         ensures later { MatchResult result
@@ -114,7 +115,7 @@ impl<S: Alter> Tables<S> {
         ensures live { IfOk result
             (λ t. worry (state S.Store t) ≤ 1 → worry (state S.Store t) ≡ 0) }
         ensures known { IfOk result
-            (λ t. worry (state S.Store t) ≡ 0 → IsVersion1 (state S.Store store).now) }
+            (λ t. worry (state S.Store t) ≡ 0 → HasVersion 2 (state S.Store store).now) }
         ensures left { IfErr result
             (λ e. worry (state S.Store e.store) ≡ 0
             → (state S.Store e.store).now ≡ (state S.Store store).now) }
@@ -123,7 +124,7 @@ impl<S: Alter> Tables<S> {
         ensures unknown { IfErr result
             (λ e. e.fault ≡ NotThisSchema → worry (state S.Store e.store) ≡ 0
             → (table_named (state S.Store store).now.schema (codes "meta") ≡ None)
-            ⊎ ¬ IsVersion1 (state S.Store store).now) }
+            ⊎ ¬ HasVersion 2 (state S.Store store).now) }
     {
         if !store.is_autocommit() {
             return Err(OpenRefused {
@@ -268,6 +269,10 @@ impl<S: Alter> Book for Tables<S> {
         find_archived(alloc, &mut self.conn, &purse, details)
     }
 
+    fn settled(&mut self, alloc: Global, details: &PayDetails) -> Result<bool, StoreFault> {
+        find_settled(alloc, &mut self.conn, details)
+    }
+
     fn tray(&mut self, _alloc: Global, purse: Name) -> Result<Log, StoreFault> {
         list_tray(&mut self.conn, &purse)
     }
@@ -314,5 +319,5 @@ impl<S: Alter> Book for Tables<S> {
 
     ghost single = { λ db v w h g. g.only v h.spelled };
 
-    ghost settled = { λ t db. left_as_is _ (S.Store.settled t.store) db };
+    ghost steady = { λ t db. left_as_is _ (S.Store.settled t.store) db };
 }

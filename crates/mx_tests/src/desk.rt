@@ -10,10 +10,12 @@ mod payments;
 mod purses;
 mod rounds;
 mod scripts;
+mod settled;
 mod sums;
 
 use self::payments::FIVE_STEPS;
 use self::scripts::{Exchange, RUN_END};
+use self::settled::{ARCHIVED, LOST, SETTLED_BETWEEN};
 use self::sums::add_loads;
 use crate::empty::{with_book, with_tables};
 use mx_book::Book;
@@ -132,6 +134,17 @@ pub(super) fn fund_and_pay(
     tell(rt, office, STANDING)?;
     tell(rt, office, FUNDED)?;
     tell(rt, office, FIVE_STEPS)
+}
+
+/// Makes `STANDING`, `FUNDED`, a lost payment of 60 from p1 to q1 and its settlement in an office in which nothing is.
+pub(super) fn fund_and_settle(
+    rt: &(impl Abort + AllocGlobal),
+    office: &mut Office<impl Book>,
+) -> Result<(), Fail> {
+    for script in [STANDING, FUNDED, LOST, ARCHIVED, SETTLED_BETWEEN] {
+        tell(rt, office, script)?;
+    }
+    Ok(())
 }
 
 /// Makes `STANDING`, `FUNDED` and so many loads of 1 to p1 in an office in which nothing is.

@@ -40,14 +40,24 @@ where
     ask(rt, &mut office)
 }
 
-/// The same of tables in memory.
+/// New tables in memory, where there is memory for them.
+fn new_tables(alloc: Global, operator: Token) -> Option<Tables<MemStore>> {
+    let store = Connection::open_in_memory(alloc).ok()?;
+    Tables::create(alloc, store, operator).ok()
+}
+
+/// The same of tables in memory, which are made again where there is no memory at first.
 pub(super) fn with_tables<H, F>(rt: &H, ask: F) -> Result<(), Fail>
 where
     H: AllocGlobal,
     F: FnOnce(&H, &mut Office<Tables<MemStore>>) -> Result<(), Fail>,
     requires { F.IsAlwaysCallable ask }
 {
-    let book = made(rt.alloc(), empty_store(rt.alloc())?, operator()?)?;
+    let operator = operator()?;
+    let book = match new_tables(rt.alloc(), operator) {
+        Some(book) => book,
+        None => new_tables(rt.alloc(), operator).ok_or("not made")?,
+    };
     let mut office = Office::new(book);
     ask(rt, &mut office)
 }

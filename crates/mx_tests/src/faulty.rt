@@ -175,6 +175,13 @@ impl<B: Book> Book for Faulty<B> {
         self.book.archived(alloc, purse, details)
     }
 
+    fn settled(&mut self, alloc: Global, details: &PayDetails) -> Result<bool, StoreFault> {
+        if self.is_left_out() {
+            return Err(StoreFault::Store);
+        }
+        self.book.settled(alloc, details)
+    }
+
     fn tray(&mut self, alloc: Global, purse: Name) -> Result<Log, StoreFault> {
         if self.is_left_out() {
             return Err(StoreFault::Store);
@@ -249,5 +256,5 @@ impl<B: Book> Book for Faulty<B> {
 
     ghost single = { B.single };
 
-    ghost settled = { λ b r. B.settled b.book r };
+    ghost steady = { λ b r. B.steady b.book r };
 }

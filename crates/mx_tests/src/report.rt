@@ -1,5 +1,5 @@
 //! The reports of a scheme, as texts, over a book in memory and over tables.
-use crate::desk::{fund_and_load, fund_and_pay};
+use crate::desk::{fund_and_load, fund_and_pay, fund_and_settle};
 use crate::empty::{with_book, with_faulty, with_tables};
 use crate::faulty::Faulty;
 use mx_book::Book;
@@ -64,6 +64,26 @@ fn assert_reports(
 fn reports_after_a_payment(rt: HostRuntime) -> Result<(), Fail> {
     with_book(&rt, |rt, office| assert_reports(rt, office))?;
     with_tables(&rt, |rt, office| assert_reports(rt, office))
+}
+
+/// Asserts the statement of a purse to which lost value came back.
+fn assert_settled(
+    rt: &(impl Abort + AllocGlobal),
+    office: &mut Office<impl Book>,
+) -> Result<(), Fail> {
+    fund_and_settle(rt, office)?;
+    assert_statement(
+        rt,
+        office.book(),
+        "p1",
+        "number,kind,amount,balance,note\n1,loaded,100,100,a1\n2,sent,60,40,\"p1,q1,60,0,0\"\n3,logged,60,40,\"p1,q1,60,0,0\"\n4,settled,60,100,\"p1,q1,60,0,0\"\n",
+    )
+}
+
+#[test]
+fn statement_after_a_settlement(rt: HostRuntime) -> Result<(), Fail> {
+    with_book(&rt, |rt, office| assert_settled(rt, office))?;
+    with_tables(&rt, |rt, office| assert_settled(rt, office))
 }
 
 /// Asserts the reconciliation after a payment.

@@ -80,6 +80,38 @@ fn made_and_opened_again(rt: HostRuntime) -> Result<(), Fail> {
     assert_opening(&rt, &mut again, &operator)
 }
 
+/// The tables of version 1 of the schema, which had no settled details.
+const VERSION_1: [&str; 11] = [
+    "CREATE TABLE meta (id INTEGER PRIMARY KEY, version INTEGER NOT NULL) STRICT",
+    "CREATE TABLE member (name TEXT NOT NULL PRIMARY KEY, granted INTEGER NOT NULL, unspent INTEGER NOT NULL) STRICT",
+    "CREATE TABLE token (token TEXT NOT NULL PRIMARY KEY, kind TEXT NOT NULL, name TEXT NOT NULL, UNIQUE (kind, name)) STRICT",
+    "CREATE TABLE holder (name TEXT NOT NULL PRIMARY KEY, member TEXT NOT NULL REFERENCES member (name)) STRICT",
+    "CREATE TABLE purse (name TEXT NOT NULL PRIMARY KEY, holder TEXT NOT NULL REFERENCES holder (name), balance INTEGER NOT NULL, next_number INTEGER NOT NULL, status TEXT NOT NULL, details TEXT NOT NULL, log TEXT NOT NULL, line_count INTEGER NOT NULL, next_message INTEGER NOT NULL) STRICT",
+    "CREATE TABLE inbox (purse TEXT NOT NULL, number INTEGER NOT NULL, kind TEXT NOT NULL, details TEXT NOT NULL, PRIMARY KEY (purse, number)) STRICT",
+    "CREATE TABLE line (purse TEXT NOT NULL, number INTEGER NOT NULL, kind TEXT NOT NULL, amount INTEGER NOT NULL, balance INTEGER NOT NULL, note TEXT NOT NULL, PRIMARY KEY (purse, number)) STRICT",
+    "CREATE TABLE tray (purse TEXT NOT NULL, details TEXT NOT NULL, PRIMARY KEY (purse, details)) STRICT",
+    "CREATE TABLE archive (purse TEXT NOT NULL, details TEXT NOT NULL, PRIMARY KEY (purse, details)) STRICT",
+    "CREATE TABLE load (purse TEXT NOT NULL, reference TEXT NOT NULL, amount INTEGER NOT NULL, PRIMARY KEY (purse, reference)) STRICT",
+    "CREATE TABLE redemption (purse TEXT NOT NULL, reference TEXT NOT NULL, amount INTEGER NOT NULL, collected INTEGER NOT NULL, PRIMARY KEY (purse, reference)) STRICT",
+];
+
+/// A store with these tables.
+fn of_version_1(alloc: Global) -> Result<Connection<MemStore>, Fail> {
+    let mut store = empty_store(alloc)?;
+    for text in VERSION_1 {
+        store.execute(text, &[])?;
+    }
+    store.execute("INSERT INTO meta (id, version) VALUES (1, 1)", &[])?;
+    Ok(store)
+}
+
+/// Tables of version 1 are refused, and found as such.
+#[test]
+fn tables_of_the_version_before(rt: HostRuntime) -> Result<(), Fail> {
+    unopened(rt.alloc(), of_version_1(rt.alloc())?)?;
+    Ok(())
+}
+
 /// Adds a line of p1 of that number and kind.
 fn add_line(store: &mut Connection<MemStore>, number: i64, kind: &str) -> Result<(), Fail> {
     store.execute(

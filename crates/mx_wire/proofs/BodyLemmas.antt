@@ -1,14 +1,16 @@
 -- What a body says, from its JSON value.
-use Rattle.std.proofs.Common.{◌≡◌, ℕ, List, [], ◌∷◌, Bool, true, false, refl, sym, ap}
+use Rattle.std.proofs.Common.{◌≡◌, ℕ, List, [], ◌∷◌, Bool, true, false, refl, sym, ◌∙◌, ap}
 use Rattle.std.specs.Prelude.{Option, Some, None, Result, Err, IfSome, if◌then◌else◌, is_none, option_and_then}
 use Rattle.std.specs.Str.{is_utf8, IsUtf8}
 use Rattle.std.proofs.lemmas.Str.{IsUtf8-from_is_utf8, is_utf8-from_IsUtf8}
 use Rattle.serde_json.specs.Data.{Data}
 use Rattle.serde_json.specs.Read.{read}
 use Rattle.mx_pay.specs.Limits.{most_entries}
+use Rattle.mx_pay.specs.Details.{Details, IsDetails}
 use Rattle.mx_pay.specs.Log.{Entries, IsLogValue, none_logged}
-use Rattle.mx_pay.specs.Codes.{code, entry_texts}
-use Rattle.mx_pay.specs.Reading.{entries_of}
+use Rattle.mx_pay.specs.Codes.{code, entry_text, entry_texts}
+use Rattle.mx_pay.specs.Reading.{entry_of, entries_of}
+use Rattle.mx_pay.proofs.EntryLemmas.{entry_found, entry_valid, entry_again}
 use Rattle.mx_pay.proofs.CodeLemmas.{found_in, valid_in, only_in, none_is}
 use Rattle.mx_pay.proofs.SameLemmas.{none_valid}
 use Rattle.mx_office.specs.declared.values.Command.{Command}
@@ -64,3 +66,16 @@ log_read (b ∷ bs) r found valid only = by (entries_of most_entries (b ∷ bs) 
     by None None e found valid only = refl
     by None (Some log) e found valid only = sym (only_in (b ∷ bs) None e (λ f. cc) log valid found)
     by (Some log) r e found valid only = only log (valid_in (b ∷ bs) (Some log) e) (found_in (b ∷ bs) (Some log) e)
+
+-- ---- the details of an entry
+
+-- what reads the texts of entries, and nothing else, reads a text as its details
+pub entry_read : (t : List ℕ) (r : Option Details) → IfSome r (λ d. t ≡ entry_text d) → IfSome r IsDetails
+    → ((d : Details) → IsDetails d → t ≡ entry_text d → r ≡ Some d) → r ≡ entry_of t
+entry_read t r found valid only = by (entry_of t) r refl found valid only
+  where
+    by : (o r : Option Details) → o ≡ entry_of t → IfSome r (λ d. t ≡ entry_text d) → IfSome r IsDetails
+        → ((d : Details) → IsDetails d → t ≡ entry_text d → r ≡ Some d) → r ≡ o
+    by None None e found valid only = refl
+    by None (Some d) e found valid only = sym (e ∙ ap entry_of found ∙ entry_again d valid)
+    by (Some d) r e found valid only = only d (entry_valid t (Some d) e) (entry_found t (Some d) e)

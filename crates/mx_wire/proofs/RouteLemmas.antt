@@ -105,7 +105,7 @@ IsText r = is_text r ≡ true
 
 texts : AllKeys IsText table_rows
 unfolding matchit_on_literals table_rows
-texts = (refl, (refl, (refl, (refl, (refl, (refl, (refl, (refl, (refl, (refl, (refl, (refl, (refl, (refl, (refl, (refl, (refl, (refl, (refl, tt)))))))))))))))))))
+texts = (refl, (refl, (refl, (refl, (refl, (refl, (refl, (refl, (refl, (refl, (refl, (refl, (refl, (refl, (refl, (refl, (refl, (refl, (refl, (refl, tt))))))))))))))))))))
 
 pub found_ascii : (path : List ℕ) (r : RouteOf Pattern) → first table_rows path ≡ Some r → IsAscii r.text
 found_ascii path r found = IsAscii-from_test r.text (subst (OfFound IsText) found (seek-all IsText 0 table_rows path texts))

@@ -10,10 +10,12 @@ use Rattle.matchit.specs.Params.{walk, named}
 use Rattle.serde_json.specs.Data.{Data}
 use Rattle.mx_pay.specs.Limits.{most_amount, most_number}
 use Rattle.mx_pay.specs.Names.{is_name_text}
+use Rattle.mx_pay.specs.Details.{IsDetails}
 use Rattle.mx_pay.specs.Log.{IsLogValue}
-use Rattle.mx_pay.specs.Reading.{limited, number_of}
+use Rattle.mx_pay.specs.Reading.{limited, number_of, entry_of}
 use Rattle.mx_pay.specs.Tokens.{IsToken, token_of}
 use Rattle.mx_pay.proofs.CodeLemmas.{valid_in}
+use Rattle.mx_pay.proofs.EntryLemmas.{entry_valid}
 use Rattle.mx_pay.proofs.TokenLemmas.{token_of-is}
 use Rattle.mx_pay.proofs.SameLemmas.{none_valid}
 use Rattle.mx_office.specs.declared.values.Command.{Command}
@@ -24,7 +26,7 @@ use Rattle.mx_wire.specs.declared.routes.Pattern.TheVariants as pattern
 use Rattle.mx_wire.specs.declared.routes.Route.{Route}
 use Rattle.mx_wire.specs.declared.routes.Route.TheVariants as route
 use Rattle.mx_wire.specs.Routes.{name_of, taken, after, is_get, is_post, got, posted, asked, table_rows, route_of}
-use Rattle.mx_wire.specs.Bodies.{text_at, name_at, token_at, at_most, number_at, amount_at, seq_at, log_of_code, log_at, bare, bare_or, of_two, of_three, said, value_of, command_of}
+use Rattle.mx_wire.specs.Bodies.{text_at, name_at, token_at, at_most, number_at, amount_at, seq_at, log_of_code, log_at, details_at, bare, bare_or, of_two, of_three, said, value_of, command_of}
 
 -- ---- what holds of what is found
 
@@ -106,6 +108,9 @@ module _ (key : List ℕ) (d : Data) where
 
   log_at_is : IfSome (log_at key d) IsLogValue
   log_at_is = found IsLogValue log_of_code (text_at key d) log_is
+
+  details_at_is : IfSome (details_at key d) IsDetails
+  details_at_is = found IsDetails entry_of (text_at key d) (λ t. entry_valid t _ refl)
 
 -- ---- the route
 
@@ -191,6 +196,7 @@ said_is : (r : Route) (d : Data) → HasValues r → IfSome (said r d) IsCommand
 said_is route.NewMember d h = two IsNamed IsToken command.NewMember _ _ (name_at_is (codes "member") d) (token_at_is (codes "token") d) (λ x y p q. (p, q))
 said_is (route.Grant m) d h = made IsAmount IsCommand (command.Grant m) _ (amount_at_is (codes "amount") d) (λ x p. (h, p))
 said_is (route.Clear p) d h = made IsLogValue IsCommand (command.Clear p) _ (log_at_is (codes "details") d) (λ x q. (h, q))
+said_is route.Settle d h = made IsDetails IsCommand command.Settle _ (details_at_is (codes "details") d) (λ x q. q)
 said_is route.NewHolder d h = two IsNamed IsToken command.NewHolder _ _ (name_at_is (codes "holder") d) (token_at_is (codes "token") d) (λ x y p q. (p, q))
 said_is route.NewPurse d h = two IsNamed IsNamed command.NewPurse _ _ (name_at_is (codes "purse") d) (name_at_is (codes "holder") d) (λ x y p q. (p, q))
 said_is (route.Load p) d h = two IsAmount IsNamed (command.Load p) _ _ (amount_at_is (codes "amount") d) (name_at_is (codes "ref") d) (λ x y q r. (h, q, r))

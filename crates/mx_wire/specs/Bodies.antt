@@ -6,8 +6,9 @@ use Rattle.serde_json.specs.Data.{Data}
 use Rattle.serde_json.specs.Read.{read}
 use Rattle.serde_json.specs.Find.{get, as_str, as_number, as_u64}
 use Rattle.mx_pay.specs.Limits.{most_amount, most_number, most_entries}
+use Rattle.mx_pay.specs.Details.{Details}
 use Rattle.mx_pay.specs.Log.{Entries, none_logged}
-use Rattle.mx_pay.specs.Reading.{entries_of}
+use Rattle.mx_pay.specs.Reading.{entry_of, entries_of}
 use Rattle.mx_pay.specs.Tokens.{token_of}
 use Rattle.mx_office.specs.declared.values.Command.{Command}
 use Rattle.mx_office.specs.declared.values.Command.TheVariants as command
@@ -48,6 +49,10 @@ log_of_code (b ∷ bs) = entries_of most_entries (b ∷ bs) none_logged
 abbrev pub log_at : List ℕ → Data → Option Entries
 log_at key d = option_and_then log_of_code (text_at key d)
 
+-- the details of that key: its text is the code text of one entry
+abbrev pub details_at : List ℕ → Data → Option Details
+details_at key d = option_and_then entry_of (text_at key d)
+
 -- the command of a route that needs no body
 abbrev pub bare : Route → Option Command
 bare route.Collect = Some command.Collect
@@ -72,6 +77,7 @@ abbrev pub said : Route → Data → Option Command
 said route.NewMember d = of_two (name_at (codes "member") d) (token_at (codes "token") d) command.NewMember
 said (route.Grant m) d = option_map (command.Grant m) (amount_at (codes "amount") d)
 said (route.Clear p) d = option_map (command.Clear p) (log_at (codes "details") d)
+said route.Settle d = option_map command.Settle (details_at (codes "details") d)
 said route.NewHolder d = of_two (name_at (codes "holder") d) (token_at (codes "token") d) command.NewHolder
 said route.NewPurse d = of_two (name_at (codes "purse") d) (name_at (codes "holder") d) command.NewPurse
 said (route.Load p) d = of_two (amount_at (codes "amount") d) (name_at (codes "ref") d) (command.Load p)

@@ -41,6 +41,7 @@ patterns =
     ∷ (codes "/members/{m}/grant", pattern.Grant)
     ∷ (codes "/archive/{p}", pattern.Archive)
     ∷ (codes "/clear/{p}", pattern.Clear)
+    ∷ (codes "/settle", pattern.Settle)
     ∷ (codes "/holders", pattern.Holders)
     ∷ (codes "/purses", pattern.Purses)
     ∷ (codes "/purses/{p}", pattern.Purse)
@@ -103,6 +104,7 @@ posted pattern.Members name = Some route.NewMember
 posted pattern.Holders name = Some route.NewHolder
 posted pattern.Purses name = Some route.NewPurse
 posted pattern.Collect name = Some route.Collect
+posted pattern.Settle name = Some route.Settle
 posted pattern.Grant name = option_map route.Grant name
 posted pattern.Archive name = option_map route.Archive name
 posted pattern.Clear name = option_map route.Clear name
@@ -139,6 +141,7 @@ class_of route.NewMember = class.Operator
 class_of (route.Grant member) = class.Operator
 class_of (route.Archive purse) = class.Operator
 class_of (route.Clear purse) = class.Operator
+class_of route.Settle = class.Operator
 class_of route.Reconcile = class.Operator
 class_of route.NewHolder = class.Clerk
 class_of route.NewPurse = class.Clerk

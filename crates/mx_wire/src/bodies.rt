@@ -1,17 +1,19 @@
 //! The bodies of requests: JSON in, commands out.
 ghost use Rattle.std.specs.Prelude.{◌≡◌, ◌≢◌, ◌↔◌, true, Some, None, Err, IsTrue, IfSome, IfOk, OnOk, codes, option_map};
 ghost use Rattle.mx_office.specs.declared.values.Command.TheVariants.{Clear};
-ghost use Rattle.mx_pay.specs.Codes.{code};
+ghost use Rattle.mx_pay.specs.Codes.{code, entry_text};
+ghost use Rattle.mx_pay.specs.Details.{Details, IsDetails};
 ghost use Rattle.mx_pay.specs.Log.{Entries, IsLogValue};
+ghost use Rattle.mx_pay.specs.Reading.{entry_of};
 ghost use Rattle.mx_wire.specs.Routes.{route_of};
-ghost use Rattle.mx_wire.specs.Bodies.{name_at, token_at, amount_at, seq_at, log_of_code, log_at, bare, said, value_of, has_body, command_of, request_command};
+ghost use Rattle.mx_wire.specs.Bodies.{name_at, token_at, amount_at, seq_at, log_of_code, log_at, details_at, bare, said, value_of, has_body, command_of, request_command};
 ghost use Rattle.mx_wire.specs.Trees.{data_of, IsData};
 
 use crate::routes::{Route, Routes};
 use crate::trees::{is_data, number_at, text_at};
 use json::{Error, Reader, Scratch, Value};
 use mx_office::Command;
-use mx_pay::{Amount, Log, Name, Seq, Token, read_code};
+use mx_pay::{Amount, Log, Name, PayDetails, Seq, Token, read_code, read_details};
 use std::alloc::Global;
 
 /// Why a request gives no command.
@@ -110,6 +112,24 @@ fn log_at(value: &Value<'_>, key: &str) -> Option<Log>
     log_of_code(text)
 }
 
+/// The details that have a text as the code text of their entry.
+fn entry_of(text: &str) -> Option<PayDetails>
+    ensures value { result ≡ entry_of text.now }
+    ensures found { IfSome result (λ d. text.now ≡ entry_text d) }
+    ensures only { (d : Details) → IsDetails d → text.now ≡ entry_text d → entry_of text.now ≡ Some d }
+{
+    read_details(text)
+}
+
+/// The details of a key.
+fn details_at(value: &Value<'_>, key: &str) -> Option<PayDetails>
+    requires { IsData value.now }
+    ensures { result ≡ details_at key.now (data_of value.now) }
+{
+    let text = text_at(value, key)?;
+    entry_of(text)
+}
+
 /// Whether the command of a route is said by a body.
 fn has_body(route: &Route) -> bool
     ensures { result ≡ has_body route.now }
@@ -175,6 +195,10 @@ fn said(route: &Route, value: &Value<'_>, command: &mut Command) -> Option<()>
             *command = Command::Grant { member, amount }
         }
         Route::Clear(purse) => clear(purse, value, command)?,
+        Route::Settle => {
+            let details = details_at(value, "details")?;
+            *command = Command::Settle { details }
+        }
         Route::NewHolder => {
             let holder = name_at(value, "holder")?;
             let token = token_at(value, "token")?;

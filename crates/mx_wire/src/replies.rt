@@ -43,6 +43,8 @@ pub enum Fixed {
     Loaded,
     /// 200: the message that clears a log is sent.
     Sent,
+    /// 200: the lost value came back to the purse that paid it.
+    Settled,
     /// 200: the purse took a req, and the value is sent.
     ValueSent,
     /// 200: the purse took a val.
@@ -109,6 +111,8 @@ fn refusal_answer(refusal: Refusal) -> (&'static str, usize)
         Refusal::GrantTooLarge => answer!("409 Conflict", 27, "{\"error\":\"grant too large\"}"),
         Refusal::OverCap => answer!("409 Conflict", 20, "{\"error\":\"over cap\"}"),
         Refusal::NotArchived => answer!("409 Conflict", 24, "{\"error\":\"not archived\"}"),
+        Refusal::NotLost => answer!("409 Conflict", 20, "{\"error\":\"not lost\"}"),
+        Refusal::AlreadySettled => answer!("409 Conflict", 27, "{\"error\":\"already settled\"}"),
     }
 }
 
@@ -140,6 +144,7 @@ fn fixed_answer(fixed: Fixed) -> (&'static str, usize)
         Fixed::Granted => answer!("200 OK", 18, "{\"done\":\"granted\"}"),
         Fixed::Loaded => answer!("200 OK", 17, "{\"done\":\"loaded\"}"),
         Fixed::Sent => answer!("200 OK", 15, "{\"done\":\"sent\"}"),
+        Fixed::Settled => answer!("200 OK", 18, "{\"done\":\"settled\"}"),
         Fixed::ValueSent => answer!("200 OK", 21, "{\"done\":\"value-sent\"}"),
         Fixed::Received => answer!("200 OK", 19, "{\"done\":\"received\"}"),
         Fixed::Finished => answer!("200 OK", 19, "{\"done\":\"finished\"}"),
@@ -542,6 +547,7 @@ pub fn render(alloc: Global, reply: &Reply) -> Result<Response, AllocError>
         Reply::Granted => Fixed::Granted,
         Reply::Loaded => Fixed::Loaded,
         Reply::Sent => Fixed::Sent,
+        Reply::Settled => Fixed::Settled,
         Reply::Handled(handled) => handled_fixed(handled),
         Reply::Discarded => Fixed::Discarded,
         Reply::Aborted { logged: true } => Fixed::AbortedLogged,

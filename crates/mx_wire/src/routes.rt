@@ -34,6 +34,8 @@ pub enum Route {
     Archive(Name),
     /// `POST /clear/{p}`, of that purse.
     Clear(Name),
+    /// `POST /settle`.
+    Settle,
     /// `POST /holders`.
     NewHolder,
     /// `POST /purses`.
@@ -75,6 +77,7 @@ pub enum Pattern {
     Grant,
     Archive,
     Clear,
+    Settle,
     Holders,
     Purses,
     Purse,
@@ -93,11 +96,12 @@ pub enum Pattern {
 }
 
 /// Each pattern with its text.
-const TABLE: [(&str, Pattern); 19] = [
+const TABLE: [(&str, Pattern); 20] = [
     ("/members", Pattern::Members),
     ("/members/{m}/grant", Pattern::Grant),
     ("/archive/{p}", Pattern::Archive),
     ("/clear/{p}", Pattern::Clear),
+    ("/settle", Pattern::Settle),
     ("/holders", Pattern::Holders),
     ("/purses", Pattern::Purses),
     ("/purses/{p}", Pattern::Purse),
@@ -246,6 +250,7 @@ fn posted(pattern: Pattern, name: Option<Name>) -> Option<Route>
         Pattern::Holders => Some(Route::NewHolder),
         Pattern::Purses => Some(Route::NewPurse),
         Pattern::Collect => Some(Route::Collect),
+        Pattern::Settle => Some(Route::Settle),
         Pattern::Grant => Some(Route::Grant(name?)),
         Pattern::Archive => Some(Route::Archive(name?)),
         Pattern::Clear => Some(Route::Clear(name?)),
@@ -324,6 +329,7 @@ impl Route {
             | Route::Grant(_)
             | Route::Archive(_)
             | Route::Clear(_)
+            | Route::Settle
             | Route::Reconcile => Class::Operator,
             Route::NewHolder | Route::NewPurse | Route::Load(_) | Route::Collect => Class::Clerk,
             Route::Purses

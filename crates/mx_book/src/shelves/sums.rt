@@ -34,8 +34,9 @@ impl Shelves {
     fn lost(&self) -> u128
         ensures { result ≡ row_lost_of (rows_of self.now) }
     {
-        let in_logs = lost_in_logs(self.purses.rows(), &self.purses, &self.archive);
-        let in_archive = lost_in_results(self.archive.rows(), &self.purses, &self.archive);
+        let (purses, archive) = (&self.purses, &self.archive);
+        let in_logs = lost_in_logs(purses.rows(), purses, archive, &self.settled);
+        let in_archive = lost_in_results(archive.rows(), purses, archive, &self.settled);
         in_logs + in_archive
     }
 

@@ -32,6 +32,8 @@ pub struct Shelves {
     pub tray: Table<(Name, PayDetails), ()>,
     /// Those that are archived.
     pub archive: Table<(Name, PayDetails), ()>,
+    /// The details of the payments whose lost value was given back.
+    pub settled: Table<PayDetails, ()>,
     /// The amounts of loads by purse and reference.
     pub loads: Table<(Name, Name), Amount>,
     /// Redemptions by purse and reference.

@@ -23,8 +23,9 @@ pub fn conservation()
 
 /// The security properties of the purses, for one command of any caller in a World that commands lead to.
 ///
-/// - `no_value_created`: what purses hold and what is under way doesn't rise, but by a load.
-/// - `all_value_accounted`: with what is lost it stays, but by a load and a redemption.
+/// - `no_value_created`: what purses hold and what is under way doesn't rise, but by a load and a settlement.
+/// - `all_value_accounted`: with what is lost it stays, but by a load and a redemption. So by a settlement it rises by no
+///   more than what is lost falls.
 /// - `authentic`: where a purse accepts a value, the purse that pays is there and has paid it.
 /// - `sufficient_funds`: where a purse accepts a request, its balance covered the value.
 ///

@@ -48,8 +48,10 @@ struct Ledger {
     issued: u64,
     redeemed: u64,
     collected: u64,
-    /// The payments whose value has left a purse and isn't received.
+    /// The payments whose value has left a purse and is neither received nor settled.
     sent: Vec<PayDetails>,
+    /// How many payments are settled.
+    settled: u64,
 }
 
 /// What each member is granted.
@@ -71,6 +73,7 @@ impl Ledger {
             redeemed: 0,
             collected: 0,
             sent: Vec::new(alloc),
+            settled: 0,
         }
     }
 
@@ -122,6 +125,16 @@ impl Ledger {
         }
     }
 
+    /// The value of a payment that neither purse has comes back to the purse that paid it.
+    fn settle(&mut self, details: &PayDetails) -> Result<(), Fail> {
+        let place = self.sent.iter().position(|sent| *sent == *details);
+        self.sent.swap_remove(place.ok_or("not lost")?);
+        let side = self.side(place_of(details.from()));
+        side.balance = side.balance.saturating_add(details.value().get());
+        self.settled = self.settled.saturating_add(1);
+        Ok(())
+    }
+
     /// A purse is loaded.
     fn load(&mut self, purse: usize, amount: u64) {
         let side = self.side(purse);
@@ -166,12 +179,14 @@ impl Ledger {
             (Command::Redeem { amount, .. }, Reply::Redeemed) => self.redeem(purse, amount.get()),
             (_, Reply::Collected(_)) => self.collect(member_of(purse)),
             (_, Reply::Sent) => self.put(purse),
+            (Command::Settle { details }, Reply::Settled) => self.settle(details)?,
             _ => {}
         }
         Ok(())
     }
 
-    /// What was sent and isn't received: the values of payments that are waited for, or those of the others.
+    /// What was sent and is neither received nor settled: the values of payments that are waited for, or those of the
+    /// others.
     fn sent_where(&self, waited_for: bool) -> u64 {
         let mut sum: u64 = 0;
         for details in self.sent.as_slice() {
@@ -445,8 +460,46 @@ impl Trial<'_> {
         Ok(())
     }
 
-    /// A purse aborts, or what a member's purses redeemed is collected.
+    /// The log of a purse is read up to the entry of a payment, and archived. Reading breaks off what is under way.
+    fn archive(
+        &mut self,
+        rt: &(impl Abort + AllocGlobal),
+        own: &Own,
+        details: &PayDetails,
+    ) -> Result<(), Fail> {
+        let purse = own.purse;
+        for place in 0..16 {
+            let read = Command::ReadLog { purse, place };
+            match self.ask(rt, own.holder, own.place, read)? {
+                Some(entry) if entry != *details => {}
+                _ => break,
+            }
+        }
+        self.ask(rt, Caller::Operator, own.place, Command::Archive { purse })?;
+        Ok(())
+    }
+
+    /// A payment whose value left its purse is settled, twice, of which the log of the one purse is archived before, and
+    /// mostly that of the other.
     fn settle(&mut self, rt: &(impl Abort + AllocGlobal), dice: &mut Dice) -> Result<(), Fail> {
+        let count = self.ledger.sent.len() as u64;
+        let details = match self.ledger.sent.get(dice.below(count) as usize) {
+            Some(details) => *details,
+            None => return Ok(()),
+        };
+        let (payer, payee) = (place_of(details.from()), place_of(details.to()));
+        self.archive(rt, &purse_at(payee as u64)?, &details)?;
+        if dice.below(3) > 0 {
+            self.archive(rt, &purse_at(payer as u64)?, &details)?;
+        }
+        for _ in 0..2 {
+            self.ask(rt, Caller::Operator, payer, Command::Settle { details })?;
+        }
+        Ok(())
+    }
+
+    /// A purse aborts, or what a member's purses redeemed is collected.
+    fn rest(&mut self, rt: &(impl Abort + AllocGlobal), dice: &mut Dice) -> Result<(), Fail> {
         let own = purse_at(dice.below(5))?;
         if dice.below(2) == 0 {
             let abort = Command::Abort { purse: own.purse };
@@ -459,12 +512,13 @@ impl Trial<'_> {
     }
 
     fn act(&mut self, rt: &(impl Abort + AllocGlobal), dice: &mut Dice) -> Result<(), Fail> {
-        match dice.below(16) {
-            0..=3 => self.pay(rt, dice),
-            4..=10 => self.handle(rt, dice),
-            11 => self.discard(rt, dice),
-            12 => self.clear(rt, dice),
-            13 | 14 => self.move_money(rt, dice),
+        match dice.below(33) {
+            0..=7 => self.pay(rt, dice),
+            8..=21 => self.handle(rt, dice),
+            22 | 23 => self.discard(rt, dice),
+            24 | 25 => self.clear(rt, dice),
+            26..=29 => self.move_money(rt, dice),
+            30 | 31 => self.rest(rt, dice),
             _ => self.settle(rt, dice),
         }
     }
@@ -552,6 +606,7 @@ fn assert_sums(
     act_often(rt, &mut trial, &mut Dice { number: seed })?;
     trial.compare(rt)?;
     assert!(rt; trial.ledger.sent_where(false) > 0, "{seed}");
+    assert!(rt; trial.ledger.settled > 0, "{seed}");
     Ok(())
 }
 
@@ -562,8 +617,8 @@ fn assert_seed(rt: &(impl Abort + AllocGlobal), operator: Token, seed: u64) -> R
     assert_sums(rt, &mut office, &mut ledger, seed)
 }
 
-/// Payments that are broken off anywhere, messages handled twice and late, logs read, archived and cleared, loads,
-/// redemptions and collects.
+/// Payments that are broken off anywhere, messages handled twice and late, logs read, archived and cleared, lost payments
+/// settled, loads, redemptions and collects.
 #[test]
 fn sums_of_two_thousand_random_commands(rt: HostRuntime) -> Result<(), Fail> {
     let operator = token(b'1')?;

@@ -52,6 +52,7 @@ POST /members/m/grant: {"amount":1000} -> grant m 1000
 POST /archive/p1 -> archive p1
 POST /clear/p1: {"details":""} -> clear p1 []
 POST /clear/p1: {"details":"a,p1,5,0,3;p1,q1,60,4,7"} -> clear p1 [a,p1,5,0,3;p1,q1,60,4,7]
+POST /settle: {"details":"p1,q1,60,4,7"} -> settle p1,q1,60,4,7
 POST /holders: {"holder":"ann","token":"0000000000000000000000000000000A"} -> new-holder ann 0000000000000000000000000000000a
 POST /purses: {"purse":"p1","holder":"ann"} -> new-purse p1 ann
 POST /purses/p1/load: {"amount":100,"ref":"a1"} -> load p1 100 a1
@@ -103,6 +104,8 @@ POST /members/m/grant: {"\u0061mount":5} -> grant m 5
 POST /clear/p1: {"x":0,"details":"p1,q1,60,4,7","place":null} -> clear p1 [p1,q1,60,4,7]
 POST /clear/p1: {"details":"p1\u002cq1,60,4,\u0037"} -> clear p1 [p1,q1,60,4,7]
 POST /clear/p1: {"details":"","details":"p1,q1,60,4,7"} -> clear p1 [p1,q1,60,4,7]
+POST /settle: {"x":0,"details":"p1\u002cq1,60,4,7"} -> settle p1,q1,60,4,7
+POST /settle: {"details":"","details":"p1,q1,60,4,7"} -> settle p1,q1,60,4,7
 POST /purses/p1/read-log: {"details":"","place":3} -> read-log p1 3
 POST /purses: {"purse":"\u0070","holder":"ann"} -> new-purse p ann
 POST /purses: {"holder":"ann","\u0070urse":"p1","purse":"p2"} -> new-purse p2 ann
@@ -204,6 +207,32 @@ fn details_that_are_bad(rt: HostRuntime) -> Result<(), Fail> {
 {"details":"P1,q1,60,4,7"}
 {"details":"p1,q1,60,4,7;p1,q1,60,4,7"}
 {"details":"p1,q1,60,4,7;a,p1,5,0,3"}
+{"details":["p1,q1,60,4,7"]}
+{"Details":"p1,q1,60,4,7"}
+"#,
+    )
+}
+
+/// The details of a settlement are those of one payment: neither of none nor of two.
+#[test]
+fn details_of_a_settlement_that_are_bad(rt: HostRuntime) -> Result<(), Fail> {
+    assert_bad(
+        &rt,
+        "POST /settle",
+        r#"
+{}
+{"details":null}
+{"details":""}
+{"details":";"}
+{"details":"p1,q1,60,4"}
+{"details":"p1,q1,60,4,7;"}
+{"details":";p1,q1,60,4,7"}
+{"details":"p1,q1,60,4,7 "}
+{"details":"p1,q1,60,4,07"}
+{"details":"p1,p1,60,4,7"}
+{"details":"p1,q1,1000000000001,4,7"}
+{"details":"a,p1,5,0,3;p1,q1,60,4,7"}
+{"details":"p1,q1,60,4,7;p1,q1,60,4,7"}
 {"details":["p1,q1,60,4,7"]}
 {"Details":"p1,q1,60,4,7"}
 "#,

@@ -54,11 +54,12 @@ fn payment() -> Result<PayDetails, Fail> {
 }
 
 /// The body of each of the replies below.
-const BODIES: [&str; 13] = [
+const BODIES: [&str; 14] = [
     "{\"done\":\"added\"}",
     "{\"done\":\"granted\"}",
     "{\"done\":\"loaded\"}",
     "{\"done\":\"sent\"}",
+    "{\"done\":\"settled\"}",
     "{\"done\":\"value-sent\"}",
     "{\"done\":\"received\"}",
     "{\"done\":\"finished\"}",
@@ -73,11 +74,12 @@ const BODIES: [&str; 13] = [
 #[test]
 fn fixed_replies(rt: HostRuntime) -> Result<(), Fail> {
     let payment = payment()?;
-    let replies: [Reply; 13] = [
+    let replies: [Reply; 14] = [
         Reply::Added,
         Reply::Granted,
         Reply::Loaded,
         Reply::Sent,
+        Reply::Settled,
         Reply::Handled(Handled::Req(payment)),
         Reply::Handled(Handled::Val(payment)),
         Reply::Handled(Handled::Ack(payment)),
@@ -146,6 +148,8 @@ fn refusals_of_what_does_not_fit(rt: HostRuntime) -> Result<(), Fail> {
             (Refusal::GrantTooLarge, "{\"error\":\"grant too large\"}"),
             (Refusal::OverCap, "{\"error\":\"over cap\"}"),
             (Refusal::NotArchived, "{\"error\":\"not archived\"}"),
+            (Refusal::NotLost, "{\"error\":\"not lost\"}"),
+            (Refusal::AlreadySettled, "{\"error\":\"already settled\"}"),
         ],
     )
 }

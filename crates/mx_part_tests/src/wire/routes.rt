@@ -32,6 +32,7 @@ POST /members/m/grant
 POST /archive/p1
 POST /archive/a23456789-123456789-1234
 POST /clear/p1
+POST /settle
 GET /reconcile
 HEAD /reconcile
 ",
@@ -89,6 +90,9 @@ GET /archive/p1
 HEAD /archive/p1
 GET /clear/p1
 DELETE /clear/p1
+GET /settle
+HEAD /settle
+PUT /settle
 GET /holders
 DELETE /purses
 get /purses
@@ -140,6 +144,11 @@ POST /clear
 POST /clear/1p
 POST /clear/p1/q1
 POST /purses/p1/clear
+POST /settle/
+POST /settle/p1
+POST /Settle
+POST /settled
+POST /purses/p1/settle
 GET /purses/
 GET /purses/1p
 GET /purses/-p

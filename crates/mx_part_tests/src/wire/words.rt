@@ -1,6 +1,6 @@
 //! Commands in words.
 use mx_office::Command;
-use mx_pay::{Amount, Log, Name, Seq, Token, code_text};
+use mx_pay::{Amount, Log, Name, PayDetails, Seq, Token, code_text, push_entry};
 use mx_wire::WireFault;
 use std::alloc::{AllocError, Global};
 
@@ -30,6 +30,13 @@ fn with_number(alloc: Global, what: &str, name: &Name, number: u64) -> Result<St
 fn with_log(alloc: Global, what: &str, name: &Name, log: &Log) -> Result<String, AllocError> {
     let code = code_text(alloc, log)?;
     format!(in alloc; "{what} {} [{}]", name.as_str(), code.as_str())
+}
+
+fn with_details(alloc: Global, what: &str, details: &PayDetails) -> Result<String, AllocError> {
+    let mut text = String::from_str(alloc, what)?;
+    text.push_str(" ")?;
+    push_entry(&mut text, details)?;
+    Ok(text)
 }
 
 fn with_reference(
@@ -64,6 +71,7 @@ fn command_words(alloc: Global, command: &Command) -> Result<String, AllocError>
         Command::Grant { member, amount } => with_number(alloc, "grant", member, amount.get()),
         Command::Archive { purse } => start_words(alloc, "archive", &[purse]),
         Command::Clear { purse, details } => with_log(alloc, "clear", purse, details),
+        Command::Settle { details } => with_details(alloc, "settle", details),
         Command::NewHolder { holder, token } => with_token(alloc, "new-holder", holder, token),
         Command::NewPurse { purse, holder } => start_words(alloc, "new-purse", &[purse, holder]),
         Command::Load {

@@ -3,11 +3,11 @@ ghost use Rattle.std.specs.Prelude.{◌≡◌, ◌≤◌, None, IfOk, IfSome};
 ghost use Rattle.mx_pay.specs.Limits.{most_amount};
 ghost use Rattle.mx_pay.specs.Details.{IsDetails};
 ghost use Rattle.mx_purse.specs.State.{IsPurse};
-ghost use Rattle.mx_purse.specs.Operations.{or_refused, unless_refused, pending, aborted, start_worn, start_from_refusal, start_to_refusal, from_details, to_details, started, expects_req, expects_val, expects_ack, expects_clear, handled, after_message, read_entry, load_refusal, loaded, redeem_refusal, redeemed};
+ghost use Rattle.mx_purse.specs.Operations.{or_refused, unless_refused, pending, aborted, start_worn, start_from_refusal, start_to_refusal, from_details, to_details, started, expects_req, expects_val, expects_ack, expects_clear, handled, after_message, read_entry, load_refusal, loaded, redeem_refusal, redeemed, credit_refusal, credited};
 
 use crate::message::{Handled, Message};
 use crate::purse::Purse;
-use crate::refusals::{LoadRefusal, RedeemRefusal, StartRefusal};
+use crate::refusals::{CreditRefusal, LoadRefusal, RedeemRefusal, StartRefusal};
 use crate::status::Status;
 use mx_pay::{Amount, Log, MOST_NUMBER, Name, PayDetails, Seq};
 
@@ -147,6 +147,22 @@ impl Purse {
         self.balance = balance;
         self.lines += 1;
         Ok(())
+    }
+
+    /// Adds `amount`, which was lost, to the balance, as a load does: one statement line more, and no abort. Err, and
+    /// nothing changes, with the first of these that is so: Worn where there are 10^15 statement lines or more, OverCap
+    /// where the balance would be above 10^15.
+    pub fn credit(&mut self, amount: Amount) -> Result<(), CreditRefusal>
+        ensures answer { result ≡ or_refused (credit_refusal self.old amount) tt }
+        ensures new { self.new ≡ unless_refused (credit_refusal self.old amount) self.old (credited self.old amount) }
+        ensures whole { IsPurse self.new }
+        ensures amount { IfOk result (λ _. amount ≤ most_amount) }
+    {
+        match self.load(amount) {
+            Ok(()) => Ok(()),
+            Err(LoadRefusal::Worn) => Err(CreditRefusal::Worn),
+            Err(LoadRefusal::OverCap) => Err(CreditRefusal::OverCap),
+        }
     }
 
     /// Takes `amount` from the balance: aborts the payment under way as `abort` does, and then the balance

@@ -205,7 +205,7 @@ fn page_of(
     alloc: Global,
     request: &str,
     routes: &Routes,
-    office: &mut Office<PlainBook>,
+    office: &mut Office<impl Book>,
 ) -> Option<Page> {
     let mut reader = Counted::new(request.as_bytes());
     let mut writer = Counted::new(Page::new(4096));
@@ -217,11 +217,11 @@ fn page_of(
 }
 
 /// Whether a request gets this response, or 503 and then, sent again, this response.
-fn answered_in_the_end(
+pub(super) fn answered_in_the_end(
     alloc: Global,
     request: &str,
     routes: &Routes,
-    office: &mut Office<PlainBook>,
+    office: &mut Office<impl Book>,
     response: &str,
 ) -> bool {
     let Some(page) = page_of(alloc, request, routes, office) else {

@@ -1,6 +1,6 @@
 use Rattle.std.proofs.Common.{◌≡◌, ◌<◌, ℕ, Some, sym, ◌∙◌, arith}
 use Rattle.std.specs.Prelude.{slice_get}
-use Rattle.mx_pay.specs.Details.{Details}
+use Rattle.mx_pay.specs.Details.{Details, details_cmp}
 use Rattle.mx_pay.specs.Log.{logged, log_len}
 use Rattle.mx_pay.specs.Names.{name_cmp}
 use Rattle.mx_pay.proofs.CodeLemmas.{no_gap}
@@ -13,7 +13,7 @@ use Rattle.mx_book.proofs.totals.lost_in_log.Goals.{in-Some, in_default}
 
 pub loop-place-preserved : goal.loop-place-preserved
 loop-place-preserved c =
-    let f : Details → ℕ = lost_by (map_of name_cmp c.args.purses.now) (map_of result_cmp c.args.archive.now) c.args.purse in
+    let f : Details → ℕ = lost_by (map_of name_cmp c.args.purses.now) (map_of result_cmp c.args.archive.now) (map_of details_cmp c.args.settled.now) c.args.purse in
     elim c.match-at.branch [
       | in-Some w ↦
           let at : slice_get (logged c.args.log.now) c.loop-place.place ≡ Some w.in-Some.details = sym c.at.ensures.value ∙ w.in-Some.is in
@@ -32,4 +32,4 @@ loop-place-preserved c =
 pub returns-clause-value : goal.returns-clause-value
 returns-clause-value c =
     c.loop-place.invariant.sum
-    ∙ sum_all (lost_by (map_of name_cmp c.args.purses.now) (map_of result_cmp c.args.archive.now) c.args.purse) c.args.log.now c.loop-place.place (omega (arith, c.loop-place-test.false, c.loop-place.invariant.upto))
+    ∙ sum_all (lost_by (map_of name_cmp c.args.purses.now) (map_of result_cmp c.args.archive.now) (map_of details_cmp c.args.settled.now) c.args.purse) c.args.log.now c.loop-place.place (omega (arith, c.loop-place-test.false, c.loop-place.invariant.upto))

@@ -1,6 +1,7 @@
 use Rattle.std.proofs.Common.{◌≡◌, ◌+◌, ◌≤◌, ◌*◌, ◌^◌, ◌++◌, ℕ, List, length}
 use Rattle.std.specs.Prelude.{sum_by}
 use Rattle.mx_pay.specs.Names.{name_cmp}
+use Rattle.mx_pay.specs.Details.{details_cmp}
 use Rattle.mx_book.specs.declared.values.PurseRow.{PurseRow as Kept}
 use Rattle.mx_book.specs.Slots.{map_of}
 use Rattle.mx_book.specs.World.{result_cmp}
@@ -10,7 +11,7 @@ use Rattle.mx_book.proofs.totals.lost_in_logs.Given as goal
 
 abbrev pub invariant-loop-row : goal.invariant-loop-row
 invariant-loop-row l =
-    let f : List ℕ × Kept → ℕ = λ e. lost_in_log (map_of name_cmp l.purses) (map_of result_cmp l.archive) e.0 e.1.purse.log in
+    let f : List ℕ × Kept → ℕ = λ e. lost_in_log (map_of name_cmp l.purses) (map_of result_cmp l.archive) (map_of details_cmp l.settled) e.0 e.1.purse.log in
     record {
       sum : sum_by f (l.fn.rows.block.now ++ rows_in l.fn.rows.rest.now) ≡ l.sum + sum_by f (l.row-iterator.block.now ++ rows_in l.row-iterator.rest.now);
       few : l.sum + length (l.row-iterator.block.now ++ rows_in l.row-iterator.rest.now) * 2 ^ 48 ≤ length (l.fn.rows.block.now ++ rows_in l.fn.rows.rest.now) * 2 ^ 48;

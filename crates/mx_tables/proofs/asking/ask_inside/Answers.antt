@@ -10,7 +10,7 @@ returns-in-Ok g c =
       same_reference = c.in-Ok.ensures.same_reference;
       within = within_by old new _ c.in-Ok.ensures.survives (λ clean inside. shown_keeps _ _ old new _ inside (c.in-Ok.ensures.ok clean));
       ok = λ clean inside has. record {
-        same = (shown_same _ _ old new _ c.requires.plain has (c.in-Ok.ensures.ok clean)).0.now_is;
+        same = (shown_same _ _ old new _ c.requires.silent (c.in-Ok.ensures.ok clean)).0.now_is;
         value = λ r holds. c.in-Ok.ensures.ok clean;
       };
     }

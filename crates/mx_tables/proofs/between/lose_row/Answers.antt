@@ -11,17 +11,17 @@ use Rattle.mx_tables.proofs.between.lose_row.Goals as goal
 pub loop-place-preserved : goal.loop-place-preserved
 loop-place-preserved g c = (
   c.loop-place.invariant.0,
-  reads_to g.S.Store (reads_then g.S.Store c.loop-place.invariant.1 c.in_ok-lost_by.ensures) (λ r holds both purses archive.
-      let f : Details → ℕ = lost_by r.purses r.archive c.in_ok-purse.purse in
+  reads_to g.S.Store (reads_then g.S.Store c.loop-place.invariant.1 c.in_ok-lost_by.ensures) (λ r holds both purses entries.
+      let f : Details → ℕ = lost_by r.purses r.archive r.settled c.in_ok-purse.purse in
       let at : slice_get (logged c.in_ok-log.log) c.loop-place.place ≡ Some c.in_ok-details.details = search rules in
-      let before = both.0 purses archive in
-      let more = both.1 purses archive in
+      let before = both.0 purses entries in
+      let more = both.1 purses entries in
       let next = sum_next f c.in_ok-log.log c.loop-place.place c.in_ok-details.details at in
       omega (arith, before, more, next, c.in_ok-sum.ensures)),
 )
 
 pub returns : goal.returns
-returns g c = reads_to g.S.Store c.loop-place.invariant.1 (λ r holds is purses archive.
-    is purses archive
-    ∙ sum_all (lost_by r.purses r.archive c.in_ok-purse.purse) c.in_ok-log.log c.loop-place.place (let all = c.loop-place.invariant.0 in omega (arith, c.loop-place-test.false, all))
+returns g c = reads_to g.S.Store c.loop-place.invariant.1 (λ r holds is purses entries.
+    is purses entries
+    ∙ sum_all (lost_by r.purses r.archive r.settled c.in_ok-purse.purse) c.in_ok-log.log c.loop-place.place (let all = c.loop-place.invariant.0 in omega (arith, c.loop-place-test.false, all))
     ∙ log_is r c.args.row.now c.in_ok-purse.purse c.in_ok-log.log c.in_ok-purse.ensures c.in_ok-log.ensures.shown c.in_ok-log.ensures.valid)

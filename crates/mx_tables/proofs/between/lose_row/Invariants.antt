@@ -3,7 +3,7 @@ use Rattle.std.specs.Prelude.{sum_by}
 use Rattle.mx_pay.specs.Log.{logged, log_len}
 use Rattle.mx_book.specs.RowTotals.{lost_by}
 use Rattle.mx_tables.specs.Answers.{ArePurses}
-use Rattle.mx_tables.specs.Results.{AreDetails}
+use Rattle.mx_tables.specs.Results.{AreEntries}
 use Rattle.mx_tables.specs.States.{Reads}
 use Rattle.mx_tables.proofs.between.lose_row.Given as goal
 
@@ -11,4 +11,4 @@ use Rattle.mx_tables.proofs.between.lose_row.Given as goal
 abbrev pub invariant-loop-place : goal.invariant-loop-place
 invariant-loop-place g l =
     (l.place-end ≡ log_len l.log)
-    × Reads g.S.Store l.initial.conn l.conn going (λ r _. ArePurses r → AreDetails r.archive → l.sum ≡ sum_by (lost_by r.purses r.archive l.purse) (take l.place (logged l.log)))
+    × Reads g.S.Store l.initial.conn l.conn going (λ r _. ArePurses r → AreEntries r → l.sum ≡ sum_by (lost_by r.purses r.archive r.settled l.purse) (take l.place (logged l.log)))

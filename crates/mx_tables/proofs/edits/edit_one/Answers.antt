@@ -38,3 +38,6 @@ returns-in-AddRedemption g c = rw c.in-AddRedemption.is c.insert_redemption.ensu
 
 pub returns-in-Collect : goal.returns-in-Collect
 returns-in-Collect g c = rw c.in-Collect.is c.collect.ensures
+
+pub returns-in-AddSettled : goal.returns-in-AddSettled
+returns-in-AddSettled g c = rw c.in-AddSettled.is c.insert_settled.ensures

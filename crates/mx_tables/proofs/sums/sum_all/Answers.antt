@@ -4,9 +4,9 @@ use Rattle.mx_tables.proofs.sums.sum_all.Goals as goal
 pub returns : goal.returns
 returns g c =
     reads_to g.S.Store (reads_then g.S.Store (reads_then g.S.Store (reads_then g.S.Store c.in_ok-sum_of.ensures c.in_ok-sum_of-2.ensures) c.in_ok-sum_of-3.ensures) c.in_ok-sum_of-4.ensures)
-    (λ rows holds all purses archive k. record {
-      uncollected = all.0.0.0 purses archive k;
-      issued = all.0.0.1 purses archive k;
-      redeemed = all.0.1 purses archive k;
-      balances = all.1 purses archive k;
+    (λ rows holds all purses entries k. record {
+      uncollected = all.0.0.0 purses entries k;
+      issued = all.0.0.1 purses entries k;
+      redeemed = all.0.1 purses entries k;
+      balances = all.1 purses entries k;
     })

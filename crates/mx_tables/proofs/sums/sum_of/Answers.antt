@@ -10,13 +10,13 @@ ask-requires g c = rw c.text.ensures (adds_query c.args.adds.now)
 pub loop-row-preserved : goal.loop-row-preserved
 loop-row-preserved g c =
     let within : c.loop-row.row-index < length c.deref-row-items.result.now = search rules in
-    reads_to g.S.Store (reads_then g.S.Store c.loop-row.invariant c.in_ok-row_adds.ensures) (λ r holds both purses archive.
+    reads_to g.S.Store (reads_then g.S.Store c.loop-row.invariant c.in_ok-row_adds.ensures) (λ r holds both purses entries.
     sum_more (row_adds r c.args.adds.now) c.deref-row-items.result.now c.loop-row.row-index c.row-item.result c.loop-row.sum c.in_ok-row_adds.field-0 c.in_ok-sum.sum within c.row-item.is
-    (both.0 purses archive) (both.1 purses archive) c.in_ok-sum.ensures)
+    (both.0 purses entries) (both.1 purses entries) c.in_ok-sum.ensures)
 
 pub returns : goal.returns
 returns g c =
     let past : length c.deref-row-items.result.now ≤ c.loop-row.row-index = search rules in
-    reads_to g.S.Store (reads_then g.S.Store c.in_ok-rows.ensures.reads c.loop-row.invariant) (λ r holds both purses archive.
-    sum_all_rows (row_adds r c.args.adds.now) c.loop-row.row-index c.deref-row-items.result.now _ c.loop-row.sum past c.deref-row-items.ensures.value (both.1 purses archive)
-    ∙ sum_is r c.args.adds.now _ _ _ (rw c.text.ensures at both.0) holds purses archive)
+    reads_to g.S.Store (reads_then g.S.Store c.in_ok-rows.ensures.reads c.loop-row.invariant) (λ r holds both purses entries.
+    sum_all_rows (row_adds r c.args.adds.now) c.loop-row.row-index c.deref-row-items.result.now _ c.loop-row.sum past c.deref-row-items.ensures.value (both.1 purses entries)
+    ∙ sum_is r c.args.adds.now _ _ _ (rw c.text.ensures at both.0) holds purses entries)

@@ -10,8 +10,8 @@ returns g c =
     tell_totals g.S.Store (
     reads_to g.S.Store
     (reads_then g.S.Store (reads_then g.S.Store (reads_then g.S.Store (reads_then g.S.Store c.in_ok-granted.ensures c.in_ok-sums.ensures) c.in_ok-transit.ensures) c.in_ok-in_logs.ensures) c.in_ok-in_archive.ensures)
-    (λ rows holds all purses archive k.
-    let sums = all.0.0.0.1 purses archive in
+    (λ rows holds all purses entries k.
+    let sums = all.0.0.0.1 purses entries in
     record {
       granted = all.0.0.0.0.0 k;
       float = all.0.0.0.0.1 k;
@@ -19,6 +19,6 @@ returns g c =
       issued = ap (λ (s : Sums). s.issued) sums k;
       redeemed = ap (λ (s : Sums). s.redeemed) sums k;
       balances = ap (λ (s : Sums). s.balances) sums k;
-      transit = all.0.0.1 purses archive k;
-      lost = (c.in_ok-plus.ensures ∙ ap₂ ◌+◌ (all.0.1 purses archive) (all.1 purses archive)) k;
+      transit = all.0.0.1 purses entries k;
+      lost = (c.in_ok-plus.ensures ∙ ap₂ ◌+◌ (all.0.1 purses entries) (all.1 purses entries)) k;
     }))

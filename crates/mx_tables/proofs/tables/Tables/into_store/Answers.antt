@@ -1,5 +1,5 @@
 use Rattle.mx_tables.proofs.Common.{state}
-use Rattle.mx_tables.specs.Settled.{left_there}
+use Rattle.mx_tables.specs.Steady.{left_there}
 use Rattle.mx_tables.proofs.tables.Tables.into_store.Goals as goal
 
 pub returns-clause-lasts : goal.returns-clause-lasts

@@ -19,11 +19,11 @@ lives live false = tt
 pub left_as_is : (s : State) → ((db : Trees) → IsTrue s.is_open → s.may_leave db → db ≡ s.committed.trees) → (db : Database) → worry s ≡ 0 → Leaves s db → db ≡ s.now
 left_as_is s law db sure left =
     let live : IsTrue s.is_open = subst (λ n. Lives n s.is_open) sure (lives s.is_open s.is_clean) in
-    let trees : db.trees ≡ s.now.trees = law db.trees live left.trees ∙ ap (λ (d : Database). d.trees) (left.ours.settled sure) in
+    let trees : db.trees ≡ s.now.trees = law db.trees live left.trees ∙ ap (λ (d : Database). d.trees) (left.ours.steady sure) in
     ap₂ (λ (s : Schema) (t : Trees). record { schema = s; trees = t }) (left.schema ∙ sym (left.ours.schema sure)) trees
 
 -- and it does leave that
 pub left_there : (s : State) → (IsTrue s.is_open → s.may_leave s.committed.trees) → IsOurs s → worry s ≡ 0 → Leaves s s.now
 left_there s law ours sure =
     let live : IsTrue s.is_open = subst (λ n. Lives n s.is_open) sure (lives s.is_open s.is_clean) in
-    record { ours = ours; schema = ours.schema sure; trees = subst (λ (d : Database). s.may_leave d.trees) (ours.settled sure) (law live) }
+    record { ours = ours; schema = ours.schema sure; trees = subst (λ (d : Database). s.may_leave d.trees) (ours.steady sure) (law live) }
