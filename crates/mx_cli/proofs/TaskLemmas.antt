@@ -12,7 +12,7 @@ use Rattle.mx_pay.proofs.EntryLemmas.{bind_some, number_again, number_takes}
 use Rattle.mx_cli.specs.Line.{line_app}
 use Rattle.mx_cli.specs.Named.{Given, HasPurse, HasValue, IsNamedBy, IsNumber, IsToken, Names, NamesNone}
 use Rattle.mx_cli.specs.declared.line.Task.{Task}
-use Rattle.mx_cli.specs.declared.line.Task.TheVariants.{RunMemory, RunFile, Init, Serve, Import, Report}
+use Rattle.mx_cli.specs.declared.line.Task.TheVariants.{RunMemory, RunFile, Init, Serve, Import, Report, Migrate}
 
 -- ---- numbers
 
@@ -117,6 +117,7 @@ names_once name rows (Import f r) (Import g s) h k = cc
 names_once name rows (Report f p) (Report g q) h k =
     let purse = purse_once rows p q h.2 k.2 in
     cc
+names_once name rows (Migrate f) (Migrate g) h k = cc
 names_once name rows (Import f r) (Report g p) h k = absurd (import_report (sym h.0 ∙ k.0))
 names_once name rows (Report f p) (Import g r) h k = absurd (import_report (sym k.0 ∙ h.0))
 names_once name rows a b h k = cc

@@ -4,7 +4,7 @@ ghost use Rattle.std.specs.Prelude.{◌≡◌, ◌≤◌, IfOk, IfErr, vec_len};
 use crate::fault::CliFault;
 use mx_office::Office;
 use mx_pay::Token;
-use mx_tables::{OpenRefused, Tables};
+use mx_tables::{Migrated, OpenRefused, Tables, migrate};
 use sqlite::{Connection, Error, ErrorCode, File, FileStore};
 use std::fs::Metadata;
 use std::io::{ErrorKind, Read};
@@ -112,8 +112,24 @@ pub fn make_office(
     office_over(Tables::create(rt.alloc(), store, operator))
 }
 
-/// Closes the file of an office, and passes on what was answered before. Where that is a fault, it stays the fault;
-/// else it is `Store` where the file can't be closed.
+/// Closes a database, and passes on what was answered before. Where that is a fault, it stays the fault; else it is `Store`
+/// where the file can't be closed.
+fn closed_store<T: Drop>(
+    answer: Result<T, CliFault>,
+    store: Connection<Store>,
+) -> Result<T, CliFault>
+    ensures ok { IfOk result (λ value. answer ≡ Ok value) }
+    ensures first { IfErr answer (λ fault. result ≡ Err fault) }
+{
+    let is_closed = store.close().is_ok();
+    let value = answer?;
+    if !is_closed {
+        return Err(CliFault::Store);
+    }
+    Ok(value)
+}
+
+/// Closes the file of an office in the same way.
 pub fn closed<T: Drop>(
     answer: Result<T, CliFault>,
     office: Office<Tables<Store>>,
@@ -121,12 +137,23 @@ pub fn closed<T: Drop>(
     ensures ok { IfOk result (λ value. answer ≡ Ok value) }
     ensures first { IfErr answer (λ fault. result ≡ Err fault) }
 {
-    let is_closed = office.into_book().into_store().close().is_ok();
-    let value = answer?;
-    if !is_closed {
-        return Err(CliFault::Store);
-    }
-    Ok(value)
+    closed_store(answer, office.into_book().into_store())
+}
+
+/// Brings the books in a file that is there to the schema of this version.
+///
+/// # Errors
+///
+/// `File` where the file isn't there, isn't a database, can't be opened, or another process has it open; `NotThisSchema`
+/// where it is empty or has no books of this version or the one before; `Store` where it has other tables, refuses a
+/// statement or can't be closed; `Memory`.
+pub fn migrate_file(rt: &HostRuntime, path: &str) -> Result<Migrated, CliFault> {
+    let mut store = open_found(rt, path)?;
+    let answer = match migrate(rt.alloc(), &mut store) {
+        Ok(migrated) => Ok(migrated),
+        Err(fault) => Err(CliFault::from(fault)),
+    };
+    closed_store(answer, store)
 }
 
 /// The bytes of a roll.

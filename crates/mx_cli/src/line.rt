@@ -4,7 +4,7 @@ ghost use Rattle.std.specs.Option.{option_and_then};
 ghost use Rattle.clap.specs.Words.{app_of, first_of, found_of, kind_of, new_app, rows_of, rule_of};
 ghost use Rattle.clap.specs.declared.Command.TheViews.{out-Command};
 ghost use Rattle.mx_pay.specs.Tokens.{token_of};
-ghost use Rattle.mx_cli.specs.Line.{flag_rule, import_app, init_app, line_app, option_rule, report_app, run_app, serve_app, word_rule};
+ghost use Rattle.mx_cli.specs.Line.{flag_rule, import_app, init_app, line_app, migrate_app, option_rule, report_app, run_app, serve_app, word_rule};
 ghost use Rattle.mx_cli.specs.Named.{HasPurse, HasValue, IsNamedBy, IsNumber, Names, NamesNone};
 
 use clap::error::ErrorKind;
@@ -88,6 +88,8 @@ pub enum Task<'a> {
         /// The purse, where one is named.
         purse: Option<Name>,
     },
+    /// `migrate FILE`: the books in a file, which are of the schema before, are brought to the schema of this version.
+    Migrate(Word<'a>),
 }
 
 /// Why a command line gives no task.
@@ -221,6 +223,13 @@ fn report_command<'a>(alloc: Global) -> Result<Command<'a>, AllocError>
         .arg(option(alloc, "purse", "P", false))
 }
 
+fn migrate_command<'a>(alloc: Global) -> Result<Command<'a>, AllocError>
+    ensures app { IfOk result (λ c. app_of c ≡ migrate_app) }
+    ensures local { IfOk result (λ c. (out-Command c).has_globals ≡ false) }
+{
+    Command::new(alloc, "migrate").arg(bare_word(alloc, "FILE", true))
+}
+
 // The program's name stands before each command in usage texts.
 fn program_command<'a>(alloc: Global) -> Result<Command<'a>, AllocError>
     ensures { IfOk result (λ c. app_of c ≡ new_app (codes "purse-office")) }
@@ -238,7 +247,8 @@ fn line_command<'a>(alloc: Global) -> Result<Command<'a>, AllocError>
         .subcommand(init_command(alloc)?)?
         .subcommand(serve_command(alloc)?)?
         .subcommand(import_command(alloc)?)?
-        .subcommand(report_command(alloc)?)
+        .subcommand(report_command(alloc)?)?
+        .subcommand(migrate_command(alloc)?)
 }
 
 // The first value of `id`.
@@ -375,6 +385,16 @@ fn report_task<'a>(matches: &ArgMatches<'a>) -> Result<Task<'a>, Misfit>
     Ok(Task::Report { file, purse })
 }
 
+fn migrate_task<'a>(matches: &ArgMatches<'a>) -> Result<Task<'a>, Misfit>
+    ensures named { IfOk result (Names (codes "migrate") (rows_of (found_of matches.now))) }
+    ensures unnamed { OnErr result (NamesNone (codes "migrate") (rows_of (found_of matches.now))) }
+{
+    match word_of(matches, "FILE") {
+        Some(file) => Ok(Task::Migrate(file)),
+        None => Err(Misfit::Missing),
+    }
+}
+
 fn task_of<'a>(name: &str, matches: &ArgMatches<'a>) -> Result<Task<'a>, Misfit>
     ensures named { IfOk result (Names name.now (rows_of (found_of matches.now))) }
     ensures unnamed { OnErr result (NamesNone name.now (rows_of (found_of matches.now))) }
@@ -385,6 +405,7 @@ fn task_of<'a>(name: &str, matches: &ArgMatches<'a>) -> Result<Task<'a>, Misfit>
         "serve" => serve_task(matches),
         "import" => import_task(matches),
         "report" => report_task(matches),
+        "migrate" => migrate_task(matches),
         _ => Err(Misfit::Missing),
     }
 }

@@ -1,7 +1,7 @@
 //! The scheme office of an electronic purse, as a program: `purse-office run --memory --token HEX` reads
 //! requests from standard input and writes their responses to standard output. The other commands keep the books in a
-//! file: `init` makes it, `run` and `serve` answer requests over it, `import` adds what a roll lists, and `report` tells what
-//! the books come to.
+//! file: `init` makes it, `run` and `serve` answer requests over it, `import` adds what a roll lists, `report` tells what the
+//! books come to, and `migrate` brings a file of the schema before to this one.
 #![tactic(auto)]
 
 pub mod connections;

@@ -3,7 +3,7 @@ ghost use Rattle.std.specs.Prelude.{◌≡◌, false};
 ghost use Rattle.mx_cli.specs.Tasks.{is_serve};
 
 use crate::fault::CliFault;
-use crate::files::{Store, closed, make_office, open_office, read_roll};
+use crate::files::{Store, closed, make_office, migrate_file, open_office, read_roll};
 use crate::line::Task;
 use crate::program::{run_memory, run_office};
 use crate::teller::Teller;
@@ -12,7 +12,7 @@ use mx_desk::Counted;
 use mx_office::Office;
 use mx_pay::{Name, Token};
 use mx_report::import_roll_telling;
-use mx_tables::Tables;
+use mx_tables::{Migrated, Tables};
 use std::io::{Read, Write};
 
 /// Answers the requests of the input over the books in a file.
@@ -113,6 +113,13 @@ pub fn perform<R: Read, W: Write>(
         Task::Report { file, purse } => {
             let text = report_file(rt, file.as_str(), *purse)?;
             say(writer, text.as_slice())?;
+        }
+        Task::Migrate(file) => {
+            let line: &[u8] = match migrate_file(rt, file.as_str())? {
+                Migrated::Done => b"migrated\n",
+                Migrated::Already => b"already schema 2\n",
+            };
+            say(writer, line)?;
         }
         Task::Serve { .. } => unreachable!(),
     }

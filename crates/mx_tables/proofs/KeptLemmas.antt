@@ -20,7 +20,7 @@ use Rattle.mx_book.proofs.UnderLemmas.{pair_total, pair_exact}
 use Rattle.mx_book.proofs.DueLemmas.{keys_total, keys_exact}
 use Rattle.mx_book.proofs.ResultLemmas.{results_total, results_exact}
 use Rattle.mx_tables.specs.Schema as schema
-use Rattle.mx_tables.specs.Schema.{Contents, member_cells, token_cells, holder_cells, purse_cells, message_cells, line_cells, result_cells, load_cells, redemption_cells, settled_cells, tokens_of, cells_of, rows_of}
+use Rattle.mx_tables.specs.Schema.{Contents, member_cells, token_cells, holder_cells, purse_cells, message_cells, line_cells, result_cells, load_cells, redemption_cells, settled_cells, tokens_of, cells_of, rows_of, schema_of}
 use Rattle.mx_tables.specs.Holds.{HasContents, Spells, SpellsOne}
 use Rattle.hex.specs.Hex.{encode_lower}
 use Rattle.mx_pay.proofs.TextLemmas.{same_entry}
@@ -41,7 +41,7 @@ use Rattle.mx_book.proofs.SpellLemmas.{applied}
 use Rattle.mx_tables.proofs.Places.{Place, IsKey, Ties, Kept, Written, Belongs, stored, listed_once, same_lists, but_number}
 use Rattle.sqlite.specs.Listing.{understood}
 use Rattle.sqlite_tied.specs.Compute.{everything}
-use Rattle.mx_tables.specs.Made.{Makes, made, also, schema_of}
+use Rattle.mx_tables.specs.Made.{IsCreate, Makes, made, also}
 use Rattle.mx_tables.specs.declared.making.Version.{Version}
 use Rattle.mx_tables.specs.declared.making.Version.TheVariants.{One, Two}
 use Rattle.sqlite_schema.specs.declared.schema.Schema.{Schema}
@@ -310,9 +310,12 @@ makes_1 =
 abbrev pub later_texts : List (List ℕ)
 later_texts = codes "CREATE TABLE settled (details TEXT NOT NULL PRIMARY KEY) STRICT" ∷ []
 
-makes_later : Makes schema.schema_11 later_texts schema.office_schema
+pub makes_settled : IsCreate schema.schema_11 (codes "CREATE TABLE settled (details TEXT NOT NULL PRIMARY KEY) STRICT") schema.settled
 unfolding understood everything
-makes_later = also schema.settled (record { creates = (refl, refl); plain = (refl, refl); defined = refl; uncounted = refl }) made
+makes_settled = record { creates = (refl, refl); plain = (refl, refl); defined = refl; uncounted = refl }
+
+makes_later : Makes schema.schema_11 later_texts schema.office_schema
+makes_later = also schema.settled makes_settled made
 
 makes_then : {first second third : Schema} {texts more : List (List ℕ)} → Makes first texts second → Makes second more third → Makes first (texts ++ more) third
 makes_then made later = later

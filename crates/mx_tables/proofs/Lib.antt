@@ -22,3 +22,4 @@ pub mod SettledLemmas
 pub mod CountedSums
 pub mod LoadLemmas
 pub mod ToldLemmas
+pub mod MigrationLemmas

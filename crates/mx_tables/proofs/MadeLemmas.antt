@@ -14,8 +14,8 @@ use Rattle.sqlite.specs.Listing.{understood}
 use Rattle.sqlite.specs.State.{State, Writes, ExecutesInside, Shown}
 use Rattle.sqlite.proofs.Callers.{command_of, statement_of, runs_as, reads_as}
 use Rattle.sqlite_rules.proofs.ProbeLemmas.{has_mapped, mapped_has}
-use Rattle.mx_tables.specs.Schema.{meta, token_cells, opening_contents}
-use Rattle.mx_tables.specs.Made.{Creates, IsCreate, Blank, Fresh, new_cells, HasVersion, schema_of, version_shown, Makes, made, also}
+use Rattle.mx_tables.specs.Schema.{meta, token_cells, opening_contents, schema_of}
+use Rattle.mx_tables.specs.Made.{Creates, IsCreate, Adds, Blank, Fresh, new_cells, HasVersion, version_shown, Makes, made, also}
 use Rattle.std.proofs.ByRecursion.{All-push}
 use Rattle.sqlite_trees.proofs.ListLemmas.{all_both}
 use Rattle.mx_tables.proofs.Statements.{went, same_value, inserted, puts, picked, env, passes}
@@ -53,35 +53,43 @@ makes_next (also table is rest) = (table, is, rest)
 pub makes_none : {before after : Schema} → Makes before [] after → before ≡ after
 makes_none made = refl
 
-pub makes : (schema : Schema) (sql : List ℕ) (table : Table) (old new : State) (r : Result ℕ Error) → IsCreate schema sql table → Blank schema old → ExecutesInside 0 sql [] old new r → OnOk r (Blank (created schema table) new)
-makes schema sql table old new (Err e) is blank h = tt
-makes schema sql table old new (Ok count) is blank h =
+pub adds : (schema : Schema) (sql : List ℕ) (table : Table) (old new : State) (r : Result ℕ Error) → IsCreate schema sql table → old.now.schema ≡ schema → ExecutesInside 0 sql [] old new r → OnOk r (Adds schema table old new)
+adds schema sql table old new (Err e) is has h = tt
+adds schema sql table old new (Ok count) is has h =
     let known = is_create sql (understood schema sql) is.creates in
-    let w = subst (λ t. Writes old new None CreateTable t [] count) known.1 (runs_as sql [] old new schema blank.schema_is CreateTable known.0 is.plain count h.0) in
+    let w = subst (λ t. Writes old new None CreateTable t [] count) known.1 (runs_as sql [] old new schema has CreateTable known.0 is.plain count h.0) in
     let all = went w.changed in
     let first = went all.1 in
     let made = first.1 in
     let same : made.table ≡ table = same_value (sym made.defined ∙ is.defined) in
-    let after : first.0.schema ≡ created schema table = made.is ∙ subst₂ (λ s t. created old.now.schema made.table ≡ created s t) blank.schema_is same refl in
+    let after : first.0.schema ≡ created schema table = made.is ∙ subst₂ (λ s t. created old.now.schema made.table ≡ created s t) has same refl in
     let plain : lacks_sequence first.0.schema ≡ false = ap lacks_sequence after ∙ is.uncounted in
     let now : new.now ≡ first.0 = ap (λ (p : Tally × Database). p.1) (same_value all.2) ∙ same_value (rw plain at first.2) in
     let trees : new.now.trees ≡ first.0.trees = ap (λ (d : Database). d.trees) now in
-    let none : new.now.trees (next_tree schema) ≡ [] = ap (λ (t : Trees). t (next_tree schema)) trees ∙ subst (λ s. first.0.trees (next_tree s) ≡ []) blank.schema_is made.empty in
-    let keeps : KeepsRows schema.tables old.now.trees new.now.trees = subst₂ (λ s t. KeepsRows s.tables old.now.trees t) blank.schema_is (sym trees) made.others in
+    record {
+      schema_is = ap (λ (d : Database). d.schema) now ∙ after;
+      empty = ap (λ (t : Trees). t (next_tree schema)) trees ∙ subst (λ s. first.0.trees (next_tree s) ≡ []) has made.empty;
+      others = subst₂ (λ s t. KeepsRows s.tables old.now.trees t) has (sym trees) made.others;
+      inside = h.1.mode;
+    }
+
+-- beside tables with no row
+pub adds_blank : (schema : Schema) (table : Table) (old new : State) → Blank schema old → Adds schema table old new → Blank (created schema table) new
+adds_blank schema table old new blank it =
     let still : AllByRecursion (λ t. new.now.trees t.tree ≡ []) schema.tables =
-    all_both (λ t. new.now.trees t.tree ≡ old.now.trees t.tree) (λ t. old.now.trees t.tree ≡ []) _ (λ t kept was. kept ∙ was) schema.tables keeps blank.empty in
-    record { schema_is = ap (λ (d : Database). d.schema) now ∙ after; empty = All-push _ schema.tables _ still none; inside = h.1.mode }
+    all_both (λ t. new.now.trees t.tree ≡ old.now.trees t.tree) (λ t. old.now.trees t.tree ≡ []) _ (λ t kept was. kept ∙ was) schema.tables it.others blank.empty in
+    record { schema_is = it.schema_is; empty = All-push _ schema.tables _ still it.empty; inside = it.inside }
 
 -- ---- the first rows
 
-abbrev meta_table : Table
+abbrev pub meta_table : Table
 meta_table = record meta { tree = 0 }
 
 all_nothing : (db : Trees) (ts : List Table) → AllByRecursion (λ (t : Table). db t.tree ≡ []) ts → AllStore db ts (map (λ _. []) ts)
 all_nothing db [] none = tt
 all_nothing db (t ∷ ts) none = (subst (λ rows. Stores rows []) (sym none.0) (record { rise = tt; have = tt }), all_nothing db ts none.1)
 
-one_meta : Stores meta_rows ((Null ∷ number 2 ∷ []) ∷ [])
+pub one_meta : Stores meta_rows ((Null ∷ number 2 ∷ []) ∷ [])
 one_meta = record { rise = (tt, tt); have = ((pos 1, refl), tt) }
 
 pub freshens : (old new : State) (count : ℕ) → Blank office_schema old → Executes insert_meta [] old new (Ok count) → Fresh new
@@ -121,16 +129,17 @@ opens_office t db h =
 abbrev pub first_rows : List Row → List Row
 first_rows = filter (has_rowid (pos 1))
 
-same_as_first : (v : Value) → is_true (binary (Compare Eq Binary) v (Int (pos 1))) ≡ is_eq (value_cmp v (Int (pos 1)))
+pub same_as_first : (v : Value) → is_true (binary (Compare Eq Binary) v (Int (pos 1))) ≡ is_eq (value_cmp v (Int (pos 1)))
 unfolding binary
 same_as_first Null = sym (ap is_eq (value_cmp-Null (Int (pos 1))))
 same_as_first v = if_truth _
 
+pub passes_first : (r : Row) → passes (is_first ∷ []) [] r ≡ has_rowid (pos 1) r
+passes_first r = and_true _ ∙ same_as_first (column r 0)
+
 passing : (rows : List Row) → map (λ r. eval_all (col 1 2 ∷ []) (env [] r)) (filter (passes (is_first ∷ []) []) rows) ≡ map version_shown (first_rows rows)
 passing [] = refl
-passing (r ∷ rows) =
-    let same : passes (is_first ∷ []) [] r ≡ has_rowid (pos 1) r = and_true _ ∙ same_as_first (column r 0) in
-    grind (arith, same, passing rows)
+passing (r ∷ rows) = grind (arith, passes_first r, passing rows)
 
 pub finds_version : (v : Version) (old new : State) (rows : List Row) → Shown select_version [] old new rows → old.now.schema ≡ schema_of v → IsPermutation (map version_shown (first_rows (old.now.trees 0))) rows
 finds_version v old new rows h has =

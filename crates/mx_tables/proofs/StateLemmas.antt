@@ -21,7 +21,7 @@ use Rattle.sqlite.specs.Listing.{understood, listing_schema, if_select}
 use Rattle.sqlite.specs.State.{State, HasCleanDisk, IsUnchanged, IsRolledBack, Shows, Fails, FailsToQuery, FailsToShow, IsNotRun, Shown, ShowsRows, KeepsCommit, ExecutesInside, IsTooLate, Survives, CommitsShowing}
 use Rattle.mx_book.specs.declared.contract.StoreFault.{StoreFault}
 use Rattle.mx_tables.specs.Owners.{OwnerIndex, IndexSlots, index_of, Owned, IsKeptUp}
-use Rattle.mx_tables.specs.States.{worry, IsAt, IsOurs, IsText, IsSilent, ShowsNothing, Stays, StaysAt, Within, Stops, Brings, Applies, Commits, TellsOwners}
+use Rattle.mx_tables.specs.States.{worry, IsAt, IsOurs, IsText, IsSilent, ShowsNothing, Rests, Stays, StaysAt, Within, Stops, Brings, Applies, Commits, TellsOwners}
 
 -- a statement that fails changes nothing, or its transaction is rolled back
 abbrev pub Quits : State → State → Type 0
@@ -116,6 +116,18 @@ stays old new ours mode clean opened quits crash =
 -- what is idle and steady is so in its schema
 pub is_at : (of : Schema) (s : State) → s.in_transaction ≡ false → (IsTrue s.is_open → s.now ≡ s.committed) → s.now.schema ≡ of → IsAt of s
 is_at of s idle steady has = record { autocommit = idle; steady = λ h. sym (steady (sure s h).0); schema = λ _. has }
+
+-- so is what is read of it, whatever its schema is
+pub stays_found : {of : Schema} (old new : State) → ((s : Schema) → IsAt s old → StaysAt s old new) → old.in_transaction ≡ false → (IsTrue old.is_open → old.now ≡ old.committed) → old.now.schema ≡ of → StaysAt of old new
+stays_found {of} old new stays idle steady has = stays of (is_at of old idle steady has)
+
+pub rests_at : {of : Schema} {old new : State} → StaysAt of old new → Rests old new
+rests_at {of} h = record {
+  autocommit = h.ours.autocommit;
+  later = h.later;
+  same = h.same;
+  stops = λ calm db left. (h.stops calm (record { schema = of; trees = db }) (record { ours = h.ours; schema = refl; trees = left })).trees;
+}
 
 pub stays_same : {of : Schema} (a : State) → IsAt of a → StaysAt of a a
 stays_same a ours = record { ours = ours; later = omega arith; same = λ h. refl; stops = λ h db left. left; index = λ held tells. tells }

@@ -14,7 +14,7 @@ use Rattle.sqlite.specs.Listing.{understood, reads_listing}
 use Rattle.sqlite.proofs.Callers.{command_of}
 use Rattle.sqlite_value.specs.Keys.{ascending}
 use Rattle.mx_tables.specs.States.{IsText, IsQuery}
-use Rattle.mx_tables.specs.Made.{schema_of}
+use Rattle.mx_tables.specs.Schema.{schema_of}
 use Rattle.mx_tables.specs.declared.making.Version.{Version}
 use Rattle.mx_tables.specs.declared.making.Version.TheVariants.{One, Two}
 use Rattle.sqlite.specs.Given.{IsPlain}
@@ -139,6 +139,13 @@ pub asks_version : (v : Version) → AsksVersion (schema_of v)
 unfolding understood everything
 asks_version One = record { is = refl; plain = (refl, refl); unlisted = refl }
 asks_version Two = record { is = refl; plain = (refl, refl); unlisted = refl }
+
+abbrev pub set_version : List ℕ
+set_version = codes "UPDATE meta SET version = 2 WHERE id = 1"
+
+pub set_version_is : IsUpdate set_version 0 0 (is_first ∷ []) (col 1 0 ∷ col 1 0 ∷ lit Null ∷ lit (Int (pos 2)) ∷ [])
+unfolding understood everything
+set_version_is = record { is = refl; plain = (refl, refl) }
 
 abbrev pub insert_purse : List ℕ
 insert_purse = codes "INSERT INTO purse (name, holder, balance, next_number, status, details, log, line_count, next_message) VALUES (?1, ?2, 0, 0, 'eaFrom', '', '', 0, 0)"

@@ -10,7 +10,9 @@ use Rattle.sqlite.specs.Effect.{Database}
 use Rattle.mx_book.specs.World.{World}
 use Rattle.mx_book.specs.Rows.{Rows}
 use Rattle.mx_book.specs.Spells as book
-use Rattle.mx_tables.specs.Schema.{office_schema, Contents, cells_of, number, rows_of, AreTokens}
+use Rattle.mx_tables.specs.declared.making.Version.{Version}
+use Rattle.mx_tables.specs.declared.making.Version.TheVariants.{Two}
+use Rattle.mx_tables.specs.Schema.{schema_of, number_of, Contents, cells_in, number, rows_in, AreTokens}
 
 -- the rows have these cells, each after a row number
 abbrev pub HaveCells : List Row → List Row → Type 0
@@ -31,31 +33,48 @@ AllStore db [] (c ∷ cs) = ⊥
 AllStore db (t ∷ ts) [] = ⊥
 AllStore db (t ∷ ts) (c ∷ cs) = Stores (db t.tree) c × AllStore db ts cs
 
--- the one row of `meta`: number 1, version 2
-abbrev pub meta_rows : List Row
-meta_rows = (Int (pos 1) ∷ Null ∷ number 2 ∷ []) ∷ []
+-- the one row of `meta`: number 1, and the number of the version
+abbrev pub meta_rows_in : Version → List Row
+meta_rows_in v = (Int (pos 1) ∷ Null ∷ number (number_of v) ∷ []) ∷ []
 
--- the database has the schema of the office and the rows of these contents, and no two rows of a table have the same key
-pub record HasContents (db : Database) (c : Contents) : Type 0 where
-  pub schema : db.schema ≡ office_schema
-  pub meta : db.trees 0 ≡ meta_rows
-  pub tables : AllStore db.trees office_schema.tables (cells_of c)
+-- the database has the schema of this version and its rows of these contents, and no two rows of a table have the same key
+pub record HasContentsIn (v : Version) (db : Database) (c : Contents) : Type 0 where
+  pub schema : db.schema ≡ schema_of v
+  pub meta : db.trees 0 ≡ meta_rows_in v
+  pub tables : AllStore db.trees (schema_of v).tables (cells_in v c)
   pub tokens : AreTokens c
-  pub unique : Keeps Unique office_schema db.trees
+  pub unique : Keeps Unique (schema_of v) db.trees
 
--- the database holds these rows of a book
-pub record Holds (db : Database) (r : Rows) : Type 0 where
+-- the database holds these rows of a book as this version
+pub record HoldsIn (v : Version) (db : Database) (r : Rows) : Type 0 where
   pub contents : Contents
-  pub has : HasContents db contents
-  pub rows : rows_of contents ≡ r
+  pub has : HasContentsIn v db contents
+  pub rows : rows_in v contents ≡ r
 
--- the database holds rows that spell this World
-pub record Spells (db : Database) (w : World) : Type 0 where
+-- the database holds rows as this version that spell this World
+pub record SpellsIn (v : Version) (db : Database) (w : World) : Type 0 where
   pub rows : Rows
-  pub holds : Holds db rows
+  pub holds : HoldsIn v db rows
   pub spells : book.Spells rows w
 
 -- it does, and spells no other World
-pub record SpellsOne (db : Database) (w : World) : Type 0 where
-  pub spelled : Spells db w
-  pub only : (v : World) → Spells db v → v ≡ w
+pub record SpellsOneIn (v : Version) (db : Database) (w : World) : Type 0 where
+  pub spelled : SpellsIn v db w
+  pub only : (u : World) → SpellsIn v db u → u ≡ w
+
+-- ---- the same of the version that the office has
+
+abbrev pub meta_rows : List Row
+meta_rows = meta_rows_in Two
+
+abbrev pub HasContents : Database → Contents → Type 0
+HasContents = HasContentsIn Two
+
+abbrev pub Holds : Database → Rows → Type 0
+Holds = HoldsIn Two
+
+abbrev pub Spells : Database → World → Type 0
+Spells = SpellsIn Two
+
+abbrev pub SpellsOne : Database → World → Type 0
+SpellsOne = SpellsOneIn Two

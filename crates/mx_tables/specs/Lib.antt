@@ -8,3 +8,4 @@ pub mod Pages
 pub mod Made
 pub mod Results
 pub mod Counted
+pub mod Migration

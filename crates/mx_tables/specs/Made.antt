@@ -1,19 +1,17 @@
 -- How the tables are made.
-use Rattle.mx_tables.specs.Schema.{schema_11, office_schema, number}
-use Rattle.mx_tables.specs.declared.making.Version.{Version}
-use Rattle.mx_tables.specs.declared.making.Version.TheVariants.{One, Two}
+use Rattle.mx_tables.specs.Schema.{office_schema, number}
 use Rattle.mx_tables.specs.Holds.{meta_rows, AllStore}
 use Rattle.sqlite_value.specs.Order.{Row, column}
 use Rattle.sqlite_value.specs.declared.value.Value.TheVariants.{Null}
 use Rattle.sqlite_trees.specs.Tree.{has_rowid}
 use Rattle.sqlite_rules.specs.Lists.{Has}
 use Rattle.sqlite.specs.Effect.{Database}
-use Rattle.std.specs.Prelude.{◌≡◌, map, drop, pos, true, false, ◌∷◌, Ok, List, [], ℕ, IsTrue, Result, Err, slice_range}
+use Rattle.std.specs.Prelude.{◌≡◌, ◌≢◌, map, drop, pos, true, false, ◌∷◌, Ok, List, [], ℕ, IsTrue, Result, Err, slice_range}
 use Rattle.std.specs.List.{AllByRecursion}
 use Rattle.sqlite_schema.specs.declared.schema.Schema.{Schema}
 use Rattle.sqlite_schema.specs.declared.schema.Table.{Table}
 use Rattle.sqlite_schema.specs.declared.command.Command.TheVariants.{CreateTable}
-use Rattle.sqlite_catalog.specs.Change.{created}
+use Rattle.sqlite_catalog.specs.Change.{created, next_tree, KeepsRows}
 use Rattle.sqlite.specs.Does.{lacks_sequence}
 use Rattle.sqlite.specs.Given.{IsPlain}
 use Rattle.sqlite.specs.Listing.{understood}
@@ -42,6 +40,13 @@ pub data Makes : Schema → List (List ℕ) → Schema → Type 0 where
   made : {schema : Schema} → Makes schema [] schema
   also : {before after : Schema} {sql : List ℕ} {more : List (List ℕ)} (table : Table) → IsCreate before sql table → Makes (created before table) more after → Makes before (sql ∷ more) after
 
+-- a table was made beside those that are there, whose rows stay, and has no rows
+pub record Adds (schema : Schema) (table : Table) (old new : State) : Type 0 where
+  pub schema_is : new.now.schema ≡ created schema table
+  pub empty : new.now.trees (next_tree schema) ≡ []
+  pub others : KeepsRows schema.tables old.now.trees new.now.trees
+  pub inside : IsTrue new.in_transaction
+
 -- a transaction is open, and sees the schema with no rows
 pub record Blank (schema : Schema) (s : State) : Type 0 where
   pub schema_is : s.now.schema ≡ schema
@@ -58,14 +63,13 @@ pub record Fresh (s : State) : Type 0 where
   pub meta : s.now.trees 0 ≡ meta_rows
   pub tables : AllStore s.now.trees office_schema.tables new_cells
 
--- the schema of each version: the first has no settled details
-abbrev pub schema_of : Version → Schema
-schema_of One = schema_11
-schema_of Two = office_schema
-
 -- `meta` has a row of number 1 with this version
 abbrev pub HasVersion : ℕ → Database → Type 0
 HasVersion n db = (r : Row) × Has (db.trees 0) r × (has_rowid (pos 1) r ≡ true) × (column r 2 ≡ number n)
+
+-- and no row of number 1 with another
+abbrev pub HasOnly : ℕ → Database → Type 0
+HasOnly n db = HasVersion n db × ((k : ℕ) → k ≢ n → ¬ HasVersion k db)
 
 abbrev pub version_shown : Row → Row
 version_shown r = column r 2 ∷ []

@@ -38,6 +38,13 @@ pub record IsAt (of : Schema) (s : State) : Type 0 where
 abbrev pub IsOurs : State → Type 0
 IsOurs = IsAt office_schema
 
+-- between calls, whatever the schema is: the connection is as it was but for a fault, and so is what a stop leaves
+pub record Rests (old new : State) : Type 0 where
+  pub autocommit : new.in_transaction ≡ false
+  pub later : worry old ≤ worry new
+  pub same : worry new ≡ 0 → new.now ≡ old.now
+  pub stops : worry new ≤ 1 → (db : Trees) → new.may_leave db → old.may_leave db
+
 -- what may be found in this schema after a stop at this moment
 pub record LeavesAt (of : Schema) (s : State) (db : Database) : Type 0 where
   pub ours : IsAt of s

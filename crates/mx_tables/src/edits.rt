@@ -161,7 +161,7 @@ fn edit_each<S: Alter>(
 }
 
 /// Finds the connection open: one that a fault has shut is to commit nothing.
-fn find_open<S: Alter>(tx: &mut Transaction<'_, S>) -> Result<(), StoreFault>
+pub fn find_open<S: Alter>(tx: &mut Transaction<'_, S>) -> Result<(), StoreFault>
     ensures { Steps S.Store tx.old tx.new result
         (λ _. IsUnchanged (state S.Store tx.old.conn.now) (state S.Store tx.new.conn.now)) }
 {

@@ -15,6 +15,7 @@ mod loads;
 mod making;
 mod member_sums;
 mod members;
+pub mod migration;
 pub mod opening;
 mod owners;
 mod purses;
@@ -26,5 +27,6 @@ mod sums;
 pub mod tables;
 mod tokens;
 
+pub use migration::{Migrated, migrate};
 pub use opening::{OpenFault, OpenRefused};
 pub use tables::Tables;

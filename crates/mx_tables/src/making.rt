@@ -1,11 +1,10 @@
 //! The making of the tables.
-ghost use Rattle.std.specs.Prelude.{map};
+ghost use Rattle.std.specs.Prelude.{◌≡◌, map};
 ghost use Rattle.sqlite.specs.Held.{state};
-ghost use Rattle.sqlite_catalog.specs.Change.{created};
 ghost use Rattle.mx_book.specs.Spells.{opening_rows};
 ghost use Rattle.mx_tables.specs.Holds.{Holds};
-ghost use Rattle.mx_tables.specs.Made.{Blank, Builds, Fresh, IsCreate, Makes, schema_of};
-ghost use Rattle.mx_tables.specs.Schema.{no_schema, office_schema};
+ghost use Rattle.mx_tables.specs.Made.{Adds, Blank, Builds, Fresh, IsCreate, Makes};
+ghost use Rattle.mx_tables.specs.Schema.{no_schema, number_of, office_schema, schema_11, schema_of, settled};
 ghost use Rattle.mx_tables.specs.States.{Steps};
 
 use crate::asking::run;
@@ -18,8 +17,8 @@ use sqlite::{Alter, Error, Transaction};
 fn make<S: Alter>(tx: &mut Transaction<'_, S>, sql: &str) -> Result<(), Error>
     ensures { Steps S.Store tx.old tx.new result
         (λ _. (schema : _) (table : _) → IsCreate schema sql.now table
-        → Blank schema (state S.Store tx.old.conn.now)
-        → Blank (created schema table) (state S.Store tx.new.conn.now)) }
+        → (state S.Store tx.old.conn.now).now.schema ≡ schema
+        → Adds schema table (state S.Store tx.old.conn.now) (state S.Store tx.new.conn.now)) }
 {
     match tx.execute(sql, &[]) {
         Ok(_) => Ok(()),
@@ -55,6 +54,18 @@ pub enum Version {
     Two,
 }
 
+impl Version {
+    /// Its number, which stands in `meta`.
+    pub fn number(self) -> u64
+        ensures { result ≡ number_of self }
+    {
+        match self {
+            Version::One => 1,
+            Version::Two => 2,
+        }
+    }
+}
+
 /// Makes one table after another.
 fn make_each<S: Alter>(tx: &mut Transaction<'_, S>, texts: &[&str]) -> Result<(), Error>
     ensures { Steps S.Store tx.old tx.new result
@@ -76,6 +87,15 @@ pub fn make_tables<S: Alter>(tx: &mut Transaction<'_, S>, version: Version) -> R
         Version::One => make_each(tx, &TABLES[..IN_VERSION_1]),
         Version::Two => make_each(tx, &TABLES),
     }
+}
+
+/// Makes the table that only version 2 has.
+pub fn make_settled<S: Alter>(tx: &mut Transaction<'_, S>) -> Result<(), Error>
+    ensures { Steps S.Store tx.old tx.new result
+        (λ _. (state S.Store tx.old.conn.now).now.schema ≡ schema_11
+        → Adds schema_11 settled (state S.Store tx.old.conn.now) (state S.Store tx.new.conn.now)) }
+{
+    make(tx, TABLES[IN_VERSION_1])
 }
 
 /// Adds the row of `meta`.

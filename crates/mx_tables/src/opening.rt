@@ -1,5 +1,5 @@
 //! New tables, and tables that are there.
-ghost use Rattle.std.specs.Prelude.{◌≡◌, ◌≤◌, ◌≢◌, ◌⊎◌, IfErr, IfOk, IfSome, IsTrue, OnOk, codes, false, filter, map, pos};
+ghost use Rattle.std.specs.Prelude.{◌≡◌, ◌≤◌, ◌≢◌, ◌⊎◌, IfErr, IfOk, IsTrue, OnOk, codes, false, filter, map, pos, None};
 ghost use Rattle.std.specs.List.Sorted.{IsPermutation};
 ghost use Rattle.sqlite.specs.Held.{state};
 ghost use Rattle.sqlite.specs.State.{HasCleanDisk};
@@ -7,8 +7,8 @@ ghost use Rattle.sqlite_schema.specs.Names.{table_named};
 ghost use Rattle.sqlite_trees.specs.Tree.{has_rowid};
 ghost use Rattle.mx_book.specs.Spells.{opening_rows};
 ghost use Rattle.mx_tables.specs.Holds.{Holds};
-ghost use Rattle.mx_tables.specs.Made.{HasVersion, schema_of, version_shown};
-ghost use Rattle.mx_tables.specs.Schema.{no_schema};
+ghost use Rattle.mx_tables.specs.Made.{HasOnly, HasVersion, version_shown};
+ghost use Rattle.mx_tables.specs.Schema.{no_schema, schema_of};
 ghost use Rattle.mx_tables.specs.States.{Commits, IsAt, IsOurs, StaysAt, worry};
 ghost use Rattle.mx_tables.specs.declared.opening.OpenFault.TheVariants.{NotThisSchema};
 
@@ -30,7 +30,7 @@ pub enum OpenFault {
     Memory,
     /// The store refused a statement, or its schema is another one.
     Store,
-    /// The tables can't be made beside those that are there, or `meta` has no row of id 1 with version 2.
+    /// The tables can't be made beside those that are there, or `meta` hasn't a version that is asked for.
     NotThisSchema,
 }
 
@@ -44,7 +44,7 @@ pub struct OpenRefused<S: Alter> {
 }
 
 /// The same cause, of a call that opens.
-fn open_fault(fault: StoreFault) -> OpenFault
+pub(crate) fn open_fault(fault: StoreFault) -> OpenFault
     ensures { result ≢ NotThisSchema }
 {
     match fault {
@@ -134,16 +134,22 @@ fn is_version(alloc: Global, schema: &Schema, version: Version) -> Result<bool, 
     same_schema(alloc, schema, model.schema()).map_err(|_| OpenFault::Memory)
 }
 
-/// The version whose schema this is, or None where it is another one.
-fn version_of(alloc: Global, schema: &Schema) -> Result<Option<Version>, OpenFault>
-    ensures same { IfOk result
-        (λ found. IfSome found (λ version. schema.now ≡ schema_of version)) }
-    ensures fault { IfErr result (λ fault. fault ≢ NotThisSchema) }
+/// The version whose schema this is. Another schema is Store where it has a table `meta`, and else NotThisSchema.
+pub(crate) fn version_of(alloc: Global, schema: &Schema) -> Result<Version, OpenFault>
+    ensures same { IfOk result (λ version. schema.now ≡ schema_of version) }
+    ensures unknown { IfErr result
+        (λ fault. fault ≡ NotThisSchema → table_named schema.now (codes "meta") ≡ None) }
 {
     if is_version(alloc, schema, Version::Two)? {
-        return Ok(Some(Version::Two));
+        return Ok(Version::Two);
     }
-    Ok(is_version(alloc, schema, Version::One)?.then_some(Version::One))
+    if is_version(alloc, schema, Version::One)? {
+        return Ok(Version::One);
+    }
+    match schema.table_named("meta".as_bytes()) {
+        Some(_) => Err(OpenFault::Store),
+        None => Err(OpenFault::NotThisSchema),
+    }
 }
 
 /// The version that `meta` has, in the rows of id 1.
@@ -158,6 +164,33 @@ fn version_rows<S: Alter>(conn: &mut Connection<S>) -> Result<Vec<Row>, StoreFau
         → OnOk result (IsTrue (state S.Store conn.new).is_open) }
 {
     ask(conn, "SELECT version FROM meta WHERE id = 1", &[])
+}
+
+/// The only version that `meta` has; NotThisSchema exactly where it has none.
+pub(crate) fn version_number<S: Alter>(conn: &mut Connection<S>) -> Result<u64, OpenFault>
+    ensures stays { (schema : _) → IsAt schema (state S.Store conn.old)
+        → StaysAt schema (state S.Store conn.old) (state S.Store conn.new) }
+    ensures known { (version : _) → worry (state S.Store conn.new) ≡ 0
+        → (state S.Store conn.old).now.schema ≡ schema_of version
+        → IfOk result (λ n. HasOnly n (state S.Store conn.old).now) }
+    ensures unknown { (version : _) → worry (state S.Store conn.new) ≡ 0
+        → (state S.Store conn.old).now.schema ≡ schema_of version → IfErr result
+        (λ fault. fault ≡ NotThisSchema → (n : _) → ¬ HasVersion n (state S.Store conn.old).now) }
+    ensures live { HasCleanDisk (state S.Store conn.new)
+        → OnOk result (IsTrue (state S.Store conn.new).is_open) }
+{
+    let rows = match version_rows(conn) {
+        Ok(rows) => rows,
+        Err(fault) => return Err(open_fault(fault)),
+    };
+    match rows.as_slice() {
+        [] => Err(OpenFault::NotThisSchema),
+        [row] => match number_at(row, 0) {
+            Ok(number) => Ok(number),
+            Err(fault) => Err(open_fault(fault)),
+        },
+        _ => Err(OpenFault::Store),
+    }
 }
 
 /// Whether the version that `meta` has is 2; NotThisSchema exactly where it isn't, or isn't there. Tables of version 1
@@ -176,19 +209,11 @@ fn check_version<S: Alter>(conn: &mut Connection<S>, version: Version) -> Result
     ensures live { HasCleanDisk (state S.Store conn.new)
         → OnOk result (IsTrue (state S.Store conn.new).is_open) }
 {
-    let rows = match version_rows(conn) {
-        Ok(rows) => rows,
-        Err(fault) => return Err(open_fault(fault)),
-    };
-    match rows.as_slice() {
-        [] => Err(OpenFault::NotThisSchema),
-        [row] => match number_at(row, 0) {
-            Ok(2) if matches!(version, Version::Two) => Ok(()),
-            Ok(2) => Err(OpenFault::Store),
-            Ok(_) => Err(OpenFault::NotThisSchema),
-            Err(fault) => Err(open_fault(fault)),
-        },
-        _ => Err(OpenFault::Store),
+    match version_number(conn) {
+        Ok(2) if matches!(version, Version::Two) => Ok(()),
+        Ok(2) => Err(OpenFault::Store),
+        Ok(_) => Err(OpenFault::NotThisSchema),
+        Err(fault) => Err(fault),
     }
 }
 
@@ -214,11 +239,6 @@ pub(crate) fn check_office<S: Alter>(
     ensures live { HasCleanDisk (state S.Store conn.new)
         → OnOk result (IsTrue (state S.Store conn.new).is_open) }
 {
-    let Some(version) = version_of(alloc, conn.schema())? else {
-        return match conn.schema().table_named("meta".as_bytes()) {
-            Some(_) => Err(OpenFault::Store),
-            None => Err(OpenFault::NotThisSchema),
-        };
-    };
+    let version = version_of(alloc, conn.schema())?;
     check_version(conn, version)
 }

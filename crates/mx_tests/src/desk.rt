@@ -5,6 +5,7 @@ mod faults;
 mod framing;
 mod limits;
 mod logs;
+mod migrated;
 mod money;
 mod payments;
 mod purses;

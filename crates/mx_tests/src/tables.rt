@@ -9,13 +9,16 @@ use std::process::Abort;
 use std::test::Fail;
 
 /// The books in a store.
-fn opened(alloc: Global, store: Connection<MemStore>) -> Result<Tables<MemStore>, Fail> {
+pub(super) fn opened(alloc: Global, store: Connection<MemStore>) -> Result<Tables<MemStore>, Fail> {
     let book = Tables::open(alloc, store);
     Ok(book.ok().ok_or("not opened")?)
 }
 
 /// The store that `open` refuses, which has no books.
-fn unopened(alloc: Global, store: Connection<MemStore>) -> Result<Connection<MemStore>, Fail> {
+pub(super) fn unopened(
+    alloc: Global,
+    store: Connection<MemStore>,
+) -> Result<Connection<MemStore>, Fail> {
     match Tables::open(alloc, store) {
         Ok(_) => Err("opened")?,
         Err(refused) => not_this_schema(refused),
@@ -96,7 +99,7 @@ const VERSION_1: [&str; 11] = [
 ];
 
 /// A store with these tables.
-fn of_version_1(alloc: Global) -> Result<Connection<MemStore>, Fail> {
+pub(super) fn of_version_1(alloc: Global) -> Result<Connection<MemStore>, Fail> {
     let mut store = empty_store(alloc)?;
     for text in VERSION_1 {
         store.execute(text, &[])?;

@@ -19,5 +19,7 @@ returns c =
     ∙ ap₂ with_subcommand init (ap top c.in_ok-serve_command.ensures.app) in
     let import_roll = c.in_ok-subcommand-4.ensures.shape c.in_ok-import_command.ensures.local
     ∙ ap₂ with_subcommand serve (ap top c.in_ok-import_command.ensures.app) in
-    IfOk-weaker c.subcommand-5.result _ _ (λ _ h. h.shape c.in_ok-report_command.ensures.local
-    ∙ ap₂ with_subcommand import_roll (ap top c.in_ok-report_command.ensures.app)) c.subcommand-5.ensures
+    let report = c.in_ok-subcommand-5.ensures.shape c.in_ok-report_command.ensures.local
+    ∙ ap₂ with_subcommand import_roll (ap top c.in_ok-report_command.ensures.app) in
+    IfOk-weaker c.subcommand-6.result _ _ (λ _ h. h.shape c.in_ok-migrate_command.ensures.local
+    ∙ ap₂ with_subcommand report (ap top c.in_ok-migrate_command.ensures.app)) c.subcommand-6.ensures

@@ -1,5 +1,4 @@
-use Rattle.mx_tables.specs.Schema.{no_schema}
-use Rattle.mx_tables.specs.Made.{schema_of}
+use Rattle.mx_tables.specs.Schema.{no_schema, schema_of}
 use Rattle.mx_tables.proofs.CallLemmas.{steps_to}
 use Rattle.mx_tables.proofs.KeptLemmas.{makes_version}
 use Rattle.mx_tables.specs.declared.making.Version.TheVariants.{One, Two}

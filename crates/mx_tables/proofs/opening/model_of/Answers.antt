@@ -2,8 +2,8 @@ use Rattle.mx_tables.proofs.Common.{◌≡◌, ◌∙◌, rules, Database, state
 use Rattle.std.proofs.Common.{ap}
 use Rattle.sqlite.specs.Steps.{over_memory}
 use Rattle.sqlite.proofs.Callers.{memory_is_clean}
-use Rattle.mx_tables.specs.Schema.{no_schema}
-use Rattle.mx_tables.specs.Made.{Blank, schema_of}
+use Rattle.mx_tables.specs.Schema.{no_schema, schema_of}
+use Rattle.mx_tables.specs.Made.{Blank}
 use Rattle.mx_tables.proofs.opening.model_of.Goals as goal
 
 pub returns-in-Ok-clause-schema : goal.returns-in-Ok-clause-schema
