@@ -46,9 +46,9 @@ abbrev Settled : Type 0
 Settled = Details × Unit {0}
 
 -- what has the text of details is these details
-same_found : (d : Details) → IsDetails d → (r : Rows) → AreSettled r.settled
+same_settled : (d : Details) → IsDetails d → (r : Rows) → AreSettled r.settled
     → filter (λ (e : Settled). eq_by_cmp (slice_cmp nat_cmp) (entry_text e.0) (entry_text d)) (fmap.entries r.settled) ≡ at_key details_cmp d (fmap.entries r.settled)
-same_found d valid r each =
+same_settled d valid r each =
     filter_same _ (λ (e : Settled). eq_by_cmp details_cmp d e.0) (fmap.entries r.settled)
     (all_weaker (λ (e : Settled). IsDetails e.0) _ (λ e h. same_texts d e.0 valid h) (fmap.entries r.settled)
     (all_entries details_total (λ k x. IsDetails k) r.settled (λ k x at. each k (some_of (fmap.get r.settled k) x at))))
@@ -56,6 +56,6 @@ same_found d valid r each =
 pub finds_settled : (d : Details) → IsDetails d → (old new : State) (rows : List Row) → Shown select_settled (Text (entry_text d) ∷ []) old new rows → (r : Rows) → Holds old.now r → AreSettled r.settled
     → IsPermutation (map (λ (e : Settled). number 1 ∷ []) (at_key details_cmp d (fmap.entries r.settled))) rows
 finds_settled d valid old new rows shown r h each =
-    subst (λ es. IsPermutation (map (λ (e : Settled). number 1 ∷ []) es) rows) (same_found d valid r each)
+    subst (λ es. IsPermutation (map (λ (e : Settled). number 1 ∷ []) es) rows) (same_settled d valid r each)
     (answers kept.settled select_settled _ _ _ select_settled_is (Text (entry_text d) ∷ []) (λ (e : Settled). eq_by_cmp (slice_cmp nat_cmp) (entry_text e.0) (entry_text d)) (λ (e : Settled). number 1 ∷ [])
     (λ id e. and_true _ ∙ same_text (entry_text e.0) (entry_text d)) (λ id e. refl) old new rows shown r h)

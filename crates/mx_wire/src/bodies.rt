@@ -6,7 +6,7 @@ ghost use Rattle.mx_pay.specs.Details.{Details, IsDetails};
 ghost use Rattle.mx_pay.specs.Log.{Entries, IsLogValue};
 ghost use Rattle.mx_pay.specs.Reading.{entry_of};
 ghost use Rattle.mx_wire.specs.Routes.{route_of};
-ghost use Rattle.mx_wire.specs.Bodies.{name_at, token_at, amount_at, seq_at, log_of_code, log_at, details_at, bare, said, value_of, has_body, command_of, request_command};
+ghost use Rattle.mx_wire.specs.Bodies.{name_at, token_at, amount_at, seq_at, log_of_code, log_at, details_at, of_two, of_three, bare, said, value_of, has_body, command_of, request_command};
 ghost use Rattle.mx_wire.specs.Trees.{data_of, IsData};
 
 use crate::routes::{Route, Routes};
@@ -178,6 +178,32 @@ fn clear(purse: Name, value: &Value<'_>, command: &mut Command) -> Option<()>
     Some(())
 }
 
+/// The amount and the reference of a load or a redemption.
+fn money_at(value: &Value<'_>) -> Option<(Amount, Name)>
+    requires { IsData value.now }
+    ensures { (make : _) → option_map (λ m. make m.0 m.1) result
+        ≡ of_two (amount_at (codes "amount") (data_of value.now))
+        (name_at (codes "ref") (data_of value.now)) make }
+{
+    let amount = amount_at(value, "amount")?;
+    let reference = name_at(value, "ref")?;
+    Some((amount, reference))
+}
+
+/// The peer of a start, its value, and the peer's sequence number.
+fn start_at(value: &Value<'_>) -> Option<(Name, Amount, Seq)>
+    requires { IsData value.now }
+    ensures { (make : _) → option_map (λ s. make s.0 s.1 s.2) result
+        ≡ of_three (name_at (codes "peer") (data_of value.now))
+        (amount_at (codes "value") (data_of value.now))
+        (seq_at (codes "seq") (data_of value.now)) make }
+{
+    let peer = name_at(value, "peer")?;
+    let amount = amount_at(value, "value")?;
+    let seq = seq_at(value, "seq")?;
+    Some((peer, amount, seq))
+}
+
 /// The command that a route and a JSON value say, written over another; None where they say none, and where the route
 /// needs no body.
 fn said(route: &Route, value: &Value<'_>, command: &mut Command) -> Option<()>
@@ -210,8 +236,7 @@ fn said(route: &Route, value: &Value<'_>, command: &mut Command) -> Option<()>
             *command = Command::NewPurse { purse, holder }
         }
         Route::Load(purse) => {
-            let amount = amount_at(value, "amount")?;
-            let reference = name_at(value, "ref")?;
+            let (amount, reference) = money_at(value)?;
             *command = Command::Load {
                 purse,
                 amount,
@@ -219,24 +244,20 @@ fn said(route: &Route, value: &Value<'_>, command: &mut Command) -> Option<()>
             }
         }
         Route::StartFrom(purse) => {
-            let peer = name_at(value, "peer")?;
-            let amount = amount_at(value, "value")?;
-            let seq = seq_at(value, "seq")?;
+            let (peer, value, seq) = start_at(value)?;
             *command = Command::StartFrom {
                 purse,
                 peer,
-                value: amount,
+                value,
                 seq,
             }
         }
         Route::StartTo(purse) => {
-            let peer = name_at(value, "peer")?;
-            let amount = amount_at(value, "value")?;
-            let seq = seq_at(value, "seq")?;
+            let (peer, value, seq) = start_at(value)?;
             *command = Command::StartTo {
                 purse,
                 peer,
-                value: amount,
+                value,
                 seq,
             }
         }
@@ -253,8 +274,7 @@ fn said(route: &Route, value: &Value<'_>, command: &mut Command) -> Option<()>
             *command = Command::ReadLog { purse, place }
         }
         Route::Redeem(purse) => {
-            let amount = amount_at(value, "amount")?;
-            let reference = name_at(value, "ref")?;
+            let (amount, reference) = money_at(value)?;
             *command = Command::Redeem {
                 purse,
                 amount,
