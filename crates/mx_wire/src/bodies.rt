@@ -6,7 +6,7 @@ ghost use Rattle.mx_pay.specs.Details.{Details, IsDetails};
 ghost use Rattle.mx_pay.specs.Log.{Entries, IsLogValue};
 ghost use Rattle.mx_pay.specs.Reading.{entry_of};
 ghost use Rattle.mx_wire.specs.Routes.{route_of};
-ghost use Rattle.mx_wire.specs.Bodies.{name_at, token_at, amount_at, seq_at, log_of_code, log_at, details_at, of_two, of_three, bare, said, value_of, has_body, command_of, request_command};
+ghost use Rattle.mx_wire.specs.Bodies.{name_at, token_at, amount_at, seq_at, log_of_code, log_at, details_at, of_two, of_three, bare, said, said_by_holder, value_of, has_body, command_of, request_command};
 ghost use Rattle.mx_wire.specs.Trees.{data_of, IsData};
 
 use crate::routes::{Route, Routes};
@@ -204,45 +204,13 @@ fn start_at(value: &Value<'_>) -> Option<(Name, Amount, Seq)>
     Some((peer, amount, seq))
 }
 
-/// The command that a route and a JSON value say, written over another; None where they say none, and where the route
-/// needs no body.
-fn said(route: &Route, value: &Value<'_>, command: &mut Command) -> Option<()>
+/// The command that a holder's route and a JSON value say, written over another; None where they say none, and where the
+/// route is another.
+fn said_by_holder(route: &Route, value: &Value<'_>, command: &mut Command) -> Option<()>
     requires { IsData value.now }
-    ensures { option_map (λ _. command.new) result ≡ said route.now (data_of value.now) }
+    ensures { option_map (λ _. command.new) result ≡ said_by_holder route.now (data_of value.now) }
 {
     match *route {
-        Route::NewMember => {
-            let member = name_at(value, "member")?;
-            let token = token_at(value, "token")?;
-            *command = Command::NewMember { member, token }
-        }
-        Route::Grant(member) => {
-            let amount = amount_at(value, "amount")?;
-            *command = Command::Grant { member, amount }
-        }
-        Route::Clear(purse) => clear(purse, value, command)?,
-        Route::Settle => {
-            let details = details_at(value, "details")?;
-            *command = Command::Settle { details }
-        }
-        Route::NewHolder => {
-            let holder = name_at(value, "holder")?;
-            let token = token_at(value, "token")?;
-            *command = Command::NewHolder { holder, token }
-        }
-        Route::NewPurse => {
-            let purse = name_at(value, "purse")?;
-            let holder = name_at(value, "holder")?;
-            *command = Command::NewPurse { purse, holder }
-        }
-        Route::Load(purse) => {
-            let (amount, reference) = money_at(value)?;
-            *command = Command::Load {
-                purse,
-                amount,
-                reference,
-            }
-        }
         Route::StartFrom(purse) => {
             let (peer, value, seq) = start_at(value)?;
             *command = Command::StartFrom {
@@ -282,6 +250,50 @@ fn said(route: &Route, value: &Value<'_>, command: &mut Command) -> Option<()>
             }
         }
         _ => return None,
+    }
+    Some(())
+}
+
+/// The command that a route and a JSON value say, written over another; None where they say none, and where the route
+/// needs no body.
+fn said(route: &Route, value: &Value<'_>, command: &mut Command) -> Option<()>
+    requires { IsData value.now }
+    ensures { option_map (λ _. command.new) result ≡ said route.now (data_of value.now) }
+{
+    match *route {
+        Route::NewMember => {
+            let member = name_at(value, "member")?;
+            let token = token_at(value, "token")?;
+            *command = Command::NewMember { member, token }
+        }
+        Route::Grant(member) => {
+            let amount = amount_at(value, "amount")?;
+            *command = Command::Grant { member, amount }
+        }
+        Route::Clear(purse) => clear(purse, value, command)?,
+        Route::Settle => {
+            let details = details_at(value, "details")?;
+            *command = Command::Settle { details }
+        }
+        Route::NewHolder => {
+            let holder = name_at(value, "holder")?;
+            let token = token_at(value, "token")?;
+            *command = Command::NewHolder { holder, token }
+        }
+        Route::NewPurse => {
+            let purse = name_at(value, "purse")?;
+            let holder = name_at(value, "holder")?;
+            *command = Command::NewPurse { purse, holder }
+        }
+        Route::Load(purse) => {
+            let (amount, reference) = money_at(value)?;
+            *command = Command::Load {
+                purse,
+                amount,
+                reference,
+            }
+        }
+        _ => said_by_holder(route, value, command)?,
     }
     Some(())
 }
