@@ -228,7 +228,8 @@ fn lost_by(
     purse: Name,
     details: &PayDetails,
 ) -> u64
-    ensures value { result ≡ lost_by (map_of name_cmp purses.now) (map_of result_cmp archive.now) (map_of details_cmp settled.now) purse details.now }
+    ensures value { result ≡ lost_by (map_of name_cmp purses.now) (map_of result_cmp archive.now)
+        (map_of details_cmp settled.now) purse details.now }
     ensures limit { result ≤ most_amount }
 {
     if same_name(&details.to(), &purse)
@@ -249,7 +250,8 @@ fn lost_in_log(
     purse: Name,
     log: &Log,
 ) -> u128
-    ensures value { result ≡ lost_in_log (map_of name_cmp purses.now) (map_of result_cmp archive.now) (map_of details_cmp settled.now) purse log.now }
+    ensures value { result ≡ lost_in_log (map_of name_cmp purses.now) (map_of result_cmp archive.now)
+        (map_of details_cmp settled.now) purse log.now }
     ensures limit { result ≤ 2 ^ 48 }
 {
     let mut sum = 0;
@@ -268,7 +270,10 @@ pub(crate) fn lost_in_logs(
     archive: &Table<(Name, PayDetails), ()>,
     settled: &Table<PayDetails, ()>,
 ) -> u128
-    ensures value { result ≡ sum_by (λ (e : List ℕ × KeptPurse). lost_in_log (map_of name_cmp purses.now) (map_of result_cmp archive.now) (map_of details_cmp settled.now) e.0 e.1.purse.log) (rows_left rows.entry) }
+    ensures value { result ≡ sum_by (λ (e : List ℕ × KeptPurse).
+        lost_in_log (map_of name_cmp purses.now) (map_of result_cmp archive.now)
+        (map_of details_cmp settled.now) e.0 e.1.purse.log)
+        (rows_left rows.entry) }
     ensures limit { result ≤ 2 ^ 112 }
 {
     let mut sum = 0;
@@ -286,7 +291,8 @@ fn lost_in_archive(
     purse: Name,
     details: &PayDetails,
 ) -> u64
-    ensures value { result ≡ lost_in_archive (map_of name_cmp purses.now) (map_of result_cmp archive.now) (map_of details_cmp settled.now) (purse, details.now) }
+    ensures value { result ≡ lost_in_archive (map_of name_cmp purses.now) (map_of result_cmp archive.now)
+        (map_of details_cmp settled.now) (purse, details.now) }
     ensures limit { result ≤ most_amount }
 {
     if is_logged(purses, purse, details) {
@@ -313,7 +319,10 @@ pub(crate) fn lost_in_results(
     archive: &Table<(Name, PayDetails), ()>,
     settled: &Table<PayDetails, ()>,
 ) -> u128
-    ensures value { result ≡ sum_by (λ (e : (NameOf × Details) × Unit {0}). lost_in_archive (map_of name_cmp purses.now) (map_of result_cmp archive.now) (map_of details_cmp settled.now) e.0) (rows_left rows.entry) }
+    ensures value { result ≡ sum_by (λ (e : (NameOf × Details) × Unit {0}).
+        lost_in_archive (map_of name_cmp purses.now) (map_of result_cmp archive.now)
+        (map_of details_cmp settled.now) e.0)
+        (rows_left rows.entry) }
     ensures limit { result ≤ 2 ^ 112 }
 {
     let mut sum = 0;

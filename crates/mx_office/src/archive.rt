@@ -130,7 +130,8 @@ pub(crate) fn settle<B: Book>(
     decided: &mut Decided,
 ) -> Result<(), StoreFault>
     ensures keeps { Keeps B.doubt B.rows B.leaves book.old book.new }
-    ensures decides { (w : World) → IsCommand (Command.Settle details.now) → B.doubt book.new ≡ 0 → B.spells (B.rows book.old) w → OnOk result (Decides w (settle w details.now) decided.new) }
+    ensures decides { (w : World) → IsCommand (Command.Settle details.now) → B.doubt book.new ≡ 0
+        → B.spells (B.rows book.old) w → OnOk result (Decides w (settle w details.now) decided.new) }
     ensures fault { IfErr result B.fails }
 {
     if book.settled(alloc, details)? {
