@@ -15,7 +15,7 @@ use Rattle.sqlite.specs.State.{State, Writes, ExecutesInside, Shown}
 use Rattle.sqlite.proofs.Callers.{command_of, statement_of, runs_as, reads_as}
 use Rattle.sqlite_rules.proofs.ProbeLemmas.{has_mapped, mapped_has}
 use Rattle.mx_tables.specs.Schema.{meta, token_cells, opening_contents, schema_of}
-use Rattle.mx_tables.specs.Made.{Creates, IsCreate, Adds, Blank, Fresh, new_cells, HasVersion, version_shown, Makes, made, also}
+use Rattle.mx_tables.specs.Made.{Creates, IsCreate, AddsTable, Blank, Fresh, new_cells, HasVersion, version_shown, Makes, made, also}
 use Rattle.std.proofs.ByRecursion.{All-push}
 use Rattle.sqlite_trees.proofs.ListLemmas.{all_both}
 use Rattle.mx_tables.proofs.Statements.{went, same_value, inserted, puts, picked, env, passes}
@@ -53,7 +53,7 @@ makes_next (also table is rest) = (table, is, rest)
 pub makes_none : {before after : Schema} → Makes before [] after → before ≡ after
 makes_none made = refl
 
-pub adds : (schema : Schema) (sql : List ℕ) (table : Table) (old new : State) (r : Result ℕ Error) → IsCreate schema sql table → old.now.schema ≡ schema → ExecutesInside 0 sql [] old new r → OnOk r (Adds schema table old new)
+pub adds : (schema : Schema) (sql : List ℕ) (table : Table) (old new : State) (r : Result ℕ Error) → IsCreate schema sql table → old.now.schema ≡ schema → ExecutesInside 0 sql [] old new r → OnOk r (AddsTable schema table old new)
 adds schema sql table old new (Err e) is has h = tt
 adds schema sql table old new (Ok count) is has h =
     let known = is_create sql (understood schema sql) is.creates in
@@ -74,7 +74,7 @@ adds schema sql table old new (Ok count) is has h =
     }
 
 -- beside tables with no row
-pub adds_blank : (schema : Schema) (table : Table) (old new : State) → Blank schema old → Adds schema table old new → Blank (created schema table) new
+pub adds_blank : (schema : Schema) (table : Table) (old new : State) → Blank schema old → AddsTable schema table old new → Blank (created schema table) new
 adds_blank schema table old new blank it =
     let still : AllByRecursion (λ t. new.now.trees t.tree ≡ []) schema.tables =
     all_both (λ t. new.now.trees t.tree ≡ old.now.trees t.tree) (λ t. old.now.trees t.tree ≡ []) _ (λ t kept was. kept ∙ was) schema.tables it.others blank.empty in

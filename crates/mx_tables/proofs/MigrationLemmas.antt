@@ -31,8 +31,8 @@ use Rattle.mx_tables.specs.declared.making.Version.TheVariants.{One, Two}
 use Rattle.mx_tables.specs.declared.migration.Migrated.TheVariants.{Done}
 use Rattle.mx_tables.specs.Schema.{schema_11, schema_of, number_of, settled, cells_in}
 use Rattle.mx_tables.specs.Holds.{AllStore, Stores, meta_rows_in, HoldsIn}
-use Rattle.mx_tables.specs.Made.{Adds, HasOnly}
-use Rattle.mx_tables.specs.Migration.{IsWhole, Raises, RaisesOpen, SetsVersion, StopsRaised, Leads}
+use Rattle.mx_tables.specs.Made.{AddsTable, HasOnly}
+use Rattle.mx_tables.specs.Migration.{IsWhole, Upgrades, UpgradesOpen, SetsVersion, StopsUpgrading, Migrates}
 use Rattle.mx_tables.specs.States.{worry, IsOurs, StaysAt, Commits}
 use Rattle.mx_tables.proofs.Texts.{is_first, set_version, set_version_is}
 use Rattle.mx_tables.proofs.Statements.{updated, picked, env, passes}
@@ -128,7 +128,7 @@ one_more db t c it ts cs all = absurd all
 
 -- ---- both
 
-module _ (old mid new : State) (made : Adds schema_11 settled old mid) (sets : SetsVersion mid.now new.now) where
+module _ (old mid new : State) (made : AddsTable schema_11 settled old mid) (sets : SetsVersion mid.now new.now) where
   -- the rows are the same, and version 2 has no settled details yet
   holds_on : (r : Rows) → HoldsIn One old.now r → Holds new.now r
   holds_on r h =
@@ -149,8 +149,8 @@ module _ (old mid new : State) (made : Adds schema_11 settled old mid) (sets : S
         rows = h.rows;
       }
 
-  pub raises : Raises old.now new.now
-  raises = record {
+  pub upgrades : Upgrades old.now new.now
+  upgrades = record {
     whole = sets.whole;
     spells = λ w h.
         let it = h.spelled in (
@@ -160,8 +160,8 @@ module _ (old mid new : State) (made : Adds schema_11 settled old mid) (sets : S
   }
 
 -- what a stop leaves where the commit ran, also if that failed
-pub stops_raised : (old mid new : State) → Survives mid new (λ db. db ≡ mid.now.trees) → (HasCleanDisk mid → (db : Trees) → mid.may_leave db → old.may_leave db) → (HasCleanDisk mid → RaisesOpen old mid.now) → StopsRaised old new
-stops_raised old mid new survives less went clean db left =
+pub stops_upgrading : (old mid new : State) → Survives mid new (λ db. db ≡ mid.now.trees) → (HasCleanDisk mid → (db : Trees) → mid.may_leave db → old.may_leave db) → (HasCleanDisk mid → UpgradesOpen old mid.now) → StopsUpgrading old new
+stops_upgrading old mid new survives less went clean db left =
     let early : HasCleanDisk mid = (let e = survives.clean in omega arith) in
     elim (survives.crash clean db left) [
       | inl was ↦ inl (less early db was)
@@ -169,9 +169,9 @@ stops_raised old mid new survives less went clean db left =
           let it = went early in
           record {
             live = it.live;
-            raises = λ has.
-                let up = it.raises has in
-                subst (Raises old.now) (ap₂ (λ (s : Schema) (t : Trees). record { schema = s; trees = t }) up.whole.schema (sym made)) up;
+            upgrades = λ has.
+                let up = it.upgrades has in
+                subst (Upgrades old.now) (ap₂ (λ (s : Schema) (t : Trees). record { schema = s; trees = t }) up.whole.schema (sym made)) up;
           })
     ]
 
@@ -193,11 +193,11 @@ other_version v n db has only other u it = only.1 (number_of u) (λ e. other (sy
 pub record After {S X : Type 0} (g : Ghosts S) (old mid new : Held S) (r : Result X StoreFault) : Type 0 where
   pub stays : StaysAt schema_11 (state g old) (state g mid)
   pub whole : worry (state g mid) ≡ 0 → IsWhole One (state g old).now
-  pub commits : Commits g mid new r (RaisesOpen (state g mid) (state g new).now)
-  pub stops : StopsRaised (state g mid) (state g new)
+  pub commits : Commits g mid new r (UpgradesOpen (state g mid) (state g new).now)
+  pub stops : StopsUpgrading (state g mid) (state g new)
 
 pub found_one : {S X : Type 0} (g : Ghosts S) {old mid new : Held S} {r : Result X StoreFault} {v : Version} → v ≡ One → StaysAt (schema_of v) (state g old) (state g mid) → (worry (state g mid) ≡ 0 → IsWhole v (state g old).now)
-    → Commits g mid new r (RaisesOpen (state g mid) (state g new).now) → StopsRaised (state g mid) (state g new) → After g old mid new r
+    → Commits g mid new r (UpgradesOpen (state g mid) (state g new).now) → StopsUpgrading (state g mid) (state g new) → After g old mid new r
 found_one g {old = old} {mid = mid} is stays whole commits stops = record {
   stays = subst (λ v. StaysAt (schema_of v) (state g old) (state g mid)) is stays;
   whole = λ calm. subst (λ v. IsWhole v (state g old).now) is (whole calm);
@@ -216,22 +216,22 @@ module _ {S X : Type 0} (g : Ghosts S) {old mid new : Held S} {r : Result X Stor
   was_before = omega (arith, h.stays.later, later_then)
 
   -- the step as one of the database that was found
-  raised_from : (db : Database) → worry (state g mid) ≡ 0 → RaisesOpen (state g mid) db → Leads Done (state g old).now db
-  raised_from db before it = (h.whole before, subst (λ d. Raises d db) (h.stays.same before) (it.raises (h.stays.ours.schema before)))
+  upgraded_from : (db : Database) → worry (state g mid) ≡ 0 → UpgradesOpen (state g mid) db → Migrates Done (state g old).now db
+  upgraded_from db before it = (h.whole before, subst (λ d. Upgrades d db) (h.stays.same before) (it.upgrades (h.stays.ours.schema before)))
 
   pub stops_led : worry (state g new) ≤ 1 → (db : Trees) → (state g new).may_leave db
-      → (state g old).may_leave db ⊎ ((worry (state g old) ≡ 0) × Leads Done (state g old).now (record { schema = office_schema; trees = db }))
+      → (state g old).may_leave db ⊎ ((worry (state g old) ≡ 0) × Migrates Done (state g old).now (record { schema = office_schema; trees = db }))
   stops_led low db left =
       elim (h.stops (not_lied (state g new) low) db left) [
         | inl was ↦ inl ((rests_at h.stays).stops (omega (arith, low, later_then)) db was)
         | inr made ↦ inr (
             let before = no_worry (state g mid) made.live (let e = h.commits.clean in let f = not_lied (state g new) low in omega arith) in
-            (sure_before (state g old) (state g mid) h.stays.later before, raised_from _ before made))
+            (sure_before (state g old) (state g mid) h.stays.later before, upgraded_from _ before made))
       ]
 
 module _ {S X : Type 0} (g : Ghosts S) {old mid new : Held S} where
-  pub led : {r : Result X StoreFault} → After g old mid new r → worry (state g new) ≡ 0 → OnOk r (Leads Done (state g old).now (state g new).now)
-  led {r = Ok x} h end = raised_from g h _ (calm g h end) (h.commits.all (sure (state g new) end).1).0
+  pub led : {r : Result X StoreFault} → After g old mid new r → worry (state g new) ≡ 0 → OnOk r (Migrates Done (state g old).now (state g new).now)
+  led {r = Ok x} h end = upgraded_from g h _ (calm g h end) (h.commits.all (sure (state g new) end).1).0
   led {r = Err e} h end = tt
 
   pub left_raised : {r : Result X StoreFault} → After g old mid new r → worry (state g new) ≡ 0 → OnErr r ((state g new).now ≡ (state g old).now)
@@ -244,6 +244,6 @@ module _ {S X : Type 0} (g : Ghosts S) {old mid new : Held S} where
   ours_raised {r = Ok x} h = record {
     autocommit = h.commits.ended;
     steady = λ end. (h.commits.all (sure (state g new) end).1).1;
-    schema = λ end. (raised_from g h _ (calm g h end) (h.commits.all (sure (state g new) end).1).0).1.whole.schema;
+    schema = λ end. (upgraded_from g h _ (calm g h end) (h.commits.all (sure (state g new) end).1).0).1.whole.schema;
   }
   ours_raised {r = Err e} h = tt

@@ -21,7 +21,7 @@ use Rattle.sqlite.specs.Listing.{understood, listing_schema, if_select}
 use Rattle.sqlite.specs.State.{State, HasCleanDisk, IsUnchanged, IsRolledBack, Shows, Fails, FailsToQuery, FailsToShow, IsNotRun, Shown, ShowsRows, KeepsCommit, ExecutesInside, IsTooLate, Survives, CommitsShowing}
 use Rattle.mx_book.specs.declared.contract.StoreFault.{StoreFault}
 use Rattle.mx_tables.specs.Owners.{OwnerIndex, IndexSlots, index_of, Owned, IsKeptUp}
-use Rattle.mx_tables.specs.States.{worry, IsAt, IsOurs, IsText, IsSilent, ShowsNothing, Rests, Stays, StaysAt, Within, Stops, Brings, Applies, Commits, TellsOwners}
+use Rattle.mx_tables.specs.States.{worry, IsAt, IsOurs, IsText, IsSilent, ShowsNothing, StaysIdle, Stays, StaysAt, Within, Stops, Brings, Applies, Commits, TellsOwners}
 
 -- a statement that fails changes nothing, or its transaction is rolled back
 abbrev pub Quits : State → State → Type 0
@@ -121,7 +121,7 @@ is_at of s idle steady has = record { autocommit = idle; steady = λ h. sym (ste
 pub stays_found : {of : Schema} (old new : State) → ((s : Schema) → IsAt s old → StaysAt s old new) → old.in_transaction ≡ false → (IsTrue old.is_open → old.now ≡ old.committed) → old.now.schema ≡ of → StaysAt of old new
 stays_found {of} old new stays idle steady has = stays of (is_at of old idle steady has)
 
-pub rests_at : {of : Schema} {old new : State} → StaysAt of old new → Rests old new
+pub rests_at : {of : Schema} {old new : State} → StaysAt of old new → StaysIdle old new
 rests_at {of} h = record {
   autocommit = h.ours.autocommit;
   later = h.later;

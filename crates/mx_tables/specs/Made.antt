@@ -41,7 +41,7 @@ pub data Makes : Schema → List (List ℕ) → Schema → Type 0 where
   also : {before after : Schema} {sql : List ℕ} {more : List (List ℕ)} (table : Table) → IsCreate before sql table → Makes (created before table) more after → Makes before (sql ∷ more) after
 
 -- a table was made beside those that are there, whose rows stay, and has no rows
-pub record Adds (schema : Schema) (table : Table) (old new : State) : Type 0 where
+pub record AddsTable (schema : Schema) (table : Table) (old new : State) : Type 0 where
   pub schema_is : new.now.schema ≡ created schema table
   pub empty : new.now.trees (next_tree schema) ≡ []
   pub others : KeepsRows schema.tables old.now.trees new.now.trees

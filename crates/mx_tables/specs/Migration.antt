@@ -22,14 +22,14 @@ pub record IsWhole (v : Version) (db : Database) : Type 0 where
   pub version : HasVersion (number_of v) db
 
 -- the database is of version 2, and spells the World that it spelled as version 1, which has no settled details
-pub record Raises (old new : Database) : Type 0 where
+pub record Upgrades (old new : Database) : Type 0 where
   pub whole : IsWhole Two new
   pub spells : (w : World) → SpellsOneIn One old w → SpellsOne new w × (w.settled ≡ fmap.empty)
 
 -- what each answer says of the database before and after
-abbrev pub Leads : Migrated → Database → Database → Type 0
-Leads Done old new = IsWhole One old × Raises old new
-Leads Already old new = IsWhole Two old × (new ≡ old)
+abbrev pub Migrates : Migrated → Database → Database → Type 0
+Migrates Done old new = IsWhole One old × Upgrades old new
+Migrates Already old new = IsWhole Two old × (new ≡ old)
 
 -- `meta` has version 2, and the other tables are as they were
 pub record SetsVersion (old new : Database) : Type 0 where
@@ -39,10 +39,10 @@ pub record SetsVersion (old new : Database) : Type 0 where
   pub unique : Keeps Unique office_schema new.trees
 
 -- the connection was open, and its tables of version 1 are of version 2
-pub record RaisesOpen (old : State) (new : Database) : Type 0 where
+pub record UpgradesOpen (old : State) (new : Database) : Type 0 where
   pub live : IsTrue old.is_open
-  pub raises : old.now.schema ≡ schema_of One → Raises old.now new
+  pub upgrades : old.now.schema ≡ schema_of One → Upgrades old.now new
 
 -- A stop leaves what it could leave before, or what the whole step makes.
-abbrev pub StopsRaised : State → State → Type 0
-StopsRaised old new = HasCleanDisk new → (db : Trees) → new.may_leave db → old.may_leave db ⊎ RaisesOpen old (record { schema = office_schema; trees = db })
+abbrev pub StopsUpgrading : State → State → Type 0
+StopsUpgrading old new = HasCleanDisk new → (db : Trees) → new.may_leave db → old.may_leave db ⊎ UpgradesOpen old (record { schema = office_schema; trees = db })

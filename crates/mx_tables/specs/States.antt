@@ -39,7 +39,7 @@ abbrev pub IsOurs : State → Type 0
 IsOurs = IsAt office_schema
 
 -- between calls, whatever the schema is: the connection is as it was but for a fault, and so is what a stop leaves
-pub record Rests (old new : State) : Type 0 where
+pub record StaysIdle (old new : State) : Type 0 where
   pub autocommit : new.in_transaction ≡ false
   pub later : worry old ≤ worry new
   pub same : worry new ≡ 0 → new.now ≡ old.now

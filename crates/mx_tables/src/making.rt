@@ -3,7 +3,7 @@ ghost use Rattle.std.specs.Prelude.{◌≡◌, map};
 ghost use Rattle.sqlite.specs.Held.{state};
 ghost use Rattle.mx_book.specs.Spells.{opening_rows};
 ghost use Rattle.mx_tables.specs.Holds.{Holds};
-ghost use Rattle.mx_tables.specs.Made.{Adds, Blank, Builds, Fresh, IsCreate, Makes};
+ghost use Rattle.mx_tables.specs.Made.{AddsTable, Blank, Builds, Fresh, IsCreate, Makes};
 ghost use Rattle.mx_tables.specs.Schema.{no_schema, number_of, office_schema, schema_11, schema_of, settled};
 ghost use Rattle.mx_tables.specs.States.{Steps};
 
@@ -18,7 +18,7 @@ fn make<S: Alter>(tx: &mut Transaction<'_, S>, sql: &str) -> Result<(), Error>
     ensures { Steps S.Store tx.old tx.new result
         (λ _. (schema : _) (table : _) → IsCreate schema sql.now table
         → (state S.Store tx.old.conn.now).now.schema ≡ schema
-        → Adds schema table (state S.Store tx.old.conn.now) (state S.Store tx.new.conn.now)) }
+        → AddsTable schema table (state S.Store tx.old.conn.now) (state S.Store tx.new.conn.now)) }
 {
     match tx.execute(sql, &[]) {
         Ok(_) => Ok(()),
@@ -93,7 +93,7 @@ pub fn make_tables<S: Alter>(tx: &mut Transaction<'_, S>, version: Version) -> R
 pub fn make_settled<S: Alter>(tx: &mut Transaction<'_, S>) -> Result<(), Error>
     ensures { Steps S.Store tx.old tx.new result
         (λ _. (state S.Store tx.old.conn.now).now.schema ≡ schema_11
-        → Adds schema_11 settled (state S.Store tx.old.conn.now) (state S.Store tx.new.conn.now)) }
+        → AddsTable schema_11 settled (state S.Store tx.old.conn.now) (state S.Store tx.new.conn.now)) }
 {
     make(tx, TABLES[IN_VERSION_1])
 }

@@ -3,9 +3,9 @@ ghost use Rattle.std.specs.Prelude.{◌≡◌, ◌≤◌, ◌⊎◌, IfErr, IfOk
 ghost use Rattle.sqlite.specs.Held.{state};
 ghost use Rattle.sqlite.specs.State.{HasCleanDisk};
 ghost use Rattle.sqlite_schema.specs.Names.{table_named};
-ghost use Rattle.mx_tables.specs.Migration.{IsWhole, Leads, RaisesOpen, SetsVersion, StopsRaised};
+ghost use Rattle.mx_tables.specs.Migration.{IsWhole, Migrates, UpgradesOpen, SetsVersion, StopsUpgrading};
 ghost use Rattle.mx_tables.specs.Schema.{office_schema, schema_of};
-ghost use Rattle.mx_tables.specs.States.{Commits, IsOurs, Rests, StaysAt, Steps, worry};
+ghost use Rattle.mx_tables.specs.States.{Commits, IsOurs, StaysIdle, StaysAt, Steps, worry};
 ghost use Rattle.mx_tables.specs.declared.migration.Migrated.TheVariants.{Done};
 ghost use Rattle.mx_tables.specs.declared.opening.OpenFault.TheVariants.{NotThisSchema};
 
@@ -36,9 +36,9 @@ fn set_version<S: Alter>(tx: &mut Transaction<'_, S>) -> Result<(), StoreFault>
 }
 
 /// Makes the table that version 1 lacks and sets the version, in a connection that is found open.
-fn raise<S: Alter>(tx: &mut Transaction<'_, S>) -> Result<(), StoreFault>
+fn upgrade<S: Alter>(tx: &mut Transaction<'_, S>) -> Result<(), StoreFault>
     ensures { Steps S.Store tx.old tx.new result
-        (λ _. RaisesOpen (state S.Store tx.old.conn.now) (state S.Store tx.new.conn.now).now) }
+        (λ _. UpgradesOpen (state S.Store tx.old.conn.now) (state S.Store tx.new.conn.now).now) }
 {
     find_open(tx)?;
     if let Err(error) = make_settled(tx) {
@@ -48,16 +48,16 @@ fn raise<S: Alter>(tx: &mut Transaction<'_, S>) -> Result<(), StoreFault>
 }
 
 /// Brings tables of version 1 to version 2 in one transaction, or leaves them.
-fn raise_all<S: Alter>(conn: &mut Connection<S>) -> Result<(), StoreFault>
+fn upgrade_all<S: Alter>(conn: &mut Connection<S>) -> Result<(), StoreFault>
     requires { conn.old.in_transaction ≡ false }
     ensures commits { Commits S.Store conn.old conn.new result
-        (RaisesOpen (state S.Store conn.old) (state S.Store conn.new).now) }
+        (UpgradesOpen (state S.Store conn.old) (state S.Store conn.new).now) }
     ensures live { HasCleanDisk (state S.Store conn.new)
         → OnOk result (IsTrue (state S.Store conn.new).is_open) }
-    ensures stops { StopsRaised (state S.Store conn.old) (state S.Store conn.new) }
+    ensures stops { StopsUpgrading (state S.Store conn.old) (state S.Store conn.new) }
 {
     let mut tx = conn.transaction();
-    raise(&mut tx)?;
+    upgrade(&mut tx)?;
     match tx.commit() {
         Ok(()) => Ok(()),
         Err(error) => Err(fault_of(error)),
@@ -69,7 +69,7 @@ fn find_version<S: Alter>(alloc: Global, store: &mut Connection<S>) -> Result<Ve
     requires idle { store.old.in_transaction ≡ false }
     requires steady { IsTrue (state S.Store store.old).is_open
         → (state S.Store store.old).now ≡ (state S.Store store.old).committed }
-    ensures rests { Rests (state S.Store store.old) (state S.Store store.new) }
+    ensures rests { StaysIdle (state S.Store store.old) (state S.Store store.new) }
     ensures live { HasCleanDisk (state S.Store store.new)
         → OnOk result (IsTrue (state S.Store store.new).is_open) }
     ensures stays { IfOk result (λ version.
@@ -98,8 +98,8 @@ pub fn migrate<S: Alter>(alloc: Global, store: &mut Connection<S>) -> Result<Mig
     ensures ours { OnOk result (IsOurs (state S.Store store.new)) }
     ensures live { worry (state S.Store store.new) ≤ 1
         → OnOk result (worry (state S.Store store.new) ≡ 0) }
-    ensures leads { worry (state S.Store store.new) ≡ 0 → IfOk result
-        (λ made. Leads made (state S.Store store.old).now (state S.Store store.new).now) }
+    ensures migrates { worry (state S.Store store.new) ≡ 0 → IfOk result
+        (λ made. Migrates made (state S.Store store.old).now (state S.Store store.new).now) }
     ensures left { worry (state S.Store store.new) ≡ 0 → OnErr result
         ((state S.Store store.new).now ≡ (state S.Store store.old).now) }
     ensures idle { store.old.in_transaction ≡ false → store.new.in_transaction ≡ false }
@@ -109,7 +109,7 @@ pub fn migrate<S: Alter>(alloc: Global, store: &mut Connection<S>) -> Result<Mig
         ⊎ ((version : _) → ¬ IsWhole version (state S.Store store.old).now)) }
     ensures stops { worry (state S.Store store.new) ≤ 1 → (db : _)
         → (state S.Store store.new).may_leave db → (state S.Store store.old).may_leave db
-        ⊎ ((worry (state S.Store store.old) ≡ 0) × Leads Done (state S.Store store.old).now
+        ⊎ ((worry (state S.Store store.old) ≡ 0) × Migrates Done (state S.Store store.old).now
         (record { schema = office_schema; trees = db })) }
 {
     if !store.is_autocommit() {
@@ -117,7 +117,7 @@ pub fn migrate<S: Alter>(alloc: Global, store: &mut Connection<S>) -> Result<Mig
     }
     match find_version(alloc, store)? {
         Version::Two => Ok(Migrated::Already),
-        Version::One => match raise_all(store) {
+        Version::One => match upgrade_all(store) {
             Ok(()) => Ok(Migrated::Done),
             Err(fault) => Err(open_fault(fault)),
         },

@@ -1,9 +1,9 @@
 use Rattle.mx_tables.proofs.Common.{◌∙◌, Database, state}
 use Rattle.std.proofs.Common.{ap, subst}
-use Rattle.mx_tables.specs.Migration.{Raises}
+use Rattle.mx_tables.specs.Migration.{Upgrades}
 use Rattle.mx_tables.proofs.CallLemmas.{steps_then, steps_to}
-use Rattle.mx_tables.proofs.MigrationLemmas.{raises}
-use Rattle.mx_tables.proofs.migration.raise.Goals as goal
+use Rattle.mx_tables.proofs.MigrationLemmas.{upgrades}
+use Rattle.mx_tables.proofs.migration.upgrade.Goals as goal
 
 pub returns : goal.returns
 returns g c =
@@ -11,8 +11,8 @@ returns g c =
     let same = all.0.0 in
     record {
       live = same.was_open;
-      raises = λ has.
+      upgrades = λ has.
           let made = all.1.0 (ap (λ (d : Database). d.schema) same.now_is ∙ has) in
-          subst (λ d. Raises d (state g.S.Store c.set_version.new.tx.conn.now).now) same.now_is
-          (raises (state g.S.Store c.find_open.new.tx.conn.now) (state g.S.Store c.make_settled.new.tx.conn.now) (state g.S.Store c.set_version.new.tx.conn.now) made (all.1.1 made.schema_is));
+          subst (λ d. Upgrades d (state g.S.Store c.set_version.new.tx.conn.now).now) same.now_is
+          (upgrades (state g.S.Store c.find_open.new.tx.conn.now) (state g.S.Store c.make_settled.new.tx.conn.now) (state g.S.Store c.set_version.new.tx.conn.now) made (all.1.1 made.schema_is));
     })
