@@ -1,4 +1,1 @@
-pub mod CommandLemmas
-pub mod TaskLemmas
-pub mod ProgramLemmas
-pub mod ConnectionLemmas
+pub mod TableLemmas

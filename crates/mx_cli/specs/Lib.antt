@@ -1,5 +1,1 @@
-pub mod Line
-pub mod Named
-pub mod Faults
-pub mod Tasks
-pub mod Texts
+pub mod Opened

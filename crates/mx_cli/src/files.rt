@@ -1,35 +1,30 @@
-//! The files that a task names.
-ghost use Rattle.std.specs.Prelude.{◌≡◌, ◌≤◌, IfOk, IfErr, vec_len};
+//! The files of books.
+ghost use Rattle.std.specs.Prelude.{◌≡◌, IfOk, IfErr};
 
-use crate::fault::CliFault;
-use mx_office::Office;
+use crate::books::{make_in_store, over_store, unmade};
+use mx_desk::{Counted, Outlet};
 use mx_pay::Token;
-use mx_tables::{Migrated, OpenRefused, Tables, migrate};
+use mx_tables::{Migrated, migrate};
+use mx_tasks::rolls::file_fault;
+use mx_tasks::{Done, TaskFault, Work};
 use sqlite::{Connection, Error, ErrorCode, File, FileStore};
-use std::fs::Metadata;
+use std::fs::{Metadata, OpenOptions};
 use std::io::{ErrorKind, Read};
+use std::os::unix::fs::{MetadataExt, OpenOptionsExt};
+use std::path::PathBuf;
 use std::{fs, io};
 
 /// A store in a file, with its log in a file beside it.
 pub type Store = FileStore<File>;
 
-/// The most bytes of a roll.
-pub const MOST_OF_A_ROLL: u64 = 1_048_576;
-
-/// What an error of the system is to the program: `Memory` or `File`.
-fn file_fault(error: &io::Error) -> CliFault {
-    if error.kind() == ErrorKind::OutOfMemory {
-        CliFault::Memory
-    } else {
-        CliFault::File
-    }
-}
+/// The most bytes of a log with no change in it.
+const MOST_OF_AN_EMPTY_LOG: u64 = 56;
 
 /// What an error of a store that is opened is: `Memory` or `File`.
-fn unopened(error: Error) -> CliFault {
+fn unopened(error: Error) -> TaskFault {
     match error {
-        Error::SqliteFailure(ErrorCode::OutOfMemory) => CliFault::Memory,
-        _ => CliFault::File,
+        Error::SqliteFailure(ErrorCode::OutOfMemory) => TaskFault::Memory,
+        _ => TaskFault::File,
     }
 }
 
@@ -40,10 +35,56 @@ fn is_empty(found: &Metadata) -> bool {
 
 /// Opens the database in a file, which makes one where there is none. A file that another process has open is refused at
 /// once.
-fn open(rt: &HostRuntime, path: &str) -> Result<Connection<Store>, CliFault> {
+fn open(rt: &HostRuntime, path: &str) -> Result<Connection<Store>, TaskFault> {
     match Connection::open(rt, path) {
         Ok(store) => Ok(store),
         Err(error) => Err(unopened(error)),
+    }
+}
+
+/// Whether a log of SQLite may begin with these bytes. The first byte of its magic number is 0 while it is emptied.
+fn may_begin_log(head: &[u8]) -> bool {
+    match head {
+        [0x37 | 0, 0x7f, 0x06, 0x82 | 0x83, ..] => true,
+        _ => head.iter().all(|byte| *byte == 0),
+    }
+}
+
+/// The first bytes of a file, and none where it isn't there.
+fn head_of(rt: &HostRuntime, path: &str) -> io::Result<Vec<u8>> {
+    let mut head = Vec::new(rt.alloc());
+    match fs::open(rt, path) {
+        Ok(file) => {
+            file.take(MOST_OF_AN_EMPTY_LOG + 1).read_to_end(&mut head)?;
+            Ok(head)
+        }
+        Err(error) if error.kind() == ErrorKind::NotFound => Ok(head),
+        Err(error) => Err(error),
+    }
+}
+
+/// Whether what stands where the log of a database belongs is long enough to have a change in it. The path is one with no link
+/// in it.
+///
+/// # Errors
+///
+/// `File` where another file stands there, which an opening would overwrite, or where it can't be read; `Memory`.
+fn has_log(rt: &HostRuntime, path: &str) -> Result<bool, TaskFault> {
+    let log = format!(in rt.alloc(); "{path}-wal")?;
+    match head_of(rt, log.as_str()) {
+        Ok(head) if may_begin_log(head.as_slice()) => {
+            Ok(head.len() as u64 > MOST_OF_AN_EMPTY_LOG)
+        }
+        Ok(_) => Err(TaskFault::File),
+        Err(error) => Err(file_fault(&error)),
+    }
+}
+
+/// The path of a file that is there, with no link in it: the log is beside the file that a link leads to.
+fn resolved(rt: &HostRuntime, path: &str) -> Result<PathBuf, TaskFault> {
+    match fs::canonicalize(rt, path) {
+        Ok(real) => Ok(real),
+        Err(error) => Err(file_fault(&error)),
     }
 }
 
@@ -51,129 +92,177 @@ fn open(rt: &HostRuntime, path: &str) -> Result<Connection<Store>, CliFault> {
 ///
 /// # Errors
 ///
-/// `File` where the file isn't there, isn't a database, can't be opened, or another process has it open; `NotThisSchema`
-/// where it is empty; `Memory`.
-fn open_found(rt: &HostRuntime, path: &str) -> Result<Connection<Store>, CliFault> {
+/// `File` where the file isn't there, isn't a database, can't be opened, another process has it open, or another file stands
+/// where its log belongs; `NotThisSchema` where it is empty; `Memory`.
+fn open_found(rt: &HostRuntime, path: &str) -> Result<Connection<Store>, TaskFault> {
     match fs::metadata(rt, path) {
-        Ok(found) if is_empty(&found) => Err(CliFault::NotThisSchema),
-        Ok(_) => open(rt, path),
+        Ok(found) if is_empty(&found) => Err(TaskFault::NotThisSchema),
+        Ok(_) => {
+            has_log(rt, resolved(rt, path)?.as_str())?;
+            open(rt, path)
+        }
         Err(error) => Err(file_fault(&error)),
     }
 }
 
-/// Makes a database in a file that isn't there or is empty.
+/// The path at which new books may be put, in place of the file of this path, with no link in it.
 ///
 /// # Errors
 ///
-/// `FileExists` where the file is there and isn't empty; `File` where it can't be made, or another process has it open;
-/// `Memory`.
-fn open_new(rt: &HostRuntime, path: &str) -> Result<Connection<Store>, CliFault> {
-    match fs::metadata(rt, path) {
-        Ok(found) if is_empty(&found) => open(rt, path),
-        Ok(_) => Err(CliFault::FileExists),
-        Err(error) if error.kind() == ErrorKind::NotFound => open(rt, path),
-        Err(error) => Err(file_fault(&error)),
+/// `FileExists` where it is there and isn't empty; `File` where that can't be told, or where its log belongs another file
+/// stands, or a log with changes, which would go into the new books; `Memory`.
+fn place_for(rt: &HostRuntime, path: &str) -> Result<String, TaskFault> {
+    let place = match fs::metadata(rt, path) {
+        Ok(found) if is_empty(&found) => {
+            format!(in rt.alloc(); "{}", resolved(rt, path)?.as_str())?
+        }
+        Ok(_) => return Err(TaskFault::FileExists),
+        Err(error) if error.kind() == ErrorKind::NotFound => format!(in rt.alloc(); "{path}")?,
+        Err(error) => return Err(file_fault(&error)),
+    };
+    if has_log(rt, place.as_str())? {
+        return Err(TaskFault::File);
     }
+    Ok(place)
 }
 
-/// The office over books that were made or opened, or why there are none.
-fn office_over(
-    books: Result<Tables<Store>, OpenRefused<Store>>,
-) -> Result<Office<Tables<Store>>, CliFault> {
-    match books {
-        Ok(book) => Ok(Office::new(book)),
-        Err(refused) => Err(CliFault::from(refused.fault)),
-    }
-}
-
-/// The office over the books in a file that is there.
-///
-/// # Errors
-///
-/// `File` where the file isn't there, isn't a database, can't be opened, or another process has it open; `NotThisSchema`
-/// where it is empty or has no books of this version; `Store` where it has other tables, or refuses a statement; `Memory`.
-pub fn open_office(rt: &HostRuntime, path: &str) -> Result<Office<Tables<Store>>, CliFault> {
-    let store = open_found(rt, path)?;
-    office_over(Tables::open(rt.alloc(), store))
-}
-
-/// The office over new books, in which nothing is but the operator's token, in a file that isn't there or is empty.
-///
-/// # Errors
-///
-/// `FileExists` where the file is there and isn't empty; `File` where it can't be made, or another process has it open;
-/// `Memory` or `Store` where it refuses a statement.
-pub fn make_office(
-    rt: &HostRuntime,
-    path: &str,
-    operator: Token,
-) -> Result<Office<Tables<Store>>, CliFault> {
-    let store = open_new(rt, path)?;
-    office_over(Tables::create(rt.alloc(), store, operator))
-}
-
-/// Closes a database, and passes on what was answered before. Where that is a fault, it stays the fault; else it is `Store`
-/// where the file can't be closed.
-fn closed_store<T: Drop>(
-    answer: Result<T, CliFault>,
-    store: Connection<Store>,
-) -> Result<T, CliFault>
+/// Passes on what was answered before a file was closed. Where that is a fault, it stays the fault; else it is `Store` where
+/// the file wasn't closed.
+fn once_closed<T: Drop>(answer: Result<T, TaskFault>, is_closed: bool) -> Result<T, TaskFault>
     ensures ok { IfOk result (λ value. answer ≡ Ok value) }
     ensures first { IfErr answer (λ fault. result ≡ Err fault) }
 {
-    let is_closed = store.close().is_ok();
     let value = answer?;
     if !is_closed {
-        return Err(CliFault::Store);
+        return Err(TaskFault::Store);
     }
     Ok(value)
 }
 
-/// Closes the file of an office in the same way.
-pub fn closed<T: Drop>(
-    answer: Result<T, CliFault>,
-    office: Office<Tables<Store>>,
-) -> Result<T, CliFault>
-    ensures ok { IfOk result (λ value. answer ≡ Ok value) }
-    ensures first { IfErr answer (λ fault. result ≡ Err fault) }
-{
-    closed_store(answer, office.into_book().into_store())
+/// Removes what an `init` that was broken off has left, where it left something. What is no database, or no log of one, isn't
+/// that, and stays.
+fn clear(rt: &HostRuntime, path: &str) -> Result<(), TaskFault> {
+    has_log(rt, path)?;
+    if let Err(error) = fs::metadata(rt, path) {
+        if error.kind() == ErrorKind::NotFound {
+            return Ok(());
+        }
+        return Err(file_fault(&error));
+    }
+    let left = open(rt, path)?;
+    let _ = left.close();
+    match fs::remove_file(rt, path) {
+        Ok(()) => Ok(()),
+        Err(error) => Err(file_fault(&error)),
+    }
+}
+
+/// Makes an empty file that only its owner may read and write, where none is. Gives its number in the file system.
+fn make_private(rt: &HostRuntime, path: &str) -> io::Result<u64> {
+    let mut options = OpenOptions::new();
+    options.write(true).create_new(true).mode(0o600);
+    let file = options.open(rt, path)?;
+    Ok(file.metadata()?.ino())
+}
+
+/// Whether the file with that number is still at this path: another `init` may have taken it for one that was broken off.
+fn is_there(rt: &HostRuntime, path: &str, number: u64) -> bool {
+    match fs::metadata(rt, path) {
+        Ok(found) => found.ino() == number,
+        Err(_) => false,
+    }
+}
+
+/// Makes new books in an empty file with that number, closes it, and puts it in the place of another.
+fn put_books(
+    rt: &HostRuntime,
+    made: &str,
+    number: u64,
+    place: &str,
+    operator: Token,
+) -> Result<(), TaskFault> {
+    let store = make_in_store(rt.alloc(), open(rt, made)?, operator)?;
+    once_closed(Ok(()), store.close().is_ok())?;
+    if !is_there(rt, made, number) {
+        return Err(TaskFault::File);
+    }
+    match fs::rename(rt, made, place) {
+        Ok(()) => Ok(()),
+        Err(error) => Err(file_fault(&error)),
+    }
+}
+
+/// Makes new books in a file of its own, and puts it in the place of another. Its log is removed then, and where that fails,
+/// the file too.
+fn make_beside(
+    rt: &HostRuntime,
+    made: &str,
+    place: &str,
+    operator: Token,
+) -> Result<(), TaskFault> {
+    let log = format!(in rt.alloc(); "{made}-wal")?;
+    clear(rt, made)?;
+    let number = match make_private(rt, made) {
+        Ok(number) => number,
+        Err(error) => return Err(file_fault(&error)),
+    };
+    let answer = put_books(rt, made, number, place, operator);
+    if answer.is_ok() || is_there(rt, made, number) {
+        let _ = fs::remove_file(rt, log.as_str());
+    }
+    if answer.is_err() && is_there(rt, made, number) {
+        let _ = fs::remove_file(rt, made);
+    }
+    answer
+}
+
+/// Makes new books, in which nothing is but the operator's token, in a file that isn't there or is empty. Only its owner may
+/// read and write it. They are made in a file beside it, FILE-init, and are put in its place once they are whole: whatever
+/// breaks that off, the file is as it was or has whole books, and what is left of FILE-init is replaced the next time.
+///
+/// # Errors
+///
+/// `FileExists` where the file is there and isn't empty; `File` where it can't be made, there is no room for its log, another
+/// process makes it, or another file stands where its log, FILE-init or the log of that belongs; `Memory` or `Store` where the
+/// database refuses a statement or can't be closed. Then no file is left.
+pub fn make_file(rt: &HostRuntime, path: &str, operator: Token) -> Result<(), TaskFault> {
+    let place = place_for(rt, path)?;
+    let made = format!(in rt.alloc(); "{place}-init")?;
+    make_beside(rt, made.as_str(), place.as_str(), operator)
+}
+
+/// Does a piece of work over the books in a file that is there, closes the file, and gives what came of it.
+///
+/// # Errors
+///
+/// The first that is met, in this order. `File` where the file isn't there, isn't a database, can't be opened, another process
+/// has it open, or another file stands where its log belongs; `NotThisSchema` where it is empty or has no books of this
+/// version; `Store` where it has other tables, or refuses a statement; those of the work; `Store` where the file can't be
+/// closed. `Memory` comes at any step.
+pub fn over_file<R: Read, W: Outlet>(
+    rt: &HostRuntime,
+    path: &str,
+    work: &Work<'_>,
+    reader: &mut Counted<R>,
+    writer: &mut Counted<W>,
+) -> Result<Done, TaskFault> {
+    let found = open_found(rt, path)?;
+    let (answer, store) = over_store(rt, found, work, reader, writer)?;
+    once_closed(answer, store.close().is_ok())
 }
 
 /// Brings the books in a file that is there to the schema of this version.
 ///
 /// # Errors
 ///
-/// `File` where the file isn't there, isn't a database, can't be opened, or another process has it open; `NotThisSchema`
-/// where it is empty or has no books of this version or the one before; `Store` where it has other tables, refuses a
+/// `File` where the file isn't there, isn't a database, can't be opened, another process has it open, or another file stands
+/// where its log belongs; `NotThisSchema` where it is empty or has no books of this version or the one before; `Store` where it has other tables, refuses a
 /// statement or can't be closed; `Memory`.
-pub fn migrate_file(rt: &HostRuntime, path: &str) -> Result<Migrated, CliFault> {
+pub fn migrate_file(rt: &HostRuntime, path: &str) -> Result<Migrated, TaskFault> {
     let mut store = open_found(rt, path)?;
     let answer = match migrate(rt.alloc(), &mut store) {
         Ok(migrated) => Ok(migrated),
-        Err(fault) => Err(CliFault::from(fault)),
+        Err(fault) => Err(unmade(fault)),
     };
-    closed_store(answer, store)
-}
-
-/// The bytes of a roll.
-///
-/// # Errors
-///
-/// `File` where the file isn't there or can't be read; `RollTooLarge` where it has more than 1,048,576 bytes; `Memory`.
-pub fn read_roll(rt: &HostRuntime, path: &str) -> Result<Vec<u8>, CliFault>
-    ensures { IfOk result (λ bytes. vec_len bytes ≤ 1048576) }
-{
-    let mut bytes = Vec::new(rt.alloc());
-    let read = match fs::open(rt, path) {
-        Ok(file) => file.take(MOST_OF_A_ROLL + 1).read_to_end(&mut bytes),
-        Err(error) => Err(error),
-    };
-    if let Err(error) = read {
-        return Err(file_fault(&error));
-    }
-    if bytes.len() as u64 > MOST_OF_A_ROLL {
-        return Err(CliFault::RollTooLarge);
-    }
-    Ok(bytes)
+    once_closed(answer, store.close().is_ok())
 }

@@ -4,80 +4,38 @@
 //! books come to, and `migrate` brings a file of the schema before to this one.
 #![tactic(auto)]
 
-pub mod connections;
-pub mod fault;
+pub mod books;
 pub mod files;
-pub mod line;
 pub mod perform;
-pub mod program;
-pub mod teller;
-pub mod texts;
+pub mod tables;
 
-use connections::serve_connections;
-use fault::CliFault;
-use files::{Store, closed, open_office};
-use line::{LineFault, Task, read_line};
+use mx_args::{LineFault, Task, read_line};
 use mx_desk::Counted;
-use mx_office::Office;
-use mx_tables::Tables;
-use mx_wire::Routes;
+use mx_tasks::{Alarm, Alarmed, TaskFault};
 use perform::perform;
 use std::alloc::{AllocError, Global};
 use std::io;
 use std::io::BufWriter;
-use std::net::TcpListener;
 use std::process::ExitCode;
 
-/// Listens on a port of 127.0.0.1, says so, and serves so many connections. The answer is how many were served.
-fn serve_office(
-    rt: &HostRuntime,
-    port: u16,
-    count: u32,
-    office: &mut Office<Tables<Store>>,
-) -> Result<u64, CliFault> {
-    let Ok(listener) = TcpListener::bind(rt, ("127.0.0.1", port)) else {
-        return Err(CliFault::Net);
-    };
-    let routes = Routes::new(rt.alloc())?;
-    if println!(rt; "listening on 127.0.0.1:{port}").is_err() {
-        return Err(CliFault::Write);
-    }
-    match serve_connections(rt.alloc(), &listener, u64::from(count), &routes, office) {
-        Ok(served) => Ok(served),
-        Err(_) => Err(CliFault::Net),
-    }
-}
-
-/// Serves connections over the books in a file. What is printed is flushed as it is printed.
-fn serve(rt: &HostRuntime, file: &str, port: u16, count: u32) -> Result<(), CliFault> {
-    let mut office = open_office(rt, file)?;
-    let answer = serve_office(rt, port, count, &mut office);
-    let served = closed(answer, office)?;
-    match println!(rt; "served {served}") {
-        Ok(()) => Ok(()),
-        Err(_) => Err(CliFault::Write),
-    }
-}
-
 /// Does a task over standard input and output. Each read is one call, unbuffered, since the desk has an array of its own.
-/// What is written stands in a buffer until it is passed on; but over a file each response is written at once, so that
-/// whoever reads them knows of each change but one, should the program be killed.
-fn do_task(rt: &HostRuntime, task: &Task<'_>) -> Result<(), CliFault> {
+/// What is written stands in a buffer until it is passed on; but in a run over a file each response is written at once, so
+/// that whoever reads them knows of each change but one, should the program be killed.
+fn do_task(rt: &HostRuntime, task: &Task<'_>) -> Result<(), TaskFault> {
     let mut reader = Counted::new(rt.stdin());
-    match task {
-        Task::Serve { file, port, count } => serve(rt, file.as_str(), *port, *count),
-        Task::RunFile(_) => perform(rt, task, &mut reader, &mut Counted::new(io::writer(rt))),
-        _ => {
-            let Ok(buffer) = BufWriter::new(rt.alloc(), io::writer(rt)) else {
-                return Err(CliFault::Memory);
-            };
-            perform(rt, task, &mut reader, &mut Counted::new(buffer))
-        }
+    if let Task::RunFile(_) = task {
+        let mut alarm = Alarm::new(rt);
+        let mut writer = Counted::new(Alarmed::new(io::writer(rt), &mut alarm));
+        return perform(rt, task, &mut reader, &mut writer);
     }
+    let Ok(buffer) = BufWriter::new(rt.alloc(), io::writer(rt)) else {
+        return Err(TaskFault::Memory);
+    };
+    perform(rt, task, &mut reader, &mut Counted::new(buffer))
 }
 
 /// Prints a fault, and gives status 1.
-fn fail(rt: &HostRuntime, fault: CliFault) -> ExitCode {
+fn fail(rt: &HostRuntime, fault: TaskFault) -> ExitCode {
     let text = fault.text();
     let _ = eprintln!(rt; "fault: {text}");
     ExitCode::from(1)
@@ -96,7 +54,7 @@ fn words_of(alloc: Global, args: &[String]) -> Result<Vec<&str>, AllocError> {
 /// Reads the command line, does its task and gives the status.
 fn run_line(rt: &HostRuntime, args: &[String]) -> ExitCode {
     let Ok(words) = words_of(rt.alloc(), args) else {
-        return fail(rt, CliFault::Memory);
+        return fail(rt, TaskFault::Memory);
     };
     match read_line(rt.alloc(), words.as_slice()) {
         Ok(task) => match do_task(rt, &task) {
@@ -104,7 +62,7 @@ fn run_line(rt: &HostRuntime, args: &[String]) -> ExitCode {
             Err(fault) => fail(rt, fault),
         },
         Err(LineFault::Bad(text)) => refuse(rt, text.as_str()),
-        Err(LineFault::Memory) => fail(rt, CliFault::Memory),
+        Err(LineFault::Memory) => fail(rt, TaskFault::Memory),
     }
 }
 
@@ -121,6 +79,6 @@ fn main(rt: HostRuntime) -> ExitCode {
         Err(error) if error.kind() == io::ErrorKind::InvalidData => {
             refuse(&rt, "error: a word of the command line is not UTF-8\n")
         }
-        Err(_) => fail(&rt, CliFault::Memory),
+        Err(_) => fail(&rt, TaskFault::Memory),
     }
 }

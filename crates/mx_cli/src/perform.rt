@@ -1,127 +1,81 @@
-//! Every task but serving, over an input, an output and the files that the task names.
-ghost use Rattle.std.specs.Prelude.{◌≡◌, false};
-ghost use Rattle.mx_cli.specs.Tasks.{is_serve};
-
-use crate::fault::CliFault;
-use crate::files::{Store, closed, make_office, migrate_file, open_office, read_roll};
-use crate::line::Task;
-use crate::program::{run_memory, run_office};
-use crate::teller::Teller;
-use crate::texts::{import_text, report_text};
-use mx_desk::Counted;
-use mx_office::Office;
-use mx_pay::{Name, Token};
-use mx_report::import_roll_telling;
-use mx_tables::{Migrated, Tables};
+//! Every task, over an input, an output and the files that the task names.
+use crate::files::{make_file, migrate_file, over_file};
+use mx_args::Task;
+use mx_desk::{Counted, Outlet};
+use mx_tables::Migrated;
+use mx_tasks::runs::run_memory;
+use mx_tasks::{TaskFault, Work};
 use std::io::{Read, Write};
 
-/// Answers the requests of the input over the books in a file.
-fn run_file<R: Read, W: Write>(
-    rt: &HostRuntime,
-    file: &str,
-    reader: &mut Counted<R>,
-    writer: &mut Counted<W>,
-) -> Result<(), CliFault> {
-    let mut office = open_office(rt, file)?;
-    let answer = run_office(rt.alloc(), &mut office, reader, writer);
-    closed(answer, office)?;
+/// Writes a text, and passes on what the writer holds.
+fn say<W: Write>(writer: &mut W, text: &[u8]) -> Result<(), TaskFault> {
+    if writer.write_all(text).is_err() || writer.flush().is_err() {
+        return Err(TaskFault::Write);
+    }
     Ok(())
 }
 
-/// Makes new books in a file.
-fn init_file(rt: &HostRuntime, file: &str, operator: Token) -> Result<(), CliFault> {
-    let office = make_office(rt, file, operator)?;
-    closed(Ok(()), office)
-}
-
-/// Imports the roll in a file, and gives the lines that tell of it. While it is under way, a terminal is told how far it is.
-fn import_into(
+/// Does the work over the books in a file, and writes its text once that is closed. A fault of the work that leaves a text
+/// comes behind it.
+fn say_work<R: Read, W: Outlet>(
     rt: &HostRuntime,
-    roll: &str,
-    office: &mut Office<Tables<Store>>,
-) -> Result<String, CliFault> {
-    let bytes = read_roll(rt, roll)?;
-    let mut teller = Teller::new(rt);
-    let answer = import_roll_telling(rt.alloc(), office, bytes.as_slice(), &mut teller);
-    teller.end();
-    let report = answer?;
-    let lines = import_text(rt.alloc(), &report)?;
-    Ok(lines)
-}
-
-/// Imports a roll into the books in a file, and gives the lines that tell of it.
-fn import_file(rt: &HostRuntime, file: &str, roll: &str) -> Result<String, CliFault> {
-    let mut office = open_office(rt, file)?;
-    let answer = import_into(rt, roll, &mut office);
-    closed(answer, office)
-}
-
-/// The text of a report of the books in a file.
-fn report_file(rt: &HostRuntime, file: &str, purse: Option<Name>) -> Result<Vec<u8>, CliFault> {
-    let mut office = open_office(rt, file)?;
-    let answer = report_text(rt.alloc(), &mut office.book, purse);
-    closed(answer, office)
-}
-
-/// Writes a text.
-fn say<W: Write>(writer: &mut W, text: &[u8]) -> Result<(), CliFault> {
-    match writer.write_all(text) {
-        Ok(()) => Ok(()),
-        Err(_) => Err(CliFault::Write),
+    path: &str,
+    work: &Work<'_>,
+    reader: &mut Counted<R>,
+    writer: &mut Counted<W>,
+) -> Result<(), TaskFault> {
+    let done = over_file(rt, path, work, reader, writer)?;
+    say(writer, done.text.as_slice())?;
+    match done.fault {
+        Some(fault) => Err(fault),
+        None => Ok(()),
     }
 }
 
-/// Passes on what the writer holds.
-fn flush<W: Write>(writer: &mut W) -> Result<(), CliFault> {
-    match writer.flush() {
-        Ok(()) => Ok(()),
-        Err(_) => Err(CliFault::Write),
-    }
-}
-
-/// Does a task that isn't serving. A run reads requests from the reader and writes their responses to the writer; any
-/// other task writes what it tells of once it is done, and only where there is no fault. What the writer holds is passed
-/// on at the end, and the file of the books is closed.
+/// Does a task. A run reads requests from the reader and writes their responses to the writer; any other task writes what it
+/// prints once it is done, and only where there is no fault; but a report is written also where it doesn't add up, which is
+/// `Store`. What the writer holds is passed on at the end, and the file of
+/// the books is closed.
 ///
 /// # Errors
 ///
 /// The first that is met, in this order: those of the file (`File`, `FileExists`), of its books (`NotThisSchema`), of the
-/// roll (`File`, then `RollTooLarge`), and of the work: those of a run (`Read`, `Write`, `Turns`), `Roll`, `NoSuchPurse`.
-/// `Memory` and `Store` come at any step that takes memory or asks the store; `Store` too where the file can't be closed,
-/// and `Write` where what is told can't be written or flushed.
-pub fn perform<R: Read, W: Write>(
+/// roll (`File`, then `RollTooLarge`) or the port (`Net`), and of the work: those of a run (`Read`, `Write`, `Turns`),
+/// `Roll`, `NoSuchPurse`. `Memory` and `Store` come at any step that takes memory or asks the store; `Store` too where the
+/// file can't be closed, and `Write` where what is printed can't be written or flushed.
+pub fn perform<R: Read, W: Outlet>(
     rt: &HostRuntime,
     task: &Task<'_>,
     reader: &mut Counted<R>,
     writer: &mut Counted<W>,
-) -> Result<(), CliFault>
-    requires { is_serve task.now ≡ false }
-{
+) -> Result<(), TaskFault> {
     match task {
         Task::RunMemory(operator) => {
             run_memory(rt.alloc(), *operator, reader, writer)?;
+            say(writer, b"")
         }
-        Task::RunFile(file) => run_file(rt, file.as_str(), reader, writer)?,
+        Task::RunFile(file) => say_work(rt, file.as_str(), &Work::Run, reader, writer),
         Task::Init { file, token } => {
-            init_file(rt, file.as_str(), *token)?;
-            say(writer, b"created\n")?;
+            make_file(rt, file.as_str(), *token)?;
+            say(writer, b"created\n")
+        }
+        Task::Serve { file, port, count } => {
+            let work = Work::Serve {
+                port: *port,
+                count: *count,
+            };
+            say_work(rt, file.as_str(), &work, reader, writer)
         }
         Task::Import { file, roll } => {
-            let lines = import_file(rt, file.as_str(), roll.as_str())?;
-            say(writer, lines.as_str().as_bytes())?;
+            let work = Work::Import(roll.as_str());
+            say_work(rt, file.as_str(), &work, reader, writer)
         }
         Task::Report { file, purse } => {
-            let text = report_file(rt, file.as_str(), *purse)?;
-            say(writer, text.as_slice())?;
+            say_work(rt, file.as_str(), &Work::Report(*purse), reader, writer)
         }
-        Task::Migrate(file) => {
-            let line: &[u8] = match migrate_file(rt, file.as_str())? {
-                Migrated::Done => b"migrated\n",
-                Migrated::Already => b"already schema 2\n",
-            };
-            say(writer, line)?;
-        }
-        Task::Serve { .. } => unreachable!(),
+        Task::Migrate(file) => match migrate_file(rt, file.as_str())? {
+            Migrated::Done => say(writer, b"migrated\n"),
+            Migrated::Already => say(writer, b"already schema 2\n"),
+        },
     }
-    flush(writer)
 }

@@ -4,6 +4,7 @@ ghost use Rattle.std.specs.Io.{ReadsAtMost, WritesAtMost};
 ghost use Rattle.std.specs.Io.KnownBytes.{ReadConsumes, WriteAppends, Keeps};
 ghost use Rattle.mx_desk.specs.Devices.{capped};
 
+use crate::outlet::Outlet;
 use std::io;
 use std::io::{Read, Write};
 
@@ -61,6 +62,17 @@ impl<D> Counted<D> {
         ensures { self.new ≡ record self.old { failures = capped (self.old.failures + 1) } }
     {
         self.failures = self.failures.saturating_add(1);
+    }
+}
+
+impl<D: Outlet> Counted<D> {
+    /// Has the device learn that a request is given up because the store failed. It counts as no call.
+    pub fn store_failed(&mut self)
+        ensures bytes { Keeps (D.contents self.old.device) (D.contents self.new.device) }
+        ensures calls { self.new.calls ≡ self.old.calls }
+        ensures failures { self.new.failures ≡ self.old.failures }
+    {
+        self.device.store_failed();
     }
 }
 

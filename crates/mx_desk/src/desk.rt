@@ -3,6 +3,7 @@ ghost use Rattle.std.specs.Prelude.{◌≡◌, ◌+◌, ◌*◌, ◌<◌, ◌≤
 ghost use Rattle.std.specs.Io.KnownBytes.{Appends, Keeps};
 ghost use Rattle.mx_book.specs.World.{World};
 ghost use Rattle.mx_office.specs.Reachable.{IsReachable};
+ghost use Rattle.mx_wire.specs.Replies.{unavailable};
 ghost use Rattle.mx_desk.specs.Conservation.{LeavesReachable};
 ghost use Rattle.mx_desk.specs.Devices.{capped};
 ghost use Rattle.mx_desk.specs.Found.{request_view};
@@ -19,9 +20,11 @@ use crate::fault::DeskFault;
 use crate::first::first;
 use crate::head::{Found, Reason, Received, Stop};
 use crate::input::Input;
+use crate::outlet::Outlet;
 use crate::output::{flush_out, write_out};
 use crate::workspace::Workspace;
 use mx_book::Book;
+use mx_book::contract::StoreFault;
 use mx_office::Office;
 use mx_wire::{Fixed, Routes, fixed_text, unavailable_text};
 use std::alloc::Global;
@@ -59,8 +62,23 @@ fn text_of_stop(stop: Stop) -> &'static [u8]
     fixed_text(stop_fixed(stop.reason), stop.is_head)
 }
 
+/// Writes the response to a request that is given up, which is 503. Where the store failed, the writer learns of it first.
+fn give_up<W: Outlet>(writer: &mut Counted<W>, fault: StoreFault) -> Result<(), DeskFault>
+    ensures ok { OnOk result (Appends (W.contents writer.old.device) (W.contents writer.new.device) unavailable
+        × (writer.new.failures ≡ writer.old.failures)) }
+    ensures err { OnErr result ((count : ℕ) × (count < length unavailable)
+        × Appends (W.contents writer.old.device) (W.contents writer.new.device) (take count unavailable)
+        × (writer.new.failures ≡ capped (writer.old.failures + 1))) }
+    ensures fault { IfErr result (λ e. e ≡ DeskFault.Write) }
+{
+    if fault == StoreFault::Store {
+        writer.store_failed();
+    }
+    write_out(writer, unavailable_text())
+}
+
 /// Answers a request, and writes the response: 503 where the office could not do it.
-fn reply<W: Write, B: Book>(
+fn reply<W: Outlet, B: Book>(
     alloc: Global,
     workspace: &mut Workspace,
     request: &Received<'_>,
@@ -79,7 +97,7 @@ fn reply<W: Write, B: Book>(
     let head_only = request.method == b"HEAD".as_slice();
     match answer_request(alloc, workspace, routes, office, request) {
         Ok(response) => write_out(writer, response.text(head_only)),
-        Err(_) => write_out(writer, unavailable_text()),
+        Err(fault) => give_up(writer, fault),
     }
 }
 
@@ -98,7 +116,7 @@ fn write_stop<W: Write>(writer: &mut Counted<W>, stop: Stop) -> Result<(), DeskF
 
 /// Answers the first request of what is pending and what is still read, with so many reads at most. What the writer holds
 /// is passed on before each read.
-fn serve_next<R: Read, W: Write, B: Book>(
+fn serve_next<R: Read, W: Outlet, B: Book>(
     alloc: Global,
     workspace: &mut Workspace,
     input: &mut Input,
@@ -165,7 +183,7 @@ fn serve_next<R: Read, W: Write, B: Book>(
 /// From a World that commands lead to it ends in such a World (`reachable`), and no command that the request asks is
 /// refused because a purse or a float is full. And the command that it asks is an operation of the abstract purses, in
 /// which a payment is one operation, for every choice of losses at the end (`refines`).
-pub fn serve_one<R: Read, W: Write, B: Book>(
+pub fn serve_one<R: Read, W: Outlet, B: Book>(
     alloc: Global,
     reader: &mut Counted<R>,
     writer: &mut Counted<W>,
@@ -230,7 +248,7 @@ pub const MOST_READS: u64 = 1_000_000_000;
 /// From a World that commands lead to it ends in such a World (`reachable`), and no command that a request asks is
 /// refused because a purse or a float is full. And the commands that the requests ask are operations of the abstract
 /// purses, in which a payment is one operation, for every choice of losses at the end (`refines`).
-pub fn run<R: Read, W: Write, B: Book>(
+pub fn run<R: Read, W: Outlet, B: Book>(
     alloc: Global,
     reader: &mut Counted<R>,
     writer: &mut Counted<W>,

@@ -11,9 +11,11 @@ pub mod first;
 pub mod head;
 pub mod input;
 pub mod laws;
+pub mod outlet;
 pub mod output;
 pub mod workspace;
 
 pub use counted::Counted;
 pub use fault::DeskFault;
+pub use outlet::Outlet;
 pub use workspace::Workspace;

@@ -1,4 +1,5 @@
 pub mod StatementLemmas
+pub mod EvenLemmas
 pub mod RollLemmas
 pub mod RowLemmas
 pub mod ReadingLemmas

@@ -2,6 +2,7 @@
 //! import of rolls.
 #![tactic(auto)]
 
+pub mod even;
 pub mod progress;
 pub mod reconciliation;
 mod roll_rows;
@@ -10,6 +11,7 @@ pub mod rows;
 pub mod statements;
 mod texts;
 
+pub use even::is_even_statement;
 pub use progress::{Nobody, Progress};
 pub use reconciliation::{Report, reconcile, reconcile_text};
 pub use rolls::{

@@ -37,26 +37,24 @@ returns-in-Ok-clause-err g c = λ w honest spelled.
 
 pub returns-in-Err-clause-ok : goal.returns-in-Err-clause-ok
 returns-in-Err-clause-ok g c = λ w honest spelled.
-    let text = c.unavailable_text.ensures in
     let answer = c.in-Err.ensures.answers w honest spelled in
-    on_ok_weaker c.write_out-in-Err.result (λ x. record {
+    on_ok_weaker c.give_up.result (λ x. record {
       marked = record { request = request_view c.args.request.now; given_up = true };
       request = refl;
       marks = λ e. answer.0;
-      wrote = (rw text at x.0);
+      wrote = x.0;
       stands = answer.1;
-    }) c.write_out-in-Err.ensures.ok
+    }) c.give_up.ensures.ok
 
 pub returns-in-Err-clause-err : goal.returns-in-Err-clause-err
 returns-in-Err-clause-err g c = λ w honest spelled.
-    let text = c.unavailable_text.ensures in
     let answer = c.in-Err.ensures.answers w honest spelled in
-    on_err_weaker c.write_out-in-Err.result (λ x. record {
+    on_err_weaker c.give_up.result (λ x. record {
       marked = record { request = request_view c.args.request.now; given_up = true };
       count = x.0;
       request = refl;
       marks = λ e. answer.0;
-      cut = (rw text at x.1);
-      wrote = (rw text at x.2);
+      cut = x.1;
+      wrote = x.2;
       stands = answer.1;
-    }) c.write_out-in-Err.ensures.err
+    }) c.give_up.ensures.err

@@ -1,0 +1,260 @@
+//! The command line of the program.
+ghost use Rattle.std.specs.Prelude.{◌≡◌, ◌⊎◌, ℕ, List, Option, IfOk, IfSome, IsNone, OnErr, Ok, Err, map, option_map, codes};
+ghost use Rattle.std.specs.Option.{option_and_then};
+ghost use Rattle.clap.specs.Words.{first_of, found_of, kind_of, rows_of};
+ghost use Rattle.mx_pay.specs.Tokens.{token_of};
+ghost use Rattle.mx_args.specs.Named.{HasPurse, HasValue, IsNamedBy, IsNumber, Names, NamesNone};
+
+use crate::commands::{command_named, line_command};
+use crate::task::{LineFault, Task, Word};
+use clap::ArgMatches;
+use clap::error::ErrorKind;
+use mx_pay::{Name, Token, read_seq};
+use std::alloc::{AllocError, Global};
+
+/// The highest port.
+const MOST_PORT: u32 = 65_535;
+
+/// How many connections are served at most.
+const MOST_COUNT: u32 = 1_000_000;
+
+// Why a line in which clap finds no fault names no task.
+#[derive(Clone, Copy)]
+enum Misfit {
+    Token,
+    Port,
+    Count,
+    Purse,
+    FileAndMemory,
+    NoBooks,
+    NoToken,
+    TokenForFile,
+    Missing,
+}
+
+impl Misfit {
+    fn text(self) -> &'static str {
+        match self {
+            Misfit::Token => "the value of --token has to be 32 hexadecimal digits",
+            Misfit::Port => {
+                "the value of --port has to be a number from 1 to 65535, without leading zeros"
+            }
+            Misfit::Count => {
+                "the value of --count has to be a number from 1 to 1000000, without leading zeros"
+            }
+            Misfit::Purse => {
+                "the value of --purse has to be 1 to 24 of a to z, 0 to 9 and -, the first a letter"
+            }
+            Misfit::FileAndMemory => "run takes FILE or --memory, and not both",
+            Misfit::NoBooks => "run takes FILE, or --memory and --token",
+            Misfit::NoToken => "run --memory takes --token",
+            Misfit::TokenForFile => "run FILE takes no --token",
+            Misfit::Missing => "the command is not one of this program, or lacks a word",
+        }
+    }
+}
+
+// The first value of `id`.
+fn text_of<'a>(matches: &ArgMatches<'a>, id: &str) -> Option<&'a str>
+    ensures { option_map (λ s. s.now) result ≡ first_of id.now (rows_of (found_of matches.now)) }
+{
+    matches.get_str(id)
+}
+
+// The first value of `id`, as a word that names a file.
+fn word_of<'a>(matches: &ArgMatches<'a>, id: &str) -> Option<Word<'a>>
+    ensures { result ≡ first_of id.now (rows_of (found_of matches.now)) }
+{
+    let text = text_of(matches, id)?;
+    Some(Word::new(text))
+}
+
+// The token that the value of `--token` spells.
+fn token_of(matches: &ArgMatches<'_>) -> Option<Token>
+    ensures { result ≡ option_and_then token_of (first_of (codes "token") (rows_of (found_of matches.now))) }
+{
+    Token::read(text_of(matches, "token")?)
+}
+
+// The number from 1 to `most` that is the value of `id`.
+fn number_of(matches: &ArgMatches<'_>, id: &str, most: u32) -> Option<u32>
+    ensures some { IfSome result (λ n. HasValue (rows_of (found_of matches.now)) id.now (IsNumber most n)) }
+    ensures none { IsNone result → (n : ℕ) → ¬ HasValue (rows_of (found_of matches.now)) id.now (IsNumber most n) }
+{
+    let number = read_seq(text_of(matches, id)?)?.get();
+    if 1 <= number && number <= u64::from(most) {
+        Some(number as u32)
+    } else {
+        None
+    }
+}
+
+// The purse that the value of `--purse` names, if there is one.
+fn purse_of(matches: &ArgMatches<'_>) -> Result<Option<Name>, Misfit>
+    ensures named { IfOk result (HasPurse (rows_of (found_of matches.now))) }
+    ensures unnamed { OnErr result ((purse : Option (List ℕ)) → ¬ HasPurse (rows_of (found_of matches.now)) purse) }
+{
+    let Some(text) = text_of(matches, "purse") else {
+        return Ok(None);
+    };
+    match Name::read(text) {
+        Some(name) => Ok(Some(name)),
+        None => Err(Misfit::Purse),
+    }
+}
+
+// Why a `run` names no task whose token, if it has one, can be read.
+fn run_misfit(matches: &ArgMatches<'_>) -> Misfit {
+    match (text_of(matches, "memory"), text_of(matches, "FILE")) {
+        (Some("true"), Some(_)) => Misfit::FileAndMemory,
+        (Some("true"), None) => Misfit::NoToken,
+        (_, Some(_)) => Misfit::TokenForFile,
+        (_, None) => Misfit::NoBooks,
+    }
+}
+
+fn run_task<'a>(matches: &ArgMatches<'a>) -> Result<Task<'a>, Misfit>
+    ensures named { IfOk result (Names (codes "run") (rows_of (found_of matches.now))) }
+    ensures unnamed { OnErr result (NamesNone (codes "run") (rows_of (found_of matches.now))) }
+{
+    match (
+        text_of(matches, "memory"),
+        word_of(matches, "FILE"),
+        text_of(matches, "token"),
+    ) {
+        (Some("true"), None, Some(digits)) => match Token::read(digits) {
+            Some(token) => Ok(Task::RunMemory(token)),
+            None => Err(Misfit::Token),
+        },
+        (Some("false"), Some(file), None) => Ok(Task::RunFile(file)),
+        _ => Err(run_misfit(matches)),
+    }
+}
+
+fn init_task<'a>(matches: &ArgMatches<'a>) -> Result<Task<'a>, Misfit>
+    ensures named { IfOk result (Names (codes "init") (rows_of (found_of matches.now))) }
+    ensures unnamed { OnErr result (NamesNone (codes "init") (rows_of (found_of matches.now))) }
+{
+    let Some(file) = word_of(matches, "FILE") else {
+        return Err(Misfit::Missing);
+    };
+    let Some(token) = token_of(matches) else {
+        return Err(Misfit::Token);
+    };
+    Ok(Task::Init { file, token })
+}
+
+fn serve_task<'a>(matches: &ArgMatches<'a>) -> Result<Task<'a>, Misfit>
+    ensures named { IfOk result (Names (codes "serve") (rows_of (found_of matches.now))) }
+    ensures unnamed { OnErr result (NamesNone (codes "serve") (rows_of (found_of matches.now))) }
+{
+    let Some(file) = word_of(matches, "FILE") else {
+        return Err(Misfit::Missing);
+    };
+    let Some(port) = number_of(matches, "port", MOST_PORT) else {
+        return Err(Misfit::Port);
+    };
+    let Some(count) = number_of(matches, "count", MOST_COUNT) else {
+        return Err(Misfit::Count);
+    };
+    Ok(Task::Serve {
+        file,
+        port: port as u16,
+        count,
+    })
+}
+
+fn import_task<'a>(matches: &ArgMatches<'a>) -> Result<Task<'a>, Misfit>
+    ensures named { IfOk result (Names (codes "import") (rows_of (found_of matches.now))) }
+    ensures unnamed { OnErr result (NamesNone (codes "import") (rows_of (found_of matches.now))) }
+{
+    let Some(file) = word_of(matches, "FILE") else {
+        return Err(Misfit::Missing);
+    };
+    let Some(roll) = word_of(matches, "ROLL") else {
+        return Err(Misfit::Missing);
+    };
+    Ok(Task::Import { file, roll })
+}
+
+fn report_task<'a>(matches: &ArgMatches<'a>) -> Result<Task<'a>, Misfit>
+    ensures named { IfOk result (Names (codes "report") (rows_of (found_of matches.now))) }
+    ensures unnamed { OnErr result (NamesNone (codes "report") (rows_of (found_of matches.now))) }
+{
+    let Some(file) = word_of(matches, "FILE") else {
+        return Err(Misfit::Missing);
+    };
+    let purse = purse_of(matches)?;
+    Ok(Task::Report { file, purse })
+}
+
+fn migrate_task<'a>(matches: &ArgMatches<'a>) -> Result<Task<'a>, Misfit>
+    ensures named { IfOk result (Names (codes "migrate") (rows_of (found_of matches.now))) }
+    ensures unnamed { OnErr result (NamesNone (codes "migrate") (rows_of (found_of matches.now))) }
+{
+    match word_of(matches, "FILE") {
+        Some(file) => Ok(Task::Migrate(file)),
+        None => Err(Misfit::Missing),
+    }
+}
+
+fn task_of<'a>(name: &str, matches: &ArgMatches<'a>) -> Result<Task<'a>, Misfit>
+    ensures named { IfOk result (Names name.now (rows_of (found_of matches.now))) }
+    ensures unnamed { OnErr result (NamesNone name.now (rows_of (found_of matches.now))) }
+{
+    match name {
+        "run" => run_task(matches),
+        "init" => init_task(matches),
+        "serve" => serve_task(matches),
+        "import" => import_task(matches),
+        "report" => report_task(matches),
+        "migrate" => migrate_task(matches),
+        _ => Err(Misfit::Missing),
+    }
+}
+
+// What clap's error makes of the line.
+fn line_fault(alloc: Global, error: clap::Error) -> LineFault
+    ensures { kind_of error ≡ ErrorKind.OutOfMemory → result ≡ LineFault.Memory }
+{
+    if error.kind() == ErrorKind::OutOfMemory {
+        return LineFault::Memory;
+    }
+    match error.to_string(alloc) {
+        Ok(text) => LineFault::Bad(text),
+        Err(_) => LineFault::Memory,
+    }
+}
+
+// The text of a line that clap takes and that names no task, with the usage of its command.
+fn misfit_fault(alloc: Global, name: &str, misfit: Misfit) -> Result<LineFault, AllocError> {
+    let mut command = command_named(alloc, name)?;
+    let error = command.error(ErrorKind::ValueValidation, misfit.text())?;
+    Ok(line_fault(alloc, error))
+}
+
+/// Reads a command line: the words after the program's name. Answers the task that they name.
+///
+/// # Errors
+///
+/// `Bad` where they name none, as where they ask for help. `Memory` where memory ran out.
+pub fn read_line<'a>(alloc: Global, words: &'a [&'a str]) -> Result<Task<'a>, LineFault>
+    ensures named { IfOk result (IsNamedBy (map (λ w. w.now) words.entry.now)) }
+
+    // A line that names a task is answered with it, or with want of memory.
+    ensures answered { (task : Task) → IsNamedBy (map (λ w. w.now) words.entry.now) task
+        → (result ≡ Ok task) ⊎ (result ≡ Err LineFault.Memory) }
+{
+    let mut command = line_command(alloc)?;
+    let matches = match command.try_get_matches_from_mut(words) {
+        Ok(matches) => matches,
+        Err(error) => return Err(line_fault(alloc, error)),
+    };
+    let Some((name, found)) = matches.subcommand() else {
+        return Err(misfit_fault(alloc, "", Misfit::Missing)?);
+    };
+    match task_of(name, found) {
+        Ok(task) => Ok(task),
+        Err(misfit) => Err(misfit_fault(alloc, name, misfit)?),
+    }
+}

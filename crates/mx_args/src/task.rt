@@ -1,0 +1,100 @@
+//! What the program is asked to do.
+ghost use Rattle.std.specs.Prelude.{◌≡◌};
+
+use mx_pay::{Name, Token};
+use std::alloc::AllocError;
+use std::marker::Model;
+
+/// A word of the command line that names a file. A contract sees it as its bytes.
+#[derive(Debug, Drop)]
+pub struct Word<'a> {
+    text: &'a str,
+}
+
+impl<'a> Model for Word<'a> {
+    ghost use Rattle.std.specs.Prelude.{List, ℕ};
+
+    ghost Value = { List ℕ };
+
+    ghost view = { λ word. word.text.now };
+}
+
+impl<'a> Word<'a> {
+    /// The word with this text.
+    pub fn new(text: &'a str) -> Word<'a>
+        ensures { result ≡ text.now }
+    {
+        Word { text }
+    }
+
+    /// The text of the word.
+    pub fn as_str(&self) -> &'a str
+        ensures { result.now ≡ self.now }
+    {
+        self.text
+    }
+}
+
+/// What the program is asked to do. It borrows the words of the command line.
+#[derive(Debug, Drop)]
+pub enum Task<'a> {
+    /// `run --memory --token HEX`: requests from standard input, responses to standard output, over books
+    /// in memory. The token is the operator's.
+    RunMemory(Token),
+    /// `run FILE`: the same over the books in a file.
+    RunFile(Word<'a>),
+    /// `init FILE --token HEX`: a file for books, with nothing in them but the operator's token.
+    Init {
+        /// The file.
+        file: Word<'a>,
+        /// The token of the operator.
+        token: Token,
+    },
+    /// `serve FILE --port N --count K`: connections, one after another, over the books in a file.
+    Serve {
+        /// The file.
+        file: Word<'a>,
+        /// The port, from 1 to 65535.
+        port: u16,
+        /// How many connections are served, from 1 to 1,000,000.
+        count: u32,
+    },
+    /// `import FILE ROLL`: the members, holders and purses of a roll, into the books in a file.
+    Import {
+        /// The file of the books.
+        file: Word<'a>,
+        /// The file of the roll.
+        roll: Word<'a>,
+    },
+    /// `report FILE`: the reconciliation of the books in a file. `report FILE --purse P`: the statement of
+    /// one purse.
+    Report {
+        /// The file.
+        file: Word<'a>,
+        /// The purse, where one is named.
+        purse: Option<Name>,
+    },
+    /// `migrate FILE`: the books in a file, which are of the schema before, are brought to the schema of this version.
+    Migrate(Word<'a>),
+}
+
+/// Why a command line gives no task.
+#[derive(Debug, Drop)]
+pub enum LineFault {
+    /// The line names no task. The text says why, or is the help that was asked for; it is printed on
+    /// standard error.
+    Bad(String),
+    /// Memory ran out.
+    Memory,
+}
+
+impl From<AllocError> for LineFault {
+    ghost use Rattle.std.specs.Prelude.{◌≡◌};
+    ghost use Rattle.mx_args.specs.declared.task.LineFault.TheVariants.{Memory};
+
+    ghost from_gives = { λ _ fault. fault ≡ Memory };
+
+    fn from(_error: AllocError) -> LineFault {
+        LineFault::Memory
+    }
+}

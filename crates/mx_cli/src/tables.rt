@@ -1,0 +1,63 @@
+//! A run over tables in memory.
+ghost use Rattle.std.specs.Prelude.{◌≡◌, ◌⊎◌, List, [], ℕ, IfOk, IfErr, IfSome};
+ghost use Rattle.std.specs.Io.KnownBytes.{Appends};
+ghost use Rattle.mx_book.specs.World.{World, opening};
+ghost use Rattle.mx_desk.specs.Conservation.{LeavesReachable};
+ghost use Rattle.mx_desk.specs.Isolation.{IsLeft};
+ghost use Rattle.mx_desk.specs.Refinement.{LeavesRefinedFromNone};
+ghost use Rattle.mx_desk.specs.Serve.{ServedAll};
+ghost use Rattle.mx_desk.specs.Steps.{state, Faults};
+ghost use Rattle.mx_desk.specs.declared.fault.DeskFault.{DeskFault as Fault};
+ghost use Rattle.mx_tasks.specs.Faults.{fault_of};
+
+use crate::books::unmade;
+use mx_book::Book;
+use mx_desk::{Counted, Outlet};
+use mx_office::Office;
+use mx_pay::Token;
+use mx_tables::Tables;
+use mx_tasks::TaskFault;
+use mx_tasks::runs::run_office;
+use sqlite::{Connection, MemStore};
+use std::alloc::Global;
+use std::io::Read;
+
+/// Answers the requests of the input over new tables in memory that are given up at the end, for the operator with that
+/// token, and says how many responses were written, as `run_memory` does over a book in memory. A request may be given up, answered 503 and changing
+/// nothing, wherever a statement is refused. A fault is `Memory` or `Store` where the tables can't be made, or `Memory`
+/// where there is none for the routes, and then nothing was read or written; or that of the desk.
+///
+/// A store in memory returns what was written to it, so nothing is said under a doubt.
+pub fn run_memory_tables<R: Read, W: Outlet>(
+    alloc: Global,
+    operator: Token,
+    reader: &mut Counted<R>,
+    writer: &mut Counted<W>,
+) -> Result<u64, TaskFault>
+    ensures ok { IfOk result (λ n. IfSome (R.remaining reader.old.device) (λ b. (now : World)
+        × ((out : List ℕ) × Appends (W.contents writer.old.device) (W.contents writer.new.device) out
+        × ServedAll ⟦<Tables<MemStore> as Book>⟧.fails (opening operator) b out now n))) }
+    ensures fault { IfErr result (λ e. (((e ≡ TaskFault.Memory) ⊎ (e ≡ TaskFault.Store)) × (reader.new ≡ reader.old) × (writer.new ≡ writer.old))
+        ⊎ ((d : Fault) × (e ≡ fault_of d) × ((now : World) × Faults ⟦<Tables<MemStore> as Book>⟧.fails
+        (state [] (R.remaining reader.old.device) (W.contents writer.old.device) (opening operator)) d
+        (state [] (R.remaining reader.new.device) (W.contents writer.new.device) now)))) }
+    ensures apart { (now : World) × IsLeft ⟦<Tables<MemStore> as Book>⟧.fails
+        (state [] (R.remaining reader.old.device) (W.contents writer.old.device) (opening operator))
+        (state [] (R.remaining reader.new.device) (W.contents writer.new.device) now) }
+    ensures reachable { (now : World) × LeavesReachable
+        (state [] (R.remaining reader.old.device) (W.contents writer.old.device) (opening operator))
+        (state [] (R.remaining reader.new.device) (W.contents writer.new.device) now) }
+    ensures refines { (now : World) × LeavesRefinedFromNone operator
+        (state [] (R.remaining reader.old.device) (W.contents writer.old.device) (opening operator))
+        (state [] (R.remaining reader.new.device) (W.contents writer.new.device) now) }
+{
+    // The reader says that the token has its bytes.
+    let _bytes = operator.as_bytes();
+    let store = Connection::open_in_memory(alloc)?;
+    let book = match Tables::create(alloc, store, operator) {
+        Ok(book) => book,
+        Err(refused) => return Err(unmade(refused.fault)),
+    };
+    let mut kept = Office::new(book);
+    run_office(alloc, &mut kept, reader, writer)
+}

@@ -1,0 +1,66 @@
+//! Whether reports add up.
+ghost use Rattle.std.specs.Prelude.{◌≡◌, ◌+◌, ◌<◌, ◌≤◌, ◌^◌, IfSome, IsNone, IsTrue, All};
+ghost use Rattle.mx_report.specs.Even.{IsEvenMember, IsEvenScheme, is_even_statement};
+
+use crate::reconciliation::Report;
+use mx_book::values::{Line, MemberTotals, Totals};
+
+/// What is left of a sum without three others. None where they are more.
+fn without(sum: u128, first: u128, second: u128, third: u128) -> Option<u128>
+    ensures some { IfSome result (λ left. left + first + second + third ≡ sum) }
+    ensures none { IsNone result → sum < first + second + third }
+{
+    sum.checked_sub(first)?
+        .checked_sub(second)?
+        .checked_sub(third)
+}
+
+/// Whether what was issued is held, under way, lost or redeemed.
+fn is_even_scheme(sums: &Totals) -> bool
+    ensures yes { IsTrue result → IsEvenScheme sums.now }
+    ensures no { IsEvenScheme sums.now → IsTrue result }
+{
+    match without(sums.issued, sums.balances, sums.transit, sums.lost) {
+        Some(left) => left == sums.redeemed,
+        None => false,
+    }
+}
+
+/// Whether what a member was granted, and what its purses redeemed, is left to it, to be collected or was issued. Sums that
+/// are no sums of books, and pass the largest u128 together, aren't.
+fn is_even_member(sums: &MemberTotals) -> bool
+    ensures yes { IsTrue result → IsEvenMember sums.now }
+    ensures no { sums.now.granted + sums.now.redeemed < 2 ^ 128 → IsEvenMember sums.now → IsTrue result }
+{
+    match sums.granted.checked_add(sums.redeemed) {
+        Some(sum) => without(sum, sums.float, sums.uncollected, sums.issued) == Some(0),
+        None => false,
+    }
+}
+
+impl Report {
+    /// Whether the sums of the scheme and of each member add up, as those of all books do that the office made.
+    pub fn is_even(&self) -> bool
+        ensures scheme { IsTrue result → IsEvenScheme self.now.scheme }
+        ensures members { IsTrue result → All (λ m. IsEvenMember m.1) self.now.members.items }
+    {
+        self.members.iter().all(|(_, sums)| is_even_member(sums)) && is_even_scheme(&self.scheme)
+    }
+}
+
+/// Whether the lines of a purse are numbered from 1 without gaps, and the last has this balance, which is 0 where there is
+/// none: as it is in all books that the office made.
+pub fn is_even_statement(lines: &[Line], balance: u64) -> bool
+    ensures { result ≡ is_even_statement lines.now balance }
+{
+    let mut number = 0;
+    let mut last = 0;
+    for line in lines {
+        number += 1;
+        if line.number != number {
+            return false;
+        }
+        last = line.balance;
+    }
+    last == balance
+}

@@ -1,0 +1,115 @@
+//! Scripts: requests in words, each with its response in words, as a line `WHO METHOD PATH BODY -> STATUS BODY`.
+use mx_book::Book;
+use mx_desk::Counted;
+use mx_desk::desk::run;
+use mx_office::Office;
+use mx_wire::Routes;
+use std::alloc::{AllocError, Global};
+use std::process::Abort;
+
+/// The response to a request that is given up.
+const UNAVAILABLE: &str = "503";
+
+/// The last digit of the token of who asks.
+fn digit_of(who: &str) -> &'static str {
+    match who {
+        "operator" => "1",
+        "clerk" => "2",
+        "ann" => "a",
+        _ => "b",
+    }
+}
+
+/// The bytes of a request, `WHO METHOD PATH BODY`.
+fn request_of(alloc: Global, request: &str) -> Result<String, AllocError> {
+    let mut words = request.splitn(4, ' ');
+    let digit = digit_of(words.next().unwrap_or(""));
+    let method = words.next().unwrap_or("");
+    let path = words.next().unwrap_or("");
+    let body = words.next().unwrap_or("");
+    format!(in alloc;
+        "{method} {path} HTTP/1.1\r\npurse-token: 0000000000000000000000000000000{digit}\r\ncontent-length: {}\r\n\r\n{body}",
+        body.len()
+    )
+}
+
+/// The words of a response, `STATUS BODY`.
+fn words_of(alloc: Global, response: &str) -> Option<String> {
+    let (head, body) = response.split_once("\r\n\r\n")?;
+    let mut words = head.splitn(3, ' ');
+    words.next()?;
+    let status = words.next()?;
+    if body.is_empty() {
+        return String::from_str(alloc, status).ok();
+    }
+    format!(in alloc; "{status} {body}").ok()
+}
+
+/// What an office answers to one request. None where there is no memory for it.
+fn answered(
+    alloc: Global,
+    routes: &Routes,
+    office: &mut Office<impl Book>,
+    request: &str,
+) -> Option<String> {
+    let bytes = request_of(alloc, request).ok()?;
+    let mut reader = Counted::new(bytes.as_bytes());
+    let mut writer = Counted::new(Vec::new(alloc));
+    run(alloc, &mut reader, &mut writer, routes, office).ok()?;
+    let response = writer.into_inner();
+    words_of(alloc, std::str::from_utf8(response.as_slice()).ok()?)
+}
+
+/// How many requests a script has.
+pub(super) fn length_of(script: &str) -> usize {
+    let mut count = 0usize;
+    for line in script.lines() {
+        if line.split_once(" -> ").is_some() {
+            count = count.saturating_add(1);
+        }
+    }
+    count
+}
+
+/// Serves the first requests of a script, at most so many, up to the first that is given up. Gives how many were
+/// answered, and asserts that each of them got its response. None where there is no memory for words.
+pub(super) fn serve(
+    rt: &(impl Abort + AllocGlobal),
+    routes: &Routes,
+    office: &mut Office<impl Book>,
+    script: &str,
+    most: usize,
+) -> Option<usize> {
+    let mut count = 0usize;
+    for line in script.lines() {
+        let Some((request, response)) = line.split_once(" -> ") else {
+            continue;
+        };
+        if count >= most {
+            break;
+        }
+        let words = answered(rt.alloc(), routes, office, request)?;
+        if words.as_str() == UNAVAILABLE {
+            break;
+        }
+        assert_eq!(rt; words.as_str(), response, "{request}");
+        count = count.saturating_add(1);
+    }
+    Some(count)
+}
+
+/// What an office answers to requests, a line each. None where there is no memory for it.
+pub(super) fn shown(
+    alloc: Global,
+    routes: &Routes,
+    office: &mut Office<impl Book>,
+    requests: &str,
+) -> Option<String> {
+    let mut all = String::new(alloc);
+    for request in requests.lines().filter(|line| !line.is_empty()) {
+        let words = answered(alloc, routes, office, request)?;
+        all.push_str(words.as_str()).ok()?;
+        all.push('\n').ok()?;
+    }
+    Some(all)
+}

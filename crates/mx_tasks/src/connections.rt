@@ -1,0 +1,97 @@
+//! Connections, one after another.
+ghost use Rattle.std.specs.Prelude.{◌≡◌, ◌≤◌, List, IfOk};
+ghost use Rattle.mx_book.specs.World.{World};
+ghost use Rattle.mx_desk.specs.Isolation.{Calls};
+ghost use Rattle.mx_desk.specs.Serve.{Marked};
+ghost use Rattle.mx_desk.specs.Steps.{Leads};
+ghost use Rattle.mx_office.specs.Reachable.{IsReachable};
+
+use crate::alarm::{Alarm, Alarmed};
+use crate::timed::Timed;
+use mx_book::Book;
+use mx_desk::Counted;
+use mx_desk::desk::serve_one;
+use mx_office::Office;
+use mx_wire::Routes;
+use std::io;
+use std::io::Read;
+use std::net::{Shutdown, TcpListener, TcpStream};
+use std::time::Duration;
+
+/// How many pieces of 4,096 bytes are read at most behind a response.
+const MOST_PIECES: u32 = 256;
+
+/// Reads what a client has sent behind its request, until it ends or its time is over, up to a bound.
+fn read_rest(mut stream: Timed<'_>) {
+    let mut piece = [0u8; 4096];
+    for _ in 0..MOST_PIECES {
+        match stream.read(&mut piece) {
+            Ok(0) | Err(_) => return,
+            Ok(_) => {}
+        }
+    }
+}
+
+/// Ends a connection. Bytes that are left unread when it is closed would make the system drop what of the response the
+/// client hasn't got yet. So where a response was written, that is ended first, and what the client has sent is read, for as
+/// long as a piece of it comes within a second, and for ten seconds at the most.
+fn end_connection(rt: &HostRuntime, stream: &TcpStream, is_answered: bool) {
+    if is_answered && stream.shutdown(Shutdown::Write).is_ok() {
+        read_rest(Timed::with_longest(rt, stream, Duration::from_secs(1)));
+    }
+}
+
+/// Answers the first request of a connection, and ends it. A fault of the connection ends it as well: the client has ten
+/// seconds for its request, and ten for taking the response.
+fn serve_connection<B: Book>(
+    rt: &HostRuntime,
+    stream: &TcpStream,
+    routes: &Routes,
+    alarm: &mut Alarm<'_>,
+    office: &mut Office<B>,
+)
+    ensures later { B.doubt office.old.book ≤ B.doubt office.new.book }
+    ensures apart { (w : World) → B.doubt office.new.book ≡ 0 → B.spells (B.rows office.old.book) w
+        → Leads (B.spells (B.rows office.new.book)) (λ now. (served : List Marked) × Calls w served now) }
+    ensures reachable { (w : World) → B.doubt office.new.book ≡ 0 → B.spells (B.rows office.old.book) w → IsReachable w
+        → Leads (B.spells (B.rows office.new.book)) IsReachable }
+{
+    let mut reader = Counted::new(Timed::new(rt, stream));
+    let mut writer = Counted::new(Alarmed::new(Timed::new(rt, stream), alarm));
+    let answer = serve_one(rt.alloc(), &mut reader, &mut writer, routes, office);
+    end_connection(rt, stream, answer.is_ok());
+}
+
+/// Serves so many connections, one after another: of each the first request alone. A fault of a connection ends that
+/// connection and no other. A client that is silent or slow holds the others up for ten seconds with its request, ten with
+/// the response and ten with what it sends behind its request, at the most. The first time that a request is given up because
+/// the store failed, a line on standard error says so. The answer is how many were served.
+///
+/// The connections keep holders apart (`apart`): the requests that were answered, all in order, are those of calls of the
+/// desk that follow one another. Of these the laws in `mx_desk::laws` say what each holder is told, and that the commands
+/// asked are operations of the abstract purses. From a World that commands lead to they end in such a World (`reachable`).
+///
+/// # Errors
+///
+/// That of the system where a connection can't be taken; those before it were served.
+pub fn serve_connections<B: Book>(
+    rt: &HostRuntime,
+    listener: &TcpListener,
+    count: u64,
+    routes: &Routes,
+    office: &mut Office<B>,
+) -> io::Result<u64>
+    ensures all { IfOk result (λ served. served ≡ count) }
+    ensures later { B.doubt office.old.book ≤ B.doubt office.new.book }
+    ensures apart { (w : World) → B.doubt office.new.book ≡ 0 → B.spells (B.rows office.old.book) w
+        → Leads (B.spells (B.rows office.new.book)) (λ now. (served : List Marked) × Calls w served now) }
+    ensures reachable { (w : World) → B.doubt office.new.book ≡ 0 → B.spells (B.rows office.old.book) w → IsReachable w
+        → Leads (B.spells (B.rows office.new.book)) IsReachable }
+{
+    let mut alarm = Alarm::new(rt);
+    'connections: for _ in 0..count {
+        let (stream, _) = listener.accept()?;
+        serve_connection(rt, &stream, routes, &mut alarm, office);
+    }
+    Ok(count)
+}

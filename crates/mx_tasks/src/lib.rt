@@ -1,0 +1,16 @@
+//! What the tasks of the program do, over any book, reader and writer.
+#![tactic(auto)]
+
+pub mod alarm;
+pub mod connections;
+pub mod fault;
+pub mod rolls;
+pub mod runs;
+pub mod teller;
+pub mod texts;
+pub mod timed;
+pub mod work;
+
+pub use alarm::{Alarm, Alarmed};
+pub use fault::TaskFault;
+pub use work::{Done, Work, do_work};
