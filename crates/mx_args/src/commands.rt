@@ -2,7 +2,8 @@
 ghost use Rattle.std.specs.Prelude.{◌≡◌, IfOk, codes, false};
 ghost use Rattle.clap.specs.Words.{app_of, new_app, rule_of};
 ghost use Rattle.clap.specs.declared.Command.TheViews.{out-Command};
-ghost use Rattle.mx_args.specs.Line.{flag_rule, import_app, init_app, line_app, migrate_app, option_rule, report_app, run_app, serve_app, word_rule};
+ghost use Rattle.mx_args.specs.Line.{flag_rule, option_rule, word_rule};
+ghost use Rattle.mx_args.specs.Line.{import_app, init_app, line_app, migrate_app, report_app, run_app, serve_app};
 
 use clap::{Arg, ArgAction, Command};
 use std::alloc::{AllocError, Global};

@@ -1,5 +1,6 @@
 //! The command line of the program.
-ghost use Rattle.std.specs.Prelude.{◌≡◌, ◌⊎◌, ℕ, List, Option, IfOk, IfSome, IsNone, OnErr, Ok, Err, map, option_map, codes};
+ghost use Rattle.std.specs.Prelude.{◌≡◌, ◌⊎◌, ℕ, List, Option, IfOk, IfSome, IsNone, OnErr, Ok, Err};
+ghost use Rattle.std.specs.Prelude.{codes, map, option_map};
 ghost use Rattle.std.specs.Option.{option_and_then};
 ghost use Rattle.clap.specs.Words.{first_of, found_of, kind_of, rows_of};
 ghost use Rattle.mx_pay.specs.Tokens.{token_of};

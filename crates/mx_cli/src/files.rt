@@ -256,8 +256,8 @@ pub fn over_file<R: Read, W: Outlet>(
 /// # Errors
 ///
 /// `File` where the file isn't there, isn't a database, can't be opened, another process has it open, or another file stands
-/// where its log belongs; `NotThisSchema` where it is empty or has no books of this version or the one before; `Store` where it has other tables, refuses a
-/// statement or can't be closed; `Memory`.
+/// where its log belongs; `NotThisSchema` where it is empty or has no books of this version or the one before; `Store` where
+/// it has other tables, refuses a statement or can't be closed; `Memory`.
 pub fn migrate_file(rt: &HostRuntime, path: &str) -> Result<Migrated, TaskFault> {
     let mut store = open_found(rt, path)?;
     let answer = match migrate(rt.alloc(), &mut store) {

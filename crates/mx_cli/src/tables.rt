@@ -8,7 +8,7 @@ ghost use Rattle.mx_desk.specs.Refinement.{LeavesRefinedFromNone};
 ghost use Rattle.mx_desk.specs.Serve.{ServedAll};
 ghost use Rattle.mx_desk.specs.Steps.{state, Faults};
 ghost use Rattle.mx_desk.specs.declared.fault.DeskFault.{DeskFault as Fault};
-ghost use Rattle.mx_tasks.specs.Faults.{fault_of};
+ghost use Rattle.mx_tasks.specs.Faults.{Untouched, fault_of};
 
 use crate::books::unmade;
 use mx_book::Book;
@@ -37,7 +37,8 @@ pub fn run_memory_tables<R: Read, W: Outlet>(
     ensures ok { IfOk result (λ n. IfSome (R.remaining reader.old.device) (λ b. (now : World)
         × ((out : List ℕ) × Appends (W.contents writer.old.device) (W.contents writer.new.device) out
         × ServedAll ⟦<Tables<MemStore> as Book>⟧.fails (opening operator) b out now n))) }
-    ensures fault { IfErr result (λ e. (((e ≡ TaskFault.Memory) ⊎ (e ≡ TaskFault.Store)) × (reader.new ≡ reader.old) × (writer.new ≡ writer.old))
+    ensures fault { IfErr result (λ e.
+        (((e ≡ TaskFault.Memory) ⊎ (e ≡ TaskFault.Store)) × Untouched reader.old reader.new writer.old writer.new)
         ⊎ ((d : Fault) × (e ≡ fault_of d) × ((now : World) × Faults ⟦<Tables<MemStore> as Book>⟧.fails
         (state [] (R.remaining reader.old.device) (W.contents writer.old.device) (opening operator)) d
         (state [] (R.remaining reader.new.device) (W.contents writer.new.device) now)))) }

@@ -1,9 +1,11 @@
 //! Whether reports add up.
-ghost use Rattle.std.specs.Prelude.{◌≡◌, ◌+◌, ◌<◌, ◌≤◌, ◌^◌, IfSome, IsNone, IsTrue, All};
-ghost use Rattle.mx_report.specs.Even.{IsEvenMember, IsEvenScheme, is_even_statement};
+ghost use Rattle.std.specs.Prelude.{◌≡◌, ◌+◌, ◌<◌, IfSome, IsNone};
+ghost use Rattle.std.specs.List.{list_all};
+ghost use Rattle.mx_report.specs.Even.{is_even_member, is_even_report, is_even_scheme, is_even_statement};
 
 use crate::reconciliation::Report;
 use mx_book::values::{Line, MemberTotals, Totals};
+use mx_pay::Name;
 
 /// What is left of a sum without three others. None where they are more.
 fn without(sum: u128, first: u128, second: u128, third: u128) -> Option<u128>
@@ -17,8 +19,7 @@ fn without(sum: u128, first: u128, second: u128, third: u128) -> Option<u128>
 
 /// Whether what was issued is held, under way, lost or redeemed.
 fn is_even_scheme(sums: &Totals) -> bool
-    ensures yes { IsTrue result → IsEvenScheme sums.now }
-    ensures no { IsEvenScheme sums.now → IsTrue result }
+    ensures { result ≡ is_even_scheme sums.now }
 {
     match without(sums.issued, sums.balances, sums.transit, sums.lost) {
         Some(left) => left == sums.redeemed,
@@ -29,8 +30,7 @@ fn is_even_scheme(sums: &Totals) -> bool
 /// Whether what a member was granted, and what its purses redeemed, is left to it, to be collected or was issued. Sums that
 /// are no sums of books, and pass the largest u128 together, aren't.
 fn is_even_member(sums: &MemberTotals) -> bool
-    ensures yes { IsTrue result → IsEvenMember sums.now }
-    ensures no { sums.now.granted + sums.now.redeemed < 2 ^ 128 → IsEvenMember sums.now → IsTrue result }
+    ensures { result ≡ is_even_member sums.now }
 {
     match sums.granted.checked_add(sums.redeemed) {
         Some(sum) => without(sum, sums.float, sums.uncollected, sums.issued) == Some(0),
@@ -38,13 +38,19 @@ fn is_even_member(sums: &MemberTotals) -> bool
     }
 }
 
+/// Whether the sums of each member add up.
+fn are_even_members(members: &[(Name, MemberTotals)]) -> bool
+    ensures { result ≡ list_all (λ m. is_even_member m.1) members.now }
+{
+    members.iter().all(|member| is_even_member(&member.1))
+}
+
 impl Report {
     /// Whether the sums of the scheme and of each member add up, as those of all books do that the office made.
     pub fn is_even(&self) -> bool
-        ensures scheme { IsTrue result → IsEvenScheme self.now.scheme }
-        ensures members { IsTrue result → All (λ m. IsEvenMember m.1) self.now.members.items }
+        ensures { result ≡ is_even_report self.now.members.items self.now.scheme }
     {
-        self.members.iter().all(|(_, sums)| is_even_member(sums)) && is_even_scheme(&self.scheme)
+        are_even_members(self.members.as_slice()) && is_even_scheme(&self.scheme)
     }
 }
 

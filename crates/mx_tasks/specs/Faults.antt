@@ -1,5 +1,5 @@
 -- The words of the program's faults, and which faults of the layers below they are.
-use Rattle.std.specs.Prelude.{ℕ, List, codes}
+use Rattle.std.specs.Prelude.{◌≡◌, ℕ, List, codes}
 use Rattle.mx_tasks.specs.declared.fault.TaskFault.{TaskFault}
 use Rattle.mx_tasks.specs.declared.fault.TaskFault.TheVariants.{Read, Write, Turns, Memory, Store, NotThisSchema, FileExists, File, Net, NoSuchPurse, Roll, RollTooLarge}
 use Rattle.mx_book.specs.declared.contract.StoreFault.{StoreFault}
@@ -39,3 +39,7 @@ abbrev pub roll_fault_of : RollFaultKind → TaskFault
 roll_fault_of roll.NotRoll = Roll
 roll_fault_of roll.Memory = Memory
 roll_fault_of roll.Store = Store
+
+-- nothing was read, and nothing written
+abbrev pub Untouched : {R W : Type 0} → R → R → W → W → Type 0
+Untouched reader reader' writer writer' = (reader' ≡ reader) × (writer' ≡ writer)

@@ -2,7 +2,7 @@
 ghost use Rattle.std.specs.Prelude.{◌≡◌, ◌≤◌, ◌+◌, ◌⊎◌, ℕ, List, [], Err, IfOk, IfErr, IfSome};
 ghost use Rattle.std.specs.Io.KnownBytes.{Appends};
 ghost use Rattle.mx_book.specs.World.{World, opening};
-ghost use Rattle.mx_tasks.specs.Faults.{fault_of};
+ghost use Rattle.mx_tasks.specs.Faults.{Untouched, fault_of};
 ghost use Rattle.mx_desk.specs.Conservation.{LeavesReachable};
 ghost use Rattle.mx_desk.specs.Devices.{capped};
 ghost use Rattle.mx_desk.specs.Isolation.{IsLeft};
@@ -40,10 +40,14 @@ pub fn run_office<R: Read, W: Outlet, B: Book>(
 ) -> Result<u64, TaskFault>
     ensures later { B.doubt office.old.book ≤ B.doubt office.new.book }
     ensures ok { (w : World) → B.doubt office.new.book ≡ 0 → B.spells (B.rows office.old.book) w
-        → IfOk result (λ n. IfSome (R.remaining reader.old.device) (λ b. Leads (B.spells (B.rows office.new.book)) (λ now.
-        (out : List ℕ) × Appends (W.contents writer.old.device) (W.contents writer.new.device) out × ServedAll B.fails w b out now n))) }
-    ensures fault { IfErr result (λ e. ((e ≡ TaskFault.Memory) × (office.new ≡ office.old) × (reader.new ≡ reader.old) × (writer.new ≡ writer.old))
-        ⊎ ((d : Fault) × (e ≡ fault_of d) × ((w : World) → B.doubt office.new.book ≡ 0 → B.spells (B.rows office.old.book) w
+        → IfOk result (λ n. IfSome (R.remaining reader.old.device) (λ b.
+        Leads (B.spells (B.rows office.new.book)) (λ now.
+        (out : List ℕ) × Appends (W.contents writer.old.device) (W.contents writer.new.device) out
+        × ServedAll B.fails w b out now n))) }
+    ensures fault { IfErr result (λ e.
+        ((e ≡ TaskFault.Memory) × (office.new ≡ office.old) × Untouched reader.old reader.new writer.old writer.new)
+        ⊎ ((d : Fault) × (e ≡ fault_of d)
+        × ((w : World) → B.doubt office.new.book ≡ 0 → B.spells (B.rows office.old.book) w
         → Leads (B.spells (B.rows office.new.book)) (λ now. Faults B.fails
         (state [] (R.remaining reader.old.device) (W.contents writer.old.device) w) d
         (state [] (R.remaining reader.new.device) (W.contents writer.new.device) now))))) }
@@ -88,7 +92,8 @@ pub fn run_memory<R: Read, W: Outlet>(
     ensures ok { IfOk result (λ n. IfSome (R.remaining reader.old.device) (λ b. (now : World)
         × ((out : List ℕ) × Appends (W.contents writer.old.device) (W.contents writer.new.device) out
         × ServedAll ⟦<PlainBook as Book>⟧.fails (opening operator) b out now n))) }
-    ensures fault { IfErr result (λ e. ((e ≡ TaskFault.Memory) × (reader.new ≡ reader.old) × (writer.new ≡ writer.old))
+    ensures fault { IfErr result (λ e.
+        ((e ≡ TaskFault.Memory) × Untouched reader.old reader.new writer.old writer.new)
         ⊎ ((d : Fault) × (e ≡ fault_of d) × ((now : World) × Faults ⟦<PlainBook as Book>⟧.fails
         (state [] (R.remaining reader.old.device) (W.contents writer.old.device) (opening operator)) d
         (state [] (R.remaining reader.new.device) (W.contents writer.new.device) now)))) }

@@ -1,8 +1,10 @@
 //! What the program prints of an import, and of the books.
-ghost use Rattle.std.specs.Prelude.{◌≡◌, ◌≢◌, ◌++◌, IfOk, Some, None, Err, string_bytes};
+ghost use Rattle.std.specs.Prelude.{◌≡◌, ◌≢◌, IfOk, Some, None, Err, string_bytes};
 ghost use Rattle.mx_book.specs.Keeps.{Keeps, Gives};
+ghost use Rattle.mx_book.specs.Reads.{account_of};
 ghost use Rattle.mx_book.specs.World.{World};
-ghost use Rattle.mx_tasks.specs.Texts.{counts_text, import_text, numbered_line, reason_text, report_of, row_line};
+ghost use Rattle.mx_tasks.specs.Texts.{Denies, Reports, counts_text, import_text, is_even_account};
+ghost use Rattle.mx_tasks.specs.Texts.{numbered_line, reason_text, row_line};
 
 use crate::fault::TaskFault;
 use mx_book::Book;
@@ -72,7 +74,7 @@ pub struct Reported {
 fn reconciliation<B: Book>(alloc: Global, book: &mut B) -> Result<Reported, TaskFault>
     ensures keeps { Keeps B.doubt B.rows B.leaves book.old book.new }
     ensures value { Gives B.doubt B.rows B.spells book.old book.new result
-        (λ w reported. report_of w None ≡ Some reported.text.items) }
+        (λ w. Reports w None) }
     ensures fault { result ≢ Err TaskFault.NoSuchPurse }
 {
     let report = reconcile(alloc, book)?;
@@ -89,6 +91,8 @@ fn has_balance<B: Book>(
     lines: &[Line],
 ) -> Result<bool, TaskFault>
     ensures keeps { Keeps B.doubt B.rows B.leaves book.old book.new }
+    ensures value { Gives B.doubt B.rows B.spells book.old book.new result
+        (λ w even. even ≡ is_even_account lines.now (account_of w purse)) }
     ensures fault { result ≢ Err TaskFault.NoSuchPurse }
 {
     match book.purse(alloc, purse)? {
@@ -101,8 +105,9 @@ fn has_balance<B: Book>(
 fn purse_statement<B: Book>(alloc: Global, book: &mut B, purse: Name) -> Result<Reported, TaskFault>
     ensures keeps { Keeps B.doubt B.rows B.leaves book.old book.new }
     ensures value { Gives B.doubt B.rows B.spells book.old book.new result
-        (λ w reported. report_of w (Some purse) ≡ Some reported.text.items) }
-    ensures none { (w : World) → B.doubt book.new ≡ 0 → B.spells (B.rows book.old) w → result ≡ Err TaskFault.NoSuchPurse → report_of w (Some purse) ≡ None }
+        (λ w. Reports w (Some purse)) }
+    ensures none { (w : World) → B.doubt book.new ≡ 0 → B.spells (B.rows book.old) w
+        → Denies w (Some purse) result }
 {
     let Some(lines) = statement(alloc, book, purse)? else {
         return Err(TaskFault::NoSuchPurse);
@@ -125,8 +130,9 @@ pub fn report_text<B: Book>(
 ) -> Result<Reported, TaskFault>
     ensures keeps { Keeps B.doubt B.rows B.leaves book.old book.new }
     ensures value { Gives B.doubt B.rows B.spells book.old book.new result
-        (λ w reported. report_of w purse ≡ Some reported.text.items) }
-    ensures none { (w : World) → B.doubt book.new ≡ 0 → B.spells (B.rows book.old) w → result ≡ Err TaskFault.NoSuchPurse → report_of w purse ≡ None }
+        (λ w. Reports w purse) }
+    ensures none { (w : World) → B.doubt book.new ≡ 0 → B.spells (B.rows book.old) w
+        → Denies w purse result }
 {
     match purse {
         Some(name) => purse_statement(alloc, book, name),

@@ -38,7 +38,7 @@ pub returns-clause-fault : goal.returns-clause-fault
 returns-clause-fault g c =
     let spelled : SpellsOne (state_of over_memory c.new-kept.result.book).now (opening c.args.operator) = rw c.new-kept.ensures (c.in-Ok.ensures.opens (no_worry c.in-Ok.book)) in
     IfErr-weaker c.run_office.result _ _ (λ e faults. elim faults [
-      | inl none ↦ inl (inl none.0, none.2, none.3)
+      | inl none ↦ inl (inl none.0, none.2)
       | inr some ↦ let led = some.2 (opening c.args.operator) (no_worry c.run_office.new.office.book) spelled in inr (some.0, some.1, (led.end, led.holds))
     ]) c.run_office.ensures.fault
 

@@ -16,7 +16,7 @@ pub returns-clause-fault : goal.returns-clause-fault
 returns-clause-fault g c =
     let spelled : Spells (rows_of c.new-office.result.book.shelves) (opening c.args.operator) = rw c.new-office.ensures c.new.ensures in
     IfErr-weaker c.run_office.result _ _ (λ e faults. elim faults [
-      | inl none ↦ inl (none.0, none.2, none.3)
+      | inl none ↦ inl (none.0, none.2)
       | inr some ↦ let led = some.2 (opening c.args.operator) refl spelled in inr (some.0, some.1, (led.end, led.holds))
     ]) c.run_office.ensures.fault
 
