@@ -4,15 +4,10 @@
 //! books come to, and `migrate` brings a file of the schema before to this one.
 #![tactic(auto)]
 
-pub mod books;
-pub mod files;
-pub mod perform;
-pub mod tables;
-
 use mx_args::{LineFault, Task, read_line};
 use mx_desk::Counted;
+use mx_files::perform::perform;
 use mx_tasks::{Alarm, Alarmed, TaskFault};
-use perform::perform;
 use std::alloc::{AllocError, Global};
 use std::io;
 use std::io::BufWriter;

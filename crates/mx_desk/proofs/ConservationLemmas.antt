@@ -20,12 +20,11 @@ use Rattle.mx_wire.specs.Replies.{Parts}
 use Rattle.mx_wire.specs.Routes.{route_of, class_of}
 use Rattle.mx_wire.specs.declared.routes.Route.{Route}
 use Rattle.mx_wire.proofs.ValueLemmas.{found, request_is}
-use Rattle.mx_desk.specs.Conservation.{NeverFull, LeavesReachable}
-use Rattle.mx_desk.specs.Isolation.{LeavesApart, asked_by, asked_of}
+use Rattle.mx_desk.specs.Conservation.{NeverFull}
+use Rattle.mx_desk.specs.Isolation.{asked_by, asked_of}
 use Rattle.mx_desk.specs.Requests.{Request}
 use Rattle.mx_desk.specs.Respond.{left, caller_of, is_of_class, after_body, after_caller, after_route, respond}
 use Rattle.mx_desk.specs.Serve.{Marked, world_after_one, world_after}
-use Rattle.mx_desk.specs.Steps.{State}
 
 -- ---- who asks, and what is asked
 
@@ -113,18 +112,10 @@ reachable_one w m from = by m.given_up
 
 -- ---- requests in order
 
-reachable_requests : (w : World) (ms : List Marked) → IsReachable w → IsReachable (world_after w ms)
+pub reachable_requests : (w : World) (ms : List Marked) → IsReachable w → IsReachable (world_after w ms)
 reachable_requests w [] from = from
 reachable_requests w (m ∷ ms) from = reachable_requests (world_after_one w m) ms (reachable_one w m from)
 
-never_full_requests : (w : World) (ms : List Marked) → IsReachable w → NeverFull w ms
+pub never_full_requests : (w : World) (ms : List Marked) → IsReachable w → NeverFull w ms
 never_full_requests w [] from = tt
 never_full_requests w (m ∷ ms) from = (λ c asked kept. never_full w c.0 c.1 from, never_full_requests (world_after_one w m) ms (reachable_one w m from))
-
--- what a call leaves that began with a World that commands lead to
-pub leaves_reachable : (s t : State) → LeavesApart s t → IsReachable s.world → LeavesReachable s t
-leaves_reachable s t x from = record {
-  left = x;
-  reachable = subst IsReachable (sym x.world) (reachable_requests s.world x.marked from);
-  never_full = never_full_requests s.world x.marked from;
-}

@@ -1,5 +1,5 @@
--- What a call of the desk leaves keeps holders apart, however it ends.
-use Rattle.std.proofs.Common.{◌≡◌, ℕ, inl, inr, List, [], ◌∷◌, ◌++◌, take, length, refl, sym, ap, subst, ◌∙◌, append_assoc, arith}
+-- What a call of the desk leaves, however it ends.
+use Rattle.std.proofs.Common.{◌≡◌, ℕ, ◌+◌, inl, inr, List, [], ◌∷◌, ◌++◌, take, length, refl, sym, ap, subst, ◌∙◌, append_assoc, arith}
 use Rattle.std.specs.Prelude.{Result, Ok, Err}
 use Rattle.std.proofs.lemmas.List.{append-nil, map-append, take_all}
 use Rattle.std.specs.Io.KnownBytes.{Appends, Consumes}
@@ -9,56 +9,53 @@ use Rattle.mx_desk.specs.declared.desk.Served.{Served}
 use Rattle.mx_desk.specs.declared.desk.Served.TheVariants as served
 use Rattle.mx_desk.specs.declared.fault.DeskFault.{DeskFault}
 use Rattle.mx_desk.specs.declared.fault.DeskFault.TheVariants as fault
+use Rattle.mx_desk.specs.Leaves.{IsWritten, Leaves, Serves, Runs}
 use Rattle.mx_desk.specs.Requests.{Whole, First}
 use Rattle.mx_desk.specs.Serve.{Marked, MayBeMarked, world_after_one, outputs, requests_of, response_to, stop_text}
-use Rattle.mx_desk.specs.Steps.{State, StepCase, Steps, Ran}
-use Rattle.mx_desk.specs.Isolation.{IsWritten, IsLeft}
-use Rattle.std.proofs.KnownBytes.{Appends-nil, Appends-trans, Consumes-nil, Consumes-trans}
+use Rattle.mx_desk.specs.Steps.{State, StepCase, Steps, Ran, answered_by, answered_in}
+use Rattle.std.proofs.KnownBytes.{Appends-trans, Consumes-trans}
+use Rattle.mx_desk.proofs.LawfulLemmas.{lawful_requests}
 use Rattle.mx_desk.proofs.RequestLemmas.{Begins-append, Begins-snoc}
-use Rattle.mx_desk.proofs.RunLemmas.{Ran-none, world_after-snoc, outputs-snoc, marks-snoc}
-use Rattle.mx_desk.proofs.ApartLemmas.{are_apart}
+use Rattle.mx_desk.proofs.RunLemmas.{Ran-none, world_after-snoc, outputs-snoc, marks-snoc, serves_nothing, serves_stopped}
 
 module _ (fails : StoreFault → Type 0) (s u t : State) (ms : List Marked) (ran : Ran fails s ms u) (came : List ℕ) (consumed : Consumes u.input t.input came) (pending : List ℕ) where
   abbrev all : List ℕ
   all = ran.came ++ came
 
   -- no request more was answered
-  no_more : (out : List ℕ) → Appends u.output t.output out → t.world ≡ u.world → IsWritten s.world ms (ran.out ++ out) → IsLeft fails s (record t { pending = pending })
-  no_more out wrote world written = (
-    record {
-      came = all;
-      out = ran.out ++ out;
-      consumed = Consumes-trans _ _ _ ran.came came ran.consumed consumed;
-      wrote = Appends-trans _ _ _ ran.out out ran.wrote wrote;
-      marked = ms;
-      rest = u.pending ++ came;
-      begins = rw (sym (append_assoc s.pending ran.came came)) (Begins-append (s.pending ++ ran.came) came (requests_of ms) u.pending ran.answered.begins);
-      written = written;
-      world = world ∙ ran.answered.world_is;
-      apart = are_apart s.world ms;
-    },
-    ran.answered.marks,
-  )
+  no_more : (out : List ℕ) → Appends u.output t.output out → t.world ≡ u.world → IsWritten s.world ms (ran.out ++ out) → Leaves fails s ms (ran.out ++ out) (record t { pending = pending })
+  no_more out wrote world written = record {
+    came = all;
+    rest = u.pending ++ came;
+    consumed = Consumes-trans _ _ _ ran.came came ran.consumed consumed;
+    wrote = Appends-trans _ _ _ ran.out out ran.wrote wrote;
+    begins = rw (sym (append_assoc s.pending ran.came came)) (Begins-append (s.pending ++ ran.came) came (requests_of ms) u.pending ran.answered.begins);
+    marks = ran.answered.marks;
+    written = written;
+    lawful = lawful_requests s.world t.world ms (world ∙ ran.answered.world_is);
+  }
+
+  -- the same, where a turn answered none
+  none_more : (out : List ℕ) → Appends u.output t.output out → t.world ≡ u.world → IsWritten s.world ms (ran.out ++ out) → (o : List ℕ) × Leaves fails s (ms ++ []) o (record t { pending = pending })
+  none_more out wrote world written = (ran.out ++ out, rw (append-nil ms) (no_more out wrote world written))
 
   -- one more was, and what was written of its response
   one_more : (m : Marked) (rest out : List ℕ) → First (u.pending ++ came) (Whole m.request rest) → MayBeMarked fails u.world m → Appends u.output t.output out → t.world ≡ world_after_one u.world m
-      → IsWritten s.world (ms ++ m ∷ []) (ran.out ++ out) → IsLeft fails s (record t { pending = pending })
+      → IsWritten s.world (ms ++ m ∷ []) (ran.out ++ out) → (o : List ℕ) × Leaves fails s (ms ++ m ∷ []) o (record t { pending = pending })
   one_more m rest out first marks wrote world written =
       let world_is = ran.answered.world_is in (
+        ran.out ++ out,
         record {
           came = all;
-          out = ran.out ++ out;
+          rest = rest;
           consumed = Consumes-trans _ _ _ ran.came came ran.consumed consumed;
           wrote = Appends-trans _ _ _ ran.out out ran.wrote wrote;
-          marked = ms ++ m ∷ [];
-          rest = rest;
           begins = rw (sym (append_assoc s.pending ran.came came), map-append) (
               Begins-snoc _ (requests_of ms) (u.pending ++ came) m.request rest (Begins-append (s.pending ++ ran.came) came (requests_of ms) u.pending ran.answered.begins) first);
+          marks = marks-snoc fails s.world ms m ran.answered.marks (rw world_is at marks);
           written = written;
-          world = world ∙ rw (world_after-snoc, world_is) refl;
-          apart = are_apart s.world (ms ++ m ∷ []);
+          lawful = lawful_requests s.world t.world (ms ++ m ∷ []) (world ∙ rw (world_after-snoc, world_is) refl);
         },
-        marks-snoc fails s.world ms m ran.answered.marks (rw world_is at marks),
       )
 
   -- nothing more was written, or the response to a fault of the input, or a part of it
@@ -79,26 +76,51 @@ module _ (fails : StoreFault → Type 0) (s u t : State) (ms : List Marked) (ran
   cut_short : (m : Marked) (count : ℕ) → IsWritten s.world (ms ++ m ∷ []) (ran.out ++ take count (response_to u.world m))
   cut_short m count = inr (inr (ms, m, count, refl, (λ i. ran.answered.out_is i ++ take count (response_to (ran.answered.world_is i) m))))
 
-  by_case : (r : Result Served DeskFault) → StepCase fails u (u.pending ++ came) r t → IsLeft fails s (record t { pending = pending })
-  by_case (Ok served.Nothing) c = no_more [] c.wrote c.world nothing_more
+  by_case : (r : Result Served DeskFault) (c : StepCase fails u (u.pending ++ came) r t) → (o : List ℕ) × Leaves fails s (ms ++ answered_by fails u (u.pending ++ came) t r c) o (record t { pending = pending })
+  by_case (Ok served.Nothing) c = none_more [] c.wrote c.world nothing_more
   by_case (Ok served.Answered) c = one_more c.marked t.pending (response_to u.world c.marked) c.first c.marks c.wrote c.world (inl (whole c.marked))
-  by_case (Ok served.Stopped) c = no_more (stop_text c.stop) c.wrote c.world (stopped_whole c.stop)
-  by_case (Err fault.Read) c = no_more [] c.wrote c.world nothing_more
-  by_case (Err fault.Turns) c = no_more [] c.wrote c.world nothing_more
+  by_case (Ok served.Stopped) c = none_more (stop_text c.stop) c.wrote c.world (stopped_whole c.stop)
+  by_case (Err fault.Read) c = none_more [] c.wrote c.world nothing_more
+  by_case (Err fault.Turns) c = none_more [] c.wrote c.world nothing_more
   by_case (Err fault.Write) (inl c) = one_more c.marked c.rest (take c.count (response_to u.world c.marked)) c.first c.marks c.wrote c.world (cut_short c.marked c.count)
-  by_case (Err fault.Write) (inr (inl c)) = no_more (take c.count (stop_text c.stop)) c.wrote c.world (stopped c.stop c.count)
-  by_case (Err fault.Write) (inr (inr c)) = no_more [] c.wrote c.world nothing_more
+  by_case (Err fault.Write) (inr (inl c)) = none_more (take c.count (stop_text c.stop)) c.wrote c.world (stopped c.stop c.count)
+  by_case (Err fault.Write) (inr (inr c)) = none_more [] c.wrote c.world nothing_more
 
--- after some requests, and a turn however it ends
-pub leaves : (fails : StoreFault → Type 0) (s u t : State) (ms : List Marked) (r : Result Served DeskFault) (pending : List ℕ) → Ran fails s ms u → Steps fails u r t → IsLeft fails s (record t { pending = pending })
-leaves fails s u t ms r pending ran step = by_case fails s u t ms ran step.came step.consumed pending r step.then
+-- one turn
+pub serves : (fails : StoreFault → Type 0) (s t : State) (r : Result Served DeskFault) (pending : List ℕ) → Steps fails s r t → Serves fails s r (record t { pending = pending })
+serves fails s t r pending turn =
+    let led = by_case fails s s t [] (Ran-none fails s) turn.came turn.consumed pending r turn.then in
+    record { left = t.pending; turn = turn; out = led.0; leaves = led.1 }
 
--- before any
-pub leaves_nothing : (fails : StoreFault → Type 0) (s : State) (pending : List ℕ) → IsLeft fails s (record s { pending = pending })
-leaves_nothing fails s pending =
-    let ran = Ran-none fails s in
-    no_more fails s s s [] ran [] (Consumes-nil _) pending [] (Appends-nil _) refl (nothing_more fails s s s [] ran [] (Consumes-nil _) pending)
+-- turns that answered, and one that ends the run
+pub runs_nothing : (fails : StoreFault → Type 0) (s u t : State) (ms : List Marked) (pending : List ℕ) → s.pending ≡ [] → Ran fails s ms u → Steps fails u (Ok served.Nothing) t → Runs fails s (Ok (length ms)) (record t { pending = pending })
+runs_nothing fails s u t ms pending fresh ran turn =
+    let c = turn.then in
+    let written = nothing_more fails s u t ms ran turn.came turn.consumed pending in
+    record {
+      marked = ms;
+      out = ran.out ++ [];
+      leaves = no_more fails s u t ms ran turn.came turn.consumed pending [] c.wrote c.world written;
+      ends = serves_nothing fails s u t ms fresh ran turn;
+    }
 
--- after one turn
-pub leaves_one : (fails : StoreFault → Type 0) (s t : State) (r : Result Served DeskFault) (pending : List ℕ) → Steps fails s r t → IsLeft fails s (record t { pending = pending })
-leaves_one fails s t r pending step = leaves fails s s t [] r pending (Ran-none fails s) step
+pub runs_stopped : (fails : StoreFault → Type 0) (s u t : State) (ms : List Marked) (pending : List ℕ) → s.pending ≡ [] → Ran fails s ms u → Steps fails u (Ok served.Stopped) t → Runs fails s (Ok (length ms + 1)) (record t { pending = pending })
+runs_stopped fails s u t ms pending fresh ran turn =
+    let c = turn.then in
+    let written = stopped_whole fails s u t ms ran turn.came turn.consumed pending c.stop in
+    record {
+      marked = ms;
+      out = ran.out ++ stop_text c.stop;
+      leaves = no_more fails s u t ms ran turn.came turn.consumed pending (stop_text c.stop) c.wrote c.world written;
+      ends = serves_stopped fails s u t ms fresh ran turn;
+    }
+
+pub runs_faulty : (fails : StoreFault → Type 0) (s u t : State) (ms : List Marked) (e : DeskFault) (pending : List ℕ) → Ran fails s ms u → Steps fails u (Err e) t → Runs fails s (Err e) (record t { pending = pending })
+runs_faulty fails s u t ms e pending ran turn =
+    let led = by_case fails s u t ms ran turn.came turn.consumed pending (Err e) turn.then in
+    record {
+      marked = ms ++ answered_in turn;
+      out = led.0;
+      leaves = led.1;
+      ends = record { before = ms; at = u; ran = ran; left = t.pending; turn = turn; all = refl };
+    }

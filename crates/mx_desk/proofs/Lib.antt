@@ -7,7 +7,8 @@ pub mod KnowsLemmas
 pub mod StepLemmas
 pub mod RunLemmas
 pub mod ApartLemmas
-pub mod LeavesLemmas
 pub mod LawLemmas
 pub mod ConservationLemmas
 pub mod RefinedLemmas
+pub mod LawfulLemmas
+pub mod LeavesLemmas

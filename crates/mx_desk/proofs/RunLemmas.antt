@@ -2,14 +2,14 @@
 use Rattle.std.proofs.Common.{◌≡◌, ℕ, ◌+◌, List, [], ◌∷◌, ◌++◌, length, Option, Some, None, refl, sym, ap, ◌∙◌, inl, append_assoc, arith}
 use Rattle.std.specs.Prelude.{Ok, Err, IfSome}
 use Rattle.std.proofs.lemmas.List.{append-nil, map-append, take_all}
-use Rattle.std.specs.Io.KnownBytes.{Appends, Consumes, Keeps, IsAtEnd}
+use Rattle.std.specs.Io.KnownBytes.{Consumes, Keeps, IsAtEnd}
 use Rattle.mx_book.specs.World.{World}
 use Rattle.mx_book.specs.declared.contract.StoreFault.{StoreFault}
 use Rattle.mx_desk.specs.declared.desk.Served.TheVariants as served
 use Rattle.mx_desk.specs.declared.fault.DeskFault.TheVariants as fault
-use Rattle.mx_desk.specs.Requests.{Nothing, Stops, First, none, nothing}
+use Rattle.mx_desk.specs.Requests.{Begins, Nothing, Stops, First, none, nothing}
 use Rattle.mx_desk.specs.Serve.{Marked, MayBeMarked, AllMayBeMarked, world_after_one, response_to, stop_text, world_after, outputs, requests_of, ServedAll}
-use Rattle.mx_desk.specs.Steps.{State, Steps, Ran, Leads}
+use Rattle.mx_desk.specs.Steps.{State, Steps, Ran}
 use Rattle.std.proofs.KnownBytes.{Appends-nil, Appends-trans, Appends-kept, Consumes-nil, Consumes-trans}
 use Rattle.mx_desk.proofs.RequestLemmas.{Begins-append, Begins-snoc}
 
@@ -67,63 +67,40 @@ module _ (fails : StoreFault → Type 0) where
   append_nil_parts [] b e = (refl, e)
   append_nil_parts (x ∷ a) b e = absurd (cc)
 
-  -- what a whole run says, where the reader tells its bytes and its buffer was empty
-  abbrev pub Serves : Option (List ℕ) → Option (List ℕ) → Option (List ℕ) → World → World → ℕ → Type 0
-  Serves input output after w now n = IfSome input (λ b. (out : List ℕ) × Appends output after out × ServedAll fails w b out now n)
-
-  pub serves_nothing : (s u t : State) (ms : List Marked) → s.pending ≡ [] → Ran fails s ms u → Steps fails u (Ok served.Nothing) t
-      → Serves s.input s.output t.output s.world t.world (length ms)
-  serves_nothing s u t ms fresh ran step = by s.input t.input (Consumes-trans _ _ _ ran.came step.came ran.consumed step.consumed) step.then.at_end
+  -- the whole input was served, where the buffer was empty
+  pub serves_nothing : (s u t : State) (ms : List Marked) → s.pending ≡ [] → (ran : Ran fails s ms u) → Steps fails u (Ok served.Nothing) t → ServedAll s.world s.input ms (ran.out ++ []) (length ms)
+  serves_nothing s u t ms fresh ran step = record {
+    end = Nothing;
+    is_end = tt;
+    out_is = ap (λ l. l ++ []) ran.answered.out_is;
+    count = omega arith;
+    all = by s.input t.input (Consumes-trans _ _ _ ran.came step.came ran.consumed step.consumed) step.then.at_end;
+  }
     where
-      by : (i j : Option (List ℕ)) → Consumes i j (ran.came ++ step.came) → IsAtEnd j → Serves i s.output t.output s.world t.world (length ms)
+      by : (i j : Option (List ℕ)) → Consumes i j (ran.came ++ step.came) → IsAtEnd j → IfSome i (λ b. (rest : List ℕ) × Begins b (requests_of ms) rest × First rest Nothing)
       by None j e f = tt
       by (Some b) None e f = absurd e
       by (Some b) (Some rest) e f =
           let parts = append_nil_parts u.pending step.came step.then.empty in
-          let all : b ≡ s.pending ++ ran.came = e ∙ rw (f, parts.1, fresh, append-nil (ran.came ++ []), append-nil ran.came) refl in (
-            ran.out ++ [],
-            Appends-trans _ _ _ ran.out [] ran.wrote step.then.wrote,
-            record {
-              marked = ms;
-              rest = u.pending;
-              end = Nothing;
-              whole = ran.out;
-              answered = rw (all, step.then.world) ran.answered;
-              first = rw parts.0 nothing;
-              is_end = tt;
-              out_is = refl;
-              count = omega arith;
-            },
-          )
+          let all : b ≡ s.pending ++ ran.came = e ∙ rw (f, parts.1, fresh, append-nil (ran.came ++ []), append-nil ran.came) refl in
+          (u.pending, rw all ran.answered.begins, rw parts.0 nothing)
 
-  pub serves_stopped : (s u t : State) (ms : List Marked) → s.pending ≡ [] → Ran fails s ms u → Steps fails u (Ok served.Stopped) t
-      → Serves s.input s.output t.output s.world t.world (length ms + 1)
-  serves_stopped s u t ms fresh ran step = by s.input t.input (Consumes-trans _ _ _ ran.came step.came ran.consumed step.consumed) step.then.first
+  pub serves_stopped : (s u t : State) (ms : List Marked) → s.pending ≡ [] → (ran : Ran fails s ms u) (step : Steps fails u (Ok served.Stopped) t) → ServedAll s.world s.input ms (ran.out ++ stop_text step.then.stop) (length ms + 1)
+  serves_stopped s u t ms fresh ran step = record {
+    end = Stops step.then.stop;
+    is_end = tt;
+    out_is = ap (λ l. l ++ stop_text step.then.stop) ran.answered.out_is;
+    count = refl;
+    all = by s.input t.input (Consumes-trans _ _ _ ran.came step.came ran.consumed step.consumed) step.then.first;
+  }
     where
-      by : (i j : Option (List ℕ)) → Consumes i j (ran.came ++ step.came) → IfSome j (λ rest. First ((u.pending ++ step.came) ++ rest) (Stops step.then.stop)) → Serves i s.output t.output s.world t.world (length ms + 1)
+      by : (i j : Option (List ℕ)) → Consumes i j (ran.came ++ step.came) → IfSome j (λ rest. First ((u.pending ++ step.came) ++ rest) (Stops step.then.stop))
+          → IfSome i (λ b. (rest : List ℕ) × Begins b (requests_of ms) rest × First rest (Stops step.then.stop))
       by None j e f = tt
       by (Some b) None e f = absurd e
       by (Some b) (Some rest) e f =
-          let all : b ≡ (s.pending ++ ran.came) ++ (step.came ++ rest) = e ∙ rw (fresh, append_assoc) refl in (
-            ran.out ++ stop_text step.then.stop,
-            Appends-trans _ _ _ ran.out (stop_text step.then.stop) ran.wrote step.then.wrote,
-            record {
-              marked = ms;
-              rest = u.pending ++ (step.came ++ rest);
-              end = Stops step.then.stop;
-              whole = ran.out;
-              answered = record {
-                begins = rw all (Begins-append (s.pending ++ ran.came) (step.came ++ rest) (requests_of ms) u.pending ran.answered.begins);
-                marks = ran.answered.marks;
-                out_is = ran.answered.out_is;
-                world_is = step.then.world ∙ ran.answered.world_is;
-              };
-              first = rw append_assoc at f;
-              is_end = tt;
-              out_is = refl;
-              count = refl;
-            },
-          )
+          let all : b ≡ (s.pending ++ ran.came) ++ (step.came ++ rest) = e ∙ rw (fresh, append_assoc) refl in
+          (u.pending ++ (step.came ++ rest), rw all (Begins-append (s.pending ++ ran.came) (step.came ++ rest) (requests_of ms) u.pending ran.answered.begins), rw append_assoc at f)
 
   -- ---- an answered request, and then a flush
 
@@ -153,8 +130,3 @@ module _ (fails : StoreFault → Type 0) where
           world = a.world;
         });
       }
-
--- a World that stands, where there are bytes
-pub leads_if : {X : Type 0} (Stands : World → Type 0) (P : X → World → Type 0) (i : Option X) (end : World) → Stands end → IfSome i (λ b. P b end) → IfSome i (λ b. Leads Stands (P b))
-leads_if Stands P None end stands h = tt
-leads_if Stands P (Some b) end stands h = record { end = end; stands = stands; holds = h }

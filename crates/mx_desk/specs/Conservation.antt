@@ -1,12 +1,10 @@
--- Commands lead to the World that a call leaves, and nothing is refused because something is full.
+-- Nothing that requests ask is refused because something is full.
 use Rattle.std.specs.Prelude.{◌≡◌, Bool, List, [], ◌∷◌, Some}
 use Rattle.mx_book.specs.World.{World}
 use Rattle.mx_office.specs.Conservation.{IsNeverFull}
-use Rattle.mx_office.specs.Reachable.{IsReachable}
 use Rattle.mx_office.specs.Step.{Asked, step}
-use Rattle.mx_desk.specs.Isolation.{LeavesApart, asked_of}
+use Rattle.mx_desk.specs.Isolation.{asked_of}
 use Rattle.mx_desk.specs.Serve.{Marked, world_after_one}
-use Rattle.mx_desk.specs.Steps.{State}
 
 -- the command that a request asks isn't refused because a purse or a float is full, unless the request is given up
 abbrev pub AsksNeverFull : World → Marked → Type 0
@@ -16,10 +14,3 @@ AsksNeverFull w m = (c : Asked) → asked_of w m.request ≡ Some c → m.given_
 abbrev pub NeverFull : World → List Marked → Type 0
 NeverFull w [] = Unit {0}
 NeverFull w (m ∷ ms) = AsksNeverFull w m × NeverFull (world_after_one w m) ms
-
--- holders were kept apart; commands lead to the World that is left; and no command that the requests ask was refused
--- because a purse or a float is full
-pub record LeavesReachable (s t : State) : Type 0 where
-  pub left : LeavesApart s t
-  pub reachable : IsReachable t.world
-  pub never_full : NeverFull s.world left.marked

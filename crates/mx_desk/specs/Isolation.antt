@@ -1,8 +1,6 @@
 -- What a holder sees of requests, and what that alone gives, byte for byte.
-use Rattle.std.specs.Prelude.{◌≡◌, ◌⊎◌, ℕ, Bool, true, false, List, [], ◌∷◌, ◌++◌, map, take, Option, Some, None, option_map, if◌then◌else◌}
+use Rattle.std.specs.Prelude.{◌≡◌, ℕ, Bool, true, false, List, [], ◌∷◌, ◌++◌, map, Option, Some, None, option_map, if◌then◌else◌}
 use Rattle.mx_book.specs.World.{World, Name}
-use Rattle.std.specs.Io.KnownBytes.{Appends, Consumes}
-use Rattle.mx_book.specs.declared.contract.StoreFault.{StoreFault}
 use Rattle.mx_book.specs.declared.values.Caller.{Caller}
 use Rattle.mx_office.specs.Step.{Asked, Course, ends, asks, base, course}
 use Rattle.mx_office.specs.Isolation.{Event, Holdings, for_holder, issued_event, put_event, on_holdings, after_event, cut}
@@ -15,11 +13,9 @@ use Rattle.mx_wire.specs.declared.replies.Fixed.TheVariants as fixed
 use Rattle.mx_wire.specs.declared.routes.Class.{Class}
 use Rattle.mx_wire.specs.declared.routes.Class.TheVariants as class
 use Rattle.mx_wire.specs.declared.routes.Route.{Route}
-use Rattle.mx_desk.specs.declared.head.Stop.{Stop}
-use Rattle.mx_desk.specs.Requests.{Request, Begins}
+use Rattle.mx_desk.specs.Requests.{Request}
 use Rattle.mx_desk.specs.Respond.{caller_of, is_of_class, is_head}
-use Rattle.mx_desk.specs.Serve.{Marked, AllMayBeMarked, world_after_one, world_after, response_to, outputs, requests_of, stop_text}
-use Rattle.mx_desk.specs.Steps.{State}
+use Rattle.mx_desk.specs.Serve.{Marked, world_after_one, world_after, response_to}
 
 -- ---- what is seen
 
@@ -120,37 +116,3 @@ told h w (m ∷ ms) = told_one h w m ++ told h (world_after_one w m) ms
 pub record IsApart (w : World) (h : Name) (ms : List Marked) : Type 0 where
   pub told : told h w ms ≡ (alone (cut w h) (seen h w ms)).replies
   pub accounts : cut (world_after w ms) h ≡ (alone (cut w h) (seen h w ms)).end
-
--- ---- what a call of the desk leaves
-
--- what was written: the responses to these requests; and then the response to a fault of the input, whole or cut; or the
--- last of their responses was cut
-abbrev pub IsWritten : World → List Marked → List ℕ → Type 0
-IsWritten w ms out =
-    (out ≡ outputs w ms)
-    ⊎ ((stop : Stop) × (count : ℕ) × (out ≡ outputs w ms ++ take count (stop_text stop)))
-    ⊎ ((before : List Marked) × (last : Marked) × (count : ℕ) × (ms ≡ before ++ last ∷ []) × (out ≡ outputs w before ++ take count (response_to (world_after w before) last)))
-
--- the first requests of what came in were answered, or given up; what was written are their responses; and they keep
--- each holder apart
-pub record LeavesApart (s t : State) : Type 0 where
-  pub came : List ℕ
-  pub out : List ℕ
-  pub consumed : Consumes s.input t.input came
-  pub wrote : Appends s.output t.output out
-  pub marked : List Marked
-  pub rest : List ℕ
-  pub begins : Begins (s.pending ++ came) (requests_of marked) rest
-  pub written : IsWritten s.world marked out
-  pub world : t.world ≡ world_after s.world marked
-  pub apart : (h : Name) → IsApart s.world h marked
-
--- and each of these requests has a mark that it may have, over a book whose reads may fail so
-abbrev pub IsLeft : (StoreFault → Type 0) → State → State → Type 0
-IsLeft fails s t = (x : LeavesApart s t) × AllMayBeMarked fails s.world x.marked
-
--- calls of the desk one after the other, as from connection to connection: each begins with the World that the one
--- before left, and these are the requests that they answered
-pub data Calls : World → List Marked → World → Type 0 where
-  none : {w : World} → Calls w [] w
-  then : {s t : State} {ms : List Marked} {end : World} → (first : LeavesApart s t) → Calls t.world ms end → Calls s.world (first.marked ++ ms) end

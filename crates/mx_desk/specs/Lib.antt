@@ -10,3 +10,4 @@ pub mod Knows
 pub mod Isolation
 pub mod Conservation
 pub mod Refinement
+pub mod Leaves

@@ -1,5 +1,5 @@
 -- What is written for a text, from a World.
-use Rattle.std.specs.Prelude.{◌≡◌, ℕ, ◌+◌, Bool, true, List, [], ◌∷◌, ◌++◌, length, map, if◌then◌else◌}
+use Rattle.std.specs.Prelude.{◌≡◌, ℕ, ◌+◌, Bool, true, List, [], ◌∷◌, ◌++◌, length, map, if◌then◌else◌, Option, IfSome}
 use Rattle.mx_book.specs.World.{World}
 use Rattle.mx_book.specs.declared.contract.StoreFault.{StoreFault}
 use Rattle.mx_wire.specs.Replies.{sent, unavailable, fixed_parts}
@@ -73,14 +73,11 @@ pub record Answered (fails : StoreFault → Type 0) (w : World) (b : List ℕ) (
   pub out_is : out ≡ outputs w ms
   pub world_is : now ≡ world_after w ms
 
--- all of b was served, with n responses
-pub record ServedAll (fails : StoreFault → Type 0) (w : World) (b : List ℕ) (out : List ℕ) (now : World) (n : ℕ) : Type 0 where
-  pub marked : List Marked
-  pub rest : List ℕ
+-- a whole input was served, with n responses: these requests are all that it has, and what was written are their responses
+-- and the response to its end
+pub record ServedAll (w : World) (input : Option (List ℕ)) (ms : List Marked) (out : List ℕ) (n : ℕ) : Type 0 where
   pub end : Next
-  pub whole : List ℕ
-  pub answered : Answered fails w b marked rest whole now
-  pub first : First rest end
   pub is_end : IsEnd end
-  pub out_is : out ≡ whole ++ end_text end
-  pub count : n ≡ length marked + end_count end
+  pub out_is : out ≡ outputs w ms ++ end_text end
+  pub count : n ≡ length ms + end_count end
+  pub all : IfSome input (λ b. (rest : List ℕ) × Begins b (requests_of ms) rest × First rest end)

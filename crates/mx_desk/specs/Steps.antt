@@ -1,5 +1,6 @@
 -- One turn of the desk, and what a fault leaves.
-use Rattle.std.specs.Prelude.{◌≡◌, ℕ, ◌<◌, ◌≤◌, ◌⊎◌, List, [], ◌++◌, length, take, Option, IfSome, Result, Ok, Err}
+use Rattle.std.specs.Prelude.{◌≡◌, ℕ, ◌<◌, ◌≤◌, ◌⊎◌, List, [], ◌∷◌, ◌++◌, length, take, Option, IfSome, Result, Ok, Err}
+use mathlib.Core.Logic.{inl}
 use Rattle.std.specs.Io.KnownBytes.{Appends, Consumes, IsAtEnd}
 use Rattle.mx_book.specs.World.{World}
 use Rattle.mx_book.specs.declared.contract.StoreFault.{StoreFault}
@@ -98,13 +99,23 @@ pub record Ran (fails : StoreFault → Type 0) (s : State) (marked : List Marked
   pub wrote : Appends s.output t.output out
   pub answered : Answered fails s.world (s.pending ++ came) marked t.pending out t.world
 
--- some requests were answered, and then that fault came
-pub record Faults (fails : StoreFault → Type 0) (s : State) (e : DeskFault) (t : State) : Type 0 where
-  pub marked : List Marked
-  pub before : State
-  pub ran : Ran fails s marked before
+-- the request that a turn answered, be the response whole or cut
+abbrev pub answered_by : (fails : StoreFault → Type 0) (s : State) (b : List ℕ) (t : State) (r : Result Served DeskFault) → StepCase fails s b r t → List Marked
+answered_by fails s b t (Ok served.Answered) c = c.marked ∷ []
+answered_by fails s b t (Err fault.Write) (inl c) = c.marked ∷ []
+answered_by fails s b t r c = []
+
+abbrev pub answered_in : {fails : StoreFault → Type 0} {s : State} {r : Result Served DeskFault} {t : State} → Steps fails s r t → List Marked
+answered_in {fails} {s} {r} {t} turn = answered_by fails s (s.pending ++ turn.came) t r turn.then
+
+-- these requests were answered, the last of them perhaps in the turn in which that fault came
+pub record Faults (fails : StoreFault → Type 0) (s : State) (ms : List Marked) (e : DeskFault) (t : State) : Type 0 where
+  pub before : List Marked
+  pub at : State
+  pub ran : Ran fails s before at
   pub left : List ℕ
-  pub then : Steps fails before (Err e) (record t { pending = left })
+  pub turn : Steps fails at (Err e) (record t { pending = left })
+  pub all : ms ≡ before ++ answered_in turn
 
 -- a World stands of which this holds
 pub record Leads (Stands : World → Type 0) (Holds : World → Type 0) : Type 0 where

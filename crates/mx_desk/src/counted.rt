@@ -103,6 +103,7 @@ impl<D: Write> Write for Counted<D> {
         ensures calls { self.new.calls ≡ capped (self.old.calls + 1) }
         ensures ok { IfOk result (λ n. n ≢ 0 → self.new.failures ≡ self.old.failures) }
         ensures none { IfOk result (λ n. n ≡ 0 → 0 < length buf.now → self.new.failures ≡ capped (self.old.failures + 1)) }
+        ensures nothing { IfOk result (λ n. n ≡ 0 → length buf.now ≡ 0 → self.new.failures ≡ self.old.failures) }
         ensures err { OnErr result (self.new.failures ≡ capped (self.old.failures + 1)) }
     {
         self.note_call();
@@ -119,6 +120,7 @@ impl<D: Write> Write for Counted<D> {
 
     fn flush(&mut self) -> io::Result<()>
         ensures bytes { Keeps (D.contents self.old.device) (D.contents self.new.device) }
+        ensures calls { self.new.calls ≡ self.old.calls }
         ensures failures { MatchResult result (λ _. self.new.failures ≡ self.old.failures) (λ _. self.new.failures ≡ capped (self.old.failures + 1)) }
     {
         let answer = self.device.flush();

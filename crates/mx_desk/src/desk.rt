@@ -2,16 +2,13 @@
 ghost use Rattle.std.specs.Prelude.{◌≡◌, ◌+◌, ◌*◌, ◌<◌, ◌≤◌, ℕ, List, [], Ok, Err, IfOk, OnOk, OnErr, IfErr, IfSome, ◌≢◌, length, take};
 ghost use Rattle.std.specs.Io.KnownBytes.{Appends, Keeps};
 ghost use Rattle.mx_book.specs.World.{World};
-ghost use Rattle.mx_office.specs.Reachable.{IsReachable};
 ghost use Rattle.mx_wire.specs.Replies.{unavailable};
-ghost use Rattle.mx_desk.specs.Conservation.{LeavesReachable};
 ghost use Rattle.mx_desk.specs.Devices.{capped};
 ghost use Rattle.mx_desk.specs.Found.{request_view};
-ghost use Rattle.mx_desk.specs.Isolation.{IsLeft};
 ghost use Rattle.mx_desk.specs.Knows.{Stands};
-ghost use Rattle.mx_desk.specs.Refinement.{LeavesRefined};
-ghost use Rattle.mx_desk.specs.Serve.{Marked, MayBeMarked, response_to, world_after_one, stop_text, stop_fixed, ServedAll};
-ghost use Rattle.mx_desk.specs.Steps.{state, Steps, Faults, Leads, IsReplied, IsCut};
+ghost use Rattle.mx_desk.specs.Leaves.{Runs, Serves};
+ghost use Rattle.mx_desk.specs.Serve.{Marked, MayBeMarked, response_to, world_after_one, stop_text, stop_fixed};
+ghost use Rattle.mx_desk.specs.Steps.{state, Steps, Leads, IsReplied, IsCut};
 
 use crate::answer::answer_request;
 use crate::callers::Callers;
@@ -176,13 +173,12 @@ fn serve_next<R: Read, W: Outlet, B: Book>(
 /// where a read failed, and then nothing was answered; or `Write` where a write or a flush failed or a write took nothing,
 /// and then the request stands as its response says, which may be cut.
 ///
-/// However it ends, it keeps holders apart (`apart`): for every holder, the bytes of the response, where the request is the
-/// holder's own, and what is the holder's own then, are those that what the holder sees of the request gives. A request
-/// that is given up is seen by nobody.
-///
-/// From a World that commands lead to it ends in such a World (`reachable`), and no command that the request asks is
-/// refused because a purse or a float is full. And the command that it asks is an operation of the abstract purses, in
-/// which a payment is one operation, for every choice of losses at the end (`refines`).
+/// However it ends, the request that it answered, if it answered one, is lawful (`serves`). It keeps holders apart: for every
+/// holder, the bytes of the response, where the request is the holder's own, and what is the holder's own then, are those
+/// that what the holder sees of the request gives. A request that is given up is seen by nobody. From a World that commands
+/// lead to it ends in such a World, and no command that the request asks is refused because a purse or a float is full. And
+/// the command that it asks is an operation of the abstract purses, in which a payment is one operation, for every choice of
+/// losses at the end.
 pub fn serve_one<R: Read, W: Outlet, B: Book>(
     alloc: Global,
     reader: &mut Counted<R>,
@@ -191,23 +187,10 @@ pub fn serve_one<R: Read, W: Outlet, B: Book>(
     office: &mut Office<B>,
 ) -> Result<Served, DeskFault>
     ensures later { B.doubt office.old.book ≤ B.doubt office.new.book }
-    ensures steps { (w : World) → B.doubt office.new.book ≡ 0 → B.spells (B.rows office.old.book) w
-        → Leads (B.spells (B.rows office.new.book)) (λ v. (left : List ℕ) × Steps B.fails
+    ensures serves { (w : World) → B.doubt office.new.book ≡ 0 → B.spells (B.rows office.old.book) w
+        → Leads (B.spells (B.rows office.new.book)) (λ now. Serves B.fails
         (state [] (R.remaining reader.old.device) (W.contents writer.old.device) w) result
-        (state left (R.remaining reader.new.device) (W.contents writer.new.device) v)) }
-    ensures apart { (w : World) → B.doubt office.new.book ≡ 0 → B.spells (B.rows office.old.book) w
-        → Leads (B.spells (B.rows office.new.book)) (λ v. IsLeft B.fails
-        (state [] (R.remaining reader.old.device) (W.contents writer.old.device) w)
-        (state [] (R.remaining reader.new.device) (W.contents writer.new.device) v)) }
-    ensures reachable { (w : World) → B.doubt office.new.book ≡ 0 → B.spells (B.rows office.old.book) w → IsReachable w
-        → Leads (B.spells (B.rows office.new.book)) (λ v. LeavesReachable
-        (state [] (R.remaining reader.old.device) (W.contents writer.old.device) w)
-        (state [] (R.remaining reader.new.device) (W.contents writer.new.device) v)) }
-    ensures refines { (w : World) → B.doubt office.new.book ≡ 0
-        → B.spells (B.rows office.old.book) w → IsReachable w
-        → Leads (B.spells (B.rows office.new.book)) (λ v. LeavesRefined
-        (state [] (R.remaining reader.old.device) (W.contents writer.old.device) w)
-        (state [] (R.remaining reader.new.device) (W.contents writer.new.device) v)) }
+        (state [] (R.remaining reader.new.device) (W.contents writer.new.device) now)) }
     ensures reads { (reads : ℕ) × (reads ≤ 12288) × (reader.new.calls ≡ capped (reader.old.calls + reads)) }
     ensures never { result ≢ Err DeskFault.Turns }
     ensures read_failed { result ≡ Err DeskFault.Read → reader.new.failures ≡ capped (reader.old.failures + 1) }
@@ -241,13 +224,12 @@ pub const MOST_READS: u64 = 1_000_000_000;
 /// answered; or `Write` where a write or a flush failed or a write took nothing, and then the last request stands as its
 /// response says, which may be cut.
 ///
-/// However it ends, it keeps holders apart (`apart`): for every holder, the responses to the holder's own requests, in
-/// order and byte for byte, and what is the holder's own in the end, are those that what the holder sees of the requests
-/// gives. Requests that are given up are seen by nobody; after `Write` the last response may be cut.
-///
-/// From a World that commands lead to it ends in such a World (`reachable`), and no command that a request asks is
-/// refused because a purse or a float is full. And the commands that the requests ask are operations of the abstract
-/// purses, in which a payment is one operation, for every choice of losses at the end (`refines`).
+/// However it ends, the requests that it answered are lawful (`runs`). They keep holders apart: for every holder, the
+/// responses to the holder's own requests, in order and byte for byte, and what is the holder's own in the end, are those
+/// that what the holder sees of the requests gives. Requests that are given up are seen by nobody; after `Write` the last
+/// response may be cut. From a World that commands lead to they lead to such a World, and no command that a request asks is
+/// refused because a purse or a float is full. And the commands that the requests ask are operations of the abstract purses,
+/// in which a payment is one operation, for every choice of losses at the end.
 pub fn run<R: Read, W: Outlet, B: Book>(
     alloc: Global,
     reader: &mut Counted<R>,
@@ -256,26 +238,10 @@ pub fn run<R: Read, W: Outlet, B: Book>(
     office: &mut Office<B>,
 ) -> Result<u64, DeskFault>
     ensures later { B.doubt office.old.book ≤ B.doubt office.new.book }
-    ensures ok { (w : World) → B.doubt office.new.book ≡ 0 → B.spells (B.rows office.old.book) w
-        → IfOk result (λ n. IfSome (R.remaining reader.old.device) (λ b. Leads (B.spells (B.rows office.new.book)) (λ now.
-        (out : List ℕ) × Appends (W.contents writer.old.device) (W.contents writer.new.device) out × ServedAll B.fails w b out now n))) }
-    ensures fault { (w : World) → B.doubt office.new.book ≡ 0 → B.spells (B.rows office.old.book) w
-        → IfErr result (λ e. Leads (B.spells (B.rows office.new.book)) (λ now. Faults B.fails
-        (state [] (R.remaining reader.old.device) (W.contents writer.old.device) w) e
-        (state [] (R.remaining reader.new.device) (W.contents writer.new.device) now))) }
-    ensures apart { (w : World) → B.doubt office.new.book ≡ 0 → B.spells (B.rows office.old.book) w
-        → Leads (B.spells (B.rows office.new.book)) (λ v. IsLeft B.fails
-        (state [] (R.remaining reader.old.device) (W.contents writer.old.device) w)
-        (state [] (R.remaining reader.new.device) (W.contents writer.new.device) v)) }
-    ensures reachable { (w : World) → B.doubt office.new.book ≡ 0 → B.spells (B.rows office.old.book) w → IsReachable w
-        → Leads (B.spells (B.rows office.new.book)) (λ v. LeavesReachable
-        (state [] (R.remaining reader.old.device) (W.contents writer.old.device) w)
-        (state [] (R.remaining reader.new.device) (W.contents writer.new.device) v)) }
-    ensures refines { (w : World) → B.doubt office.new.book ≡ 0
-        → B.spells (B.rows office.old.book) w → IsReachable w
-        → Leads (B.spells (B.rows office.new.book)) (λ v. LeavesRefined
-        (state [] (R.remaining reader.old.device) (W.contents writer.old.device) w)
-        (state [] (R.remaining reader.new.device) (W.contents writer.new.device) v)) }
+    ensures runs { (w : World) → B.doubt office.new.book ≡ 0 → B.spells (B.rows office.old.book) w
+        → Leads (B.spells (B.rows office.new.book)) (λ now. Runs B.fails
+        (state [] (R.remaining reader.old.device) (W.contents writer.old.device) w) result
+        (state [] (R.remaining reader.new.device) (W.contents writer.new.device) now)) }
     ensures reads { (reads : ℕ) × (reads ≤ 1000000000) × (reader.new.calls ≡ capped (reader.old.calls + reads)) }
     ensures turns { result ≡ Err DeskFault.Turns → reader.new.calls ≡ capped (reader.old.calls + 1000000000) }
     ensures read_failed { result ≡ Err DeskFault.Read → reader.new.failures ≡ capped (reader.old.failures + 1) }

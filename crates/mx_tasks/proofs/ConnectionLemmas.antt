@@ -1,21 +1,27 @@
--- Calls of the desk that follow one another.
-use Rattle.std.proofs.Common.{List, [], ◌++◌, sym, subst, append_assoc}
-use Rattle.std.proofs.lemmas.List.{append-nil}
+-- What is promised of requests holds of those of connections.
+use Rattle.std.proofs.Common.{ℕ, List, [], Ok, Err, refl, arith}
+use Rattle.std.specs.Prelude.{Result}
 use Rattle.mx_book.specs.World.{World}
-use Rattle.mx_desk.specs.Isolation.{Calls, LeavesApart, none, then}
+use Rattle.mx_book.specs.declared.contract.StoreFault.{StoreFault}
+use Rattle.mx_desk.specs.Leaves.{Lawful}
 use Rattle.mx_desk.specs.Serve.{Marked}
-use Rattle.mx_desk.specs.Steps.{State}
+use Rattle.mx_desk.proofs.LawfulLemmas.{lawful_requests, lawful_then}
+use Rattle.mx_tasks.specs.Connections.{Connections, ServesConnections, none, then, answered_on}
 
--- a call, and then others
-then_calls : (s t : State) (ms : List Marked) (u : World) (first : LeavesApart s t) → Calls t.world ms u → Calls s.world (first.marked ++ ms) u
-then_calls s t ms u first rest = then first rest
+pub connections_lawful : (fails : StoreFault → Type 0) (n : ℕ) (w now : World) (ms : List Marked) → Connections fails n w ms now → Lawful w ms now
+connections_lawful fails _ _ _ _ (none {w}) = lawful_requests w w [] refl
+connections_lawful fails _ _ _ _ (then {n} {w} {v} {now} {ms} before last) =
+    lawful_then w v now ms (answered_on last) (connections_lawful fails n w v ms before) last.serves.leaves.lawful
 
--- calls, and more of them
-pub calls_then : (w v u : World) (ms ns : List Marked) → Calls w ms v → Calls v ns u → Calls w (ms ++ ns) u
-calls_then w v u [] ns none more = more
-calls_then _ _ u _ ns (then {s} {t} {ms} {end} first rest) more =
-    subst (λ (l : List Marked). Calls s.world l u) (sym (append_assoc first.marked ms ns)) (then_calls s t (ms ++ ns) u first (calls_then t.world end u ms ns rest more))
+module _ {X Y E F : Type 0} (fails : StoreFault → Type 0) (w : World) (count : ℕ) where
+  -- connections that were served, and a fault then
+  pub faulty_served : (r : Result X E) (now : World) (e : F) → ServesConnections fails w count r now → ServesConnections {X = Y} {E = F} fails w count (Err e) now
+  faulty_served r now e x = record { taken = x.taken; most = x.most; all = tt; marked = x.marked; connections = x.connections; lawful = x.lawful }
 
--- one call
-pub one_call : (s t : State) (first : LeavesApart s t) → Calls s.world first.marked t.world
-one_call s t first = subst (λ (l : List Marked). Calls s.world l t.world) (append-nil first.marked) (then_calls s t [] t.world first none)
+  -- all of them, and what is said of it
+  pub all_served : (n : X) (now : World) (said : Y) → ServesConnections {X = X} {E = E} fails w count (Ok n) now → ServesConnections {X = Y} {E = F} fails w count (Ok said) now
+  all_served n now said x = record { taken = x.taken; most = x.most; all = x.all; marked = x.marked; connections = x.connections; lawful = x.lawful }
+
+-- none was served, and a fault came
+pub none_served : {X E : Type 0} (fails : StoreFault → Type 0) (w : World) (count : ℕ) (e : E) → ServesConnections {X = X} {E = E} fails w count (Err e) w
+none_served fails w count e = record { taken = 0; most = omega arith; all = tt; marked = []; connections = none; lawful = lawful_requests w w [] refl }

@@ -1,2 +1,5 @@
 pub mod Faults
 pub mod Texts
+pub mod Runs
+pub mod Connections
+pub mod Works

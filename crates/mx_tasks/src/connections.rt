@@ -1,10 +1,8 @@
 //! Connections, one after another.
-ghost use Rattle.std.specs.Prelude.{◌≡◌, ◌≤◌, List, IfOk};
+ghost use Rattle.std.specs.Prelude.{◌≡◌, ◌≤◌, IfOk};
 ghost use Rattle.mx_book.specs.World.{World};
-ghost use Rattle.mx_desk.specs.Isolation.{Calls};
-ghost use Rattle.mx_desk.specs.Serve.{Marked};
 ghost use Rattle.mx_desk.specs.Steps.{Leads};
-ghost use Rattle.mx_office.specs.Reachable.{IsReachable};
+ghost use Rattle.mx_tasks.specs.Connections.{Connects, ServesConnections};
 
 use crate::alarm::{Alarm, Alarmed};
 use crate::timed::Timed;
@@ -51,10 +49,8 @@ fn serve_connection<B: Book>(
     office: &mut Office<B>,
 )
     ensures later { B.doubt office.old.book ≤ B.doubt office.new.book }
-    ensures apart { (w : World) → B.doubt office.new.book ≡ 0 → B.spells (B.rows office.old.book) w
-        → Leads (B.spells (B.rows office.new.book)) (λ now. (served : List Marked) × Calls w served now) }
-    ensures reachable { (w : World) → B.doubt office.new.book ≡ 0 → B.spells (B.rows office.old.book) w → IsReachable w
-        → Leads (B.spells (B.rows office.new.book)) IsReachable }
+    ensures serves { (w : World) → B.doubt office.new.book ≡ 0 → B.spells (B.rows office.old.book) w
+        → Leads (B.spells (B.rows office.new.book)) (Connects B.fails w) }
 {
     let mut reader = Counted::new(Timed::new(rt, stream));
     let mut writer = Counted::new(Alarmed::new(Timed::new(rt, stream), alarm));
@@ -62,14 +58,24 @@ fn serve_connection<B: Book>(
     end_connection(rt, stream, answer.is_ok());
 }
 
+/// Listens on a port of 127.0.0.1, and on no other address of the machine. With 0 the system chooses the port.
+///
+/// # Errors
+///
+/// That of the system where the port can't be listened on.
+pub fn listen(rt: &HostRuntime, port: u16) -> io::Result<TcpListener> {
+    TcpListener::bind(rt, ("127.0.0.1", port))
+}
+
 /// Serves so many connections, one after another: of each the first request alone. A fault of a connection ends that
 /// connection and no other. A client that is silent or slow holds the others up for ten seconds with its request, ten with
 /// the response and ten with what it sends behind its request, at the most. The first time that a request is given up because
 /// the store failed, a line on standard error says so. The answer is how many were served.
 ///
-/// The connections keep holders apart (`apart`): the requests that were answered, all in order, are those of calls of the
-/// desk that follow one another. Of these the laws in `mx_desk::laws` say what each holder is told, and that the commands
-/// asked are operations of the abstract purses. From a World that commands lead to they end in such a World (`reachable`).
+/// Each connection begins with the World that the one before left, and at most one request of it is answered. All that is
+/// promised of requests holds of those that were answered, in order (`serves`): they keep holders apart; from a World that
+/// commands lead to they lead to such a World, and nothing that they ask is refused because a purse or a float is full; and
+/// the commands that they ask are operations of the abstract purses.
 ///
 /// # Errors
 ///
@@ -83,10 +89,8 @@ pub fn serve_connections<B: Book>(
 ) -> io::Result<u64>
     ensures all { IfOk result (λ served. served ≡ count) }
     ensures later { B.doubt office.old.book ≤ B.doubt office.new.book }
-    ensures apart { (w : World) → B.doubt office.new.book ≡ 0 → B.spells (B.rows office.old.book) w
-        → Leads (B.spells (B.rows office.new.book)) (λ now. (served : List Marked) × Calls w served now) }
-    ensures reachable { (w : World) → B.doubt office.new.book ≡ 0 → B.spells (B.rows office.old.book) w → IsReachable w
-        → Leads (B.spells (B.rows office.new.book)) IsReachable }
+    ensures serves { (w : World) → B.doubt office.new.book ≡ 0 → B.spells (B.rows office.old.book) w
+        → Leads (B.spells (B.rows office.new.book)) (ServesConnections B.fails w count result) }
 {
     let mut alarm = Alarm::new(rt);
     'connections: for _ in 0..count {

@@ -1,12 +1,16 @@
 //! Rolls: the file, and its import into the books.
-ghost use Rattle.std.specs.Prelude.{◌≤◌, IfOk, vec_len};
+ghost use Rattle.std.specs.Prelude.{◌≡◌, ◌≤◌, IfOk, vec_len};
+ghost use Rattle.mx_book.specs.World.{World};
+ghost use Rattle.mx_office.specs.Reachable.{IsReachable, StandsBalanced};
+ghost use Rattle.mx_tasks.specs.Works.{Imports, ImportsFile, IsText};
 
 use crate::fault::TaskFault;
 use crate::teller::Teller;
 use crate::texts::import_text;
 use mx_book::Book;
 use mx_office::Office;
-use mx_report::import_roll_telling;
+use mx_report::{Progress, import_roll_telling};
+use std::alloc::Global;
 use std::io::{ErrorKind, Read};
 use std::{fs, io};
 
@@ -44,22 +48,46 @@ pub fn read_roll(rt: &HostRuntime, path: &str) -> Result<Vec<u8>, TaskFault>
     Ok(bytes)
 }
 
+/// Imports a roll, and gives the lines that report it.
+///
+/// # Errors
+///
+/// `Roll` where the bytes are no roll, `Memory`, or a fault of the book: the rows before it are imported. `Memory` also where
+/// the roll is imported and there is none for the lines.
+pub fn import_over<B: Book, P: Progress>(
+    alloc: Global,
+    office: &mut Office<B>,
+    bytes: &[u8],
+    progress: &mut P,
+) -> Result<String, TaskFault>
+    ensures later { B.doubt office.old.book ≤ B.doubt office.new.book }
+    ensures imports { (w : World) → B.doubt office.new.book ≡ 0 → B.spells (B.rows office.old.book) w
+        → Imports (B.spells (B.rows office.new.book)) w bytes.now IsText result }
+    ensures reachable { (w : World) → B.doubt office.new.book ≡ 0 → B.spells (B.rows office.old.book) w → IsReachable w
+        → StandsBalanced (B.spells (B.rows office.new.book)) }
+{
+    let report = import_roll_telling(alloc, office, bytes, progress)?;
+    let lines = import_text(alloc, &report)?;
+    Ok(lines)
+}
+
 /// Imports the roll in a file, and gives the lines that report it. While it is under way, a terminal is told how far it is.
 ///
 /// # Errors
 ///
-/// Those of `read_roll`, and then nothing is imported; `Roll` where the bytes are no roll, `Memory`, or a fault of the book:
-/// the rows before it are imported.
+/// Those of `read_roll`, and then nothing is imported; and those of `import_over`.
 pub fn import_from<B: Book>(
     rt: &HostRuntime,
     path: &str,
     office: &mut Office<B>,
-) -> Result<String, TaskFault> {
+) -> Result<String, TaskFault>
+    ensures later { B.doubt office.old.book ≤ B.doubt office.new.book }
+    ensures imports { (w : World) → B.doubt office.new.book ≡ 0 → B.spells (B.rows office.old.book) w
+        → ImportsFile (B.spells (B.rows office.new.book)) w IsText result }
+{
     let bytes = read_roll(rt, path)?;
     let mut teller = Teller::new(rt);
-    let answer = import_roll_telling(rt.alloc(), office, bytes.as_slice(), &mut teller);
+    let answer = import_over(rt.alloc(), office, bytes.as_slice(), &mut teller);
     teller.end();
-    let report = answer?;
-    let lines = import_text(rt.alloc(), &report)?;
-    Ok(lines)
+    answer
 }

@@ -1,16 +1,10 @@
 //! What the program does for a run: requests from a reader, responses to a writer.
-ghost use Rattle.std.specs.Prelude.{◌≡◌, ◌≤◌, ◌+◌, ◌⊎◌, ℕ, List, [], Err, IfOk, IfErr, IfSome};
-ghost use Rattle.std.specs.Io.KnownBytes.{Appends};
+ghost use Rattle.std.specs.Prelude.{◌≡◌, ◌≤◌, [], Err, IfErr};
 ghost use Rattle.mx_book.specs.World.{World, opening};
-ghost use Rattle.mx_tasks.specs.Faults.{Untouched, fault_of};
-ghost use Rattle.mx_desk.specs.Conservation.{LeavesReachable};
-ghost use Rattle.mx_desk.specs.Devices.{capped};
-ghost use Rattle.mx_desk.specs.Isolation.{IsLeft};
-ghost use Rattle.mx_desk.specs.Refinement.{LeavesRefined, LeavesRefinedFromNone};
-ghost use Rattle.mx_desk.specs.Serve.{ServedAll};
-ghost use Rattle.mx_desk.specs.Steps.{state, Faults, Leads};
-ghost use Rattle.mx_desk.specs.declared.fault.DeskFault.{DeskFault as Fault};
+ghost use Rattle.mx_desk.specs.Steps.{state, Leads};
 ghost use Rattle.mx_office.specs.Reachable.{IsReachable};
+ghost use Rattle.mx_tasks.specs.Faults.{Untouched};
+ghost use Rattle.mx_tasks.specs.Runs.{IsRunFault, TaskRuns};
 
 use crate::fault::TaskFault;
 use mx_book::{Book, PlainBook};
@@ -27,11 +21,10 @@ use std::io::Read;
 /// failed, `Turns` where 1,000,000,000 reads didn't reach the end of the input, `Write` where a response couldn't be
 /// written or flushed.
 ///
-/// What is said of the bytes holds where the office's rows spell a World, and its book has no doubt in the end. Then,
-/// however it ends, it keeps holders apart (`apart`); and from a World that commands lead to it ends in such a World
-/// (`reachable`), and no command that a request asks is refused because a purse or a float is full. And the commands that the
-/// requests ask are operations of the abstract purses, in which a payment is one operation, for every choice of losses at
-/// the end (`refines`).
+/// What is said of the bytes holds where the office's rows spell a World, and its book has no doubt in the end. Then it is a
+/// run of the desk (`runs`): however it ends, the requests that it answered keep holders apart; from a World that commands
+/// lead to they lead to such a World, and no command that they ask is refused because a purse or a float is full; and what
+/// they ask are operations of the abstract purses, in which a payment is one operation, for every choice of losses at the end.
 pub fn run_office<R: Read, W: Outlet, B: Book>(
     alloc: Global,
     office: &mut Office<B>,
@@ -39,30 +32,12 @@ pub fn run_office<R: Read, W: Outlet, B: Book>(
     writer: &mut Counted<W>,
 ) -> Result<u64, TaskFault>
     ensures later { B.doubt office.old.book ≤ B.doubt office.new.book }
-    ensures ok { (w : World) → B.doubt office.new.book ≡ 0 → B.spells (B.rows office.old.book) w
-        → IfOk result (λ n. IfSome (R.remaining reader.old.device) (λ b.
-        Leads (B.spells (B.rows office.new.book)) (λ now.
-        (out : List ℕ) × Appends (W.contents writer.old.device) (W.contents writer.new.device) out
-        × ServedAll B.fails w b out now n))) }
-    ensures fault { IfErr result (λ e.
-        ((e ≡ TaskFault.Memory) × (office.new ≡ office.old) × Untouched reader.old reader.new writer.old writer.new)
-        ⊎ ((d : Fault) × (e ≡ fault_of d)
-        × ((w : World) → B.doubt office.new.book ≡ 0 → B.spells (B.rows office.old.book) w
-        → Leads (B.spells (B.rows office.new.book)) (λ now. Faults B.fails
-        (state [] (R.remaining reader.old.device) (W.contents writer.old.device) w) d
-        (state [] (R.remaining reader.new.device) (W.contents writer.new.device) now))))) }
-    ensures apart { (w : World) → B.doubt office.new.book ≡ 0 → B.spells (B.rows office.old.book) w
-        → Leads (B.spells (B.rows office.new.book)) (λ now. IsLeft B.fails
-        (state [] (R.remaining reader.old.device) (W.contents writer.old.device) w)
-        (state [] (R.remaining reader.new.device) (W.contents writer.new.device) now)) }
-    ensures reachable { (w : World) → B.doubt office.new.book ≡ 0 → B.spells (B.rows office.old.book) w → IsReachable w
-        → Leads (B.spells (B.rows office.new.book)) (λ now. LeavesReachable
-        (state [] (R.remaining reader.old.device) (W.contents writer.old.device) w)
-        (state [] (R.remaining reader.new.device) (W.contents writer.new.device) now)) }
-    ensures refines { (w : World) → B.doubt office.new.book ≡ 0
-        → B.spells (B.rows office.old.book) w → IsReachable w
-        → Leads (B.spells (B.rows office.new.book)) (λ now. LeavesRefined
-        (state [] (R.remaining reader.old.device) (W.contents writer.old.device) w)
+    ensures unbegun { result ≡ Err TaskFault.Memory → (office.new ≡ office.old)
+        × Untouched reader.old reader.new writer.old writer.new }
+    ensures fault { IfErr result IsRunFault }
+    ensures runs { (w : World) → B.doubt office.new.book ≡ 0 → B.spells (B.rows office.old.book) w
+        → Leads (B.spells (B.rows office.new.book)) (λ now. TaskRuns B.fails
+        (state [] (R.remaining reader.old.device) (W.contents writer.old.device) w) result
         (state [] (R.remaining reader.new.device) (W.contents writer.new.device) now)) }
 {
     let routes = Routes::new(alloc)?;
@@ -75,36 +50,23 @@ pub fn run_office<R: Read, W: Outlet, B: Book>(
 /// was read or written; or that of the desk: `Read` where a read failed, `Turns` where 1,000,000,000 reads didn't reach
 /// the end of the input, `Write` where a response couldn't be written or flushed.
 ///
-/// However it ends, it keeps holders apart (`apart`): for every holder, the responses to the holder's own requests, in
-/// order and byte for byte, are those that what the holder sees of the requests gives; after `Write` the last may be cut.
-///
-/// It ends in a World that commands lead to (`reachable`), and no command that a request asks is refused because a purse or
-/// a float is full.
-///
-/// Whatever bytes came in, and for every choice of losses at the end, operations of the abstract purses lead from no purses
-/// to what the World at the end is there (`refines`): one for each command that the requests asked, a payment being one.
+/// It is a run of the desk from the World that has nothing but that token (`runs`), to which commands lead (`begins`). However
+/// it ends, it keeps holders apart: for every holder, the responses to the holder's own requests, in order and byte for byte,
+/// are those that what the holder sees of the requests gives; after `Write` the last may be cut. It ends in a World that
+/// commands lead to, and no command that a request asks is refused because a purse or a float is full. Whatever bytes came
+/// in, and for every choice of losses at the end, operations of the abstract purses lead from no purses to what the World at
+/// the end is there: one for each command that the requests asked, a payment being one.
 pub fn run_memory<R: Read, W: Outlet>(
     alloc: Global,
     operator: Token,
     reader: &mut Counted<R>,
     writer: &mut Counted<W>,
 ) -> Result<u64, TaskFault>
-    ensures ok { IfOk result (λ n. IfSome (R.remaining reader.old.device) (λ b. (now : World)
-        × ((out : List ℕ) × Appends (W.contents writer.old.device) (W.contents writer.new.device) out
-        × ServedAll ⟦<PlainBook as Book>⟧.fails (opening operator) b out now n))) }
-    ensures fault { IfErr result (λ e.
-        ((e ≡ TaskFault.Memory) × Untouched reader.old reader.new writer.old writer.new)
-        ⊎ ((d : Fault) × (e ≡ fault_of d) × ((now : World) × Faults ⟦<PlainBook as Book>⟧.fails
-        (state [] (R.remaining reader.old.device) (W.contents writer.old.device) (opening operator)) d
-        (state [] (R.remaining reader.new.device) (W.contents writer.new.device) now)))) }
-    ensures apart { (now : World) × IsLeft ⟦<PlainBook as Book>⟧.fails
-        (state [] (R.remaining reader.old.device) (W.contents writer.old.device) (opening operator))
-        (state [] (R.remaining reader.new.device) (W.contents writer.new.device) now) }
-    ensures reachable { (now : World) × LeavesReachable
-        (state [] (R.remaining reader.old.device) (W.contents writer.old.device) (opening operator))
-        (state [] (R.remaining reader.new.device) (W.contents writer.new.device) now) }
-    ensures refines { (now : World) × LeavesRefinedFromNone operator
-        (state [] (R.remaining reader.old.device) (W.contents writer.old.device) (opening operator))
+    ensures unbegun { result ≡ Err TaskFault.Memory → Untouched reader.old reader.new writer.old writer.new }
+    ensures fault { IfErr result IsRunFault }
+    ensures begins { IsReachable (opening operator) }
+    ensures runs { (now : World) × TaskRuns ⟦<PlainBook as Book>⟧.fails
+        (state [] (R.remaining reader.old.device) (W.contents writer.old.device) (opening operator)) result
         (state [] (R.remaining reader.new.device) (W.contents writer.new.device) now) }
 {
     // The reader says that the token has its bytes.

@@ -1,5 +1,13 @@
 //! What is done over the books in a file.
-use crate::connections::serve_connections;
+ghost use Rattle.std.specs.Prelude.{◌≡◌, ◌≤◌, ◌⊎◌, [], IfOk, string_bytes};
+ghost use Rattle.mx_book.specs.Keeps.{Keeps};
+ghost use Rattle.mx_book.specs.World.{World};
+ghost use Rattle.mx_desk.specs.Steps.{state, Leads};
+ghost use Rattle.mx_tasks.specs.Faults.{Untouched};
+ghost use Rattle.mx_tasks.specs.Works.{ImportsFile, IsSaid, Works, WorksReport, WorksRun, WorksServe, served_text};
+ghost use Rattle.mx_tasks.specs.declared.work.Work.TheVariants.{Run};
+
+use crate::connections::{listen, serve_connections};
 use crate::fault::TaskFault;
 use crate::rolls::import_from;
 use crate::runs::run_office;
@@ -42,12 +50,17 @@ pub struct Done {
 }
 
 /// This text, and no fault.
-fn said(text: Vec<u8>) -> Done {
+fn said(text: Vec<u8>) -> Done
+    ensures { IsSaid text.items result }
+{
     Done { text, fault: None }
 }
 
 /// What the books come to, or the statement of a purse.
-fn report<B: Book>(alloc: Global, book: &mut B, purse: Option<Name>) -> Result<Done, TaskFault> {
+fn report<B: Book>(alloc: Global, book: &mut B, purse: Option<Name>) -> Result<Done, TaskFault>
+    ensures keeps { Keeps B.doubt B.rows B.leaves book.old book.new }
+    ensures reports { (w : World) → B.doubt book.new ≡ 0 → B.spells (B.rows book.old) w → WorksReport w purse result }
+{
     let reported = report_text(alloc, book, purse)?;
     Ok(Done {
         text: reported.text,
@@ -56,32 +69,80 @@ fn report<B: Book>(alloc: Global, book: &mut B, purse: Option<Name>) -> Result<D
 }
 
 /// The line that says how many connections were served.
-fn served_text(alloc: Global, served: u64) -> Result<String, AllocError> {
+fn served_text(alloc: Global, served: u64) -> Result<String, AllocError>
+    ensures { IfOk result (λ line. string_bytes line ≡ served_text served) }
+{
     format!(in alloc; "served {served}\n")
 }
 
-/// Listens on a port of 127.0.0.1, says so on standard output, and serves so many connections. Gives the line that says how
-/// many were served.
+/// Serves so many connections that come to a listener, and gives the line that says how many were served.
+fn serve_on<B: Book>(
+    rt: &HostRuntime,
+    listener: &TcpListener,
+    count: u32,
+    routes: &Routes,
+    office: &mut Office<B>,
+) -> Result<Done, TaskFault>
+    ensures later { B.doubt office.old.book ≤ B.doubt office.new.book }
+    ensures serves { (w : World) → B.doubt office.new.book ≡ 0 → B.spells (B.rows office.old.book) w
+        → Leads (B.spells (B.rows office.new.book)) (WorksServe B.fails w count result) }
+{
+    match serve_connections(rt, listener, u64::from(count), routes, office) {
+        Ok(served) => Ok(said(served_text(rt.alloc(), served)?.into_bytes())),
+        Err(_) => Err(TaskFault::Net),
+    }
+}
+
+/// Listens on a port of 127.0.0.1, says so on standard output, and serves so many connections.
 fn serve<B: Book>(
     rt: &HostRuntime,
     port: u16,
     count: u32,
     office: &mut Office<B>,
-) -> Result<String, TaskFault> {
-    let Ok(listener) = TcpListener::bind(rt, ("127.0.0.1", port)) else {
+) -> Result<Done, TaskFault>
+    ensures later { B.doubt office.old.book ≤ B.doubt office.new.book }
+    ensures serves { (w : World) → B.doubt office.new.book ≡ 0 → B.spells (B.rows office.old.book) w
+        → Leads (B.spells (B.rows office.new.book)) (WorksServe B.fails w count result) }
+{
+    let Ok(listener) = listen(rt, port) else {
         return Err(TaskFault::Net);
     };
     let routes = Routes::new(rt.alloc())?;
     if println!(rt; "listening on 127.0.0.1:{port}").is_err() {
         return Err(TaskFault::Write);
     }
-    match serve_connections(rt, &listener, u64::from(count), &routes, office) {
-        Ok(served) => Ok(served_text(rt.alloc(), served)?),
-        Err(_) => Err(TaskFault::Net),
-    }
+    serve_on(rt, &listener, count, &routes, office)
 }
 
-/// Does the work, and gives what comes of it.
+/// Answers the requests of the input.
+fn run<R: Read, W: Outlet, B: Book>(
+    alloc: Global,
+    office: &mut Office<B>,
+    reader: &mut Counted<R>,
+    writer: &mut Counted<W>,
+) -> Result<Done, TaskFault>
+    ensures later { B.doubt office.old.book ≤ B.doubt office.new.book }
+    ensures runs { (w : World) → B.doubt office.new.book ≡ 0 → B.spells (B.rows office.old.book) w
+        → Leads (B.spells (B.rows office.new.book)) (λ now. WorksRun B.fails
+        (state [] (R.remaining reader.old.device) (W.contents writer.old.device) w) result
+        (state [] (R.remaining reader.new.device) (W.contents writer.new.device) now)) }
+{
+    run_office(alloc, office, reader, writer)?;
+    Ok(said(Vec::new(alloc)))
+}
+
+/// Imports the roll in a file.
+fn import<B: Book>(rt: &HostRuntime, roll: &str, office: &mut Office<B>) -> Result<Done, TaskFault>
+    ensures later { B.doubt office.old.book ≤ B.doubt office.new.book }
+    ensures imports { (w : World) → B.doubt office.new.book ≡ 0 → B.spells (B.rows office.old.book) w
+        → ImportsFile (B.spells (B.rows office.new.book)) w IsSaid result }
+{
+    let lines = import_from(rt, roll, office)?;
+    Ok(said(lines.into_bytes()))
+}
+
+/// Does the work, and gives what comes of it. What that is, of what the books are then, and of what is read and written, is
+/// said of each kind of work (`works`).
 ///
 /// # Errors
 ///
@@ -94,14 +155,18 @@ pub fn do_work<R: Read, W: Outlet, B: Book>(
     office: &mut Office<B>,
     reader: &mut Counted<R>,
     writer: &mut Counted<W>,
-) -> Result<Done, TaskFault> {
+) -> Result<Done, TaskFault>
+    ensures later { B.doubt office.old.book ≤ B.doubt office.new.book }
+    ensures untouched { (work.now ≡ Run) ⊎ Untouched reader.old reader.new writer.old writer.new }
+    ensures works { (w : World) → B.doubt office.new.book ≡ 0 → B.spells (B.rows office.old.book) w
+        → Works B.fails (B.spells (B.rows office.new.book))
+        (state [] (R.remaining reader.old.device) (W.contents writer.old.device) w) work.now result
+        (R.remaining reader.new.device) (W.contents writer.new.device) }
+{
     match work {
-        Work::Run => {
-            run_office(rt.alloc(), office, reader, writer)?;
-            Ok(said(Vec::new(rt.alloc())))
-        }
-        Work::Serve { port, count } => Ok(said(serve(rt, *port, *count, office)?.into_bytes())),
-        Work::Import(roll) => Ok(said(import_from(rt, roll, office)?.into_bytes())),
+        Work::Run => run(rt.alloc(), office, reader, writer),
+        Work::Serve { port, count } => serve(rt, *port, *count, office),
+        Work::Import(roll) => import(rt, roll, office),
         Work::Report(purse) => report(rt.alloc(), &mut office.book, *purse),
     }
 }

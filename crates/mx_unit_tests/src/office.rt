@@ -2,6 +2,7 @@
 //! refusal.
 mod abstract_world;
 mod random;
+mod rounds;
 
 use mx_office::Refusal;
 

@@ -1,13 +1,8 @@
-use Rattle.std.proofs.Common.{◌≡◌, ◌+◌, ℕ, List, [], ◌∷◌, ◌++◌, Ok, refl, ap, ◌∙◌, arith, rules, length-append}
+use Rattle.std.proofs.Common.{◌≡◌, ◌+◌, [], ◌∷◌, ◌++◌, Ok, refl, ap, ◌∙◌, arith, rules, length-append}
 use Rattle.mx_desk.proofs.StepLemmas.{capped_none, capped_then}
-use Rattle.mx_desk.proofs.ConservationLemmas.{leaves_reachable}
-use Rattle.mx_desk.proofs.LeavesLemmas.{leaves}
-use Rattle.mx_desk.proofs.RefinedLemmas.{leaves_refined}
-use Rattle.mx_desk.proofs.RunLemmas.{Ran-none, Ran-step, serves_nothing, serves_stopped, leads_if}
+use Rattle.mx_desk.proofs.LeavesLemmas.{runs_faulty, runs_nothing, runs_stopped}
+use Rattle.mx_desk.proofs.RunLemmas.{Ran-none, Ran-step}
 use Rattle.std.proofs.lemmas.Result.{err_from_is_err_and}
-use Rattle.std.specs.Io.KnownBytes.{Appends}
-use Rattle.mx_desk.specs.Serve.{ServedAll}
-use Rattle.mx_desk.specs.Steps.{state}
 use Rattle.mx_desk.proofs.desk.run.Goals as goal
 
 pub requests-init : goal.requests-init
@@ -46,8 +41,8 @@ requests-preserved g c =
       write_failures = c.in_ok-serve_next.ensures.whole.1 ∙ c.requests.invariant.write_failures;
     }
 
-pub returns-in_err-serve_next-clause-fault : goal.returns-in_err-serve_next-clause-fault
-returns-in_err-serve_next-clause-fault g c = λ w honest spelled.
+pub returns-in_err-serve_next-clause-runs : goal.returns-in_err-serve_next-clause-runs
+returns-in_err-serve_next-clause-runs g c = λ w honest spelled.
     let p = err_from_is_err_and c.from_residual.result c.from_residual.ensures.1 in
     let before : g.B.Book.doubt c.requests.office.book ≡ 0 = search rules in
     let ran = c.requests.invariant.ran w before spelled in
@@ -55,13 +50,7 @@ returns-in_err-serve_next-clause-fault g c = λ w honest spelled.
     rw (p.1, p.2) (record {
       end = led.end;
       stands = led.stands.0;
-      holds = record {
-        marked = ran.holds.0;
-        before = state c.requests.input (g.R.Read.remaining c.requests.reader.device) (g.W.Write.contents c.requests.writer.device) ran.end;
-        ran = ran.holds.1;
-        left = c.serve_next.new.input;
-        then = led.holds;
-      };
+      holds = runs_faulty g.B.Book.fails _ _ _ ran.holds.0 _ [] ran.holds.1 led.holds;
     })
 
 pub returns-in_err-serve_next-clause-reads : goal.returns-in_err-serve_next-clause-reads
@@ -70,15 +59,18 @@ returns-in_err-serve_next-clause-reads g c =
     let more = c.in_err-serve_next.ensures.reads in
     (had.0 + more.0, omega arith, capped_then _ had.0 _ more.0 _ had.2 more.3)
 
-pub returns-in-Nothing-clause-ok : goal.returns-in-Nothing-clause-ok
-returns-in-Nothing-clause-ok g c = λ w honest spelled.
+pub returns-in-Nothing-clause-runs : goal.returns-in-Nothing-clause-runs
+returns-in-Nothing-clause-runs g c = λ w honest spelled.
     let before : g.B.Book.doubt c.requests.office.book ≡ 0 = search rules in
     let ran = c.requests.invariant.ran w before spelled in
     let led = c.in_ok-serve_next.ensures.steps ran.end honest ran.stands in
     let steps = led.holds in
     let count = ran.holds.2 in
-    leads_if _ (λ b now. (out : List ℕ) × Appends (g.W.Write.contents c.args.writer.now.device) (g.W.Write.contents c.serve_next.new.writer.device) out × ServedAll g.B.Book.fails w b out now c.requests.count)
-    _ led.end led.stands.0 (rw count (serves_nothing g.B.Book.fails _ _ _ ran.holds.0 refl ran.holds.1 (rw c.in-Nothing.is at steps)))
+    record {
+      end = led.end;
+      stands = led.stands.0;
+      holds = rw count (runs_nothing g.B.Book.fails _ _ _ ran.holds.0 [] refl ran.holds.1 (rw c.in-Nothing.is at steps));
+    }
 
 pub returns-in-Nothing-clause-reads : goal.returns-in-Nothing-clause-reads
 returns-in-Nothing-clause-reads g c =
@@ -86,72 +78,21 @@ returns-in-Nothing-clause-reads g c =
     let more = c.in_ok-serve_next.ensures.reads in
     (had.0 + more.0, omega arith, capped_then _ had.0 _ more.0 _ had.2 more.3)
 
-pub returns-in-Stopped-clause-ok : goal.returns-in-Stopped-clause-ok
-returns-in-Stopped-clause-ok g c = λ w honest spelled.
+pub returns-in-Stopped-clause-runs : goal.returns-in-Stopped-clause-runs
+returns-in-Stopped-clause-runs g c = λ w honest spelled.
     let before : g.B.Book.doubt c.requests.office.book ≡ 0 = search rules in
     let ran = c.requests.invariant.ran w before spelled in
     let led = c.in_ok-serve_next.ensures.steps ran.end honest ran.stands in
     let steps = led.holds in
     let count = ran.holds.2 in
-    leads_if _ (λ b now. (out : List ℕ) × Appends (g.W.Write.contents c.args.writer.now.device) (g.W.Write.contents c.serve_next.new.writer.device) out × ServedAll g.B.Book.fails w b out now (c.requests.count + 1))
-    _ led.end led.stands.0 (rw count (serves_stopped g.B.Book.fails _ _ _ ran.holds.0 refl ran.holds.1 (rw c.in-Stopped.is at steps)))
+    record {
+      end = led.end;
+      stands = led.stands.0;
+      holds = rw count (runs_stopped g.B.Book.fails _ _ _ ran.holds.0 [] refl ran.holds.1 (rw c.in-Stopped.is at steps));
+    }
 
 pub returns-in-Stopped-clause-reads : goal.returns-in-Stopped-clause-reads
 returns-in-Stopped-clause-reads g c =
     let had = c.requests.invariant.reads in
     let more = c.in_ok-serve_next.ensures.reads in
     (had.0 + more.0, omega arith, capped_then _ had.0 _ more.0 _ had.2 more.3)
-
--- the holders are kept apart, however the run ends
-pub returns-in_err-serve_next-clause-apart : goal.returns-in_err-serve_next-clause-apart
-returns-in_err-serve_next-clause-apart g c = λ w honest spelled.
-    let before : g.B.Book.doubt c.requests.office.book ≡ 0 = search rules in
-    let ran = c.requests.invariant.ran w before spelled in
-    let led = c.in_err-serve_next.ensures.steps ran.end honest ran.stands in
-    record { end = led.end; stands = led.stands.0; holds = leaves g.B.Book.fails _ _ _ ran.holds.0 _ [] ran.holds.1 led.holds }
-
-pub returns-in-Nothing-clause-apart : goal.returns-in-Nothing-clause-apart
-returns-in-Nothing-clause-apart g c = λ w honest spelled.
-    let before : g.B.Book.doubt c.requests.office.book ≡ 0 = search rules in
-    let ran = c.requests.invariant.ran w before spelled in
-    let led = c.in_ok-serve_next.ensures.steps ran.end honest ran.stands in
-    record { end = led.end; stands = led.stands.0; holds = leaves g.B.Book.fails _ _ _ ran.holds.0 _ [] ran.holds.1 led.holds }
-
-pub returns-in-Stopped-clause-apart : goal.returns-in-Stopped-clause-apart
-returns-in-Stopped-clause-apart g c = λ w honest spelled.
-    let before : g.B.Book.doubt c.requests.office.book ≡ 0 = search rules in
-    let ran = c.requests.invariant.ran w before spelled in
-    let led = c.in_ok-serve_next.ensures.steps ran.end honest ran.stands in
-    record { end = led.end; stands = led.stands.0; holds = leaves g.B.Book.fails _ _ _ ran.holds.0 _ [] ran.holds.1 led.holds }
-
--- from a World that commands lead to the run ends in such a World, however it ends
-pub returns-in_err-serve_next-clause-reachable : goal.returns-in_err-serve_next-clause-reachable
-returns-in_err-serve_next-clause-reachable g c = λ w honest spelled from.
-    let led = returns-in_err-serve_next-clause-apart g c w honest spelled in
-    record { end = led.end; stands = led.stands; holds = leaves_reachable _ _ led.holds.0 from }
-
-pub returns-in-Nothing-clause-reachable : goal.returns-in-Nothing-clause-reachable
-returns-in-Nothing-clause-reachable g c = λ w honest spelled from.
-    let led = returns-in-Nothing-clause-apart g c w honest spelled in
-    record { end = led.end; stands = led.stands; holds = leaves_reachable _ _ led.holds.0 from }
-
-pub returns-in-Stopped-clause-reachable : goal.returns-in-Stopped-clause-reachable
-returns-in-Stopped-clause-reachable g c = λ w honest spelled from.
-    let led = returns-in-Stopped-clause-apart g c w honest spelled in
-    record { end = led.end; stands = led.stands; holds = leaves_reachable _ _ led.holds.0 from }
-
--- from such a World what the requests asked is what the abstract purses do
-pub returns-in_err-serve_next-clause-refines : goal.returns-in_err-serve_next-clause-refines
-returns-in_err-serve_next-clause-refines g c = λ w honest spelled from.
-    let led = returns-in_err-serve_next-clause-apart g c w honest spelled in
-    record { end = led.end; stands = led.stands; holds = leaves_refined _ _ led.holds.0 from }
-
-pub returns-in-Nothing-clause-refines : goal.returns-in-Nothing-clause-refines
-returns-in-Nothing-clause-refines g c = λ w honest spelled from.
-    let led = returns-in-Nothing-clause-apart g c w honest spelled in
-    record { end = led.end; stands = led.stands; holds = leaves_refined _ _ led.holds.0 from }
-
-pub returns-in-Stopped-clause-refines : goal.returns-in-Stopped-clause-refines
-returns-in-Stopped-clause-refines g c = λ w honest spelled from.
-    let led = returns-in-Stopped-clause-apart g c w honest spelled in
-    record { end = led.end; stands = led.stands; holds = leaves_refined _ _ led.holds.0 from }

@@ -1,0 +1,87 @@
+//! Books in a store, wherever that keeps them.
+ghost use Rattle.std.specs.Prelude.{◌≡◌, ◌≤◌, [], IfOk, IsErr};
+ghost use Rattle.sqlite.specs.Held.{state as state_of};
+ghost use Rattle.mx_book.specs.World.{World, opening};
+ghost use Rattle.mx_desk.specs.Steps.{state};
+ghost use Rattle.mx_tables.specs.Holds.{SpellsOne};
+ghost use Rattle.mx_tables.specs.States.{Leaves, worry};
+ghost use Rattle.mx_tasks.specs.Faults.{Untouched};
+ghost use Rattle.mx_tasks.specs.Works.{Works};
+ghost use Rattle.mx_files.specs.Opened.{open_fault_of};
+
+use mx_book::Book;
+use mx_desk::{Counted, Outlet};
+use mx_office::Office;
+use mx_pay::Token;
+use mx_tables::{OpenFault, Tables};
+use mx_tasks::{Done, TaskFault, Work, do_work};
+use sqlite::{Alter, Connection};
+use std::alloc::Global;
+use std::io::Read;
+
+/// What a fault of books that can't be made or opened is.
+pub fn unmade(fault: OpenFault) -> TaskFault
+    ensures { result ≡ open_fault_of fault }
+{
+    match fault {
+        OpenFault::Memory => TaskFault::Memory,
+        OpenFault::Store => TaskFault::Store,
+        OpenFault::NotThisSchema => TaskFault::NotThisSchema,
+    }
+}
+
+/// Makes new books in a store, for the operator with this token, and gives the store back. They spell the World that has
+/// nothing but that token.
+///
+/// # Errors
+///
+/// `Memory` or `Store` where the store refuses a statement; the store is given up then.
+pub fn make_in_store<S: Alter + Drop>(
+    alloc: Global,
+    store: Connection<S>,
+    operator: Token,
+) -> Result<Connection<S>, TaskFault>
+    ensures made { IfOk result (λ c. worry (state_of S.Store c) ≡ 0
+        → SpellsOne (state_of S.Store c).now (opening operator)) }
+    ensures lasts { IfOk result (λ c. worry (state_of S.Store c) ≡ 0
+        → Leaves (state_of S.Store c) (state_of S.Store c).now) }
+{
+    match Tables::create(alloc, store, operator) {
+        Ok(book) => Ok(book.into_store()),
+        Err(refused) => Err(unmade(refused.fault)),
+    }
+}
+
+/// Does a piece of work over the books in a store, and gives what came of it, with the store. What came of it is said of the
+/// World that the books spelled (`works`). Where the store is refused, nothing was read or written.
+///
+/// # Errors
+///
+/// `NotThisSchema` where the store has no books of this version; `Store` where it has other tables, or refuses a statement;
+/// `Memory`. The store is given up then.
+pub fn over_store<S: Alter + Drop, R: Read, W: Outlet>(
+    rt: &HostRuntime,
+    store: Connection<S>,
+    work: &Work<'_>,
+    reader: &mut Counted<R>,
+    writer: &mut Counted<W>,
+) -> Result<(Result<Done, TaskFault>, Connection<S>), TaskFault>
+    ensures later { IfOk result (λ x. worry (state_of S.Store store) ≤ worry (state_of S.Store x.1)) }
+    ensures works { (w : World) → SpellsOne (state_of S.Store store).now w
+        → IfOk result (λ x. worry (state_of S.Store x.1) ≡ 0
+        → Works ⟦<Tables<S> as Book>⟧.fails (SpellsOne (state_of S.Store x.1).now)
+        (state [] (R.remaining reader.old.device) (W.contents writer.old.device) w) work.now x.0
+        (R.remaining reader.new.device) (W.contents writer.new.device)) }
+    ensures lasts { IfOk result (λ x. worry (state_of S.Store x.1) ≡ 0
+        → Leaves (state_of S.Store x.1) (state_of S.Store x.1).now) }
+    ensures unopened { IsErr result → Untouched reader.old reader.new writer.old writer.new }
+{
+    match Tables::open(rt.alloc(), store) {
+        Ok(book) => {
+            let mut office = Office::new(book);
+            let answer = do_work(rt, work, &mut office, reader, writer);
+            Ok((answer, office.into_book().into_store()))
+        }
+        Err(refused) => Err(unmade(refused.fault)),
+    }
+}

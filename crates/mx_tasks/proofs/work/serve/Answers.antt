@@ -1,0 +1,17 @@
+use Rattle.std.proofs.lemmas.Result.{err_from_is_err_and}
+use Rattle.mx_tasks.proofs.ConnectionLemmas.{none_served}
+use Rattle.mx_tasks.proofs.work.serve.Goals as goal
+
+-- the port can't be listened on
+pub returns-in_default-clause-serves : goal.returns-in_default-clause-serves
+returns-in_default-clause-serves g c = λ w honest spelled. record { end = w; stands = spelled; holds = (none_served _ w c.args.count _, tt) }
+
+-- there is no memory for the routes
+pub returns-in_err-routes-clause-serves : goal.returns-in_err-routes-clause-serves
+returns-in_err-routes-clause-serves g c = λ w honest spelled.
+    let p = err_from_is_err_and c.from_residual.result c.from_residual.ensures.1 in
+    rw (p.1) (record { end = w; stands = spelled; holds = (none_served _ w c.args.count p.0, tt) })
+
+-- that it listens can't be said
+pub returns-then-is_err-clause-serves : goal.returns-then-is_err-clause-serves
+returns-then-is_err-clause-serves g c = λ w honest spelled. record { end = w; stands = spelled; holds = (none_served _ w c.args.count _, tt) }

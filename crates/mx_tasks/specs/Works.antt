@@ -1,0 +1,65 @@
+-- What work over the books does, and what comes of it.
+use Rattle.std.specs.Prelude.{◌≡◌, ◌≤◌, ◌⊎◌, ℕ, Bool, true, false, List, [], ◌++◌, Option, Some, None, Result, Err, IfOk, IsOk, IsErr, MatchResult, codes, length, String, string_bytes}
+use Rattle.std.specs.Fmt.{decimal}
+use Rattle.mx_pay.specs.declared.names.Name.{Name}
+use Rattle.mx_book.specs.World.{World}
+use Rattle.mx_book.specs.declared.contract.StoreFault.{StoreFault}
+use Rattle.mx_desk.specs.Steps.{State, Leads, state}
+use Rattle.mx_report.specs.Import.{IsBroken, IsImported, Tally, tally_of}
+use Rattle.mx_report.specs.declared.rolls.RollReport.{RollReport}
+use Rattle.mx_tasks.specs.Connections.{ServesConnections}
+use Rattle.mx_tasks.specs.Runs.{TaskRuns}
+use Rattle.mx_tasks.specs.Texts.{import_text, is_even_of, report_of}
+use Rattle.mx_tasks.specs.declared.fault.TaskFault.{TaskFault}
+use Rattle.mx_tasks.specs.declared.fault.TaskFault.TheVariants.{Memory, NoSuchPurse, Store}
+use Rattle.mx_tasks.specs.declared.work.Done.{Done}
+use Rattle.mx_tasks.specs.declared.work.Work.{Work}
+use Rattle.mx_tasks.specs.declared.work.Work.TheVariants.{Run, Serve, Import, Report}
+
+-- this is the text that is said, and there is no fault
+abbrev pub IsSaid : List ℕ → Done → Type 0
+IsSaid text d = (d.text.items ≡ text) × (d.fault ≡ None)
+
+abbrev pub IsText : {A : Type 0} → List ℕ → String A → Type 0
+IsText text line = string_bytes line ≡ text
+
+-- a run: nothing is said but its responses
+abbrev pub WorksRun : (StoreFault → Type 0) → State → Result Done TaskFault → State → Type 0
+WorksRun fails s result t = (run : Result ℕ TaskFault) × TaskRuns fails s run t × MatchResult result (λ d. IsSaid [] d × IsOk run) (λ e. run ≡ Err e)
+
+-- how many connections were served
+abbrev pub served_text : ℕ → List ℕ
+served_text n = codes "served " ++ decimal n ++ codes "\n"
+
+-- connections: how many were served is said
+abbrev pub WorksServe : (StoreFault → Type 0) → World → ℕ → Result Done TaskFault → World → Type 0
+WorksServe fails w count result now = ServesConnections fails w count result now × IfOk result (IsSaid (served_text count))
+
+-- the import of a roll: its report is said; or it broke off; or it is done and there is no memory to report it
+abbrev pub Imports : {X : Type 0} → (World → Type 0) → World → List ℕ → (List ℕ → X → Type 0) → Result X TaskFault → Type 0
+Imports Stands w bytes Said result =
+    MatchResult result (λ x. (report : RollReport) × IsImported Stands w bytes (tally_of report) × Said (import_text report) x)
+    (λ e. ((done : ℕ) × IsBroken Stands w bytes done) ⊎ ((e ≡ Memory) × (tally : Tally) × IsImported Stands w bytes tally))
+
+-- the same of a roll in a file that could be read, of 1,048,576 bytes at most
+abbrev pub ImportsFile : {X : Type 0} → (World → Type 0) → World → (List ℕ → X → Type 0) → Result X TaskFault → Type 0
+ImportsFile Stands w Said result = (Stands w × IsErr result) ⊎ ((bytes : List ℕ) × (length bytes ≤ 1048576) × Imports Stands w bytes Said result)
+
+-- Store where what is reported doesn't add up
+abbrev pub fault_unless_even : Bool → Option TaskFault
+fault_unless_even true = None
+fault_unless_even false = Some Store
+
+-- a report: its text, and whether it adds up
+abbrev pub IsReport : World → Option Name → Done → Type 0
+IsReport w purse d = (report_of w purse ≡ Some d.text.items) × (d.fault ≡ fault_unless_even (is_even_of w purse))
+
+abbrev pub WorksReport : World → Option Name → Result Done TaskFault → Type 0
+WorksReport w purse result = MatchResult result (IsReport w purse) (λ e. e ≡ NoSuchPurse → report_of w purse ≡ None)
+
+-- work that began with the World of s: what stands of the books, what comes of it, and what was read and written
+abbrev pub Works : (StoreFault → Type 0) → (World → Type 0) → State → Work → Result Done TaskFault → Option (List ℕ) → Option (List ℕ) → Type 0
+Works fails Stands s Run result input output = Leads Stands (λ now. WorksRun fails s result (state [] input output now))
+Works fails Stands s (Serve port count) result input output = Leads Stands (WorksServe fails s.world count result)
+Works fails Stands s (Import roll) result input output = ImportsFile Stands s.world IsSaid result
+Works fails Stands s (Report purse) result input output = Stands s.world × WorksReport s.world purse result
