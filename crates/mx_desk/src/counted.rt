@@ -103,7 +103,8 @@ impl<D: Write> Write for Counted<D> {
         ensures calls { self.new.calls ≡ capped (self.old.calls + 1) }
         ensures ok { IfOk result (λ n. n ≢ 0 → self.new.failures ≡ self.old.failures) }
         ensures none { IfOk result (λ n. n ≡ 0 → 0 < length buf.now → self.new.failures ≡ capped (self.old.failures + 1)) }
-        ensures nothing { IfOk result (λ n. n ≡ 0 → length buf.now ≡ 0 → self.new.failures ≡ self.old.failures) }
+        ensures nothing { IfOk result (λ n. n ≡ 0 → length buf.now ≡ 0
+            → self.new.failures ≡ self.old.failures) }
         ensures err { OnErr result (self.new.failures ≡ capped (self.old.failures + 1)) }
     {
         self.note_call();

@@ -63,8 +63,8 @@ pub fn import_over<B: Book, P: Progress>(
     ensures later { B.doubt office.old.book ≤ B.doubt office.new.book }
     ensures imports { (w : World) → B.doubt office.new.book ≡ 0 → B.spells (B.rows office.old.book) w
         → Imports (B.spells (B.rows office.new.book)) w bytes.now IsText result }
-    ensures reachable { (w : World) → B.doubt office.new.book ≡ 0 → B.spells (B.rows office.old.book) w → IsReachable w
-        → StandsBalanced (B.spells (B.rows office.new.book)) }
+    ensures reachable { (w : World) → B.doubt office.new.book ≡ 0 → B.spells (B.rows office.old.book) w
+        → IsReachable w → StandsBalanced (B.spells (B.rows office.new.book)) }
 {
     let report = import_roll_telling(alloc, office, bytes, progress)?;
     let lines = import_text(alloc, &report)?;

@@ -59,7 +59,8 @@ fn said(text: Vec<u8>) -> Done
 /// What the books come to, or the statement of a purse.
 fn report<B: Book>(alloc: Global, book: &mut B, purse: Option<Name>) -> Result<Done, TaskFault>
     ensures keeps { Keeps B.doubt B.rows B.leaves book.old book.new }
-    ensures reports { (w : World) → B.doubt book.new ≡ 0 → B.spells (B.rows book.old) w → WorksReport w purse result }
+    ensures reports { (w : World) → B.doubt book.new ≡ 0 → B.spells (B.rows book.old) w
+        → WorksReport w purse result }
 {
     let reported = report_text(alloc, book, purse)?;
     Ok(Done {

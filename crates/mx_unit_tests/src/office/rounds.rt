@@ -6,77 +6,47 @@ use mx_purse::Handled;
 use std::alloc::Global;
 use std::test::Fail;
 
-/// The commands of a payment of nothing from p1 to q1, which both have this next number. p1 has got twice as many messages
-/// before it, and q1 as many.
-fn add_round(commands: &mut Vec<(Caller, Command)>, number: u64) -> Result<(), Fail> {
-    let (ann, dan) = (Caller::Holder(name("ann")?), Caller::Holder(name("dan")?));
+/// The starts of a payment of nothing from p1 to q1, which both have this next number.
+fn add_starts(commands: &mut Vec<(Caller, Command)>, number: u64) -> Result<(), Fail> {
     let (from, to) = (name("p1")?, name("q1")?);
-    let (value, next) = (amount(0)?, seq(number)?);
-    let first = seq(number.saturating_mul(2))?;
-    let second = seq(number.saturating_mul(2).saturating_add(1))?;
-    for (caller, command) in [
-        (
-            ann,
-            Command::StartFrom {
-                purse: from,
-                peer: to,
-                value,
-                seq: next,
-            },
-        ),
-        (
-            dan,
-            Command::StartTo {
-                purse: to,
-                peer: from,
-                value,
-                seq: next,
-            },
-        ),
-        (
-            ann,
-            Command::Handle {
-                purse: from,
-                number: first,
-            },
-        ),
-        (
-            dan,
-            Command::Handle {
-                purse: to,
-                number: next,
-            },
-        ),
-        (
-            ann,
-            Command::Handle {
-                purse: from,
-                number: second,
-            },
-        ),
-        (
-            ann,
-            Command::Discard {
-                purse: from,
-                number: first,
-            },
-        ),
-        (
-            ann,
-            Command::Discard {
-                purse: from,
-                number: second,
-            },
-        ),
-        (
-            dan,
-            Command::Discard {
-                purse: to,
-                number: next,
-            },
-        ),
+    let (value, seq) = (amount(0)?, seq(number)?);
+    let start = Command::StartFrom {
+        purse: from,
+        peer: to,
+        value,
+        seq,
+    };
+    commands.push((Caller::Holder(name("ann")?), start))?;
+    let start = Command::StartTo {
+        purse: to,
+        peer: from,
+        value,
+        seq,
+    };
+    commands.push((Caller::Holder(name("dan")?), start))?;
+    Ok(())
+}
+
+/// What is done with the messages of that payment, p1's by ann and q1's by dan: p1 has got twice as many messages before it,
+/// and q1 as many. Each is handled, and then discarded.
+fn add_messages(commands: &mut Vec<(Caller, Command)>, number: u64) -> Result<(), Fail> {
+    let first = number.saturating_mul(2);
+    let second = first.saturating_add(1);
+    for (holder, purse, message, is_handled) in [
+        ("ann", "p1", first, true),
+        ("dan", "q1", number, true),
+        ("ann", "p1", second, true),
+        ("ann", "p1", first, false),
+        ("ann", "p1", second, false),
+        ("dan", "q1", number, false),
     ] {
-        commands.push((caller, command))?;
+        let (purse, number) = (name(purse)?, seq(message)?);
+        let command = if is_handled {
+            Command::Handle { purse, number }
+        } else {
+            Command::Discard { purse, number }
+        };
+        commands.push((Caller::Holder(name(holder)?), command))?;
     }
     Ok(())
 }
@@ -100,7 +70,8 @@ fn paid(
 ) -> Result<(usize, usize), Fail> {
     let mut commands = Vec::new(alloc);
     for number in 0..rounds {
-        add_round(&mut commands, number)?;
+        add_starts(&mut commands, number)?;
+        add_messages(&mut commands, number)?;
     }
     let outcomes = office.run(alloc, commands.as_slice())?;
     let done = outcomes.iter().filter(|outcome| is_done(outcome)).count();
