@@ -12,3 +12,4 @@ pub mod ConservationLemmas
 pub mod RefinedLemmas
 pub mod LawfulLemmas
 pub mod LeavesLemmas
+pub mod GivenUpLemmas

@@ -1,17 +1,19 @@
 -- The response to a request, and the World after it (RFC 9110).
-use Rattle.std.specs.Prelude.{◌⊎◌, ℕ, List, Bool, true, false, Option, Some, None, option_and_then, is_some, if◌then◌else◌, bytes_eq, codes, IsTrue}
+use Rattle.std.specs.Option.{option_map_or}
+use Rattle.std.specs.Prelude.{◌⊎◌, ◌&&◌, ◌||◌, ℕ, List, Bool, true, false, Option, Some, None, option_and_then, is_some, if◌then◌else◌, bytes_eq, codes, IsTrue}
 use Rattle.mx_pay.specs.Tokens.{token_of}
 use Rattle.mx_book.specs.World.{World}
 use Rattle.mx_book.specs.Reads.{who_of}
 use Rattle.mx_book.specs.declared.contract.StoreFault.{StoreFault}
 use Rattle.mx_book.specs.declared.values.Caller.{Caller}
 use Rattle.mx_book.specs.declared.values.Caller.TheVariants as caller
+use Rattle.mx_office.specs.Faults.{takes_memory}
 use Rattle.mx_office.specs.Step.{step}
 use Rattle.mx_office.specs.declared.values.Command.{Command}
 use Rattle.mx_office.specs.declared.values.Refusal.TheVariants.{NotForCaller}
 use Rattle.mx_wire.specs.Routes.{route_of, class_of}
-use Rattle.mx_wire.specs.Bodies.{command_of}
-use Rattle.mx_wire.specs.Replies.{Parts, fixed_parts, reply_parts}
+use Rattle.mx_wire.specs.Bodies.{command_of, has_body}
+use Rattle.mx_wire.specs.Replies.{Parts, fixed_parts, is_made, reply_parts}
 use Rattle.mx_wire.specs.declared.replies.Fixed.TheVariants as fixed
 use Rattle.mx_wire.specs.declared.routes.Class.{Class}
 use Rattle.mx_wire.specs.declared.routes.Class.TheVariants as class
@@ -63,19 +65,28 @@ respond w r = after_route w r (route_of r.method r.path)
 abbrev pub is_routed : Request → Bool
 is_routed r = is_some (route_of r.method r.path)
 
--- whether a caller is there, and of the class of a route that is there
-abbrev pub is_callers : Option Caller → Option Route → Bool
-is_callers (Some caller) (Some route) = is_of_class caller (class_of route)
-is_callers _ _ = false
+-- whether a command of a caller takes memory, to be done or for a response that is made for its reply
+abbrev pub command_takes : World → Caller → Command → Bool
+command_takes w caller command = takes_memory w caller command || is_made (step w caller command).reply
 
--- whether the token of a request is that of a caller of its route's class
-abbrev pub is_asked : World → Request → Bool
-is_asked w r = is_callers (caller_of w r.token) (route_of r.method r.path)
+-- whether memory is taken past the token: the caller is of the route's class, and a body is read, or the command takes some
+abbrev pub caller_takes : World → Request → Route → Option Caller → Bool
+caller_takes w r route None = false
+caller_takes w r route (Some caller) =
+    is_of_class caller (class_of route) && (has_body route || option_map_or (command_takes w caller) (command_of route r.body) false)
 
--- when a request may be given up, over a book whose reads may fail so: it has a route, and its token is that of a
--- caller of its class, unless a read of the book may fail
+-- whether memory is taken for a request that has a route
+abbrev pub route_takes : World → Request → Option Route → Bool
+route_takes w r None = false
+route_takes w r (Some route) = caller_takes w r route (caller_of w r.token)
+
+-- when what takes memory may be given up, over a book whose reads may fail so
+abbrev pub IsGivenUpFor : (StoreFault → Type 0) → Bool → Type 0
+IsGivenUpFor fails takes = IsTrue takes ⊎ ((e : StoreFault) × fails e)
+
+-- when a request may be given up: it has a route, and takes memory, unless a read of the book may fail
 abbrev pub MayBeGivenUp : (StoreFault → Type 0) → World → Request → Type 0
-MayBeGivenUp fails w r = IsTrue (is_routed r) × (IsTrue (is_asked w r) ⊎ ((e : StoreFault) × fails e))
+MayBeGivenUp fails w r = IsTrue (is_routed r) × IsGivenUpFor fails (route_takes w r (route_of r.method r.path))
 
 -- to HEAD a response is its head alone (RFC 9110, section 9.3.2)
 abbrev pub is_head : List ℕ → Bool

@@ -1,12 +1,11 @@
 //! One request: who sent it, what it asks, and the response.
-ghost use Rattle.std.specs.Prelude.{◌≡◌, ◌≤◌, ◌⊎◌, Some, IfOk, IfErr, IsTrue, OnErr, option_map};
+ghost use Rattle.std.specs.Prelude.{◌≡◌, ◌≤◌, Some, IfOk, IfErr, OnErr, option_map};
 ghost use Rattle.mx_book.specs.Keeps.{Keeps};
 ghost use Rattle.mx_book.specs.World.{World};
-ghost use Rattle.mx_book.specs.declared.contract.StoreFault.{StoreFault as Fault};
 ghost use Rattle.mx_desk.specs.Answers.{IsAnswer};
 ghost use Rattle.mx_desk.specs.Found.{request_view};
 ghost use Rattle.mx_desk.specs.Knows.{Knows, Stands};
-ghost use Rattle.mx_desk.specs.Respond.{is_of_class, caller_of, is_callers, after_body, after_caller, respond, MayBeGivenUp};
+ghost use Rattle.mx_desk.specs.Respond.{is_of_class, caller_of, after_body, after_caller, caller_takes, command_takes, respond, IsGivenUpFor, MayBeGivenUp};
 
 use crate::callers::Callers;
 use crate::head::Received;
@@ -14,7 +13,7 @@ use crate::workspace::Workspace;
 use mx_book::Book;
 use mx_book::contract::StoreFault;
 use mx_book::values::Caller;
-use mx_office::{Office, Refusal};
+use mx_office::{Office, Refusal, Reply};
 use mx_pay::Token;
 use mx_wire::bodies::read_body_into;
 use mx_wire::{Class, Fixed, Response, Route, Routes, WireFault, render};
@@ -59,7 +58,8 @@ fn caller_of<B: Book>(
     Ok(Some(caller))
 }
 
-/// Decides the command in the workspace, makes the response, and only then changes the books.
+/// Decides the command in the workspace, makes the response, and only then changes the books. A command that is refused
+/// takes no memory beyond a list that is read for it.
 fn answer_command<B: Book>(
     alloc: Global,
     workspace: &mut Workspace,
@@ -68,11 +68,15 @@ fn answer_command<B: Book>(
 ) -> Result<Response, StoreFault>
     ensures later { B.doubt office.old.book ≤ B.doubt office.new.book }
     ensures answers { (w : World) → B.doubt office.new.book ≡ 0 → Stands (B.spells (B.rows office.old.book)) workspace.old.callers w
-        → IsAnswer (Stands (B.spells (B.rows office.new.book)) workspace.new.callers) w (after_body w caller (Some workspace.old.command)) (Unit {0}) result }
+        → IsAnswer (Stands (B.spells (B.rows office.new.book)) workspace.new.callers) w (after_body w caller (Some workspace.old.command))
+        (IsGivenUpFor B.fails (command_takes w caller workspace.old.command)) result }
     ensures err { B.doubt office.new.book ≡ 0 → OnErr result (B.rows office.new.book ≡ B.rows office.old.book) }
 {
     let decided = &mut workspace.decided;
     office.decide_into(alloc, caller, &workspace.command, decided)?;
+    if let Reply::Refused(refusal) = decided.reply {
+        return Ok(Response::Always(Fixed::Refused(refusal)));
+    }
     let Ok(response) = render(alloc, &decided.reply) else {
         return Err(StoreFault::Memory);
     };
@@ -92,7 +96,8 @@ fn answer_routed<B: Book>(
     ensures later { B.doubt office.old.book ≤ B.doubt office.new.book }
     ensures answers { (w : World) → B.doubt office.new.book ≡ 0 → Stands (B.spells (B.rows office.old.book)) workspace.old.callers w
         → IsAnswer (Stands (B.spells (B.rows office.new.book)) workspace.new.callers) w (after_caller w (request_view request.now) route.now (caller_of w (request_view request.now).token))
-        (IsTrue (is_callers (caller_of w (request_view request.now).token) (Some route.now)) ⊎ ((e : Fault) × B.fails e)) result }
+        (IsGivenUpFor B.fails (caller_takes w (request_view request.now) route.now
+        (caller_of w (request_view request.now).token))) result }
     ensures err { B.doubt office.new.book ≡ 0 → OnErr result (B.rows office.new.book ≡ B.rows office.old.book) }
 {
     let Some(caller) = caller_of(alloc, &mut workspace.callers, office, request.token)? else {
@@ -115,8 +120,9 @@ fn answer_routed<B: Book>(
 }
 
 /// Answers a request: the response, and the change that goes with it. After a fault nothing is changed, and the request
-/// is one that may be given up: it has a route, and its token is that of a caller of its class, unless a read of the
-/// book may fail.
+/// is one that may be given up, unless a read of the book may fail: it has a route, its token is that of a caller of its
+/// class, and memory is taken for it. Memory is taken for a body, for a list that is read, for edits, and for a response
+/// that is made for its reply. So a request with no body that is refused isn't given up, but for a grant's list.
 #[tactic(auto, unfolding(crate::specs::Respond::respond, crate::specs::Respond::after_route))]
 pub fn answer_request<B: Book>(
     alloc: Global,

@@ -1,6 +1,6 @@
--- A command that writes, and isn't refused, takes memory.
+-- A command that reads a list, or makes edits and isn't refused, takes memory.
 use Rattle.std.proofs.Common.{◌≡◌, Bool, true, false, List, [], refl, ◌∙◌, inl, inr}
-use Rattle.std.specs.Prelude.{◌⊎◌, ◌||◌, not, IsTrue}
+use Rattle.std.specs.Prelude.{◌⊎◌, ◌&&◌, ◌||◌, not, IsTrue}
 use Rattle.mx_book.specs.declared.edits.Edit.{Edit}
 use Rattle.mx_book.specs.World.{World}
 use Rattle.mx_book.specs.declared.contract.StoreFault.{StoreFault}
@@ -10,14 +10,18 @@ use Rattle.mx_office.specs.declared.values.Command.{Command}
 use Rattle.mx_office.specs.declared.values.Refusal.{Refusal}
 use Rattle.mx_office.specs.declared.values.Reply.{Reply}
 use Rattle.mx_office.specs.declared.values.Reply.TheVariants as reply
-use Rattle.mx_office.specs.Faults.{reads_list, is_read, is_refused, takes_memory, MayFail}
+use Rattle.mx_office.specs.Faults.{lists, makes_edits, is_refused, takes_memory, FailsFor, MayFail}
 use Rattle.mx_office.specs.Step.{step}
 
-neither : (a b c : Bool) → (IsTrue b → ⊥) → (IsTrue c → ⊥) → IsTrue (a || not (b || c))
-neither true b c reads refuses = refl
-neither false true c reads refuses = absurd (reads refl)
-neither false false true reads refuses = absurd (refuses refl)
-neither false false false reads refuses = refl
+edits_take : (a b c : Bool) → (IsTrue b → ⊥) → (c ≡ false → ⊥) → IsTrue (a || (not b && c))
+edits_take true b c refused idle = refl
+edits_take false true c refused idle = absurd (refused refl)
+edits_take false false true refused idle = refl
+edits_take false false false refused idle = absurd (idle refl)
+
+list_takes : (a b : Bool) → IsTrue a → IsTrue (a || b)
+list_takes true b t = refl
+list_takes false b t = cc
 
 -- a refusal is one of the refusals
 which : (r : Reply) → IsTrue (is_refused r) → (x : Refusal) × (r ≡ reply.Refused x)
@@ -26,12 +30,17 @@ which r is = absurd (cc)
 
 -- a decision that has edits, and isn't refused, is on a command that takes memory
 pub writes : (w : World) (caller : Caller) (command : Command) (r : Reply) (es : List Edit) → r ≡ (step w caller command).reply
-    → ((x : Refusal) → r ≡ reply.Refused x → ⊥) → (IsTrue (is_read command) → es ≡ []) → (es ≡ [] → ⊥) → IsTrue (takes_memory w caller command)
-writes w caller command r es is accepted reads some =
-    neither (reads_list command) (is_read command) (is_refused (step w caller command).reply) (λ t. some (reads t))
-    (λ t. let x = which (step w caller command).reply t in accepted x.0 (is ∙ x.1))
+    → ((x : Refusal) → r ≡ reply.Refused x → ⊥) → (makes_edits w command ≡ false → es ≡ []) → (es ≡ [] → ⊥) → IsTrue (takes_memory w caller command)
+writes w caller command r es is accepted idle some =
+    edits_take (lists w caller command) (is_refused (step w caller command).reply) (makes_edits w command)
+    (λ t. let x = which (step w caller command).reply t in accepted x.0 (is ∙ x.1)) (λ f. some (idle f))
 
--- why a command that takes memory may fail
-pub memory_fails : (fails : StoreFault → Type 0) (w : World) (caller : Caller) (command : Command) (e : StoreFault) → IsTrue (takes_memory w caller command) → (e ≡ Memory) ⊎ fails e → MayFail fails w caller command e
-memory_fails fails w caller command e takes (inl x) = inl (takes, x)
-memory_fails fails w caller command e takes (inr x) = inr x
+-- why a call may fail that takes memory
+pub memory_fails : (fails : StoreFault → Type 0) (takes : Bool) (e : StoreFault) → IsTrue takes → (e ≡ Memory) ⊎ fails e → FailsFor fails takes e
+memory_fails fails takes e t (inl x) = inl (t, x)
+memory_fails fails takes e t (inr x) = inr x
+
+-- a command may fail where its decision may
+pub decision_fails : (fails : StoreFault → Type 0) (w : World) (caller : Caller) (command : Command) (e : StoreFault) → FailsFor fails (lists w caller command) e → MayFail fails w caller command e
+decision_fails fails w caller command e (inl x) = inl (list_takes (lists w caller command) (not (is_refused (step w caller command).reply) && makes_edits w command) x.0, x.1)
+decision_fails fails w caller command e (inr x) = inr x

@@ -40,3 +40,5 @@ pub mod AlikeLemmas
 pub mod RuleActLemmas
 pub mod RefinementLemmas
 pub mod AccountedLemmas
+pub mod TogetherLemmas
+pub mod WrittenLemmas

@@ -7,10 +7,12 @@ use Rattle.mx_book.proofs.PartLemmas.{all_append}
 use Rattle.mx_book.specs.declared.contract.StoreFault.{StoreFault}
 use Rattle.mx_office.specs.declared.values.Outcome.{Outcome}
 use Rattle.mx_office.specs.declared.values.Outcome.TheVariants.{Reply as Replied, Unavailable}
+use Rattle.mx_office.specs.declared.values.Refusal.{Refusal}
 use Rattle.mx_office.specs.declared.values.Reply.{Reply}
+use Rattle.mx_office.specs.declared.values.Reply.TheVariants.{Refused}
 use Rattle.mx_office.specs.Commands.{IsAsked}
 use Rattle.mx_office.specs.Step.{Asked, step}
-use Rattle.mx_office.specs.Run.{IsRun, MayBeUndone}
+use Rattle.mx_office.specs.Run.{IsRun, IsUndone, MayBeUndone}
 
 one_taken : (cs : List Asked) (i : ℕ) (c : Asked) → i < length cs → c ≡ get_or cs i c → take (i + 1) cs ≡ take i cs ++ c ∷ []
 one_taken cs i c lt at = take_more cs i c lt ∙ ap (λ x. take i cs ++ x ∷ []) (sym at)
@@ -18,6 +20,20 @@ one_taken cs i c lt at = take_more cs i c lt ∙ ap (λ x. take i cs ++ x ∷ []
 -- commands that are values, and one more
 pub asked_more : (cs : List Asked) (i : ℕ) (c : Asked) → i < length cs → c ≡ get_or cs i c → AllByRecursion IsAsked (take i cs) → IsAsked c → AllByRecursion IsAsked (take (i + 1) cs)
 asked_more cs i c lt at before asked = rw (one_taken cs i c lt at) (all_append IsAsked (take i cs) (c ∷ []) before (asked, tt))
+
+-- ---- outcomes by which nothing changes
+
+pub undone_before : (os : List Outcome) (o : Outcome) (more : List Outcome) → more ≡ os ++ o ∷ [] → AllByRecursion IsUndone more → AllByRecursion IsUndone os × IsUndone o
+undone_before os o more is all = parts os (subst (AllByRecursion IsUndone) is all) where
+  parts : (os : List Outcome) → AllByRecursion IsUndone (os ++ o ∷ []) → AllByRecursion IsUndone os × IsUndone o
+  parts [] all = (tt, all.0)
+  parts (x ∷ os) all = let rest = parts os all.1 in ((all.0, rest.0), rest.1)
+
+-- after a refusal the rows are as they were
+pub refused_last : {R : Type 0} (old now new : R) (r : Reply) (o : Outcome) → o ≡ Replied r → IsUndone o → ((refusal : Refusal) → r ≡ Refused refusal → new ≡ now) → now ≡ old → new ≡ old
+refused_last old now new r o is undone same so_far = let refused = subst IsUndone is undone in same refused.0 refused.1 ∙ so_far
+
+-- ---- runs
 
 module _ (fails : StoreFault → Type 0) where
   -- one command more, which is answered

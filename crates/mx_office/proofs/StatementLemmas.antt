@@ -22,11 +22,12 @@ use Rattle.mx_office.specs.declared.values.Refusal.TheVariants.{NoSuchPurse, NoS
 use Rattle.mx_office.specs.declared.values.Reply.TheVariants as reply
 use Rattle.mx_office.specs.Isolation.{Event, Holdings, view, on_holdings, after_event, local, cut}
 use Rattle.mx_office.specs.Reachable.{IsReachable}
-use Rattle.mx_office.specs.Statement.{Item, item_of, balance_after, lines_from, balance_at_end, items_seen, statement_of, IsStated}
+use Rattle.mx_office.specs.Statement.{Item, item_of, balance_after, lines_from, balance_at_end, items_over, items_seen, statement_of, IsStated}
 use Rattle.mx_office.specs.Step.{Deed, Asks, Asked, idle, refusal_of_start, refusal_of_redeem, in_place, listed, abort_line, message_line, payment_line, money_line, with_purse, with_aborted, with_redemption, handle_message, asks, show, start_from, start_to, handle, discard, abort, read_log, redeem, inbox, statement, loaded_holding, settled_holding, holding_for, own_holding, steps}
 use Rattle.mx_office.proofs.CaseLemmas.{by_cond, by_told, by_named, by_found, by_room}
 use Rattle.mx_office.proofs.LawLemmas.{run_law}
 use Rattle.mx_office.proofs.OwnLemmas.{own_at}
+use Rattle.mx_office.proofs.WrittenLemmas.{local_told}
 
 -- ---- items, and more of them
 
@@ -188,7 +189,10 @@ module _ (t : Token) (list : List Asked) (h p : Name) (a : Holding) (own : own_h
   own_stated = ((local_lined fmap.empty events none_lined).each p a seen_holding).stated
 
   items_are : items_seen events p ≡ map item_of a.lines
-  items_are = ap (λ o. option_map_or (λ (x : Holding). map item_of x.lines) o []) seen_holding
+  items_are =
+      let lines_of = λ (o : Option Holding). option_map_or (λ (x : Holding). map item_of x.lines) o [] in
+      ap (λ xs. items_over fmap.empty events p xs) (ap lines_of (sym (fmap.get-empty name_cmp p)))
+      ∙ sym (local_told fmap.empty events p) ∙ ap lines_of seen_holding
 
   pub seen_stated : (a.lines ≡ statement_of events p) × (a.purse.balance ≡ balance_at_end 0 (items_seen events p))
   seen_stated = (own_stated.lines ∙ ap (lines_from 0 0) (sym items_are), own_stated.balance ∙ ap (balance_at_end 0) (sym items_are))

@@ -1,11 +1,12 @@
 -- What members owe and own.
-use Rattle.std.specs.Prelude.{◌≡◌, ℕ, ◌+◌, Bool, if◌then◌else◌, Option, Some, None}
+use Rattle.std.specs.Prelude.{◌≡◌, ℕ, ◌+◌, Bool, if◌then◌else◌, Option, Some, None, sum_by}
 use Rattle.std.specs.FinMap as fmap
 use Rattle.mx_book.specs.declared.values.MemberRow.{MemberRow}
+use Rattle.mx_book.specs.declared.values.MemberTotals.{MemberTotals}
 use Rattle.mx_book.specs.Sums.{sum_values, sum_entries}
 use Rattle.mx_book.specs.World.{World, Row, Name}
 use Rattle.mx_book.specs.Reads.{uncollected_row}
-use Rattle.mx_book.specs.Totals.{issued_row, redeemed_row, sums_of}
+use Rattle.mx_book.specs.Totals.{issued_row, members_totals_of, redeemed_row, sums_of, totals_of}
 
 -- ---- one member
 
@@ -37,3 +38,18 @@ AreBalanced w chosen =
 pub record IsBalanced (w : World) : Type 0 where
   pub chosen : (chosen : Name → Bool) → AreBalanced w chosen
   pub each : (m : Name) (row : MemberRow) → fmap.get w.members m ≡ Some row → IsMemberBalanced w m row
+
+-- ---- all members
+
+-- what a number of each member comes to
+abbrev pub over_members : World → (MemberTotals → ℕ) → ℕ
+over_members w f = sum_by (λ (e : Name × MemberTotals). f e.1) (members_totals_of w)
+
+-- the sums of the members come to those of the scheme
+pub record AreTogether (w : World) : Type 0 where
+  pub granted : over_members w (λ sums. sums.granted) ≡ (totals_of w).granted
+  pub float : over_members w (λ sums. sums.float) ≡ (totals_of w).float
+  pub uncollected : over_members w (λ sums. sums.uncollected) ≡ (totals_of w).uncollected
+  pub issued : over_members w (λ sums. sums.issued) ≡ (totals_of w).issued
+  pub redeemed : over_members w (λ sums. sums.redeemed) ≡ (totals_of w).redeemed
+  pub balances : over_members w (λ sums. sums.balances) ≡ (totals_of w).balances

@@ -3,7 +3,9 @@ use Rattle.std.specs.Prelude.{◌≡◌, List, [], ◌∷◌}
 use Rattle.mx_book.specs.World.{World}
 use Rattle.mx_book.specs.declared.contract.StoreFault.{StoreFault}
 use Rattle.mx_book.specs.declared.values.Caller.{Caller}
+use Rattle.mx_office.specs.declared.values.Refusal.{Refusal}
 use Rattle.mx_office.specs.declared.values.Reply.{Reply}
+use Rattle.mx_office.specs.declared.values.Reply.TheVariants.{Refused}
 use Rattle.mx_office.specs.declared.values.Outcome.{Outcome}
 use Rattle.mx_office.specs.declared.values.Outcome.TheVariants.{Reply as Replied, Unavailable}
 use Rattle.mx_office.specs.Faults.{MayFail}
@@ -26,6 +28,11 @@ pub record Leads (fails : StoreFault → Type 0) (Stands : World → Type 0) (w 
   pub end : World
   pub stands : Stands end
   pub run : IsRun fails w cs os end
+
+-- an outcome by which nothing changes: the command was refused, or not answered
+abbrev pub IsUndone : Outcome → Type 0
+IsUndone (Replied r) = (refusal : Refusal) × (r ≡ Refused refusal)
+IsUndone Unavailable = Unit {0}
 
 -- ---- what was answered
 

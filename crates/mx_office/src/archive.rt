@@ -1,6 +1,8 @@
 //! The operator's commands on the results of read log: archives, clears and settlements.
-ghost use Rattle.std.specs.Prelude.{◌≡◌, OnOk, IfErr};
+ghost use Rattle.std.specs.Prelude.{◌≡◌, [], false, nat_lt, OnOk, IfErr};
+ghost use Rattle.mx_pay.specs.Log.{log_len};
 ghost use Rattle.mx_book.specs.Keeps.{Keeps, Gives};
+ghost use Rattle.mx_book.specs.Reads.{finds_place, tray_of};
 ghost use Rattle.mx_book.specs.World.{World};
 ghost use Rattle.mx_office.specs.Commands.{IsCommand};
 ghost use Rattle.mx_office.specs.Decides.{Decides, settlement_edits};
@@ -28,6 +30,8 @@ pub(crate) fn archive<B: Book>(
 ) -> Result<(), StoreFault>
     ensures keeps { Keeps B.doubt B.rows B.leaves book.old book.new }
     ensures decides { (w : World) → B.doubt book.new ≡ 0 → B.spells (B.rows book.old) w → OnOk result (Decides w (archive w purse) decided.new) }
+    ensures idle { (w : World) → B.doubt book.new ≡ 0 → B.spells (B.rows book.old) w
+        → OnOk result (nat_lt 0 (log_len (tray_of w purse)) ≡ false → decided.new.edits ≡ []) }
     ensures fault { IfErr result B.fails }
 {
     if !book.has_purse(alloc, purse)? {
@@ -80,6 +84,8 @@ pub(crate) fn clear<B: Book>(
 ) -> Result<(), StoreFault>
     ensures keeps { Keeps B.doubt B.rows B.leaves book.old book.new }
     ensures decides { (w : World) → IsCommand (Command.Clear purse details.now) → B.doubt book.new ≡ 0 → B.spells (B.rows book.old) w → OnOk result (Decides w (clear w purse details.now) decided.new) }
+    ensures idle { (w : World) → B.doubt book.new ≡ 0 → B.spells (B.rows book.old) w
+        → OnOk result (finds_place w purse ≡ false → decided.new.edits ≡ []) }
     ensures fault { IfErr result B.fails }
 {
     if !book.has_purse(alloc, purse)? {

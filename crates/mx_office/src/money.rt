@@ -1,11 +1,13 @@
 //! The commands that bring value into the office and make up for what left it: grants, loads and collects.
-ghost use Rattle.std.specs.Prelude.{◌≡◌, ◌≤◌, ◌⊎◌, [], OnOk, IfErr};
+ghost use Rattle.std.specs.Prelude.{◌≡◌, ◌≤◌, ◌⊎◌, [], OnOk, IfErr, IsTrue, is_some};
 ghost use Rattle.mx_book.specs.declared.contract.StoreFault.TheVariants.{Memory};
 ghost use Rattle.mx_book.specs.Conditions.{all_granted};
 ghost use Rattle.mx_book.specs.Keeps.{Keeps, Gives};
+ghost use Rattle.mx_book.specs.Reads.{load_of, member_of};
 ghost use Rattle.mx_book.specs.World.{World};
 ghost use Rattle.mx_office.specs.Commands.{IsCommand};
 ghost use Rattle.mx_office.specs.Decides.{Decides, granted_to, load_edits, member_purse};
+ghost use Rattle.mx_office.specs.Faults.{FailsFor};
 ghost use Rattle.mx_office.specs.Step.{collect, grant, load_purse, reconcile};
 ghost use Rattle.mx_office.specs.declared.values.Command.{Command};
 
@@ -62,6 +64,8 @@ pub(crate) fn grant<B: Book>(
     ensures keeps { Keeps B.doubt B.rows B.leaves book.old book.new }
     ensures decides { (w : World) → B.doubt book.new ≡ 0 → B.spells (B.rows book.old) w → OnOk result (Decides w (grant w member amount) decided.new) }
     ensures fault { IfErr result (λ e. (e ≡ Memory) ⊎ B.fails e) }
+    ensures memory { (w : World) → B.doubt book.new ≡ 0 → B.spells (B.rows book.old) w
+        → IfErr result (FailsFor B.fails (is_some (member_of w member))) }
 {
     let Some(row) = book.member(alloc, member)? else {
         refuse(decided, Refusal::NoSuchMember);
@@ -125,6 +129,8 @@ pub(crate) fn load<B: Book>(
 ) -> Result<(), StoreFault>
     ensures keeps { Keeps B.doubt B.rows B.leaves book.old book.new }
     ensures decides { (w : World) → IsCommand (Command.Load purse amount reference) → B.doubt book.new ≡ 0 → B.spells (B.rows book.old) w → OnOk result (Decides w (load_purse w member purse amount reference) decided.new) }
+    ensures idle { (w : World) → B.doubt book.new ≡ 0 → B.spells (B.rows book.old) w
+        → OnOk result (IsTrue (is_some (load_of w purse reference)) → decided.new.edits ≡ []) }
     ensures fault { IfErr result B.fails }
 {
     let Some(mut after) = member_purse(book, alloc, member, purse)? else {

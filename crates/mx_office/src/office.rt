@@ -1,7 +1,7 @@
 //! The office over any book.
 ghost use Rattle.std.specs.Borrow.{sem};
 ghost use Rattle.std.specs.List.{AllByRecursion};
-ghost use Rattle.std.specs.Prelude.{◌≡◌, ◌≤◌, ◌⊎◌, [], length, IfOk, IfErr, IsTrue, OnOk, OnErr};
+ghost use Rattle.std.specs.Prelude.{◌≡◌, ◌≤◌, ◌⊎◌, [], false, length, IfOk, IfErr, IsTrue, OnOk, OnErr};
 ghost use Rattle.mx_book.specs.Edits.{Fits, all_edited};
 ghost use Rattle.mx_book.specs.Keeps.{Keeps};
 ghost use Rattle.mx_book.specs.World.{World, Name as HolderName};
@@ -12,11 +12,11 @@ ghost use Rattle.mx_office.specs.Abstract.{Refines};
 ghost use Rattle.mx_office.specs.Commands.{IsAsked, IsCommand};
 ghost use Rattle.mx_office.specs.Conservation.{IsNeverFullOutcome};
 ghost use Rattle.mx_office.specs.Decides.{Decides};
-ghost use Rattle.mx_office.specs.Faults.{MayFail, MayNotDecide, is_read};
+ghost use Rattle.mx_office.specs.Faults.{FailsFor, MayFail, MayNotDecide, is_read, lists, makes_edits};
 ghost use Rattle.mx_office.specs.Isolation.{cut, for_holder, local, told_to, view, view_of};
 ghost use Rattle.mx_office.specs.Lends.{LendsBook};
 ghost use Rattle.mx_office.specs.Reachable.{IsReachable, StandsBalanced};
-ghost use Rattle.mx_office.specs.Run.{Leads, answered, replies};
+ghost use Rattle.mx_office.specs.Run.{IsUndone, Leads, answered, replies};
 ghost use Rattle.mx_office.specs.Step.{base, step};
 
 use crate::archive::{archive, clear, settle};
@@ -65,9 +65,10 @@ impl<B: Book> Office<B> {
     }
 
     /// What a command of a caller would do: its reply, and the edits that lead to its World. Nothing changes. A fault
-    /// is one of the book's reads, or `Memory` where the command reads a list: a grant, purses, inbox and
-    /// statement. `asked` says
-    /// what the caller and the command keep by their types: names are names, and numbers and tokens are within limits.
+    /// is one of the book's reads, or `Memory` where the command reads a list: a grant, purses, inbox and statement. Over
+    /// rows that spell a World (`memory`) a grant reads one only where its member is there, and an inbox and a statement
+    /// only where the purse is the holder's. There a command that is idle has no edits (`edits`). `asked` says what the
+    /// caller and the command keep by their types: names are names, and numbers and tokens are within limits.
     pub fn decide(
         &mut self,
         alloc: Global,
@@ -77,7 +78,11 @@ impl<B: Book> Office<B> {
         ensures keeps { Keeps B.doubt B.rows B.leaves self.old.book self.new.book }
         ensures decides { (w : World) → B.doubt self.new.book ≡ 0 → B.spells (B.rows self.old.book) w → IfOk result (Decides w (base w caller command.now)) }
         ensures reads { IfOk result (λ d. IsTrue (is_read command.now) → d.edits ≡ []) }
+        ensures edits { (w : World) → B.doubt self.new.book ≡ 0 → B.spells (B.rows self.old.book) w
+            → IfOk result (λ d. makes_edits w command.now ≡ false → d.edits ≡ []) }
         ensures fault { IfErr result (MayNotDecide B.fails command.now) }
+        ensures memory { (w : World) → B.doubt self.new.book ≡ 0 → B.spells (B.rows self.old.book) w
+            → IfErr result (FailsFor B.fails (lists w caller command.now)) }
         ensures asked { IsAsked (caller, command.now) }
     {
         let mut decided = Decided::new();
@@ -98,7 +103,11 @@ impl<B: Book> Office<B> {
         ensures keeps { Keeps B.doubt B.rows B.leaves self.old.book self.new.book }
         ensures decides { (w : World) → B.doubt self.new.book ≡ 0 → B.spells (B.rows self.old.book) w → OnOk result (Decides w (base w caller command.now) decided.new) }
         ensures reads { OnOk result (IsTrue (is_read command.now) → decided.new.edits ≡ []) }
+        ensures edits { (w : World) → B.doubt self.new.book ≡ 0 → B.spells (B.rows self.old.book) w
+            → OnOk result (makes_edits w command.now ≡ false → decided.new.edits ≡ []) }
         ensures fault { IfErr result (MayNotDecide B.fails command.now) }
+        ensures memory { (w : World) → B.doubt self.new.book ≡ 0 → B.spells (B.rows self.old.book) w
+            → IfErr result (FailsFor B.fails (lists w caller command.now)) }
         ensures asked { IsAsked (caller, command.now) }
     {
         is_caller(&caller);
@@ -131,7 +140,9 @@ impl<B: Book> Office<B> {
 
     /// Answers a command of a caller: decides, and makes the edits. After a fault and after a refusal nothing is
     /// changed, whatever the book holds. A fault is one of the book's reads, or `Memory` where the command takes some: it
-    /// reads a list, or writes and isn't refused. `asked` says the same as at `decide`.
+    /// reads a list, or makes edits and isn't refused. What is refused for its caller, its purse or its member takes none,
+    /// nor does a load or a redemption that is repeated, an archive of nothing, or a clear that finds no place. `asked` says
+    /// the same as at `decide`.
     ///
     /// It keeps holders apart: after an answer that succeeds, and for every holder, what is the holder's own of each of
     /// the holder's purses is what the holder's view of that one command makes of what it was (`accounts`), and the reply,
@@ -164,7 +175,8 @@ impl<B: Book> Office<B> {
     /// Answers commands in order: one outcome a command, its reply, or `Unavailable` where `answer` gives a fault. An
     /// AllocError means that nothing was done. From a World that commands can lead to it ends in such a World
     /// (`reachable`), which meets all the conditions of a World, in which each member's account is balanced, and no value
-    /// was made or is gone; and nothing is refused because a purse or a float is full (`never_full`).
+    /// was made or is gone; and nothing is refused because a purse or a float is full (`never_full`). Where each outcome is
+    /// a refusal or `Unavailable`, the rows are as they were, whatever the book holds (`undone`).
     ///
     /// It keeps holders apart, as `answer` does: for every holder, the replies to the holder, in order, are those that
     /// the holder's view of the commands that were answered gives (`told`), and what is the holder's own in the end is
@@ -186,6 +198,8 @@ impl<B: Book> Office<B> {
         ensures refines { (w v : World) → B.doubt self.new.book ≡ 0 → B.spells (B.rows self.old.book) w
             → B.spells (B.rows self.new.book) v → IsReachable w
             → IfOk result (λ outcomes. Refines w (answered commands.now outcomes.items) v) }
+        ensures undone { B.doubt self.new.book ≡ 0 → IfOk result (λ outcomes.
+            AllByRecursion IsUndone outcomes.items → B.rows self.new.book ≡ B.rows self.old.book) }
         ensures each { IfOk result (λ outcomes. length outcomes.items ≡ length commands.now) }
         ensures err { OnErr result (self.new ≡ self.old) }
     {
@@ -211,7 +225,11 @@ fn decide_operator<B: Book>(
     ensures keeps { Keeps B.doubt B.rows B.leaves book.old book.new }
     ensures decides { (w : World) → IsCommand command.now → B.doubt book.new ≡ 0 → B.spells (B.rows book.old) w → OnOk result (Decides w (base w Caller.Operator command.now) decided.new) }
     ensures reads { OnOk result (IsTrue (is_read command.now) → decided.new.edits ≡ []) }
+    ensures edits { (w : World) → B.doubt book.new ≡ 0 → B.spells (B.rows book.old) w
+        → OnOk result (makes_edits w command.now ≡ false → decided.new.edits ≡ []) }
     ensures fault { IfErr result (MayNotDecide B.fails command.now) }
+    ensures memory { (w : World) → B.doubt book.new ≡ 0 → B.spells (B.rows book.old) w
+        → IfErr result (FailsFor B.fails (lists w Caller.Operator command.now)) }
 {
     match *command {
         Command::NewMember { member, token } => new_member(book, alloc, member, token, decided),
@@ -238,7 +256,11 @@ fn decide_clerk<B: Book>(
     ensures keeps { Keeps B.doubt B.rows B.leaves book.old book.new }
     ensures decides { (w : World) → IsCommand command.now → B.doubt book.new ≡ 0 → B.spells (B.rows book.old) w → OnOk result (Decides w (base w (Caller.Clerk member) command.now) decided.new) }
     ensures reads { OnOk result (IsTrue (is_read command.now) → decided.new.edits ≡ []) }
+    ensures edits { (w : World) → B.doubt book.new ≡ 0 → B.spells (B.rows book.old) w
+        → OnOk result (makes_edits w command.now ≡ false → decided.new.edits ≡ []) }
     ensures fault { IfErr result (MayNotDecide B.fails command.now) }
+    ensures memory { (w : World) → B.doubt book.new ≡ 0 → B.spells (B.rows book.old) w
+        → IfErr result (FailsFor B.fails (lists w (Caller.Clerk member) command.now)) }
 {
     match *command {
         Command::NewHolder { holder, token } => new_holder(
@@ -271,7 +293,11 @@ fn decide_holder<B: Book>(
     ensures keeps { Keeps B.doubt B.rows B.leaves book.old book.new }
     ensures decides { (w : World) → IsCommand command.now → B.doubt book.new ≡ 0 → B.spells (B.rows book.old) w → OnOk result (Decides w (base w (Caller.Holder holder) command.now) decided.new) }
     ensures reads { OnOk result (IsTrue (is_read command.now) → decided.new.edits ≡ []) }
+    ensures edits { (w : World) → B.doubt book.new ≡ 0 → B.spells (B.rows book.old) w
+        → OnOk result (makes_edits w command.now ≡ false → decided.new.edits ≡ []) }
     ensures fault { IfErr result (MayNotDecide B.fails command.now) }
+    ensures memory { (w : World) → B.doubt book.new ≡ 0 → B.spells (B.rows book.old) w
+        → IfErr result (FailsFor B.fails (lists w (Caller.Holder holder) command.now)) }
 {
     match *command {
         Command::Purses => purses(book, alloc, holder, decided),

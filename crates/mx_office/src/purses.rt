@@ -1,11 +1,12 @@
 //! The commands of holders.
-ghost use Rattle.std.specs.Prelude.{◌≡◌, ◌⊎◌, [], OnOk, IfErr, option_map};
+ghost use Rattle.std.specs.Prelude.{◌≡◌, ◌⊎◌, [], OnOk, IfErr, IsTrue, is_some, option_map};
 ghost use Rattle.mx_book.specs.declared.contract.StoreFault.TheVariants.{Memory};
 ghost use Rattle.mx_book.specs.Keeps.{Keeps, Gives};
 ghost use Rattle.mx_book.specs.World.{World};
-ghost use Rattle.mx_book.specs.Reads.{purses_of};
+ghost use Rattle.mx_book.specs.Reads.{own_purse, purses_of, redemption_of};
 ghost use Rattle.mx_office.specs.Commands.{IsCommand};
 ghost use Rattle.mx_office.specs.Decides.{Decides, not_kept, placed};
+ghost use Rattle.mx_office.specs.Faults.{FailsFor};
 ghost use Rattle.mx_office.specs.Step.{abort, discard, handle, inbox, on_own, read_log, redeem, show, start_from, start_to, statement, tell};
 ghost use Rattle.mx_office.specs.declared.values.Command.{Command};
 
@@ -99,6 +100,8 @@ pub(crate) fn inbox<B: Book>(
     ensures decides { (w : World) → B.doubt book.new ≡ 0 → B.spells (B.rows book.old) w → OnOk result (Decides w (on_own w holder purse inbox) decided.new) }
     ensures edits { OnOk result (decided.new.edits ≡ []) }
     ensures fault { IfErr result (λ e. (e ≡ Memory) ⊎ B.fails e) }
+    ensures memory { (w : World) → B.doubt book.new ≡ 0 → B.spells (B.rows book.old) w
+        → IfErr result (FailsFor B.fails (is_some (own_purse w holder purse))) }
 {
     if !book.is_own(alloc, holder, purse)? {
         refuse(decided, Refusal::NoSuchPurse);
@@ -123,6 +126,8 @@ pub(crate) fn statement<B: Book>(
     ensures decides { (w : World) → B.doubt book.new ≡ 0 → B.spells (B.rows book.old) w → OnOk result (Decides w (on_own w holder purse (statement after)) decided.new) }
     ensures edits { OnOk result (decided.new.edits ≡ []) }
     ensures fault { IfErr result (λ e. (e ≡ Memory) ⊎ B.fails e) }
+    ensures memory { (w : World) → B.doubt book.new ≡ 0 → B.spells (B.rows book.old) w
+        → IfErr result (FailsFor B.fails (is_some (own_purse w holder purse))) }
 {
     if !book.is_own(alloc, holder, purse)? {
         refuse(decided, Refusal::NoSuchPurse);
@@ -353,6 +358,8 @@ pub(crate) fn redeem<B: Book>(
 ) -> Result<(), StoreFault>
     ensures keeps { Keeps B.doubt B.rows B.leaves book.old book.new }
     ensures decides { (w : World) → IsCommand (Command.Redeem purse amount reference) → B.doubt book.new ≡ 0 → B.spells (B.rows book.old) w → OnOk result (Decides w (on_own w holder purse (redeem amount reference)) decided.new) }
+    ensures idle { (w : World) → B.doubt book.new ≡ 0 → B.spells (B.rows book.old) w
+        → OnOk result (IsTrue (is_some (redemption_of w purse reference)) → decided.new.edits ≡ []) }
     ensures fault { IfErr result B.fails }
 {
     let Some(mut after) = book.own_purse(alloc, holder, purse)? else {

@@ -36,6 +36,7 @@ where
     let mut office = Office::new(Faulty {
         book: PlainBook::new(rt.alloc(), operator()?),
         left: None,
+        lines_asked: (u64::MAX, 0),
     });
     ask(rt, &mut office)
 }

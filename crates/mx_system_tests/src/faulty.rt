@@ -15,6 +15,8 @@ pub(super) struct Faulty<B> {
     pub(super) book: B,
     /// How many calls are passed on before the one that isn't. None is left out where there is none.
     pub(super) left: Option<u64>,
+    /// The fewest lines that were asked for at once, and the most.
+    pub(super) lines_asked: (u64, u64),
 }
 
 impl<B> Faulty<B> {
@@ -150,6 +152,8 @@ impl<B: Book> Book for Faulty<B> {
         after: u64,
         most: u64,
     ) -> Result<Vec<Line>, StoreFault> {
+        let (fewest, most_before) = self.lines_asked;
+        self.lines_asked = (fewest.min(most), most_before.max(most));
         if self.is_left_out() {
             return Err(StoreFault::Store);
         }

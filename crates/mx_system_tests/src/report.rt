@@ -128,8 +128,8 @@ fn statements_of_many_lines(rt: HostRuntime) -> Result<(), Fail> {
     Ok(())
 }
 
-/// Asserts that a statement of 101 lines is read by a look for the purse and three pages of 50: two are full, and one line
-/// is left.
+/// Asserts that a statement of 101 lines is read by a look for the purse and three pages, each asked for as 50 lines: two are
+/// full, and one line is left.
 fn assert_three_pages(
     rt: &(impl Abort + AllocGlobal),
     office: &mut Office<Faulty<impl Book>>,
@@ -140,6 +140,7 @@ fn assert_three_pages(
     let lines = lines.ok().flatten().ok_or("no statement")?;
     assert_eq!(rt; lines.len(), 101);
     assert_eq!(rt; office.book.left, Some(5));
+    assert_eq!(rt; office.book.lines_asked, (50, 50));
     Ok(())
 }
 

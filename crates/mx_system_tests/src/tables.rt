@@ -146,3 +146,62 @@ fn page_before_a_line_of_no_kind(rt: HostRuntime) -> Result<(), Fail> {
     assert_eq!(rt; whole.err(), Some(StoreFault::Store));
     Ok(())
 }
+
+/// A member, a holder and the holder's purse p1, which was loaded with 100.
+const LOADED: [&str; 4] = [
+    "INSERT INTO member (name, granted, unspent) VALUES ('m', 100, 0)",
+    "INSERT INTO holder (name, member) VALUES ('ann', 'm')",
+    "INSERT INTO purse (name, holder, balance, next_number, status, details, log, line_count, next_message) VALUES ('p1', 'ann', 100, 0, 'eaFrom', '', '', 1, 0)",
+    "INSERT INTO load (purse, reference, amount) VALUES ('p1', 'a1', 100)",
+];
+
+/// New tables with these rows, and then a change.
+fn with_change(alloc: Global, operator: Token, change: &str) -> Result<Tables<MemStore>, Fail> {
+    let mut store = made(alloc, empty_store(alloc)?, operator)?.into_store();
+    for text in LOADED {
+        store.execute(text, &[])?;
+    }
+    store.execute(change, &[])?;
+    opened(alloc, store)
+}
+
+/// Why the sums of the scheme and those of its members can't be read of these rows after a change; None where they can.
+fn faults_after(
+    alloc: Global,
+    change: &str,
+) -> Result<(Option<StoreFault>, Option<StoreFault>), Fail> {
+    let operator = Token::read("00000000000000000000000000000001").ok_or("no token")?;
+    let mut book = with_change(alloc, operator, change)?;
+    let scheme = book.totals(alloc).err();
+    let members = book.members_totals(alloc).err();
+    Ok((scheme, members))
+}
+
+/// Rows that are no value of the books are added up by no sum that reads them: a balance, a load or grants above their
+/// limits, a status that there isn't, a load or an archived result of nobody's purse.
+#[test]
+fn sums_of_rows_that_are_no_value(rt: HostRuntime) -> Result<(), Fail> {
+    let store = Some(StoreFault::Store);
+    for (change, scheme, members) in [
+        ("UPDATE purse SET next_number = 1", None, None),
+        ("UPDATE purse SET balance = 1000000000000000", None, None),
+        ("UPDATE purse SET balance = 1000000000000001", store, store),
+        ("UPDATE load SET amount = 1000000000000", None, None),
+        ("UPDATE load SET amount = 1000000000001", store, store),
+        ("UPDATE member SET granted = 1000000000000001", store, store),
+        ("UPDATE purse SET status = 'xx'", store, None),
+        ("UPDATE load SET purse = 'zz'", None, store),
+        (
+            "INSERT INTO archive (purse, details) VALUES ('zz', 'p1,q1,60,0,0')",
+            store,
+            None,
+        ),
+    ] {
+        assert_eq!(rt;
+            faults_after(rt.alloc(), change)?,
+            (scheme, members),
+            "{change}"
+        );
+    }
+    Ok(())
+}

@@ -17,7 +17,7 @@ use Rattle.mx_book.specs.RowReads.{is_counted}
 use Rattle.mx_book.specs.declared.values.MemberRow.{MemberRow}
 use Rattle.mx_book.proofs.NameLemmas.{names_total, same_name}
 use Rattle.mx_book.specs.declared.totals.Scope.{Scope}
-use Rattle.mx_tables.specs.Counted.{number_of, owed_shown, counted_row, amounts_text, amounts_of, text_of, row_sums, sum_at, sums_at, member_listed, totals_with, totals_row, if_some, is_epv, waiting_shown, log_shown, result_shown, left_value, waiting_row, log_row, result_row, adds_text, row_adds, sum_of}
+use Rattle.mx_tables.specs.Counted.{number_of, owed_shown, counted_row, amounts_text, amounts_of, text_of, row_sums, sum_at, sums_at, member_listed, totals_with, totals_row, if_some, status_shown, waiting_shown, log_shown, result_shown, left_value, waiting_at, waiting_row, log_row, result_row, adds_text, row_adds, sum_of}
 use Rattle.mx_tables.specs.declared.sums.Amounts.{Amounts}
 use Rattle.mx_tables.specs.declared.sums.Amounts.TheVariants.{Uncollected, Issued, Redeemed, Balances}
 use Rattle.mx_tables.specs.Answers.{member_shown, ArePurses}
@@ -168,10 +168,6 @@ pub adds_to_one : (r : Rows) (row : Row) (purse owner m : Name) (n : ℕ) (old n
 adds_to_one r row purse owner m n old new at is found put =
     ap (λ sums. sum_at sums m) put ∙ sum_added old owner m n ∙ ap (λ k. sum_at old m + k) (sym (counted_adds r row purse m n (Some owner) at is found))
 
-pub adds_to_none : (r : Rows) (row : Row) (purse m : Name) (n : ℕ) (old : fmap.FinMap name_cmp ℕ) → column row 0 ≡ Text purse → column row 1 ≡ number n → None ≡ member_at r.holders (fmap.get r.purses purse)
-    → sum_at old m ≡ sum_at old m + counted_row r.purses r.holders (Member m) row
-adds_to_none r row purse m n old at is found = let zero = counted_adds r row purse m n None at is found in omega (arith, zero)
-
 -- no sum is kept at first
 pub sum_at_first : (m : Name) → sum_at fmap.empty m ≡ 0
 sum_at_first m = grind (arith, fmap.gets)
@@ -203,11 +199,7 @@ members_summed r sums rows items is listed each =
 
 -- ---- the statements
 
--- the purse waits for a value
-abbrev pub is_waiting : Term
-is_waiting = op2 (Compare Eq Binary) (col 1 5) (lit (Text (codes "epv")))
-
-waiting_is : IsSelect (adds_text Waiting) 8 (is_waiting ∷ []) (col 1 6 ∷ []) [] (codes "details" ∷ [])
+waiting_is : IsSelect (adds_text Waiting) 8 [] (col 1 5 ∷ col 1 6 ∷ []) [] (codes "status" ∷ codes "details" ∷ [])
 unfolding understood everything
 waiting_is = record { is = refl; query = record { plain = (refl, refl); silent = λ _ _. refl }; unlisted = refl }
 
@@ -224,10 +216,6 @@ adds_query (Counted amounts scope) = amounts_query amounts
 adds_query Waiting = waiting_is.query
 adds_query Logged = logs_is.query
 adds_query Archived = archived_is.query
-
-epv_text : (s : Status) → eq_by_cmp (slice_cmp nat_cmp) (status_word s) (codes "epv") ≡ is_epv s
-epv_text (Epv d) = refl
-epv_text s = refl
 
 -- nothing is in a log of nothing
 pub nothing_logged : (d : Details) → has_logged none_logged d ≡ false
@@ -253,8 +241,17 @@ log_back f none log valid =
     (λ some. only_in (code log) _ refl some log valid refl)
 
 module _ (r : Rows) (row : Row) where
-  pub wait_is : (d : Details) → column row 0 ≡ Text (entry_text d) → IsDetails d → left_value r.purses r.archive d ≡ waiting_row r.purses r.archive row
-  wait_is d is valid = sym (ap (λ v. if_some (left_value r.purses r.archive) (entry_of (text_of v))) is ∙ entry_back (left_value r.purses r.archive) d valid)
+  -- a purse waits for a value in one status alone
+  awaits : (s : Status) → IfSome (details_of s) IsDetails → waiting_row r.purses r.archive (status_shown s) ≡ awaited r.purses r.archive s
+  awaits (Epv d) valid = entry_back (left_value r.purses r.archive) d valid
+  awaits s valid = refl
+
+  pub wait_is : (s : Status) → column row 0 ≡ Text (status_word s) → column row 1 ≡ Text (status_details s) → IfSome (details_of s) IsDetails → awaited r.purses r.archive s ≡ waiting_row r.purses r.archive row
+  wait_is s word details valid = sym (ap₂ (waiting_at r.purses r.archive) word details ∙ awaits s valid)
+
+  pub none_awaited : (s : Status) → ((d : Details) → s ≡ Epv d → ⊥) → 0 ≡ awaited r.purses r.archive s
+  none_awaited (Epv d) other = absurd (other d refl)
+  none_awaited s other = refl
 
   none_lost : (p : Name) → lost_in_log r.purses r.archive r.settled p none_logged ≡ 0
   none_lost p = ap (sum_by (lost_by r.purses r.archive r.settled p)) none_is
@@ -279,19 +276,12 @@ module _ (r : Rows) (p : Name) (d : Details) where
 -- ---- what all rows say
 
 module _ (r : Rows) where
-  -- a purse waits for a value in one status alone
-  awaits : (s : Status) → IfSome (details_of s) IsDetails
-      → ◌≡◌ {A = ℕ} (if is_epv s then waiting_row r.purses r.archive (Text (status_details s) ∷ []) else 0) (awaited r.purses r.archive s)
-  awaits (Epv d) valid = entry_back (left_value r.purses r.archive) d valid
-  awaits s valid = refl
-
   pub sum_is : (a : Adds) (old new : State) (rows : List Row) → Shown (adds_text a) [] old new rows → Holds old.now r → ArePurses r → AreEntries r → sum_by (row_adds r a) rows ≡ sum_of r a
   unfolding sum_values sum_entries
   sum_is (Counted amounts scope) old new rows shown h purses entries = amounts_summed r scope amounts old new rows shown h
   sum_is Waiting old new rows shown h purses entries =
-      summed kept.purses (waiting_row r.purses r.archive) _ _ _ _ waiting_is (λ e. is_epv e.1.purse.status) waiting_shown _
-      (λ id e. and_true _ ∙ same_text (status_word e.1.purse.status) (codes "epv") ∙ epv_text e.1.purse.status) (λ id e. refl) old new rows shown r h
-      (λ p x at. awaits x.purse.status (purses p x at).1.details)
+      summed kept.purses (waiting_row r.purses r.archive) _ _ _ _ waiting_is (λ _. true) waiting_shown _ (λ id e. refl) (λ id e. refl) old new rows shown r h
+      (λ p x at. awaits r [] x.purse.status (purses p x at).1.details)
   sum_is Logged old new rows shown h purses entries =
       summed kept.purses (log_row r.purses r.archive r.settled) _ _ _ _ logs_is (λ _. true) log_shown _ (λ id e. refl) (λ id e. refl) old new rows shown r h
       (λ p x at. sym (log_is r (log_shown (p, x)) p x.purse.log refl refl (purses p x at).1.log))

@@ -25,7 +25,7 @@ use Rattle.mx_tables.proofs.OwnerLemmas.{AreAlike, owned_put, owned_changed}
 use Rattle.sqlite_rules.specs.Edit.{are_fresh, without_all, put_all}
 use Rattle.sqlite_rules.specs.Calls.{ids_of}
 use Rattle.sqlite_rules.proofs.ListLemmas.{all_has}
-use Rattle.mx_tables.specs.Answers.{state_shown, state_columns, own_shown, next_shown}
+use Rattle.mx_tables.specs.Answers.{state_shown, state_columns, own_shown, next_shown, place_of}
 use Rattle.mx_tables.proofs.Texts.{is_given, insert_purse, insert_purse_is, update_purse, update_purse_is, raise_next, raise_next_is}
 use Rattle.mx_pay.proofs.TestLemmas.{is_equal}
 use Rattle.mx_tables.proofs.Statements.{env, passes, Wrote}
@@ -119,6 +119,10 @@ row_absent f o e = grind (arith, e)
 
 pub member_found : (holders : fmap.FinMap name_cmp Name) (o : Option PurseRow) (h : Name) → Some h ≡ option_map (λ (x : PurseRow). x.holder) o → member_at holders o ≡ fmap.get holders h
 member_found holders o h e = grind (arith, e)
+
+-- there is a number exactly where there is a place
+pub place_some : (r : Rows) (p : Name) → is_some (place_of r p) ≡ row_finds_place r p
+place_some r p = grind (arith)
 
 pub place_found : (r : Rows) (p : Name) (n held : ℕ) → Some n ≡ option_map (λ (x : PurseRow). x.next_message) (fmap.get r.purses p) → held ≡ length (row_inbox_of r p)
     → (nat_lt held most_messages && nat_lt n most_number) ≡ row_finds_place r p

@@ -1,5 +1,5 @@
 -- What the statements that read answer from the typed rows.
-use Rattle.std.specs.Prelude.{ℕ, List, [], ◌∷◌, codes, filter, ◌≡◌, ◌≤◌, ◌+◌, Option, Some, None, option_map}
+use Rattle.std.specs.Prelude.{ℕ, if◌then◌else◌, List, [], ◌∷◌, codes, filter, ◌≡◌, ◌≤◌, ◌+◌, Option, Some, None, option_map}
 use Rattle.std.specs.Ordering.{eq_by_cmp}
 use Rattle.std.specs.declared.cmp.Ordering.{Ordering}
 use Rattle.sqlite_value.specs.Order.{Row, column}
@@ -18,6 +18,7 @@ use Rattle.mx_purse.specs.Words.{status_word, status_details, message_word, mess
 use Rattle.mx_book.specs.declared.values.PurseRow.{PurseRow}
 use Rattle.sqlite.specs.State.{State as Connected}
 use Rattle.mx_book.specs.RowEdits.{on_purse}
+use Rattle.mx_book.specs.RowReads.{row_finds_place}
 use Rattle.mx_tables.specs.declared.asking.About.{About}
 use Rattle.mx_tables.specs.declared.asking.About.TheVariants.{Member, Holder, Purse, Own, Owner, Next}
 use Rattle.mx_tables.specs.Holds.{Holds}
@@ -96,6 +97,10 @@ one_or_none (Some x) = x ∷ []
 pub record Raises (p : Name) (next : ℕ) (old new : Connected) : Type 0 where
   pub goes : Goes (λ r. on_purse (fmap.get r.purses p) r (λ x. record r { purses = fmap.insert r.purses p (record x { next_message = next + 1 }) })) old new
   pub was : (r : Rows) → Holds old.now r → option_map (λ (x : PurseRow). x.next_message) (fmap.get r.purses p) ≡ Some next
+
+-- the number that a message to a purse gets, where it finds a place
+abbrev pub place_of : Rows → Name → Option ℕ
+place_of r p = if row_finds_place r p then option_map (λ (x : PurseRow). x.next_message) (fmap.get r.purses p) else None
 
 -- what is asked about a name, and the row that answers
 abbrev pub about_text : About → List ℕ

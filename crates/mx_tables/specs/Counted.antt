@@ -1,5 +1,5 @@
 -- What rows that were read add to sums, which purses they are of, and what the sums are.
-use Rattle.std.specs.Prelude.{ℕ, pos, negsuc, Bool, ◌&&◌, ◌||◌, List, [], ◌∷◌, codes, if◌then◌else◌, unwrap_or, Option, Some, None, true, false}
+use Rattle.std.specs.Prelude.{ℕ, pos, negsuc, Bool, ◌&&◌, ◌||◌, List, [], ◌∷◌, codes, if◌then◌else◌, bytes_eq, unwrap_or, Option, Some, None, true, false}
 use Rattle.std.specs.FinMap as fmap
 use Rattle.sqlite_value.specs.declared.value.Value.{Value}
 use Rattle.sqlite_value.specs.declared.value.Value.TheVariants.{Null, Int, Real, Text, Blob}
@@ -21,14 +21,13 @@ use Rattle.mx_book.specs.declared.values.MemberRow.{MemberRow}
 use Rattle.mx_book.specs.declared.values.MemberTotals.{MemberTotals}
 use Rattle.mx_tables.specs.declared.member_sums.MemberSums.{MemberSums}
 use Rattle.std.specs.FinSet.{FinSet}
-use Rattle.mx_pay.specs.Limits.{most_entries}
+use Rattle.mx_pay.specs.Limits.{most_amount, most_entries, most_number}
 use Rattle.mx_pay.specs.Details.{Details}
 use Rattle.mx_pay.specs.Log.{Entries, none_logged}
 use Rattle.mx_pay.specs.Codes.{code, entry_text}
 use Rattle.mx_pay.specs.Reading.{entry_of, entries_of}
-use Rattle.mx_purse.specs.Words.{status_details}
+use Rattle.mx_purse.specs.Words.{status_details, status_word}
 use Rattle.mx_purse.specs.declared.status.Status.{Status}
-use Rattle.mx_purse.specs.declared.status.Status.TheVariants.{EaFrom, EaTo, Epr, Epv, Epa}
 use Rattle.mx_book.specs.Sums.{sum_entries}
 use Rattle.mx_tables.specs.declared.sums.Adds.{Adds}
 use Rattle.mx_tables.specs.declared.sums.Adds.TheVariants.{Counted, Waiting, Logged, Archived}
@@ -75,6 +74,11 @@ amounts_text Uncollected = codes "SELECT purse, amount FROM redemption WHERE col
 amounts_text Issued = codes "SELECT purse, amount FROM load"
 amounts_text Redeemed = codes "SELECT purse, amount FROM redemption"
 amounts_text Balances = codes "SELECT name, balance FROM purse"
+
+-- the most of one of these amounts
+abbrev pub most_of : Amounts → ℕ
+most_of Balances = most_number
+most_of a = most_amount
 
 -- what the amounts of the purses that count come to
 abbrev pub amounts_of : Rows → Scope → Amounts → ℕ
@@ -129,16 +133,12 @@ abbrev pub if_some : {X : Type 0} → (X → ℕ) → Option X → ℕ
 if_some f None = 0
 if_some f (Some x) = f x
 
-abbrev pub is_epv : Status → Bool
-is_epv EaFrom = false
-is_epv EaTo = false
-is_epv (Epr d) = false
-is_epv (Epv d) = true
-is_epv (Epa d) = false
+-- what is read of a purse's status, of a purse's log, and of an archived result
+abbrev pub status_shown : Status → Row
+status_shown s = Text (status_word s) ∷ Text (status_details s) ∷ []
 
--- what is read of a purse that waits for a value, of a purse's log, and of an archived result
 abbrev pub waiting_shown : Name × PurseRow → Row
-waiting_shown e = Text (status_details e.1.purse.status) ∷ []
+waiting_shown e = status_shown e.1.purse.status
 
 abbrev pub log_shown : Name × PurseRow → Row
 log_shown e = Text e.0 ∷ Text (code e.1.purse.log) ∷ []
@@ -152,8 +152,11 @@ module _ (purses : fmap.FinMap name_cmp PurseRow) (archive : FinSet result_cmp) 
   left_value d = if has_left purses archive d then d.value else 0
 
   -- what these rows add to the value on its way, and to what is lost
+  abbrev pub waiting_at : Value → Value → ℕ
+  waiting_at word details = if bytes_eq (text_of word) (codes "epv") then if_some left_value (entry_of (text_of details)) else 0
+
   abbrev pub waiting_row : Row → ℕ
-  waiting_row row = if_some left_value (entry_of (text_of (column row 0)))
+  waiting_row row = waiting_at (column row 0) (column row 1)
 
   abbrev pub log_row : Entries → Row → ℕ
   log_row settled row = if_some (lost_in_log purses archive settled (text_of (column row 0))) (entries_of most_entries (text_of (column row 1)) none_logged)
@@ -171,7 +174,7 @@ results_lost r = sum_entries (λ result _. lost_in_archive r.purses r.archive r.
 -- the query of what is summed
 abbrev pub adds_text : Adds → List ℕ
 adds_text (Counted amounts scope) = amounts_text amounts
-adds_text Waiting = codes "SELECT details FROM purse WHERE status = 'epv'"
+adds_text Waiting = codes "SELECT status, details FROM purse"
 adds_text Logged = codes "SELECT name, log FROM purse"
 adds_text Archived = codes "SELECT purse, details FROM archive"
 

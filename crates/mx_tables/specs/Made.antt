@@ -1,15 +1,17 @@
 -- How the tables are made.
-use Rattle.mx_tables.specs.Schema.{office_schema, number}
+use Rattle.mx_tables.specs.Schema.{office_schema, number, schema_of}
+use Rattle.mx_tables.specs.declared.making.Version.{Version}
 use Rattle.mx_tables.specs.Holds.{meta_rows, AllStore}
 use Rattle.sqlite_value.specs.Order.{Row, column}
 use Rattle.sqlite_value.specs.declared.value.Value.TheVariants.{Null}
 use Rattle.sqlite_trees.specs.Tree.{has_rowid}
 use Rattle.sqlite_rules.specs.Lists.{Has}
 use Rattle.sqlite.specs.Effect.{Database}
-use Rattle.std.specs.Prelude.{◌≡◌, ◌≢◌, map, drop, pos, true, false, ◌∷◌, Ok, List, [], ℕ, IsTrue, Result, Err, slice_range}
+use Rattle.std.specs.Prelude.{◌≡◌, ◌≢◌, ◌⊎◌, codes, None, map, drop, pos, true, false, ◌∷◌, Ok, List, [], ℕ, IsTrue, Result, Err, slice_range}
 use Rattle.std.specs.List.{AllByRecursion}
 use Rattle.sqlite_schema.specs.declared.schema.Schema.{Schema}
 use Rattle.sqlite_schema.specs.declared.schema.Table.{Table}
+use Rattle.sqlite_schema.specs.Names.{table_named}
 use Rattle.sqlite_schema.specs.declared.command.Command.TheVariants.{CreateTable}
 use Rattle.sqlite_catalog.specs.Change.{created, next_tree, KeepsRows}
 use Rattle.sqlite.specs.Does.{lacks_sequence}
@@ -70,6 +72,11 @@ HasVersion n db = (r : Row) × Has (db.trees 0) r × (has_rowid (pos 1) r ≡ tr
 -- and no row of number 1 with another
 abbrev pub HasOnly : ℕ → Database → Type 0
 HasOnly n db = HasVersion n db × ((k : ℕ) → k ≢ n → ¬ HasVersion k db)
+
+-- a database is no present one of the office: it has no table `meta`, or its tables are those of a version, and `meta` hasn't
+-- the version 2
+abbrev pub IsUnknown : Database → Type 0
+IsUnknown db = (table_named db.schema (codes "meta") ≡ None) ⊎ ((version : Version) × (db.schema ≡ schema_of version) × (¬ HasVersion 2 db))
 
 abbrev pub version_shown : Row → Row
 version_shown r = column r 2 ∷ []

@@ -4,11 +4,11 @@ ghost use Rattle.mx_pay.specs.Log.{has_logged};
 ghost use Rattle.mx_book.specs.RowEdits.{log_at};
 ghost use Rattle.mx_book.specs.RowTotals.{has_sent, lost_by};
 ghost use Rattle.mx_tables.specs.Answers.{ArePurses};
-ghost use Rattle.mx_tables.specs.Counted.{left_value, log_row, result_row};
+ghost use Rattle.mx_tables.specs.Counted.{left_value, log_row, result_row, waiting_row};
 ghost use Rattle.mx_tables.specs.Results.{AreDetails, AreEntries};
 ghost use Rattle.mx_tables.specs.States.{Reads};
 
-use crate::cells::{entry_at, log_at, name_at};
+use crate::cells::{entry_at, log_at, name_at, status_at};
 use crate::purses::find_purse;
 use crate::results::find_archived;
 use crate::settled::find_settled;
@@ -17,6 +17,7 @@ use mx_book::totals::is_sent_by;
 use mx_book::{PurseRow, StoreFault};
 use mx_pay::names::same_name;
 use mx_pay::{Name, PayDetails};
+use mx_purse::Status;
 use sqlite::{Alter, Connection, Row};
 use std::alloc::Global;
 
@@ -56,6 +57,23 @@ pub fn value_left<S: Alter>(
     }
     let found = find_archived(alloc, conn, &payer, details)?;
     Ok(if found { value } else { 0 })
+}
+
+/// What the purse of the status in a row waits for, where it has left the other purse; nothing where it waits for no value.
+/// Store where the row shows no status.
+pub fn await_row<S: Alter>(
+    alloc: Global,
+    conn: &mut Connection<S>,
+    row: &Row,
+) -> Result<u128, StoreFault>
+    ensures { Reads S.Store conn.old conn.new result
+        (λ r n. ArePurses r → AreDetails r.archive
+        → n ≡ waiting_row r.purses r.archive row.now) }
+{
+    match status_at(row, 0)? {
+        Status::Epv(details) => value_left(alloc, conn, &details),
+        _ => Ok(0),
+    }
 }
 
 /// The value of details that are logged for a purse, where they are to it, it has left the other purse, and they aren't
@@ -101,7 +119,8 @@ pub fn lose_row<S: Alter>(
     Ok(sum)
 }
 
-/// What is lost by the archived result in a row, where the log of its purse hasn't it still.
+/// What is lost by the archived result in a row, where the log of its purse hasn't it still. Store where there is no such
+/// purse.
 pub fn lose_result<S: Alter>(
     alloc: Global,
     conn: &mut Connection<S>,
@@ -114,6 +133,9 @@ pub fn lose_result<S: Alter>(
     let purse = name_at(row, 0)?;
     let details = entry_at(row, 1)?;
     let kept = find_purse(conn, &purse)?;
+    if kept.is_none() {
+        return Err(StoreFault::Store);
+    }
     if is_logged(&kept, &details) {
         Ok(0)
     } else {

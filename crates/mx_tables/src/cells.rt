@@ -1,13 +1,18 @@
 //! The values of a row that was read.
-ghost use Rattle.std.specs.Prelude.{◌≡◌, IfOk, IfSome, option_map, pos};
+ghost use Rattle.std.specs.Prelude.{◌≡◌, ◌+◌, ◌<◌, ◌≤◌, IfOk, IfSome, option_map, pos};
 ghost use Rattle.sqlite_value.specs.Order.{column};
 ghost use Rattle.sqlite_value.specs.declared.value.Value.TheVariants.{Int, Text};
 ghost use Rattle.mx_pay.specs.Codes.{code, entry_text};
 ghost use Rattle.mx_pay.specs.Details.{IsDetails};
+ghost use Rattle.mx_pay.specs.Limits.{most_number};
 ghost use Rattle.mx_pay.specs.Log.{IsLogValue};
+ghost use Rattle.mx_purse.specs.State.{details_of};
+ghost use Rattle.mx_purse.specs.Words.{status_details, status_word};
 
 use mx_book::StoreFault;
-use mx_pay::{Amount, Log, Name, PayDetails, read_code, read_details};
+use mx_pay::{Amount, Log, MOST_NUMBER, Name, PayDetails, read_code, read_details};
+use mx_purse::Status;
+use mx_purse::words::read_status;
 use sqlite::Row;
 use sqlite_value::value::ValueRef;
 
@@ -61,6 +66,18 @@ pub fn number_in(row: Option<Row>) -> Result<Option<u64>, StoreFault>
     row.map(|row| number_at(&row, 0)).transpose()
 }
 
+/// The money in a column: a balance, grants or a float, of at most 10^15. Store where another value is there.
+pub fn money_at(row: &Row, at: usize) -> Result<u64, StoreFault>
+    ensures shown { IfOk result (λ n. column row.now at ≡ Int (pos n)) }
+    ensures valid { IfOk result (λ n. n ≤ most_number) }
+{
+    let money = number_at(row, at)?;
+    if money > MOST_NUMBER {
+        return Err(StoreFault::Store);
+    }
+    Ok(money)
+}
+
 /// The amount in a column. Store where another value is there.
 pub fn amount_at(row: &Row, at: usize) -> Result<Amount, StoreFault>
     ensures { IfOk result (λ n. column row.now at ≡ Int (pos n)) }
@@ -92,4 +109,17 @@ pub fn entry_at(row: &Row, at: usize) -> Result<PayDetails, StoreFault>
 {
     let text = text_at(row, at).ok_or(StoreFault::Store)?;
     read_details(text).ok_or(StoreFault::Store)
+}
+
+/// The status in a column and the next. Store where other values are there.
+pub fn status_at(row: &Row, at: usize) -> Result<Status, StoreFault>
+    requires { at < 64 }
+    ensures shown { IfOk result
+        (λ s. (column row.now at ≡ Text (status_word s))
+        × (column row.now (at + 1) ≡ Text (status_details s))) }
+    ensures valid { IfOk result (λ s. IfSome (details_of s) IsDetails) }
+{
+    let word = text_at(row, at).ok_or(StoreFault::Store)?;
+    let details = text_at(row, at + 1).ok_or(StoreFault::Store)?;
+    read_status(word, details).ok_or(StoreFault::Store)
 }

@@ -9,7 +9,7 @@ ghost use Rattle.mx_tables.specs.States.{Reads, Tells};
 ghost use Rattle.mx_book.specs.Totals.{members_totals_of};
 
 use crate::asking::ask;
-use crate::cells::{name_at, number_at};
+use crate::cells::{money_at, name_at};
 use crate::sums::{Amounts, find_member_at, plus};
 use mx_book::table::Table;
 use mx_book::{MemberTotals, StoreFault};
@@ -35,11 +35,12 @@ fn add_to(sums: &mut Table<Name, u128>, member: Name, more: u128) -> Result<(), 
     Ok(())
 }
 
-/// Adds the number of a row to the sum of the member of the purse that it names. Where there is no such purse or holder,
-/// nothing is added.
+/// Adds the number of a row of amounts to the sum of the member of the purse that it names. Store where there is no such
+/// purse or holder.
 fn add_row<S: Alter>(
     conn: &mut Connection<S>,
     sums: &mut Table<Name, u128>,
+    amounts: Amounts,
     row: &Row,
 ) -> Result<(), StoreFault>
     ensures { Reads S.Store conn.old conn.new result
@@ -48,11 +49,11 @@ fn add_row<S: Alter>(
         + counted_row r.purses r.holders (Member m) row.now) }
 {
     let purse = name_at(row, 0)?;
-    let number = number_at(row, 1)?;
-    match find_member_at(conn, &purse)? {
-        None => Ok(()),
-        Some(owner) => add_to(sums, owner, number as u128),
-    }
+    let number = amounts.number_in(row)?;
+    let Some(owner) = find_member_at(conn, &purse)? else {
+        return Err(StoreFault::Store);
+    };
+    add_to(sums, owner, number as u128)
 }
 
 /// What amounts come to, for each member.
@@ -68,7 +69,7 @@ fn amounts_by_member<S: Alter>(
     let rows = ask(conn, amounts.text(), &[])?;
     let mut sums = Table::new(alloc);
     for row in &rows {
-        add_row(conn, &mut sums, row)?;
+        add_row(conn, &mut sums, amounts, row)?;
     }
     Ok(sums)
 }
@@ -92,8 +93,8 @@ fn totals_in(row: &Row, sums: &MemberSums) -> Result<(Name, MemberTotals), Store
 {
     let name = name_at(row, 0)?;
     let totals = MemberTotals {
-        granted: number_at(row, 1)? as u128,
-        float: number_at(row, 2)? as u128,
+        granted: money_at(row, 1)? as u128,
+        float: money_at(row, 2)? as u128,
         uncollected: sum_at(&sums.uncollected, name),
         issued: sum_at(&sums.issued, name),
         redeemed: sum_at(&sums.redeemed, name),

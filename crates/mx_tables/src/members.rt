@@ -9,7 +9,7 @@ ghost use Rattle.mx_tables.specs.States.{Reads, Writes, Tells};
 ghost use Rattle.mx_book.specs.Reads.{members_of};
 
 use crate::asking::{About, ask, ask_about, run, run_one};
-use crate::cells::{name_at, number_at};
+use crate::cells::{money_at, name_at};
 use crate::given;
 use mx_book::{MemberRow, StoreFault};
 use mx_pay::{MOST_NUMBER, Name};
@@ -23,8 +23,8 @@ fn member_in(row: Option<Row>) -> Result<Option<MemberRow>, StoreFault>
     let Some(row) = row else {
         return Ok(None);
     };
-    let granted = number_at(&row, 0)?;
-    let float = number_at(&row, 1)?;
+    let granted = money_at(&row, 0)?;
+    let float = money_at(&row, 1)?;
     Ok(Some(MemberRow { granted, float }))
 }
 

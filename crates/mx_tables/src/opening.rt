@@ -1,5 +1,5 @@
 //! New tables, and tables that are there.
-ghost use Rattle.std.specs.Prelude.{◌≡◌, ◌≤◌, ◌≢◌, ◌⊎◌, IfErr, IfOk, IsTrue, OnOk, codes, false, filter, map, pos, None};
+ghost use Rattle.std.specs.Prelude.{◌≡◌, ◌≤◌, ◌≢◌, IfErr, IfOk, IsTrue, OnOk, codes, false, filter, map, pos, None};
 ghost use Rattle.std.specs.List.Sorted.{IsPermutation};
 ghost use Rattle.sqlite.specs.Held.{state};
 ghost use Rattle.sqlite.specs.State.{HasCleanDisk};
@@ -7,7 +7,7 @@ ghost use Rattle.sqlite_schema.specs.Names.{table_named};
 ghost use Rattle.sqlite_trees.specs.Tree.{has_rowid};
 ghost use Rattle.mx_book.specs.Spells.{opening_rows};
 ghost use Rattle.mx_tables.specs.Holds.{Holds};
-ghost use Rattle.mx_tables.specs.Made.{HasOnly, HasVersion, version_shown};
+ghost use Rattle.mx_tables.specs.Made.{HasOnly, HasVersion, IsUnknown, version_shown};
 ghost use Rattle.mx_tables.specs.Schema.{no_schema, schema_of};
 ghost use Rattle.mx_tables.specs.States.{Commits, IsAt, IsOurs, StaysAt, worry};
 ghost use Rattle.mx_tables.specs.declared.opening.OpenFault.TheVariants.{NotThisSchema};
@@ -233,9 +233,7 @@ pub(crate) fn check_office<S: Alter>(
     ensures known { worry (state S.Store conn.new) ≡ 0
         → OnOk result (HasVersion 2 (state S.Store conn.old).now) }
     ensures unknown { worry (state S.Store conn.new) ≡ 0 → IfErr result
-        (λ fault. fault ≡ NotThisSchema
-        → (table_named (state S.Store conn.old).now.schema (codes "meta") ≡ None)
-        ⊎ ¬ HasVersion 2 (state S.Store conn.old).now) }
+        (λ fault. fault ≡ NotThisSchema → IsUnknown (state S.Store conn.old).now) }
     ensures live { HasCleanDisk (state S.Store conn.new)
         → OnOk result (IsTrue (state S.Store conn.new).is_open) }
 {

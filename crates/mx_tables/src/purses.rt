@@ -1,24 +1,19 @@
 //! Purses.
-ghost use Rattle.std.specs.Prelude.{◌≡◌, ◌<◌, ◌^◌, IfOk, IfSome, is_some, option_map};
+ghost use Rattle.std.specs.Prelude.{◌≡◌, ◌<◌, ◌^◌, IfOk, is_some, option_map};
 ghost use Rattle.std.specs.FinMap as fmap;
 ghost use Rattle.sqlite.specs.Held.{state};
-ghost use Rattle.sqlite_value.specs.Order.{column};
-ghost use Rattle.sqlite_value.specs.declared.value.Value.TheVariants.{Text};
-ghost use Rattle.mx_pay.specs.Details.{IsDetails};
-ghost use Rattle.mx_purse.specs.State.{IsPurse, details_of};
-ghost use Rattle.mx_purse.specs.Words.{status_details, status_word};
+ghost use Rattle.mx_purse.specs.State.{IsPurse};
 ghost use Rattle.mx_book.specs.RowEdits.{rewritten};
-ghost use Rattle.mx_book.specs.RowReads.{row_finds_place};
 ghost use Rattle.mx_book.specs.declared.edits.Edit.TheVariants.{NewPurse, SetPurse};
 ghost use Rattle.mx_book.specs.declared.values.PurseRow.{PurseRow};
-ghost use Rattle.mx_tables.specs.Answers.{ArePurses, Raises, purse_columns, purse_shown, state_columns, state_shown};
+ghost use Rattle.mx_tables.specs.Answers.{ArePurses, Raises, place_of, purse_columns, purse_shown, state_columns, state_shown};
 ghost use Rattle.mx_tables.specs.Owners.{indexed};
 ghost use Rattle.mx_tables.specs.Schema.{office_schema};
 ghost use Rattle.mx_tables.specs.States.{Finds, Reads, Steps, Tells, Writes, WritesWith};
 ghost use Rattle.mx_book.specs.Reads.{account_of, own_purse, has_purse};
 
 use crate::asking::{About, ask_about, ask_about_inside, run, run_one};
-use crate::cells::{log_at, name_at, name_in, number_at, number_in, text_at};
+use crate::cells::{log_at, name_at, name_in, number_at, number_in, status_at};
 use crate::codes::{log_code, status_code};
 use crate::given;
 use crate::holders::{find_holder, is_of};
@@ -26,8 +21,8 @@ use crate::inbox::count_messages;
 use mx_book::{Account, MOST_MESSAGES, PurseRow, StoreFault};
 use mx_pay::names::same_name;
 use mx_pay::{MOST_NUMBER, Name, Seq};
-use mx_purse::words::{read_status, status_word};
-use mx_purse::{Purse, Status};
+use mx_purse::Purse;
+use mx_purse::words::status_word;
 use sqlite::{Alter, Connection, Row, Transaction};
 use std::alloc::Global;
 
@@ -48,18 +43,6 @@ pub fn insert_purse<S: Alter>(
     )
 }
 
-/// The status that a row of a purse shows.
-fn status_in(row: &Row) -> Result<Status, StoreFault>
-    ensures shown { IfOk result
-        (λ s. (column row.now 3 ≡ Text (status_word s))
-        × (column row.now 4 ≡ Text (status_details s))) }
-    ensures valid { IfOk result (λ s. IfSome (details_of s) IsDetails) }
-{
-    let word = text_at(row, 3).ok_or(StoreFault::Store)?;
-    let details = text_at(row, 4).ok_or(StoreFault::Store)?;
-    read_status(word, details).ok_or(StoreFault::Store)
-}
-
 /// The purse of that name that a row shows.
 fn state_in(name: &Name, row: &Row) -> Result<Purse, StoreFault>
     ensures shown { IfOk result (λ p. state_columns row.now ≡ state_shown p) }
@@ -68,7 +51,7 @@ fn state_in(name: &Name, row: &Row) -> Result<Purse, StoreFault>
 {
     let balance = number_at(row, 1)?;
     let next = Seq::new(number_at(row, 2)?).ok_or(StoreFault::Store)?;
-    let status = status_in(row)?;
+    let status = status_at(row, 3)?;
     let log = log_at(row, 5)?;
     let lines = number_at(row, 6)?;
     Purse::from_parts(*name, balance, next, status, log, lines).ok_or(StoreFault::Store)
@@ -177,7 +160,7 @@ pub fn find_place<S: Alter>(
     name: &Name,
 ) -> Result<Option<u64>, StoreFault>
     ensures { Reads S.Store conn.old conn.new result
-        (λ r v. is_some v ≡ row_finds_place r name.now) }
+        (λ r v. v ≡ place_of r name.now) }
 {
     let Some(next_message) = number_in(ask_about(conn, About::Next, name)?)? else {
         return Ok(None);

@@ -1,19 +1,20 @@
 //! What the books come to: sums over rows.
-ghost use Rattle.std.specs.Prelude.{◌≡◌, ◌+◌, IfOk, sum_by};
+ghost use Rattle.std.specs.Prelude.{◌≡◌, ◌+◌, ◌≤◌, IfOk, pos, sum_by};
 ghost use Rattle.std.specs.FinMap as fmap;
 ghost use Rattle.sqlite_value.specs.Order.{column};
+ghost use Rattle.sqlite_value.specs.declared.value.Value.TheVariants.{Int};
 ghost use Rattle.mx_book.specs.RowEdits.{member_at};
 ghost use Rattle.mx_book.specs.RowReads.{is_counted};
 ghost use Rattle.mx_book.specs.Sums.{sum_values};
 ghost use Rattle.mx_tables.specs.Answers.{ArePurses};
-ghost use Rattle.mx_tables.specs.Counted.{adds_text, amounts_text, counted_row, number_of, row_adds, row_sums, sum_of};
+ghost use Rattle.mx_tables.specs.Counted.{adds_text, amounts_text, counted_row, most_of, number_of, row_adds, row_sums, sum_of};
 ghost use Rattle.mx_tables.specs.Results.{AreEntries};
 ghost use Rattle.mx_tables.specs.States.{Reads, Tells};
 ghost use Rattle.mx_book.specs.Totals.{member_totals_of, totals_of};
 
 use crate::asking::ask;
-use crate::between::{lose_result, lose_row, value_left};
-use crate::cells::{entry_at, name_at, number_at};
+use crate::between::{await_row, lose_result, lose_row};
+use crate::cells::{amount_at, money_at, name_at};
 use crate::holders::{find_holder, is_of};
 use crate::members::find_member;
 use crate::purses::find_owner;
@@ -61,6 +62,7 @@ fn counts<S: Alter>(
 /// What a row adds to a sum: its number, where the purse that it names counts.
 fn count_row<S: Alter>(
     conn: &mut Connection<S>,
+    amounts: Amounts,
     scope: &Scope,
     row: &Row,
 ) -> Result<u128, StoreFault>
@@ -68,7 +70,7 @@ fn count_row<S: Alter>(
         (λ r n. n ≡ counted_row r.purses r.holders scope.now row.now) }
 {
     let purse = name_at(row, 0)?;
-    let number = number_at(row, 1)?;
+    let number = amounts.number_in(row)?;
     let counted = counts(conn, scope, &purse)?;
     Ok(if counted { number as u128 } else { 0 })
 }
@@ -98,6 +100,17 @@ impl Amounts {
             Amounts::Balances => "SELECT name, balance FROM purse",
         }
     }
+
+    /// The number in a row of its query. Store where it isn't one of these amounts.
+    pub fn number_in(self, row: &Row) -> Result<u64, StoreFault>
+        ensures shown { IfOk result (λ n. column row.now 1 ≡ Int (pos n)) }
+        ensures valid { IfOk result (λ n. n ≤ most_of self) }
+    {
+        match self {
+            Amounts::Balances => money_at(row, 1),
+            _ => Ok(amount_at(row, 1)?.get()),
+        }
+    }
 }
 
 /// What is summed: what each row of a query adds.
@@ -105,7 +118,7 @@ impl Amounts {
 pub enum Adds {
     /// The amounts of the purses that count.
     Counted(Amounts, Scope),
-    /// What each purse waits for that has left the other purse.
+    /// What each purse waits for that has left the other purse; nothing where it waits for no value.
     Waiting,
     /// What is lost by the log of each purse.
     Logged,
@@ -120,7 +133,7 @@ impl Adds {
     {
         match self {
             Adds::Counted(amounts, _) => amounts.text(),
-            Adds::Waiting => "SELECT details FROM purse WHERE status = 'epv'",
+            Adds::Waiting => "SELECT status, details FROM purse",
             Adds::Logged => "SELECT name, log FROM purse",
             Adds::Archived => "SELECT purse, details FROM archive",
         }
@@ -138,8 +151,8 @@ fn row_adds<S: Alter>(
         (λ r n. ArePurses r → AreEntries r → n ≡ row_adds r adds.now row.now) }
 {
     match adds {
-        Adds::Counted(_, scope) => count_row(conn, scope, row),
-        Adds::Waiting => value_left(alloc, conn, &entry_at(row, 0)?),
+        Adds::Counted(amounts, scope) => count_row(conn, *amounts, scope, row),
+        Adds::Waiting => await_row(alloc, conn, row),
         Adds::Logged => lose_row(alloc, conn, row),
         Adds::Archived => lose_result(alloc, conn, row),
     }
@@ -226,13 +239,13 @@ pub fn sum_member<S: Alter>(
     }))
 }
 
-/// The sum of the numbers in a column of rows.
+/// The sum of the money in a column of rows.
 fn sum_column(rows: &[Row], at: usize) -> Result<u128, StoreFault>
     ensures { IfOk result (λ n. n ≡ sum_by (λ row. number_of (column row at)) rows.now) }
 {
     let mut sum = 0;
     for row in rows {
-        sum = plus(sum, number_at(row, at)? as u128)?;
+        sum = plus(sum, money_at(row, at)? as u128)?;
     }
     Ok(sum)
 }

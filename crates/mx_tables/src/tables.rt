@@ -1,11 +1,10 @@
 //! The book on tables.
-ghost use Rattle.std.specs.Prelude.{◌≡◌, ◌≢◌, ◌≤◌, ◌⊎◌, None, codes, false, IfOk, IfErr, MatchResult};
+ghost use Rattle.std.specs.Prelude.{◌≡◌, ◌≢◌, ◌≤◌, false, IfOk, IfErr, MatchResult};
 ghost use Rattle.sqlite.specs.Held.{state};
 ghost use Rattle.mx_book.specs.World.{opening};
 ghost use Rattle.mx_tables.specs.Schema.{no_schema};
 ghost use Rattle.mx_tables.specs.declared.opening.OpenFault.TheVariants.{NotThisSchema};
-ghost use Rattle.sqlite_schema.specs.Names.{table_named};
-ghost use Rattle.mx_tables.specs.Made.{HasVersion};
+ghost use Rattle.mx_tables.specs.Made.{HasVersion, IsUnknown};
 ghost use Rattle.mx_tables.specs.States.{worry, IsOurs, Leaves};
 ghost use Rattle.mx_tables.specs.Steady.{left_as_is};
 ghost use Rattle.sqlite.specs.Effect.{Database};
@@ -103,8 +102,9 @@ impl<S: Alter> Tables<S> {
     }
 
     /// A book of the tables that a store has. A store that is refused is left as it was: for want of memory; as
-    /// NotThisSchema, only where it has no table `meta`, or `meta` has no row of id 1 with version 2; or as Store,
-    /// where the store refuses a statement for another cause, its tables are others, or a transaction is open on it.
+    /// NotThisSchema, only where it has no table `meta`, or its tables are those of a version, and `meta` has no row of id 1
+    /// with version 2; or as Store, where the store refuses a statement for another cause, its tables are others, or a
+    /// transaction is open on it.
     pub fn open(alloc: Global, mut store: Connection<S>) -> Result<Tables<S>, OpenRefused<S>>
         ensures later { MatchResult result
             (λ t. worry (state S.Store store) ≤ worry (state S.Store t))
@@ -123,8 +123,7 @@ impl<S: Alter> Tables<S> {
             (λ e. e.store.in_transaction ≡ false) }
         ensures unknown { IfErr result
             (λ e. e.fault ≡ NotThisSchema → worry (state S.Store e.store) ≡ 0
-            → (table_named (state S.Store store).now.schema (codes "meta") ≡ None)
-            ⊎ ¬ HasVersion 2 (state S.Store store).now) }
+            → IsUnknown (state S.Store store).now) }
     {
         if !store.is_autocommit() {
             return Err(OpenRefused {

@@ -2,7 +2,7 @@
 use super::devices::{Page, Pieces};
 use super::scripts::Exchange;
 use super::{assert_served, served};
-use crate::empty::{with_book, with_faulty};
+use crate::empty::{with_book, with_faulty, with_tables};
 use crate::faulty::Faulty;
 use mx_book::{Book, PlainBook};
 use mx_desk::desk::{Served, run, serve_one};
@@ -36,7 +36,7 @@ struct Ended {
 /// A run of what a reader gives, onto a page with so much room. None where there is no memory for routes.
 fn run_over(
     alloc: Global,
-    office: &mut Office<PlainBook>,
+    office: &mut Office<impl Book>,
     reader: impl Read + Drop,
     room: usize,
 ) -> Option<Ended> {
@@ -54,7 +54,7 @@ fn run_over(
 }
 
 /// Whether a book has the member m and the holder ann. None where it can't be read.
-fn m_and_ann(alloc: Global, office: &mut Office<PlainBook>) -> Option<(bool, bool)> {
+fn m_and_ann(alloc: Global, office: &mut Office<impl Book>) -> Option<(bool, bool)> {
     let (member, holder) = (Name::read("m")?, Name::read("ann")?);
     let book = office.book();
     let has_member = book.member(alloc, member).ok()?.is_some();
@@ -85,7 +85,7 @@ fn assert_ended(
 /// Asserts that a writer that takes 10 bytes and then fails ends the run, and that the first request stands, and no other.
 fn assert_cut_short(
     rt: &(impl Abort + AllocGlobal),
-    office: &mut Office<PlainBook>,
+    office: &mut Office<impl Book>,
 ) -> Result<(), Fail> {
     let ended = run_over(rt.alloc(), office, FOUR_REQUESTS.as_bytes(), 10).ok_or("no routes")?;
     assert_ended(rt, &ended, DeskFault::Write, (0, 1), b"HTTP/1.1 2");
@@ -95,11 +95,12 @@ fn assert_cut_short(
 
 #[test]
 fn write_that_fails_ends_the_run(rt: HostRuntime) -> Result<(), Fail> {
-    with_book(&rt, |rt, office| assert_cut_short(rt, office))
+    with_book(&rt, |rt, office| assert_cut_short(rt, office))?;
+    with_tables(&rt, |rt, office| assert_cut_short(rt, office))
 }
 
 /// A run of the first 40 bytes of four requests, so many at a time, and then a failure.
-fn cut_at_40(alloc: Global, office: &mut Office<PlainBook>, size: usize) -> Option<Ended> {
+fn cut_at_40(alloc: Global, office: &mut Office<impl Book>, size: usize) -> Option<Ended> {
     let bytes = FOUR_REQUESTS.as_bytes().get(..40)?;
     run_over(alloc, office, Pieces::cut(bytes, size), 4096)
 }
@@ -107,7 +108,7 @@ fn cut_at_40(alloc: Global, office: &mut Office<PlainBook>, size: usize) -> Opti
 /// Asserts that such a run ends at the failure, after so many reads, and leaves nothing.
 fn assert_cut_at_40(
     rt: &(impl Abort + AllocGlobal),
-    office: &mut Office<PlainBook>,
+    office: &mut Office<impl Book>,
     size: usize,
     reads: u64,
 ) -> Result<(), Fail> {
@@ -118,13 +119,20 @@ fn assert_cut_at_40(
     Ok(())
 }
 
+/// The same of bytes that come one at a time, and of all at once.
+fn assert_both_cut_at_40(
+    rt: &(impl Abort + AllocGlobal),
+    office: &mut Office<impl Book>,
+) -> Result<(), Fail> {
+    assert_cut_at_40(rt, office, 1, 41)?;
+    assert_cut_at_40(rt, office, 40, 2)
+}
+
 /// A reader that fails inside the first request: nothing is written, and nothing is there.
 #[test]
 fn read_that_fails_ends_the_run(rt: HostRuntime) -> Result<(), Fail> {
-    with_book(&rt, |rt, office| {
-        assert_cut_at_40(rt, office, 1, 41)?;
-        assert_cut_at_40(rt, office, 40, 2)
-    })
+    with_book(&rt, |rt, office| assert_both_cut_at_40(rt, office))?;
+    with_tables(&rt, |rt, office| assert_both_cut_at_40(rt, office))
 }
 
 /// What `serve_one` makes of some bytes, and what it writes.

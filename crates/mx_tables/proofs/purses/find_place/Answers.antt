@@ -11,8 +11,9 @@ returns-in_default g c = reads_to g.S.Store c.in_ok-ask_about.ensures (λ rows h
 
 pub returns : goal.returns
 returns g c = reads_to g.S.Store (reads_then g.S.Store c.in_ok-ask_about.ensures c.in_ok-count_messages.ensures) (λ rows holds both.
-    let it = place_found rows c.args.name.now _ _ (sym c.in-Some.is ∙ next_found _ _ _ both.0 c.in_ok-next_message.ensures) both.1 in
+    let next = sym c.in-Some.is ∙ next_found _ _ _ both.0 c.in_ok-next_message.ensures in
+    let it = place_found rows c.args.name.now _ _ next both.1 in
     elim c.if-branch-lt-MOST_MESSAGES.branch [
-      | then-branch-lt-MOST_MESSAGES w ↦ grind (arith, nat_tests, it, w.if-branch-lt-MOST_MESSAGES.true, w.fits-is, c.then_some.ensures)
-      | else-branch-lt-MOST_MESSAGES w ↦ grind (arith, nat_tests, it, w.if-branch-lt-MOST_MESSAGES.false, w.fits-is, c.then_some.ensures)
+      | then-branch-lt-MOST_MESSAGES w ↦ grind (arith, nat_tests, it, next, w.if-branch-lt-MOST_MESSAGES.true, w.fits-is, c.then_some.ensures)
+      | else-branch-lt-MOST_MESSAGES w ↦ grind (arith, nat_tests, it, next, w.if-branch-lt-MOST_MESSAGES.false, w.fits-is, c.then_some.ensures)
     ])

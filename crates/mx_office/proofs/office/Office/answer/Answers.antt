@@ -1,6 +1,6 @@
 use Rattle.std.proofs.Common.{◌≡◌, rules, sym, ◌∙◌, subst}
 use Rattle.std.proofs.lemmas.Result.{err_from_is_err_and}
-use Rattle.mx_office.proofs.FaultLemmas.{writes, memory_fails}
+use Rattle.mx_office.proofs.FaultLemmas.{writes, memory_fails, decision_fails}
 use Rattle.mx_office.proofs.LawLemmas.{accounts_after, told_after}
 use Rattle.mx_office.proofs.RuleLemmas.{refused_stays}
 use Rattle.mx_office.specs.Step.{step}
@@ -38,8 +38,13 @@ unfolding step
 returns-in_err-commit-clause-memory g c = λ w honest spelled.
     let before : g.B.Book.doubt c.decide.new.self.book ≡ 0 = search rules in
     let p = err_from_is_err_and c.from_residual-in_err-commit.result c.from_residual-in_err-commit.ensures.1 in
-    let takes = writes w c.args.caller c.args.command.now _ _ (c.in_ok-decided.ensures.decides w before spelled).reply c.in_default.not-Refused c.in_ok-decided.ensures.reads c.in_err-commit.ensures.nothing in
-    rw (p.1, p.2) (memory_fails g.B.Book.fails w c.args.caller c.args.command.now _ takes c.in_err-commit.ensures.fault)
+    let takes = writes w c.args.caller c.args.command.now _ _ (c.in_ok-decided.ensures.decides w before spelled).reply c.in_default.not-Refused (c.in_ok-decided.ensures.edits w before spelled) c.in_err-commit.ensures.nothing in
+    rw (p.1, p.2) (memory_fails g.B.Book.fails _ _ takes c.in_err-commit.ensures.fault)
+
+pub returns-in_err-decided-clause-memory : goal.returns-in_err-decided-clause-memory
+returns-in_err-decided-clause-memory g c = λ w honest spelled.
+    let p = err_from_is_err_and c.from_residual.result c.from_residual.ensures.1 in
+    rw (p.1, p.2) (decision_fails g.B.Book.fails w c.args.caller c.args.command.now _ (c.in_err-decided.ensures.memory w honest spelled))
 
 -- the holders are kept apart, since what stands is the step's World, and the reply is the step's
 pub returns-in-Refused-clause-accounts : goal.returns-in-Refused-clause-accounts

@@ -1,10 +1,10 @@
-use Rattle.std.proofs.Common.{◌≡◌, rules, subst}
+use Rattle.std.proofs.Common.{◌≡◌, ◌∙◌, rules, subst}
 use Rattle.std.proofs.lemmas.List.{take_all}
 use Rattle.std.specs.List.{AllByRecursion}
 use Rattle.mx_office.specs.Commands.{IsAsked}
 use Rattle.mx_office.specs.Run.{Leads}
 use Rattle.mx_office.specs.Step.{step}
-use Rattle.mx_office.proofs.OutcomeLemmas.{asked_more, run_replied_at, run_undone_at}
+use Rattle.mx_office.proofs.OutcomeLemmas.{asked_more, refused_last, run_replied_at, run_undone_at, undone_before}
 use Rattle.mx_office.proofs.BalanceCommandLemmas.{reachable_balanced}
 use Rattle.mx_office.proofs.LawLemmas.{run_accounts, run_told}
 use Rattle.mx_office.proofs.ConservedLemmas.{reachable_conserved}
@@ -21,6 +21,7 @@ loop-caller-init g c = record {
   values = tt;
   later = search rules;
   run = λ w honest spelled. record { end = w; stands = spelled; run = search rules };
+  undone = search rules;
 }
 
 pub loop-caller-preserved : goal.loop-caller-preserved
@@ -44,10 +45,21 @@ loop-caller-preserved g c = record {
           run = run_undone_at _ _ _ _ _ c.loop-caller-item.result _ _ _ c.loop-caller-test.true c.loop-caller-item.is so_far.run (v.in-Err.field-0, v.in-Err.ensures.memory so_far.end honest so_far.stands) v.outcome-is c.push_reserved.ensures.items;
         }
       ];
+  undone = λ honest all.
+      let before : g.B.Book.doubt c.loop-caller.self.book ≡ 0 = search rules in
+      let parts = undone_before _ _ _ c.push_reserved.ensures.items all in
+      let so_far = c.loop-caller.invariant.undone before parts.0 in
+      elim c.match-answer.branch [
+        | in-Ok v ↦ refused_last _ _ _ _ _ v.outcome-is parts.1 (v.in-Ok.ensures.refused honest) so_far
+        | in-Err v ↦ v.in-Err.ensures.err honest ∙ so_far
+      ];
 }
 
 pub returns-clause-run : goal.returns-clause-run
 returns-clause-run g c = λ w honest spelled. subst (λ cs. Leads g.B.Book.fails (g.B.Book.spells (g.B.Book.rows c.loop-caller.self.book)) w cs c.loop-caller.outcomes.items) (take_all c.loop-caller.caller-index c.args.commands.now (search rules)) (c.loop-caller.invariant.run w honest spelled)
+
+pub returns-clause-undone : goal.returns-clause-undone
+returns-clause-undone g c = c.loop-caller.invariant.undone
 
 pub returns-clause-reachable : goal.returns-clause-reachable
 returns-clause-reachable g c = λ w honest spelled reachable.

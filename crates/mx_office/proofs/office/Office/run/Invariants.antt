@@ -3,7 +3,7 @@ use Rattle.std.specs.Vec.{vec_capacity}
 use Rattle.std.specs.List.{AllByRecursion}
 use Rattle.mx_book.specs.World.{World}
 use Rattle.mx_office.specs.Commands.{IsAsked}
-use Rattle.mx_office.specs.Run.{Leads}
+use Rattle.mx_office.specs.Run.{IsUndone, Leads}
 use Rattle.mx_office.proofs.office.Office.run.Given as goal
 
 abbrev pub invariant-loop-caller : goal.invariant-loop-caller
@@ -13,4 +13,5 @@ invariant-loop-caller g l = let b = g.B.Book in record {
   values : AllByRecursion IsAsked (take l.caller-index l.commands);
   later : b.doubt l.fn.self.book ≤ b.doubt l.self.book;
   run : (w : World) → b.doubt l.self.book ≡ 0 → b.spells (b.rows l.fn.self.book) w → Leads b.fails (b.spells (b.rows l.self.book)) w (take l.caller-index l.commands) l.outcomes.items;
+  undone : b.doubt l.self.book ≡ 0 → AllByRecursion IsUndone l.outcomes.items → b.rows l.self.book ≡ b.rows l.fn.self.book;
 }
