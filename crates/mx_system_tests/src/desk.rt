@@ -3,6 +3,7 @@ mod apart;
 mod devices;
 mod faults;
 mod framing;
+mod hostile;
 mod limits;
 mod logs;
 mod migrated;

@@ -67,6 +67,7 @@ fn assert_opening(
     assert_eq!(rt; members, 0);
     let name = Name::read("m").ok_or("no name")?;
     assert!(rt; book.member(rt.alloc(), name)?.is_none());
+    assert!(rt; book.member_totals(rt.alloc(), name)?.is_none());
     Ok(())
 }
 

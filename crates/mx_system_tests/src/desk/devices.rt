@@ -46,13 +46,14 @@ impl Read for Pieces<'_> {
     }
 }
 
-/// A writer that takes so many bytes and then fails. It counts how often it learns that the store failed, and takes no
-/// memory.
+/// A writer that takes so many bytes and then fails, or takes none any more. It counts how often it learns that the store
+/// failed, and takes no memory.
 #[derive(Clone, Copy)]
 pub(super) struct Page {
     bytes: [u8; 4096],
     len: usize,
     room: usize,
+    takes_none: bool,
     store_failures: u32,
     ghost within: { len ≤ room },
     ghost fits: { room ≤ 4096 },
@@ -65,8 +66,16 @@ impl Page {
             bytes: [0; 4096],
             len: 0,
             room: room.min(4096),
+            takes_none: false,
             store_failures: 0,
         }
+    }
+
+    /// A page that takes no byte once it is full, and doesn't fail.
+    pub(super) fn full_at(room: usize) -> Page {
+        let mut page = Page::new(room);
+        page.takes_none = true;
+        page
     }
 
     pub(super) fn bytes(&self) -> &[u8] {
@@ -81,7 +90,7 @@ impl Page {
 impl Write for Page {
     fn write(&mut self, buf: &[u8]) -> io::Result<usize> {
         let count = buf.len().min(self.room - self.len);
-        if count == 0 && !buf.is_empty() {
+        if count == 0 && !buf.is_empty() && !self.takes_none {
             return Err(io::Error::from(io::ErrorKind::WriteZero));
         }
         let start = self.len;

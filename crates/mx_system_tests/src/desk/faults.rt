@@ -25,24 +25,24 @@ const FOUR_RESPONSES: &str =
 
 /// How a run ended, what its devices counted, and what was written.
 #[derive(Clone, Copy)]
-struct Ended {
-    end: Result<u64, DeskFault>,
+pub(super) struct Ended {
+    pub(super) end: Result<u64, DeskFault>,
     reads: u64,
     read_failures: u64,
     write_failures: u64,
-    page: Page,
+    pub(super) page: Page,
 }
 
-/// A run of what a reader gives, onto a page with so much room. None where there is no memory for routes.
-fn run_over(
+/// A run of what a reader gives, onto a page. None where there is no memory for routes.
+pub(super) fn run_over(
     alloc: Global,
     office: &mut Office<impl Book>,
     reader: impl Read + Drop,
-    room: usize,
+    page: Page,
 ) -> Option<Ended> {
     let routes = Routes::new(alloc).ok()?;
     let mut reader = Counted::new(reader);
-    let mut writer = Counted::new(Page::new(room));
+    let mut writer = Counted::new(page);
     let end = run(alloc, &mut reader, &mut writer, &routes, office);
     Some(Ended {
         end,
@@ -87,7 +87,8 @@ fn assert_cut_short(
     rt: &(impl Abort + AllocGlobal),
     office: &mut Office<impl Book>,
 ) -> Result<(), Fail> {
-    let ended = run_over(rt.alloc(), office, FOUR_REQUESTS.as_bytes(), 10).ok_or("no routes")?;
+    let page = Page::new(10);
+    let ended = run_over(rt.alloc(), office, FOUR_REQUESTS.as_bytes(), page).ok_or("no routes")?;
     assert_ended(rt, &ended, DeskFault::Write, (0, 1), b"HTTP/1.1 2");
     assert_eq!(rt; m_and_ann(rt.alloc(), office), Some((true, false)));
     Ok(())
@@ -102,7 +103,7 @@ fn write_that_fails_ends_the_run(rt: HostRuntime) -> Result<(), Fail> {
 /// A run of the first 40 bytes of four requests, so many at a time, and then a failure.
 fn cut_at_40(alloc: Global, office: &mut Office<impl Book>, size: usize) -> Option<Ended> {
     let bytes = FOUR_REQUESTS.as_bytes().get(..40)?;
-    run_over(alloc, office, Pieces::cut(bytes, size), 4096)
+    run_over(alloc, office, Pieces::cut(bytes, size), Page::new(4096))
 }
 
 /// Asserts that such a run ends at the failure, after so many reads, and leaves nothing.
@@ -184,7 +185,7 @@ fn first_request_alone(rt: HostRuntime) -> Result<(), Fail> {
     with_book(&rt, |rt, office| assert_first_alone(rt, office))
 }
 
-const BAD_HEAD_BYTES: &str =
+pub(super) const BAD_HEAD_BYTES: &str =
     "HTTP/1.1 400 Bad Request\r\ncontent-type: application/json\r\ncontent-length: 20\r\nconnection: close\r\n\r\n{\"error\":\"bad head\"}";
 
 const UNAVAILABLE: &str =

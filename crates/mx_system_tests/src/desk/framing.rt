@@ -1,6 +1,7 @@
 //! Heads, lengths and bodies, and what ends a run.
 use super::scripts::Exchange;
-use super::{STANDING, served};
+use super::{STANDING, serve_from, served};
+use crate::empty::with_book;
 use std::alloc::{AllocError, Global};
 use std::process::Abort;
 use std::test::Fail;
@@ -112,4 +113,82 @@ GET /purses HTTP/1.1|purse-token: 0000000000000000000000000000000A|| -> 200 {\"p
 fn frames(rt: HostRuntime) -> Result<(), Fail> {
     framed(&rt, FRAMES)?;
     framed(&rt, OTHER_FORMS)
+}
+
+/// A request of ann's purses whose head has so many bytes.
+fn head_of(alloc: Global, size: usize) -> Result<String, AllocError> {
+    let start = "GET /purses HTTP/1.1\r\npurse-token: 0000000000000000000000000000000a\r\nx: ";
+    let mut text = String::from_str(alloc, start)?;
+    for _ in text.len().saturating_add(4)..size {
+        text.push('a')?;
+    }
+    text.push_str("\r\n\r\n")?;
+    Ok(text)
+}
+
+/// One whose head has so many fields besides the token.
+fn fields_of(alloc: Global, count: usize) -> Result<String, AllocError> {
+    let start = "GET /purses HTTP/1.1\r\npurse-token: 0000000000000000000000000000000a\r\n";
+    let mut text = String::from_str(alloc, start)?;
+    for _ in 0..count {
+        text.push_str("x: 1\r\n")?;
+    }
+    text.push_str("\r\n")?;
+    Ok(text)
+}
+
+/// A head has 8,192 bytes and 64 fields at most.
+#[test]
+fn largest_heads(rt: HostRuntime) -> Result<(), Fail> {
+    for (size, fields, response) in [
+        (8192, 63, "200 {\"purses\":[\"p1\"]}"),
+        (8193, 64, "400 {\"error\":\"bad head\"}"),
+    ] {
+        let head = head_of(rt.alloc(), size)?;
+        tell_bytes(&rt, head.as_str(), response)?;
+        let fields = fields_of(rt.alloc(), fields)?;
+        tell_bytes(&rt, fields.as_str(), response)?;
+    }
+    Ok(())
+}
+
+/// A grant whose body has a key more, with so many arrays within each other.
+fn nested(alloc: Global, arrays: usize) -> Result<String, AllocError> {
+    let mut text = String::from_str(alloc, "operator POST /members/m/grant {\"amount\":5,\"x\":")?;
+    for _ in 0..arrays {
+        text.push('[')?;
+    }
+    for _ in 0..arrays {
+        text.push(']')?;
+    }
+    text.push('}')?;
+    Ok(text)
+}
+
+/// Objects and arrays nest 127 deep at most.
+#[test]
+fn arrays_within_each_other(rt: HostRuntime) -> Result<(), Fail> {
+    let mut exchange = Exchange::of_runs(rt.alloc(), &[STANDING])?;
+    for (arrays, response) in [
+        (126, "200 {\"done\":\"granted\"}"),
+        (127, "400 {\"error\":\"bad body\"}"),
+        (1000, "400 {\"error\":\"bad body\"}"),
+    ] {
+        let request = nested(rt.alloc(), arrays)?;
+        exchange.add(request.as_str(), response)?;
+    }
+    served(&rt, &exchange)
+}
+
+/// A grant whose body isn't UTF-8.
+const NOT_UTF_8: &[u8] =
+    b"POST /members/m/grant HTTP/1.1\r\npurse-token: 00000000000000000000000000000001\r\ncontent-length: 14\r\n\r\n{\"amount\":5,\xff\"";
+
+#[test]
+fn body_that_is_not_utf_8(rt: HostRuntime) -> Result<(), Fail> {
+    let told = with_book(&rt, |rt, office| serve_from(rt.alloc(), office, NOT_UTF_8))?;
+    let mut bad_body = Exchange::new(rt.alloc());
+    bad_body.add_bytes("", "400 {\"error\":\"bad body\"}")?;
+    assert_eq!(rt; told.bytes.as_slice(), bad_body.output().as_bytes());
+    Ok(())
 }
