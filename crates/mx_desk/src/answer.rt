@@ -68,7 +68,8 @@ fn answer_command<B: Book>(
 ) -> Result<Response, StoreFault>
     ensures later { B.doubt office.old.book ≤ B.doubt office.new.book }
     ensures answers { (w : World) → B.doubt office.new.book ≡ 0 → Stands (B.spells (B.rows office.old.book)) workspace.old.callers w
-        → IsAnswer (Stands (B.spells (B.rows office.new.book)) workspace.new.callers) w (after_body w caller (Some workspace.old.command))
+        → IsAnswer (Stands (B.spells (B.rows office.new.book)) workspace.new.callers) w
+        (after_body w caller (Some workspace.old.command))
         (IsGivenUpFor B.fails (command_takes w caller workspace.old.command)) result }
     ensures err { B.doubt office.new.book ≡ 0 → OnErr result (B.rows office.new.book ≡ B.rows office.old.book) }
 {

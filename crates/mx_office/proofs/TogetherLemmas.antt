@@ -17,15 +17,15 @@ use Rattle.mx_office.specs.Balance.{AreTogether, over_members}
 use Rattle.mx_office.specs.Reachable.{IsReachable}
 use Rattle.mx_office.proofs.StepLemmas.{reachable_world}
 
-there : {X : Type 0} (o : Option X) → IsSome o → (x : X) × (o ≡ Some x)
-there None h = absurd (cc)
-there (Some x) h = (x, refl)
+one_found : {X : Type 0} (o : Option X) → IsSome o → (x : X) × (o ≡ Some x)
+one_found None h = absurd (cc)
+one_found (Some x) h = (x, refl)
 
 -- a number of the one member of that name, among all members
 one_member : (members : fmap.FinMap name_cmp MemberRow) (m : Name) (n : ℕ) (found : Option Name) → found ≡ Some m → IsSome (fmap.get members m)
     → total (λ (e : Name × MemberRow). cond (is_of e.0 found) n 0) (fmap.entries members) ≡ n
 one_member members m n found is at =
-    let row = there (fmap.get members m) at in
+    let row = one_found (fmap.get members m) at in
     total_same (λ (e : Name × MemberRow). cond (is_of e.0 found) n 0) (λ e. cond (is_name m e.0) n 0) (fmap.entries members)
     (λ e. ap (λ o. cond (is_of e.0 o) n 0) is ∙ ap (λ b. cond b n 0) (names_turned e.0 m))
     ∙ total_key names_total names_exact (λ (q : Name) (x : MemberRow). n) m members ∙ ap (value_of (λ (x : MemberRow). n)) row.1
@@ -37,7 +37,7 @@ module _ (w : World) (is : IsWorld w) (f : Row → ℕ) where
 
   each_purse : (p : Name) (r : Row) → fmap.get w.rows p ≡ Some r → total (λ e. adds e (p, r)) (fmap.entries w.members) ≡ f r
   each_purse p r at =
-      let member = there (fmap.get w.holders r.holder) (is.purses.each p r at).holder in
+      let member = one_found (fmap.get w.holders r.holder) (is.purses.each p r at).holder in
       one_member w.members member.0 (f r) (fmap.get w.holders r.holder) member.1 (is.members.holders r.holder member.0 member.1).1
 
   purses_together : total (λ (e : Name × MemberRow). of_member w e.0 f) (fmap.entries w.members) ≡ of_all w f

@@ -67,9 +67,9 @@ start_told a None d done = done
 start_told a (Some r) d done = nothing_told a
 
 -- nor does what changes nothing
-idle_told : (a : Holding) (o : Option Reply) (d : Deed Holding) (xs : List Item) → told d.state ≡ told a ++ xs → told (unless_told a o d).state ≡ told a ++ cond (is_none o) xs []
-idle_told a None d xs done = done
-idle_told a (Some r) d xs done = nothing_told a
+unchanged_told : (a : Holding) (o : Option Reply) (d : Deed Holding) (xs : List Item) → told d.state ≡ told a ++ xs → told (unless_told a o d).state ≡ told a ++ cond (is_none o) xs []
+unchanged_told a None d xs done = done
+unchanged_told a (Some r) d xs done = nothing_told a
 
 handle_told : (a : Holding) (o : Option Message) → told (on_found a NoSuchMessage o (handle_message a)).state ≡ told a ++ option_map_or (λ m. message_items a.purse (handled a.purse m)) o []
 handle_told a None = nothing_told a
@@ -94,7 +94,7 @@ each_told (Discard p number) = λ a. found_told a (fmap.get a.inbox number) _ (�
 each_told (Abort p) = λ a. abort_told a (aborted a.purse)
 each_told (ReadLog p place) = λ a. abort_told a (aborted a.purse)
 each_told (Redeem p amount reference) = λ a.
-    idle_told a (idle (fmap.get a.redemptions reference) amount reply.Redeemed (option_map refusal_of_redeem (redeem_refusal a.purse amount))) _ _ (redemption_told a amount reference)
+    unchanged_told a (idle (fmap.get a.redemptions reference) amount reply.Redeemed (option_map refusal_of_redeem (redeem_refusal a.purse amount))) _ _ (redemption_told a amount reference)
 each_told (Inbox p) = nothing_told
 each_told (Statement p after) = nothing_told
 each_told c = tt
@@ -103,9 +103,9 @@ told_where : (b : Bool) (x a : Holding) (xs : List Item) → told x ≡ told a +
 told_where true x a xs done = done
 told_where false x a xs done = nothing_told a
 
-load_told : (amount : ℕ) (reference : Name) (a : Holding) → told (loaded_holding a amount reference) ≡ told a ++ cond (is_none (load_refusal a.purse amount)) (money_item kind.Loaded amount reference ∷ []) []
+loading_told : (amount : ℕ) (reference : Name) (a : Holding) → told (loaded_holding a amount reference) ≡ told a ++ cond (is_none (load_refusal a.purse amount)) (money_item kind.Loaded amount reference ∷ []) []
 unfolding loaded_holding
-load_told amount reference a = told_where (is_none (load_refusal a.purse amount)) _ a _ (map-append item_of a.lines (money_line (loaded a.purse amount) kind.Loaded amount reference ∷ []))
+loading_told amount reference a = told_where (is_none (load_refusal a.purse amount)) _ a _ (map-append item_of a.lines (money_line (loaded a.purse amount) kind.Loaded amount reference ∷ []))
 
 settled_told : (d : Details) (a : Holding) → told (settled_holding a d) ≡ told a ++ cond (is_none (credit_refusal a.purse d.value)) (payment_item kind.Settled d ∷ []) []
 unfolding settled_holding
@@ -164,7 +164,7 @@ same_tells false o = refl
 event_told : (m : Holdings) (e : Event) (p : Name) → items_in (after_event m e).end p ≡ items_after m e p (items_in m p)
 event_told m (Event.Own c) p = asked_told m p c (asks c) (each_told c)
 event_told m (Event.Issued q) p = inserted m q p (is_name p q) (new_holding q) refl
-event_told m (Event.Loaded q reference amount) p = changed_told m q p (λ a. loaded_holding a amount reference) _ (load_told amount reference)
+event_told m (Event.Loaded q reference amount) p = changed_told m q p (λ a. loaded_holding a amount reference) _ (loading_told amount reference)
 event_told m (Event.Settled q d) p = changed_told m q p (λ a. settled_holding a d) _ (settled_told d)
 event_told m (Event.Put q message) p =
     changed_told m q p (λ a. with_message a message) (λ a. []) (λ a. by_room (λ x. told x ≡ told a ++ []) a message (nothing_told a) (nothing_told a))
