@@ -6,6 +6,8 @@
 #[cfg(test)]
 mod book;
 #[cfg(test)]
+mod growths;
+#[cfg(test)]
 mod office;
 #[cfg(test)]
 mod pay;

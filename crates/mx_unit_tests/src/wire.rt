@@ -2,4 +2,4 @@
 mod bodies;
 mod replies;
 mod routes;
-mod words;
+pub(super) mod words;

@@ -110,7 +110,7 @@ fn command_words(alloc: Global, command: &Command) -> Result<String, AllocError>
 }
 
 /// The words of a command, or why there is none.
-pub(super) fn read_words(
+pub(crate) fn read_words(
     alloc: Global,
     read: &Result<Command, WireFault>,
 ) -> Result<String, AllocError> {

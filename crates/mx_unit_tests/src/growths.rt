@@ -1,0 +1,198 @@
+//! Calls of values and of the wire, made alone. With every growth granted each answers its usual value, worked out by
+//! hand. Run with one growth refused, as a check does for each growth in turn, a test says that a call that meets the
+//! refused one answers want of memory, and its usual value when it is made again.
+use crate::wire::words::read_words;
+use mx_book::values::{Line, LineKind, Note};
+use mx_office::{Lines, Messages, Names, Reply};
+use mx_pay::{Amount, Name, code_text, read_code, read_details};
+use mx_purse::{Message, Purse};
+use mx_wire::{Class, Routes, WireFault, render};
+use std::alloc::{AllocError, Global};
+use std::process::Abort;
+use std::test::Fail;
+
+/// The code text of a log with four entries.
+const LOGGED: &str = "p1,q1,60,0,0;p1,q1,1000000000000,1,1;p1,q2,5,1000000000000000,0;q1,p1,5,1,2";
+
+#[test]
+fn code_text_with_a_growth_refused(rt: HostRuntime) -> Result<(), Fail> {
+    let log = read_code(LOGGED).ok_or("no code text")?;
+    let text = match code_text(rt.alloc(), &log) {
+        Ok(text) => text,
+        Err(_) => code_text(rt.alloc(), &log)?,
+    };
+    assert_eq!(rt; text.as_str(), LOGGED);
+    Ok(())
+}
+
+/// Routes, which are made again where there is no memory at first.
+fn routes_in_the_end(alloc: Global) -> Result<Routes, AllocError> {
+    match Routes::new(alloc) {
+        Ok(routes) => Ok(routes),
+        Err(_) => Routes::new(alloc),
+    }
+}
+
+#[test]
+fn routes_with_a_growth_refused(rt: HostRuntime) -> Result<(), Fail> {
+    let routes = routes_in_the_end(rt.alloc())?;
+    for (method, path, class) in [
+        ("POST", "/members", Some(Class::Operator)),
+        ("POST", "/members/m/grant", Some(Class::Operator)),
+        ("POST", "/settle", Some(Class::Operator)),
+        ("GET", "/reconcile", Some(Class::Operator)),
+        ("POST", "/purses", Some(Class::Clerk)),
+        ("POST", "/purses/p1/load", Some(Class::Clerk)),
+        ("GET", "/purses", Some(Class::Holder)),
+        ("POST", "/purses/p1/start-to", Some(Class::Holder)),
+        ("GET", "/purses/p1/statement/50", Some(Class::Holder)),
+        ("GET", "/members", None),
+        ("POST", "/purses/p1", None),
+    ] {
+        assert_eq!(rt;
+            routes.class(method.as_bytes(), path.as_bytes()),
+            class,
+            "{method} {path}"
+        );
+    }
+    Ok(())
+}
+
+/// Requests with the commands that they say, a line each, `METHOD PATH: BODY -> WORDS`.
+const REQUESTS: &str = r#"
+POST /members: {"member":"m","token":"00000000000000000000000000000002"} -> new-member m 00000000000000000000000000000002
+POST /members/m/grant: {"amount":1000} -> grant m 1000
+POST /clear/p1: {"details":"a,p1,5,0,3;p1,q1,60,4,7"} -> clear p1 [a,p1,5,0,3;p1,q1,60,4,7]
+POST /purses/p1/load: {"ref":"a1", "amount":100, "more":[{"a":[1,2]},"\u00e9"]} -> load p1 100 a1
+POST /purses/p1/start-from: {"peer":"q1","value":60,"seq":3} -> start-from p1 q1 60 3
+GET /purses/p1/statement/50 -> statement p1 50
+POST /members: {"member":"m"} -> bad body
+POST /members: {"member":"m","token": -> bad body
+POST /nowhere: {"member":"m"} -> no route
+"#;
+
+/// What command a request says, in words, where there is memory for it.
+fn read_once(
+    alloc: Global,
+    routes: &Routes,
+    request: &str,
+    body: &str,
+) -> Result<String, AllocError> {
+    let (method, path) = request.split_once(' ').unwrap_or((request, ""));
+    let read = routes.read_command(alloc, method.as_bytes(), path.as_bytes(), body.as_bytes());
+    match read {
+        Err(WireFault::Memory) => Err(AllocError),
+        read => read_words(alloc, &read),
+    }
+}
+
+/// Asserts that a request says a command, read again where there is no memory at first.
+fn assert_read(
+    rt: &(impl Abort + AllocGlobal),
+    routes: &Routes,
+    asked: &str,
+    words: &str,
+) -> Result<(), Fail> {
+    let (request, body) = asked.split_once(": ").unwrap_or((asked, ""));
+    let read = match read_once(rt.alloc(), routes, request, body) {
+        Ok(read) => read,
+        Err(_) => read_once(rt.alloc(), routes, request, body)?,
+    };
+    assert_eq!(rt; read.as_str(), words, "{asked}");
+    Ok(())
+}
+
+#[test]
+fn commands_with_a_growth_refused(rt: HostRuntime) -> Result<(), Fail> {
+    let routes = routes_in_the_end(rt.alloc())?;
+    for line in REQUESTS.lines() {
+        if let Some((asked, words)) = line.split_once(" -> ") {
+            assert_read(&rt, &routes, asked, words)?;
+        }
+    }
+    Ok(())
+}
+
+/// The line of a load of 100.
+fn line() -> Option<Line> {
+    Some(Line {
+        number: 1,
+        kind: LineKind::Loaded,
+        amount: Amount::new(100)?,
+        balance: 100,
+        note: Note::Reference(Name::read("a1")?),
+    })
+}
+
+/// A list of this one, where there is memory for it.
+fn list_of<T: Drop>(alloc: Global, item: T) -> Result<Vec<T>, AllocError> {
+    let mut list = Vec::new(alloc);
+    list.push(item)?;
+    Ok(list)
+}
+
+/// Replies that are made for what they say. None where there is no memory for their lists.
+fn replies(alloc: Global) -> Option<[Reply; 9]> {
+    let name = Name::read("p1")?;
+    let payment = read_details("p1,q1,60,0,0")?;
+    let names = list_of(alloc, name).ok()?;
+    let messages = list_of(alloc, (0, Message::Req(payment))).ok()?;
+    let lines = list_of(alloc, line()?).ok()?;
+    Some([
+        Reply::Collected(30),
+        Reply::Archived(1),
+        Reply::Started(payment),
+        Reply::Read(Some(payment)),
+        Reply::Read(None),
+        Reply::Shown(Purse::new(name)),
+        Reply::Purses(Names::new(names)),
+        Reply::Inbox(Messages::new(messages)),
+        Reply::Statement(Lines::new(lines)),
+    ])
+}
+
+/// Their bodies.
+const BODIES: [&str; 9] = [
+    r#"{"collected":"30"}"#,
+    r#"{"archived":1}"#,
+    r#"{"details":"p1,q1,60,0,0","done":"started"}"#,
+    r#"{"done":"read","entry":"p1,q1,60,0,0"}"#,
+    r#"{"done":"read","entry":null}"#,
+    r#"{"balance":0,"next":0,"purse":"p1","status":"eaFrom"}"#,
+    r#"{"purses":["p1"]}"#,
+    r#"{"messages":[{"details":"p1,q1,60,0,0","kind":"req","number":0}]}"#,
+    r#"{"lines":[{"amount":100,"balance":100,"kind":"loaded","note":"a1","number":1}]}"#,
+];
+
+/// The same, made again where there is no memory at first.
+fn replies_in_the_end(alloc: Global) -> Option<[Reply; 9]> {
+    match replies(alloc) {
+        Some(replies) => Some(replies),
+        None => replies(alloc),
+    }
+}
+
+/// Asserts that a reply has a response with this body, rendered again where there is no memory at first.
+fn assert_rendered(
+    rt: &(impl Abort + AllocGlobal),
+    reply: &Reply,
+    body: &str,
+) -> Result<(), AllocError> {
+    let response = match render(rt.alloc(), reply) {
+        Ok(response) => response,
+        Err(_) => render(rt.alloc(), reply)?,
+    };
+    let bytes = response.text(false);
+    assert!(rt; bytes.starts_with(b"HTTP/1.1 200 OK\r\n"), "{body}");
+    assert!(rt; bytes.ends_with(body.as_bytes()), "{body}");
+    Ok(())
+}
+
+#[test]
+fn responses_with_a_growth_refused(rt: HostRuntime) -> Result<(), Fail> {
+    let replies = replies_in_the_end(rt.alloc()).ok_or("no replies")?;
+    for (reply, body) in replies.iter().zip(BODIES) {
+        assert_rendered(&rt, reply, body)?;
+    }
+    Ok(())
+}
