@@ -17,7 +17,7 @@ mod sums;
 
 use self::payments::FIVE_STEPS;
 use self::scripts::{Exchange, RUN_END};
-use self::settled::{ARCHIVED, LOST, SETTLED_BETWEEN};
+use self::settled::{ARCHIVED, LOST, REDEEMED, SETTLED, SETTLED_BETWEEN, assert_answered};
 use self::sums::add_loads;
 use crate::empty::{with_book, with_tables};
 use mx_book::Book;
@@ -25,13 +25,13 @@ use mx_desk::Counted;
 use mx_desk::desk::run;
 use mx_office::Office;
 use mx_wire::Routes;
-use std::alloc::Global;
+use std::alloc::{AllocError, Global};
 use std::io::Read;
 use std::process::Abort;
 use std::test::Fail;
 
 /// The member m, and its holders: ann with the purse p1, and bob with q1.
-const STANDING: &str = r#"
+pub(super) const STANDING: &str = r#"
 operator POST /members {"member":"m","token":"00000000000000000000000000000002"} -> 200 {"done":"added"}
 clerk POST /holders {"holder":"ann","token":"0000000000000000000000000000000a"} -> 200 {"done":"added"}
 clerk POST /holders {"holder":"bob","token":"0000000000000000000000000000000b"} -> 200 {"done":"added"}
@@ -44,6 +44,13 @@ const FUNDED: &str = r#"
 operator POST /members/m/grant {"amount":1000} -> 200 {"done":"granted"}
 clerk POST /purses/p1/load {"amount":100,"ref":"a1"} -> 200 {"done":"loaded"}
 "#;
+
+/// A payment of 60 from p1 to q1, from nothing on.
+pub(super) const PAYMENT: [&str; 3] = [STANDING, FUNDED, FIVE_STEPS];
+
+/// A lost payment of 60 from p1 to q1, its settlement, a redemption of 30 by p1, and a payment that p1 aborts, from nothing
+/// on.
+pub(super) const SETTLEMENT: [&str; 6] = [STANDING, FUNDED, LOST, ARCHIVED, SETTLED, REDEEMED];
 
 /// What is written in one or more runs, and how many responses that are.
 #[derive(Drop)]
@@ -158,4 +165,26 @@ pub(super) fn fund_and_load(
     let mut exchange = Exchange::of_runs(rt.alloc(), &[STANDING, FUNDED])?;
     add_loads(&mut exchange, rt.alloc(), count)?;
     assert_served(rt, office, &exchange)
+}
+
+/// Routes, which are made again where there is no memory at first.
+pub(super) fn routes_in_the_end(alloc: Global) -> Result<Routes, AllocError> {
+    match Routes::new(alloc) {
+        Ok(routes) => Ok(routes),
+        Err(_) => Routes::new(alloc),
+    }
+}
+
+/// Serves each request of scripts in an office, again where it is given up for want of memory, and asserts that it gets its
+/// response.
+pub(super) fn answer_in_the_end(
+    rt: &(impl Abort + AllocGlobal),
+    office: &mut Office<impl Book>,
+    scripts: &[&str],
+) -> Result<(), Fail> {
+    let routes = routes_in_the_end(rt.alloc())?;
+    for script in scripts {
+        assert_answered(rt, &routes, office, script)?;
+    }
+    Ok(())
 }

@@ -9,6 +9,8 @@ mod empty;
 #[cfg(test)]
 mod faulty;
 #[cfg(test)]
+mod growths;
+#[cfg(test)]
 mod report;
 #[cfg(test)]
 mod rolls;

@@ -26,7 +26,7 @@ pub(super) fn unopened(
 }
 
 /// The store that `create` refuses, which has books.
-fn unmade(
+pub(super) fn unmade(
     alloc: Global,
     store: Connection<MemStore>,
     operator: Token,

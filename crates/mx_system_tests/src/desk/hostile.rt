@@ -4,7 +4,7 @@ use super::devices::{Page, Pieces};
 use super::faults::{BAD_HEAD_BYTES, answered_in_the_end, run_over};
 use super::payments::FIVE_STEPS;
 use super::scripts::Exchange;
-use super::{FUNDED, STANDING, serve_from};
+use super::{FUNDED, PAYMENT, STANDING, serve_from};
 use crate::empty::{with_book, with_tables};
 use mx_book::Book;
 use mx_desk::DeskFault;
@@ -13,9 +13,6 @@ use mx_wire::Routes;
 use std::alloc::{AllocError, Global};
 use std::process::Abort;
 use std::test::Fail;
-
-/// The set-up and a payment.
-const PAYMENT: [&str; 3] = [STANDING, FUNDED, FIVE_STEPS];
 
 /// A member, a holder and a purse, which is then shown.
 const FIRST_PATH: &str = r#"
@@ -343,7 +340,7 @@ fn assert_answered_in_the_end(
 
 /// Asserts that so it is of the requests of scripts, over a book in memory and over tables. Where there is no memory for
 /// their texts and for routes nothing is asserted.
-fn assert_grown(rt: &(impl Abort + AllocGlobal), scripts: &[&str]) -> Result<(), Fail> {
+pub(super) fn assert_grown(rt: &(impl Abort + AllocGlobal), scripts: &[&str]) -> Result<(), Fail> {
     let (Ok(placed), Ok(routes)) = (Placed::of(rt.alloc(), scripts), Routes::new(rt.alloc())) else {
         return Ok(());
     };

@@ -33,11 +33,19 @@ operator POST /archive/q1 -> 200 {"archived":1}
 "#;
 
 /// The value comes back to p1, once.
-const SETTLED: &str = r#"
+pub(super) const SETTLED: &str = r#"
 operator POST /settle {"details":"p1,q1,60,0,0"} -> 200 {"done":"settled"}
 ann GET /purses/p1 -> 200 {"balance":100,"next":1,"purse":"p1","status":"eaFrom"}
 bob GET /purses/q1 -> 200 {"balance":0,"next":1,"purse":"q1","status":"eaFrom"}
 operator GET /reconcile -> 200 {"balances":"100","float":"900","granted":"1000","issued":"100","lost":"0","redeemed":"0","transit":"0","uncollected":"0"}
+"#;
+
+/// Then p1, which holds 100, redeems 30 of them. It is to be paid 5 by q1, but aborts, and its log is read again.
+pub(super) const REDEEMED: &str = r#"
+ann POST /purses/p1/redeem {"amount":30,"ref":"r1"} -> 200 {"done":"redeemed"}
+ann POST /purses/p1/start-to {"peer":"q1","value":5,"seq":1} -> 200 {"details":"q1,p1,5,1,1","done":"started"}
+ann POST /purses/p1/abort -> 200 {"done":"aborted","logged":true}
+ann POST /purses/p1/read-log {"place":0} -> 200 {"done":"read","entry":"q1,p1,5,1,1"}
 "#;
 
 const AGAIN: &str = r#"
@@ -163,7 +171,7 @@ fn exchange_of(alloc: Global, line: &str) -> Result<Exchange, AllocError> {
 }
 
 /// Asserts that each request of a script is answered as usual, or by 503 and, sent again, as usual.
-fn assert_answered(
+pub(super) fn assert_answered(
     rt: &(impl Abort + AllocGlobal),
     routes: &Routes,
     office: &mut Office<impl Book>,

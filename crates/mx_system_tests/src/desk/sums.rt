@@ -1,4 +1,5 @@
 //! Statements, and what the books come to, after payments of p1, which holds 100, to q1.
+use super::hostile::assert_grown;
 use super::scripts::Exchange;
 use super::{FUNDED, STANDING, played, served};
 use std::alloc::{AllocError, Global};
@@ -104,20 +105,46 @@ ann GET /purses/p1/statement/61 -> 200 {"lines":[]}
 operator GET /reconcile -> 200 {"balances":"160","float":"840","granted":"1000","issued":"160","lost":"0","redeemed":"0","transit":"0","uncollected":"0"}
 "#;
 
+/// Sixty loads of 1 to p1, a line each.
+fn sixty_loads(alloc: Global) -> Result<String, AllocError> {
+    let mut script = String::new(alloc);
+    for n in 1..=60 {
+        let load = format!(in alloc;
+            "clerk POST /purses/p1/load {{\"amount\":1,\"ref\":\"b{n}\"}} -> 200 {{\"done\":\"loaded\"}}\n"
+        )?;
+        script.push_str(load.as_str())?;
+    }
+    Ok(script)
+}
+
 /// Sixty loads and the pages of the statement.
-fn loads_and_pages(alloc: Global) -> Result<Exchange, AllocError> {
-    let mut exchange = Exchange::of_runs(alloc, &[STANDING, FUNDED])?;
-    add_loads(&mut exchange, alloc, 60)?;
-    let first = page(alloc, 1, 49)?;
-    exchange.add("ann GET /purses/p1/statement/0", first.as_str())?;
-    let second = page(alloc, 50, 60)?;
-    exchange.add("ann GET /purses/p1/statement/50", second.as_str())?;
-    exchange.add_script(AFTER_SIXTY_LOADS)?;
-    Ok(exchange)
+fn loads_and_pages(alloc: Global) -> Result<String, AllocError> {
+    let mut script = sixty_loads(alloc)?;
+    let (first, second) = (page(alloc, 1, 49)?, page(alloc, 50, 60)?);
+    let pages = format!(in alloc;
+        "ann GET /purses/p1/statement/0 -> {}\nann GET /purses/p1/statement/50 -> {}\n",
+        first.as_str(),
+        second.as_str()
+    )?;
+    script.push_str(pages.as_str())?;
+    script.push_str(AFTER_SIXTY_LOADS)?;
+    Ok(script)
 }
 
 /// After sixty loads of 1 the first page ends with line 50, at a balance of 149, the second with line 61, at 160.
 #[test]
 fn statement_in_two_pages(rt: HostRuntime) -> Result<(), Fail> {
-    served(&rt, &loads_and_pages(rt.alloc())?)
+    let script = loads_and_pages(rt.alloc())?;
+    let exchange = Exchange::of_runs(rt.alloc(), &[STANDING, FUNDED, script.as_str()])?;
+    served(&rt, &exchange)
+}
+
+/// Run with one growth refused, it says that a request changes nothing where it is given up, and is answered as usual when
+/// it is sent again. Where there is no memory for the script nothing is asserted.
+#[test]
+fn pages_with_a_growth_refused(rt: HostRuntime) -> Result<(), Fail> {
+    match loads_and_pages(rt.alloc()) {
+        Ok(script) => assert_grown(&rt, &[STANDING, FUNDED, script.as_str()]),
+        Err(_) => Ok(()),
+    }
 }
