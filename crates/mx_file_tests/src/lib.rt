@@ -7,6 +7,8 @@ mod connections;
 #[cfg(test)]
 mod flushes;
 #[cfg(test)]
+mod growths;
+#[cfg(test)]
 mod scratch;
 #[cfg(test)]
 mod tasks;

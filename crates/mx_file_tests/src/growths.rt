@@ -1,0 +1,88 @@
+//! Command lines with a growth refused: each is answered as usual or with want of memory, and as usual when it is read
+//! again.
+use mx_args::{LineFault, Task, read_line};
+use mx_pay::Token;
+use std::alloc::{AllocError, Global};
+use std::test::Fail;
+
+/// Lines with what they are read as, a line each, in which `|` stands for the end of a line.
+const LINES: &str = "
+run --memory --token 0000000000000000000000000000000f -> run --memory, token ends in f
+run book.db -> run book.db
+init book.db --token 0000000000000000000000000000000f -> init book.db, token ends in f
+serve book.db --port 8080 --count 3 -> serve book.db, port 8080, count 3
+import book.db roll.csv -> import book.db, roll.csv
+report book.db -> report book.db
+report book.db --purse p1 -> report book.db, purse p1
+migrate book.db -> migrate book.db
+run -> error: run takes FILE, or --memory and --token||Usage: purse-office run [OPTIONS] [FILE]||For more information, try '--help'.|
+serve book.db --port 0 --count 3 -> error: the value of --port has to be a number from 1 to 65535, without leading zeros||Usage: purse-office serve --port <N> --count <K> <FILE>||For more information, try '--help'.|
+report book.db --purse P1 -> error: the value of --purse has to be 1 to 24 of a to z, 0 to 9 and -, the first a letter||Usage: purse-office report [OPTIONS] <FILE>||For more information, try '--help'.|
+migrate -> error: the following required arguments were not provided:|  <FILE>||Usage: purse-office migrate <FILE>||For more information, try '--help'.|
+";
+
+/// The last digit of a token.
+fn end_of(token: &Token) -> char {
+    char::from(token.text()[31])
+}
+
+/// A task in words.
+fn task_words(alloc: Global, task: &Task<'_>) -> Result<String, AllocError> {
+    match task {
+        Task::RunMemory(token) => {
+            format!(in alloc; "run --memory, token ends in {}", end_of(token))
+        }
+        Task::RunFile(file) => format!(in alloc; "run {}", file.as_str()),
+        Task::Init { file, token } => {
+            format!(in alloc; "init {}, token ends in {}", file.as_str(), end_of(token))
+        }
+        Task::Serve { file, port, count } => {
+            format!(in alloc; "serve {}, port {port}, count {count}", file.as_str())
+        }
+        Task::Import { file, roll } => {
+            format!(in alloc; "import {}, {}", file.as_str(), roll.as_str())
+        }
+        Task::Report { file, purse: None } => format!(in alloc; "report {}", file.as_str()),
+        Task::Report {
+            file,
+            purse: Some(purse),
+        } => format!(in alloc; "report {}, purse {}", file.as_str(), purse.as_str()),
+        Task::Migrate(file) => format!(in alloc; "migrate {}", file.as_str()),
+    }
+}
+
+/// What a line is read as.
+fn read_once(alloc: Global, line: &str) -> Result<String, AllocError> {
+    let words: Vec<&str> = line.split(' ').collect(alloc)?;
+    match read_line(alloc, words.as_slice()) {
+        Ok(task) => task_words(alloc, &task),
+        Err(LineFault::Bad(text)) => Ok(text),
+        Err(LineFault::Memory) => Err(AllocError),
+    }
+}
+
+/// The same, read again where there is no memory at first.
+fn read_in_the_end(alloc: Global, line: &str) -> Result<String, AllocError> {
+    match read_once(alloc, line) {
+        Ok(words) => Ok(words),
+        Err(_) => read_once(alloc, line),
+    }
+}
+
+/// Whether a text is this one, in which `|` stands for the end of a line.
+fn is_text(text: &str, folded: &str) -> bool {
+    let mut pairs = text.bytes().zip(folded.bytes());
+    text.len() == folded.len()
+        && pairs.all(|(byte, wanted)| byte == wanted || (byte, wanted) == (b'\n', b'|'))
+}
+
+#[test]
+fn lines_with_a_growth_refused(rt: HostRuntime) -> Result<(), Fail> {
+    for line in LINES.lines() {
+        if let Some((line, wanted)) = line.split_once(" -> ") {
+            let words = read_in_the_end(rt.alloc(), line)?;
+            assert!(rt; is_text(words.as_str(), wanted), "{line}: {words}");
+        }
+    }
+    Ok(())
+}
