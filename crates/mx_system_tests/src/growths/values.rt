@@ -17,11 +17,13 @@ pub(super) fn truth_words(alloc: Global, is_so: bool) -> Result<String, AllocErr
 }
 
 pub(super) fn caller_words(alloc: Global, caller: Option<Caller>) -> Result<String, AllocError> {
+    let Some(caller) = caller else {
+        return none(alloc);
+    };
     match caller {
-        Some(Caller::Operator) => String::from_str(alloc, "operator"),
-        Some(Caller::Clerk(member)) => format!(in alloc; "clerk of {}", member.as_str()),
-        Some(Caller::Holder(holder)) => format!(in alloc; "holder {}", holder.as_str()),
-        None => none(alloc),
+        Caller::Operator => String::from_str(alloc, "operator"),
+        Caller::Clerk(member) => format!(in alloc; "clerk of {}", member.as_str()),
+        Caller::Holder(holder) => format!(in alloc; "holder {}", holder.as_str()),
     }
 }
 
