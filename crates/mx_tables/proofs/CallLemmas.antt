@@ -1,6 +1,8 @@
 -- Calls one after another: what each of them is gives what all are.
 use Rattle.mx_tables.proofs.Common.{◌≡◌, ℕ, List, Ok, ◌∙◌, arith, refl, IfOk-weaker, Row, Database, state, Executes, Rows, office_schema, Holds, going}
 use Rattle.std.proofs.Common.{Err, Result, IfOk, sym, ap, subst}
+use Rattle.std.proofs.lemmas.Result.{IfOk-from_err}
+use Rattle.std.specs.Result.{IsErr}
 use Rattle.sqlite_trees.specs.declared.store.Store.{Ghosts}
 use Rattle.sqlite.specs.declared.transaction.Transaction.{Transaction}
 use Rattle.sqlite.specs.Held.{Held}
@@ -23,6 +25,11 @@ module _ {S : Type 0} (g : Ghosts S) where
   pub reads_to : {T U : Type 0} {old new : Held S} {x : T} {r : Result U StoreFault} {is : Rows → T → Type 0} {other : Rows → U → Type 0}
       → Reads g old new (Ok x) is → ((rows : Rows) → Holds (state g old).now rows → is rows x → IfOk r (other rows)) → Reads g old new r other
   reads_to h f = record { stays = h.stays; value = λ ours calm rows holds. f rows holds (h.value ours calm rows holds) }
+
+  -- a fault after a read
+  pub reads_fault : {T U : Type 0} {old new : Held S} {q : Result T StoreFault} {r : Result U StoreFault} {is : Rows → T → Type 0} {other : Rows → U → Type 0}
+      → Reads g old new q is → IsErr r → Reads g old new r other
+  reads_fault {r = r} {other = other} h fault = record { stays = h.stays; value = λ ours calm rows holds. IfOk-from_err r (other rows) fault }
 
   -- what follows from what a read gives
   pub reads_more : {T : Type 0} {old new : Held S} {r : Result T StoreFault} {is other : Rows → T → Type 0}

@@ -273,37 +273,102 @@ tells_settled e f one two h = let details = same_entry e.0 f.0 one two (cc) in g
 
 -- ---- how they are made
 
--- the statements that make the tables of version 1, in the order of the schema
+-- the statements that make the tables of version 1, in the order of the schema: each makes its table, in the schema that those before it made
+abbrev create_meta : List ℕ
+create_meta = codes "CREATE TABLE meta (id INTEGER PRIMARY KEY, version INTEGER NOT NULL) STRICT"
+
+makes_meta : IsCreate schema.no_schema create_meta schema.meta
+unfolding understood everything
+makes_meta = record { creates = (refl, refl); plain = (refl, refl); defined = refl; uncounted = refl }
+
+abbrev create_member : List ℕ
+create_member = codes "CREATE TABLE member (name TEXT NOT NULL PRIMARY KEY, granted INTEGER NOT NULL, unspent INTEGER NOT NULL) STRICT"
+
+makes_member : IsCreate schema.schema_1 create_member schema.member
+unfolding understood everything
+makes_member = record { creates = (refl, refl); plain = (refl, refl); defined = refl; uncounted = refl }
+
+abbrev create_token : List ℕ
+create_token = codes "CREATE TABLE token (token TEXT NOT NULL PRIMARY KEY, kind TEXT NOT NULL, name TEXT NOT NULL, UNIQUE (kind, name)) STRICT"
+
+makes_token : IsCreate schema.schema_2 create_token schema.token
+unfolding understood everything
+makes_token = record { creates = (refl, refl); plain = (refl, refl); defined = refl; uncounted = refl }
+
+abbrev create_holder : List ℕ
+create_holder = codes "CREATE TABLE holder (name TEXT NOT NULL PRIMARY KEY, member TEXT NOT NULL REFERENCES member (name)) STRICT"
+
+makes_holder : IsCreate schema.schema_3 create_holder schema.holder
+unfolding understood everything
+makes_holder = record { creates = (refl, refl); plain = (refl, refl); defined = refl; uncounted = refl }
+
+abbrev create_purse : List ℕ
+create_purse = codes "CREATE TABLE purse (name TEXT NOT NULL PRIMARY KEY, holder TEXT NOT NULL REFERENCES holder (name), balance INTEGER NOT NULL, next_number INTEGER NOT NULL, status TEXT NOT NULL, details TEXT NOT NULL, log TEXT NOT NULL, line_count INTEGER NOT NULL, next_message INTEGER NOT NULL) STRICT"
+
+makes_purse : IsCreate schema.schema_4 create_purse schema.purse
+unfolding understood everything
+makes_purse = record { creates = (refl, refl); plain = (refl, refl); defined = refl; uncounted = refl }
+
+abbrev create_inbox : List ℕ
+create_inbox = codes "CREATE TABLE inbox (purse TEXT NOT NULL, number INTEGER NOT NULL, kind TEXT NOT NULL, details TEXT NOT NULL, PRIMARY KEY (purse, number)) STRICT"
+
+makes_inbox : IsCreate schema.schema_5 create_inbox schema.inbox
+unfolding understood everything
+makes_inbox = record { creates = (refl, refl); plain = (refl, refl); defined = refl; uncounted = refl }
+
+abbrev create_line : List ℕ
+create_line = codes "CREATE TABLE line (purse TEXT NOT NULL, number INTEGER NOT NULL, kind TEXT NOT NULL, amount INTEGER NOT NULL, balance INTEGER NOT NULL, note TEXT NOT NULL, PRIMARY KEY (purse, number)) STRICT"
+
+makes_line : IsCreate schema.schema_6 create_line schema.line
+unfolding understood everything
+makes_line = record { creates = (refl, refl); plain = (refl, refl); defined = refl; uncounted = refl }
+
+abbrev create_tray : List ℕ
+create_tray = codes "CREATE TABLE tray (purse TEXT NOT NULL, details TEXT NOT NULL, PRIMARY KEY (purse, details)) STRICT"
+
+makes_tray : IsCreate schema.schema_7 create_tray schema.tray
+unfolding understood everything
+makes_tray = record { creates = (refl, refl); plain = (refl, refl); defined = refl; uncounted = refl }
+
+abbrev create_archive : List ℕ
+create_archive = codes "CREATE TABLE archive (purse TEXT NOT NULL, details TEXT NOT NULL, PRIMARY KEY (purse, details)) STRICT"
+
+makes_archive : IsCreate schema.schema_8 create_archive schema.archive
+unfolding understood everything
+makes_archive = record { creates = (refl, refl); plain = (refl, refl); defined = refl; uncounted = refl }
+
+abbrev create_load : List ℕ
+create_load = codes "CREATE TABLE load (purse TEXT NOT NULL, reference TEXT NOT NULL, amount INTEGER NOT NULL, PRIMARY KEY (purse, reference)) STRICT"
+
+makes_load : IsCreate schema.schema_9 create_load schema.load
+unfolding understood everything
+makes_load = record { creates = (refl, refl); plain = (refl, refl); defined = refl; uncounted = refl }
+
+abbrev create_redemption : List ℕ
+create_redemption = codes "CREATE TABLE redemption (purse TEXT NOT NULL, reference TEXT NOT NULL, amount INTEGER NOT NULL, collected INTEGER NOT NULL, PRIMARY KEY (purse, reference)) STRICT"
+
+makes_redemption : IsCreate schema.schema_10 create_redemption schema.redemption
+unfolding understood everything
+makes_redemption = record { creates = (refl, refl); plain = (refl, refl); defined = refl; uncounted = refl }
+
 abbrev pub texts_1 : List (List ℕ)
 texts_1 =
-    codes "CREATE TABLE meta (id INTEGER PRIMARY KEY, version INTEGER NOT NULL) STRICT"
-    ∷ codes "CREATE TABLE member (name TEXT NOT NULL PRIMARY KEY, granted INTEGER NOT NULL, unspent INTEGER NOT NULL) STRICT"
-    ∷ codes "CREATE TABLE token (token TEXT NOT NULL PRIMARY KEY, kind TEXT NOT NULL, name TEXT NOT NULL, UNIQUE (kind, name)) STRICT"
-    ∷ codes "CREATE TABLE holder (name TEXT NOT NULL PRIMARY KEY, member TEXT NOT NULL REFERENCES member (name)) STRICT"
-    ∷ codes "CREATE TABLE purse (name TEXT NOT NULL PRIMARY KEY, holder TEXT NOT NULL REFERENCES holder (name), balance INTEGER NOT NULL, next_number INTEGER NOT NULL, status TEXT NOT NULL, details TEXT NOT NULL, log TEXT NOT NULL, line_count INTEGER NOT NULL, next_message INTEGER NOT NULL) STRICT"
-    ∷ codes "CREATE TABLE inbox (purse TEXT NOT NULL, number INTEGER NOT NULL, kind TEXT NOT NULL, details TEXT NOT NULL, PRIMARY KEY (purse, number)) STRICT"
-    ∷ codes "CREATE TABLE line (purse TEXT NOT NULL, number INTEGER NOT NULL, kind TEXT NOT NULL, amount INTEGER NOT NULL, balance INTEGER NOT NULL, note TEXT NOT NULL, PRIMARY KEY (purse, number)) STRICT"
-    ∷ codes "CREATE TABLE tray (purse TEXT NOT NULL, details TEXT NOT NULL, PRIMARY KEY (purse, details)) STRICT"
-    ∷ codes "CREATE TABLE archive (purse TEXT NOT NULL, details TEXT NOT NULL, PRIMARY KEY (purse, details)) STRICT"
-    ∷ codes "CREATE TABLE load (purse TEXT NOT NULL, reference TEXT NOT NULL, amount INTEGER NOT NULL, PRIMARY KEY (purse, reference)) STRICT"
-    ∷ codes "CREATE TABLE redemption (purse TEXT NOT NULL, reference TEXT NOT NULL, amount INTEGER NOT NULL, collected INTEGER NOT NULL, PRIMARY KEY (purse, reference)) STRICT"
-    ∷ []
+    create_meta ∷ create_member ∷ create_token ∷ create_holder ∷ create_purse ∷ create_inbox
+    ∷ create_line ∷ create_tray ∷ create_archive ∷ create_load ∷ create_redemption ∷ []
 
--- each makes its table
 makes_1 : Makes schema.no_schema texts_1 schema.schema_11
-unfolding understood everything
 makes_1 =
-    also schema.meta (record { creates = (refl, refl); plain = (refl, refl); defined = refl; uncounted = refl }) (
-    also schema.member (record { creates = (refl, refl); plain = (refl, refl); defined = refl; uncounted = refl }) (
-    also schema.token (record { creates = (refl, refl); plain = (refl, refl); defined = refl; uncounted = refl }) (
-    also schema.holder (record { creates = (refl, refl); plain = (refl, refl); defined = refl; uncounted = refl }) (
-    also schema.purse (record { creates = (refl, refl); plain = (refl, refl); defined = refl; uncounted = refl }) (
-    also schema.inbox (record { creates = (refl, refl); plain = (refl, refl); defined = refl; uncounted = refl }) (
-    also schema.line (record { creates = (refl, refl); plain = (refl, refl); defined = refl; uncounted = refl }) (
-    also schema.tray (record { creates = (refl, refl); plain = (refl, refl); defined = refl; uncounted = refl }) (
-    also schema.archive (record { creates = (refl, refl); plain = (refl, refl); defined = refl; uncounted = refl }) (
-    also schema.load (record { creates = (refl, refl); plain = (refl, refl); defined = refl; uncounted = refl }) (
-    also schema.redemption (record { creates = (refl, refl); plain = (refl, refl); defined = refl; uncounted = refl }) (
+    also schema.meta makes_meta (
+    also schema.member makes_member (
+    also schema.token makes_token (
+    also schema.holder makes_holder (
+    also schema.purse makes_purse (
+    also schema.inbox makes_inbox (
+    also schema.line makes_line (
+    also schema.tray makes_tray (
+    also schema.archive makes_archive (
+    also schema.load makes_load (
+    also schema.redemption makes_redemption (
     made)))))))))))
 
 -- and the statements after these make the others

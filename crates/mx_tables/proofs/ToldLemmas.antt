@@ -1,6 +1,8 @@
 -- What is read of the rows is so of the World that they spell.
 use Rattle.mx_tables.proofs.Common.{◌≡◌, ℕ, Bool, Option, ◌∙◌, IfOk-weaker, Name, Rows}
 use Rattle.std.proofs.Common.{Result, is_some, ap}
+use Rattle.std.proofs.lemmas.Result.{IfOk-from_err}
+use Rattle.std.specs.Result.{IsErr}
 use Rattle.std.specs.FinMap as fmap
 use Rattle.std.specs.declared.vec.Vec.{Vec}
 use Rattle.sqlite_trees.specs.declared.store.Store.{Ghosts}
@@ -37,6 +39,11 @@ module _ {S : Type 0} (g : Ghosts S) {old new : Held S} where
     value = λ ours w calm one.
         IfOk-weaker r _ _ (f one.spelled.rows w one.spelled.spells) (h.value ours calm one.spelled.rows one.spelled.holds);
   }
+
+  -- a fault after a read
+  pub tells_fault : {T U : Type 0} {q : Result T StoreFault} {r : Result U StoreFault} {is : Rows → T → Type 0} {says : World → U → Type 0}
+      → Reads g old new q is → IsErr r → Tells g old new r says
+  tells_fault {r = r} {says = says} h fault = record { stays = h.stays; value = λ ours w calm one. IfOk-from_err r (says w) fault }
 
   -- ---- one value, or none
 

@@ -4,11 +4,17 @@ use Rattle.mx_tables.proofs.CallLemmas.{reads_to}
 use Rattle.mx_tables.proofs.Texts.{select_number_is}
 use Rattle.mx_tables.proofs.InboxLemmas.{finds_number}
 use Rattle.mx_tables.proofs.ReadLemmas.{got}
-use Rattle.mx_tables.proofs.ToldLemmas.{tell_has_message}
+use Rattle.mx_tables.proofs.ToldLemmas.{tell_has_message, tells_fault}
 use Rattle.mx_tables.proofs.inbox.find_has_message.Goals as goal
 
 pub ask-requires : goal.ask-requires
 ask-requires g c = select_number_is.query
+
+pub returns-in_err-rows : goal.returns-in_err-rows
+returns-in_err-rows g c = tells_fault g.S.Store c.in_err-rows.ensures.reads c.from_residual.ensures.0
+
+pub returns-in_err-only : goal.returns-in_err-only
+returns-in_err-only g c = tells_fault g.S.Store c.in_ok-rows.ensures.reads c.from_residual-in_err-only.ensures.0
 
 pub returns : goal.returns
 returns g c = tell_has_message g.S.Store _ _ (reads_to g.S.Store c.in_ok-rows.ensures.reads (λ r holds shown low.

@@ -6,11 +6,17 @@ use Rattle.mx_tables.proofs.CallLemmas.{reads_to}
 use Rattle.mx_tables.proofs.InboxLemmas.{message_is, message_back}
 use Rattle.mx_tables.proofs.ReadLemmas.{one_mapped}
 use Rattle.mx_tables.proofs.Texts.{select_message_is}
-use Rattle.mx_tables.proofs.ToldLemmas.{tell_message}
+use Rattle.mx_tables.proofs.ToldLemmas.{tell_message, tells_fault}
 use Rattle.mx_tables.proofs.inbox.find_message.Goals as goal
 
 pub ask-requires : goal.ask-requires
 ask-requires g c = select_message_is.query
+
+pub returns-in_err-rows : goal.returns-in_err-rows
+returns-in_err-rows g c = tells_fault g.S.Store c.in_err-rows.ensures.reads c.from_residual.ensures.0
+
+pub returns-in_err-row : goal.returns-in_err-row
+returns-in_err-row g c = tells_fault g.S.Store c.in_ok-rows.ensures.reads c.from_residual-in_err-row.ensures.0
 
 pub returns-in-None : goal.returns-in-None
 returns-in-None g c = tell_message g.S.Store _ _ (reads_to g.S.Store c.in_ok-rows.ensures.reads (λ r holds shown valid low.

@@ -1,4 +1,4 @@
-use Rattle.mx_tables.proofs.Common.{◌≡◌, ◌≤◌, [], ◌∷◌, ◌++◌, length, refl, rules, arith, ◌∙◌, Database, state, Holds}
+use Rattle.mx_tables.proofs.Common.{◌≡◌, ◌≤◌, ◌<◌, ℕ, [], ◌∷◌, ◌++◌, length, refl, rules, arith, ◌∙◌, Database, state, Holds}
 use Rattle.std.proofs.Common.{ap, sym, subst}
 use Rattle.std.proofs.ByRecursion.{All-push}
 use Rattle.sqlite.specs.Given.{IsPlain}
@@ -17,6 +17,12 @@ use Rattle.mx_tables.proofs.lines.list_lines.Goals as goal
 stays_on : {S : Type 0} (g : Ghosts S) (first before after last : Held S) → Stays (state g first) (state g before) → (IsOurs (state g before) → Stays (state g before) (state g after))
     → after ≡ last → Stays (state g first) (state g last)
 stays_on g first before after last was step same = rw (← same) (stays_then (state g first) (state g before) (state g after) was (step was.ours))
+
+fewer : (n k m : ℕ) → n ≡ k → k < m → n ≤ m
+fewer n k m is below = omega arith
+
+both_ways : (k m : ℕ) → k ≤ m → m ≤ k → k ≡ m
+both_ways k m up down = omega arith
 
 pub returns-then-after-gt-MOST_KEPT : goal.returns-then-after-gt-MOST_KEPT
 returns-then-after-gt-MOST_KEPT g c = tell_lines g.S.Store _ _ _ (reads_none g.S.Store (λ rows holds valid.
@@ -65,7 +71,7 @@ rows-preserved g c =
 pub returns-in_err-line : goal.returns-in_err-line
 returns-in_err-line g c = tell_lines g.S.Store _ _ _ (record {
   stays = λ ours.
-      let same : c.next_line.new.rows.conn.now ≡ c.conn-in_err-line-1.given.0 = search rules in
+      let same : c.next_line.new.rows.conn.now ≡ c.conn-in_err-line-1.given.0 = sym (c.conn-in_err-line-1.given.1 (sym (c.next_line.ensures.same_reference ∙ c.rows.invariant.0 ∙ c.in-Ok.ensures.same_reference)) ∙ c.drop-rows.ensures) in
       stays_on g.S.Store c.args.conn.now c.rows.rows.conn.now c.next_line.new.rows.conn.now c.conn-in_err-line-1.given.0 (c.rows.invariant.3 ours) c.next_line.ensures.stays same;
   value = λ ours sound kept holds. search rules;
 })
@@ -73,7 +79,7 @@ returns-in_err-line g c = tell_lines g.S.Store _ _ _ (record {
 pub returns-in_default : goal.returns-in_default
 returns-in_default g c = tell_lines g.S.Store _ _ _ (record {
   stays = λ ours.
-      let same : c.next_line.new.rows.conn.now ≡ c.conn-in_default-1.given.0 = search rules in
+      let same : c.next_line.new.rows.conn.now ≡ c.conn-in_default-1.given.0 = sym (c.conn-in_default-1.given.1 (sym (c.next_line.ensures.same_reference ∙ c.rows.invariant.0 ∙ c.in-Ok.ensures.same_reference)) ∙ c.drop-rows-in_default.ensures) in
       stays_on g.S.Store c.args.conn.now c.rows.rows.conn.now c.next_line.new.rows.conn.now c.conn-in_default-1.given.0 (c.rows.invariant.3 ours) c.next_line.ensures.stays same;
   value = λ ours sound kept holds valid.
       let old = state g.S.Store c.args.conn.now in
@@ -82,20 +88,20 @@ returns-in_default g c = tell_lines g.S.Store _ _ _ (record {
       let before = c.rows.invariant in
       let made = c.in_ok-line.ensures in
       let first = before.3 ours in
-      let same : c.next_line.new.rows.conn.now ≡ c.conn-in_default-1.given.0 = search rules in
+      let same : c.next_line.new.rows.conn.now ≡ c.conn-in_default-1.given.0 = sym (c.conn-in_default-1.given.1 (sym (c.next_line.ensures.same_reference ∙ c.rows.invariant.0 ∙ c.in-Ok.ensures.same_reference)) ∙ c.drop-rows-in_default.ensures) in
       let last : worry new ≡ 0 = subst (λ h. worry (state g.S.Store h) ≡ 0) (sym same) sound in
       let early = sure_before mid new (made.stays first.ours).later last in
       let was = before.4 ours early in
       let there : Holds mid.now kept = subst (λ (d : Database). Holds d kept) (sym (first.same early)) holds in
       let shown = no_more g.S.Store select_lines _ c.rows.rows.conn.now c.next_line.new.rows.conn.now was.0 was.1 (rw c.in_default.is at made.shown last) in
-      let few : length c.rows.lines.items ≤ c.args.most = omega (arith, before.1, c.rows-test.true) in
+      let few : length c.rows.lines.items ≤ c.args.most = fewer _ _ _ before.1 c.rows-test.true in
       last_page c.args.purse.now c.args.after c.args.most kept valid was.0 c.rows.lines.items was.2 before.2 few (ended c.args.purse.now c.args.after mid new was.0 shown kept there);
 })
 
 pub returns-then-is_err : goal.returns-then-is_err
 returns-then-is_err g c = tell_lines g.S.Store _ _ _ (record {
   stays = λ ours.
-      let same : c.next_line.new.rows.conn.now ≡ c.conn-then-is_err-1.given.0 = search rules in
+      let same : c.next_line.new.rows.conn.now ≡ c.conn-then-is_err-1.given.0 = sym (c.conn-then-is_err-1.given.1 (sym (c.next_line.ensures.same_reference ∙ c.rows.invariant.0 ∙ c.in-Ok.ensures.same_reference)) ∙ c.drop-rows-then-is_err.ensures) in
       stays_on g.S.Store c.args.conn.now c.rows.rows.conn.now c.next_line.new.rows.conn.now c.conn-then-is_err-1.given.0 (c.rows.invariant.3 ours) c.next_line.ensures.stays same;
   value = λ ours sound kept holds. tt;
 })
@@ -103,16 +109,16 @@ returns-then-is_err g c = tell_lines g.S.Store _ _ _ (record {
 pub returns : goal.returns
 returns g c = tell_lines g.S.Store _ _ _ (record {
   stays = λ ours.
-      let same : c.rows.rows.conn.now ≡ c.conn-2-1.given.0 = search rules in
+      let same : c.rows.rows.conn.now ≡ c.conn-2-1.given.0 = sym (c.conn-2-1.given.1 (sym (c.rows.invariant.0 ∙ c.in-Ok.ensures.same_reference)) ∙ c.drop-rows-2.ensures) in
       subst (λ h. Stays (state g.S.Store c.args.conn.now) (state g.S.Store h)) same (c.rows.invariant.3 ours);
   value = λ ours sound kept holds valid.
       let mid = state g.S.Store c.rows.rows.conn.now in
       let before = c.rows.invariant in
-      let same : c.rows.rows.conn.now ≡ c.conn-2-1.given.0 = search rules in
+      let same : c.rows.rows.conn.now ≡ c.conn-2-1.given.0 = sym (c.conn-2-1.given.1 (sym (c.rows.invariant.0 ∙ c.in-Ok.ensures.same_reference)) ∙ c.drop-rows-2.ensures) in
       let last : worry mid ≡ 0 = subst (λ h. worry (state g.S.Store h) ≡ 0) (sym same) sound in
       let was = before.4 ours last in
       let there : Holds mid.now kept = subst (λ (d : Database). Holds d kept) (sym ((before.3 ours).same last)) holds in
       let all = begins c.args.purse.now c.args.after g.S.Store c.rows.rows.conn.now was.0 was.1 kept there in
-      let many : length c.rows.lines.items ≡ c.args.most = before.1 ∙ (search rules) in
+      let many : length c.rows.lines.items ≡ c.args.most = before.1 ∙ both_ways _ _ c.rows.auto.counter-end c.rows-test.false in
       full_page c.args.purse.now c.args.after c.args.most kept valid was.0 all.0 c.rows.lines.items was.2 before.2 many all.1;
 })

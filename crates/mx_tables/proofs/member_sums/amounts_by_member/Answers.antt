@@ -3,7 +3,7 @@ use Rattle.std.proofs.Common.{ap}
 use Rattle.mx_book.specs.Slots.{map_of}
 use Rattle.mx_book.specs.declared.totals.Scope.TheVariants.{Member}
 use Rattle.mx_tables.specs.Counted.{counted_row, sum_at}
-use Rattle.mx_tables.proofs.CallLemmas.{reads_none, reads_to, reads_then}
+use Rattle.mx_tables.proofs.CallLemmas.{reads_fault, reads_none, reads_to, reads_then}
 use Rattle.mx_tables.proofs.CountedSums.{sum_at_first, sum_more, amounts_query, amounts_summed, sum_all_rows}
 use Rattle.mx_tables.proofs.member_sums.amounts_by_member.Goals as goal
 
@@ -19,6 +19,15 @@ loop-row-preserved g c =
     reads_to g.S.Store (reads_then g.S.Store c.loop-row.invariant c.in_ok-add_row.ensures) (λ rows holds both m.
     sum_more (counted_row rows.purses rows.holders (Member m)) c.deref-row-items.result.now c.loop-row.row-index c.row-item.result (sum_at (map_of name_cmp c.loop-row.sums) m) _ (sum_at (map_of name_cmp c.add_row.new.sums) m) within c.row-item.is
     (both.0 m) refl (both.1 m))
+
+pub returns-in_err-rows : goal.returns-in_err-rows
+returns-in_err-rows g c = reads_fault g.S.Store c.in_err-rows.ensures.reads c.from_residual.ensures.0
+
+pub returns-in_err-add_row : goal.returns-in_err-add_row
+returns-in_err-add_row g c =
+    reads_fault g.S.Store
+    (reads_then g.S.Store (reads_then g.S.Store c.in_ok-rows.ensures.reads c.loop-row.invariant) c.in_err-add_row.ensures)
+    c.from_residual-in_err-add_row.ensures.0
 
 pub returns : goal.returns
 returns g c =

@@ -1,7 +1,10 @@
 use Rattle.mx_tables.proofs.Common.{arith}
 use Rattle.mx_tables.proofs.CallLemmas.{reads_to}
-use Rattle.mx_tables.proofs.ToldLemmas.{tell_there}
+use Rattle.mx_tables.proofs.ToldLemmas.{tell_there, tells_fault}
 use Rattle.mx_tables.proofs.purses.find_has_purse.Goals as goal
+
+pub returns-in_err-find_owner : goal.returns-in_err-find_owner
+returns-in_err-find_owner g c = tells_fault g.S.Store c.in_err-find_owner.ensures c.from_residual.ensures.0
 
 pub returns : goal.returns
 returns g c = tell_there g.S.Store _ (reads_to g.S.Store c.in_ok-find_owner.ensures (λ r holds is. grind (arith, is, c.is_some.ensures)))

@@ -5,8 +5,17 @@ use Rattle.mx_tables.specs.Answers.{own_shown}
 use Rattle.mx_tables.proofs.CallLemmas.{reads_to}
 use Rattle.mx_tables.proofs.PurseLemmas.{own_back, holder_back}
 use Rattle.mx_tables.proofs.ReadLemmas.{one_mapped}
-use Rattle.mx_tables.proofs.ToldLemmas.{tell_own}
+use Rattle.mx_tables.proofs.ToldLemmas.{tell_own, tells_fault}
 use Rattle.mx_tables.proofs.purses.find_own.Goals as goal
+
+pub returns-in_err-row : goal.returns-in_err-row
+returns-in_err-row g c = tells_fault g.S.Store c.in_err-row.ensures c.from_residual.ensures.0
+
+pub returns-in_err-name_at : goal.returns-in_err-name_at
+returns-in_err-name_at g c = tells_fault g.S.Store c.in_ok-row.ensures c.from_residual-in_err-name_at.ensures.0
+
+pub returns-in_err-state_in : goal.returns-in_err-state_in
+returns-in_err-state_in g c = tells_fault g.S.Store c.in_ok-row.ensures c.from_residual-in_err-state_in.ensures.0
 
 pub returns-in_default : goal.returns-in_default
 returns-in_default g c = tell_own g.S.Store _ _ (reads_to g.S.Store c.in_ok-row.ensures (λ r holds is purses. grind (arith, is)))

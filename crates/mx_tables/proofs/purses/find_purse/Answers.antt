@@ -4,8 +4,11 @@ use Rattle.std.specs.FinMap as fmap
 use Rattle.mx_tables.specs.Answers.{purse_shown}
 use Rattle.mx_tables.proofs.ValueLemmas.{purse_back}
 use Rattle.mx_tables.proofs.ReadLemmas.{one_mapped}
-use Rattle.mx_tables.proofs.CallLemmas.{reads_to}
+use Rattle.mx_tables.proofs.CallLemmas.{reads_fault, reads_to}
 use Rattle.mx_tables.proofs.purses.find_purse.Goals as goal
+
+pub returns-in_err-row : goal.returns-in_err-row
+returns-in_err-row g c = reads_fault g.S.Store c.in_err-row.ensures c.from_residual.ensures.0
 
 pub returns-in-None : goal.returns-in-None
 returns-in-None g c = reads_to g.S.Store c.in_ok-row.ensures (λ r holds is purses. grind (arith, is))

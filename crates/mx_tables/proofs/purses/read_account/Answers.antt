@@ -5,8 +5,21 @@ use Rattle.mx_purse.specs.declared.message.Message.{Message}
 use Rattle.mx_book.specs.RowReads.{of_name}
 use Rattle.mx_book.specs.declared.values.Account.{Account}
 use Rattle.mx_tables.proofs.CallLemmas.{reads_to, reads_then}
-use Rattle.mx_tables.proofs.ToldLemmas.{tell_account}
+use Rattle.mx_tables.proofs.ToldLemmas.{tell_account, tells_fault}
 use Rattle.mx_tables.proofs.purses.read_account.Goals as goal
+
+pub returns-in_err-row : goal.returns-in_err-row
+returns-in_err-row g c = tells_fault g.S.Store c.in_err-row.ensures c.from_residual.ensures.0
+
+pub returns-in_err-member : goal.returns-in_err-member
+returns-in_err-member g c =
+    tells_fault g.S.Store (reads_then g.S.Store c.in_ok-row.ensures c.in_err-member.ensures) c.from_residual-in_err-member.ensures.0
+
+pub returns-in_err-count_messages : goal.returns-in_err-count_messages
+returns-in_err-count_messages g c =
+    tells_fault g.S.Store
+    (reads_then g.S.Store (reads_then g.S.Store c.in_ok-row.ensures c.in_ok-member.ensures) c.in_err-count_messages.ensures)
+    c.from_residual-in_err-count_messages.ensures.0
 
 pub returns : goal.returns
 returns g c = tell_account g.S.Store _ (reads_to g.S.Store (reads_then g.S.Store (reads_then g.S.Store c.in_ok-row.ensures c.in_ok-member.ensures) c.in_ok-count_messages.ensures) (λ rows holds all sound.

@@ -4,8 +4,14 @@ use Rattle.std.specs.FinMap as fmap
 use Rattle.mx_book.specs.declared.values.MemberTotals.{MemberTotals}
 use Rattle.mx_tables.specs.declared.sums.Sums.{Sums}
 use Rattle.mx_tables.proofs.CallLemmas.{reads_to, reads_then}
-use Rattle.mx_tables.proofs.ToldLemmas.{tell_member_totals}
+use Rattle.mx_tables.proofs.ToldLemmas.{tell_member_totals, tells_fault}
 use Rattle.mx_tables.proofs.sums.sum_member.Goals as goal
+
+pub returns-in_err-row : goal.returns-in_err-row
+returns-in_err-row g c = tells_fault g.S.Store c.in_err-row.ensures c.from_residual.ensures.0
+
+pub returns-in_err-sums : goal.returns-in_err-sums
+returns-in_err-sums g c = tells_fault g.S.Store (reads_then g.S.Store c.in_ok-row.ensures c.in_err-sums.ensures) c.from_residual-in_err-sums.ensures.0
 
 pub returns-in_default : goal.returns-in_default
 returns-in_default g c = tell_member_totals g.S.Store _ (reads_to g.S.Store c.in_ok-row.ensures (λ rows holds is purses entries. rw (sym is ∙ c.in_default.is) refl))

@@ -2,8 +2,33 @@ use Rattle.mx_tables.proofs.Common.{◌+◌, ◌∙◌}
 use Rattle.std.proofs.Common.{ap, ap₂}
 use Rattle.mx_tables.specs.declared.sums.Sums.{Sums}
 use Rattle.mx_tables.proofs.CallLemmas.{reads_to, reads_then}
-use Rattle.mx_tables.proofs.ToldLemmas.{tell_totals}
+use Rattle.mx_tables.proofs.ToldLemmas.{tell_totals, tells_fault}
 use Rattle.mx_tables.proofs.sums.sum_scheme.Goals as goal
+
+pub returns-in_err-granted : goal.returns-in_err-granted
+returns-in_err-granted g c = tells_fault g.S.Store c.in_err-granted.ensures c.from_residual.ensures.0
+
+pub returns-in_err-sums : goal.returns-in_err-sums
+returns-in_err-sums g c =
+    tells_fault g.S.Store (reads_then g.S.Store c.in_ok-granted.ensures c.in_err-sums.ensures) c.from_residual-in_err-sums.ensures.0
+
+pub returns-in_err-transit : goal.returns-in_err-transit
+returns-in_err-transit g c =
+    tells_fault g.S.Store
+    (reads_then g.S.Store (reads_then g.S.Store c.in_ok-granted.ensures c.in_ok-sums.ensures) c.in_err-transit.ensures)
+    c.from_residual-in_err-transit.ensures.0
+
+pub returns-in_err-in_logs : goal.returns-in_err-in_logs
+returns-in_err-in_logs g c =
+    tells_fault g.S.Store
+    (reads_then g.S.Store (reads_then g.S.Store (reads_then g.S.Store c.in_ok-granted.ensures c.in_ok-sums.ensures) c.in_ok-transit.ensures) c.in_err-in_logs.ensures)
+    c.from_residual-in_err-in_logs.ensures.0
+
+pub returns-in_err-in_archive : goal.returns-in_err-in_archive
+returns-in_err-in_archive g c =
+    tells_fault g.S.Store
+    (reads_then g.S.Store (reads_then g.S.Store (reads_then g.S.Store (reads_then g.S.Store c.in_ok-granted.ensures c.in_ok-sums.ensures) c.in_ok-transit.ensures) c.in_ok-in_logs.ensures) c.in_err-in_archive.ensures)
+    c.from_residual-in_err-in_archive.ensures.0
 
 pub returns : goal.returns
 returns g c =

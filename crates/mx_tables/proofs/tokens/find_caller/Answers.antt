@@ -9,11 +9,17 @@ use Rattle.mx_tables.proofs.ReadLemmas.{found_none, found_one}
 use Rattle.mx_tables.proofs.Texts.{select_token_is}
 use Rattle.mx_tables.proofs.MemberLemmas.{book_tokens, finds_token}
 use Rattle.mx_tables.proofs.ValueLemmas.{caller_back}
-use Rattle.mx_tables.proofs.ToldLemmas.{tell_caller}
+use Rattle.mx_tables.proofs.ToldLemmas.{tell_caller, tells_fault}
 use Rattle.mx_tables.proofs.tokens.find_caller.Goals as goal
 
 pub ask-requires : goal.ask-requires
 ask-requires g c = select_token_is.query
+
+pub returns-in_err-rows : goal.returns-in_err-rows
+returns-in_err-rows g c = tells_fault g.S.Store c.in_err-rows.ensures.reads c.from_residual.ensures.0
+
+pub returns-in_err-row : goal.returns-in_err-row
+returns-in_err-row g c = tells_fault g.S.Store c.in_ok-rows.ensures.reads c.from_residual-in_err-row.ensures.0
 
 pub returns-in-None : goal.returns-in-None
 returns-in-None g c = tell_caller g.S.Store _ (reads_to g.S.Store c.in_ok-rows.ensures.reads (λ rows holds shown.
