@@ -1,11 +1,22 @@
 -- What clap finds at the command of the program.
-use Rattle.std.proofs.Common.{◌≡◌, ◌∙◌, List, [], Option, Some, None, true, refl, subst, inl, inr, option_map, arith}
-use Rattle.clap.specs.Words.{HasKind, Kinds, Row, Text, is_simple, is_simple_and_free, kind_of, subcommand_name_of, subcommand_rows_of}
+use Rattle.std.proofs.Common.{◌≡◌, ◌∙◌, ◌||◌, List, [], Option, Some, None, true, false, refl, ap₂, subst, inl, inr, option_map, arith}
+use Rattle.clap.specs.Words.{AddsArg, App, HasKind, Kinds, Row, Rule, Text, app_of, is_simple, is_simple_and_free, kind_of, rule_of, subcommand_name_of, subcommand_rows_of, with_rule}
+use Rattle.clap.specs.declared.builder.arg.Arg.{Arg}
+use Rattle.clap.specs.declared.builder.command.Command.{Command}
+use Rattle.clap.specs.declared.Command.TheViews.{out-Command}
 use Rattle.clap.specs.declared.ArgMatches.{ArgMatches}
 use Rattle.clap.specs.declared.Error.{Error}
 use Rattle.clap.specs.declared.error.ErrorKind.TheVariants.{OutOfMemory}
 use Rattle.clap.specs.declared.ArgMatches.TheViews.{out-ArgMatches}
 use Rattle.mx_args.specs.Line.{line_app}
+
+-- a command with these rules, none of which is global
+abbrev pub Has : App → Command → Type 0
+Has app c = (app_of c ≡ app) × ((out-Command c).has_globals ≡ false)
+
+-- with one rule more
+pub has_more : {app : App} {rule : Rule} {old new : Command} {a : Arg} → Has app old → rule_of a ≡ rule → a.global ≡ false → AddsArg old a new → Has (with_rule app rule) new
+has_more has rule local adds = (adds.shape local ∙ ap₂ with_rule has.0 rule, adds.globals ∙ ap₂ ◌||◌ has.1 local)
 
 -- clap's matches of the command are a function of the words
 pub line_is_simple : is_simple line_app ≡ true

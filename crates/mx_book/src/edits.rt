@@ -9,7 +9,7 @@ use mx_purse::message::Message;
 use std::marker::Model;
 
 /// One change of what a book keeps.
-#[derive(Clone, Copy, Debug)]
+#[derive(Clone, Copy)]
 pub enum Edit {
     /// A new member with grants 0 and float 0, and the token of its clerk.
     NewMember {

@@ -9,7 +9,7 @@ use mx_purse::{Handled, Message, Purse};
 use std::marker::Model;
 
 /// What is asked of the office. Who asks stands beside it.
-#[derive(Clone, Copy, Debug)]
+#[derive(Clone, Copy)]
 pub enum Command {
     /// The operator adds a member.
     NewMember {

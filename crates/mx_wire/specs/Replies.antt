@@ -71,16 +71,27 @@ done word = response (codes "200 OK") (done_body word)
 -- ---- the responses that are always the same
 
 -- the status of a refusal: 403 to the wrong caller, 404 where something isn't there, 409 where it doesn't fit
-abbrev pub refusal_status : Refusal → List ℕ
-refusal_status refusal.NotForCaller = codes "403 Forbidden"
-refusal_status refusal.NoSuchPurse = codes "404 Not Found"
-refusal_status refusal.NoSuchHolder = codes "404 Not Found"
-refusal_status refusal.NoSuchMember = codes "404 Not Found"
-refusal_status refusal.NoSuchMessage = codes "404 Not Found"
-refusal_status _ = codes "409 Conflict"
-
 abbrev pub refusal_parts : Refusal → Parts
-refusal_parts r = refused (refusal_status r) (refusal_text r)
+refusal_parts refusal.NotForCaller = refused (codes "403 Forbidden") (refusal_text refusal.NotForCaller)
+refusal_parts refusal.NoSuchPurse = refused (codes "404 Not Found") (refusal_text refusal.NoSuchPurse)
+refusal_parts refusal.NoSuchHolder = refused (codes "404 Not Found") (refusal_text refusal.NoSuchHolder)
+refusal_parts refusal.NoSuchMember = refused (codes "404 Not Found") (refusal_text refusal.NoSuchMember)
+refusal_parts refusal.NoSuchMessage = refused (codes "404 Not Found") (refusal_text refusal.NoSuchMessage)
+refusal_parts refusal.NameTaken = refused (codes "409 Conflict") (refusal_text refusal.NameTaken)
+refusal_parts refusal.TokenTaken = refused (codes "409 Conflict") (refusal_text refusal.TokenTaken)
+refusal_parts refusal.TooManyPurses = refused (codes "409 Conflict") (refusal_text refusal.TooManyPurses)
+refusal_parts refusal.SamePurse = refused (codes "409 Conflict") (refusal_text refusal.SamePurse)
+refusal_parts refusal.NotEnough = refused (codes "409 Conflict") (refusal_text refusal.NotEnough)
+refusal_parts refusal.LogFull = refused (codes "409 Conflict") (refusal_text refusal.LogFull)
+refusal_parts refusal.Worn = refused (codes "409 Conflict") (refusal_text refusal.Worn)
+refusal_parts refusal.RefReused = refused (codes "409 Conflict") (refusal_text refusal.RefReused)
+refusal_parts refusal.FloatTooSmall = refused (codes "409 Conflict") (refusal_text refusal.FloatTooSmall)
+refusal_parts refusal.FloatFull = refused (codes "409 Conflict") (refusal_text refusal.FloatFull)
+refusal_parts refusal.GrantTooLarge = refused (codes "409 Conflict") (refusal_text refusal.GrantTooLarge)
+refusal_parts refusal.OverCap = refused (codes "409 Conflict") (refusal_text refusal.OverCap)
+refusal_parts refusal.NotArchived = refused (codes "409 Conflict") (refusal_text refusal.NotArchived)
+refusal_parts refusal.NotLost = refused (codes "409 Conflict") (refusal_text refusal.NotLost)
+refusal_parts refusal.AlreadySettled = refused (codes "409 Conflict") (refusal_text refusal.AlreadySettled)
 
 abbrev pub fixed_parts : Fixed → Parts
 fixed_parts fixed.BadHead = refused (codes "400 Bad Request") (codes "bad head")

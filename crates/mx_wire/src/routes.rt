@@ -24,7 +24,7 @@ pub enum Class {
 }
 
 /// What a request's method and path ask for.
-#[derive(Clone, Copy, Debug)]
+#[derive(Clone, Copy)]
 pub enum Route {
     /// `POST /members`.
     NewMember,
