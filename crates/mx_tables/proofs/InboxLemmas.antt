@@ -26,6 +26,11 @@ use Rattle.mx_book.proofs.MapLemmas.{all_entries}
 use Rattle.mx_tables.proofs.Texts.{is_given, select_inbox, select_inbox_is, select_held_numbers, select_held_numbers_is, select_message, select_message_is, select_number, select_number_is, insert_message, insert_message_is, delete_message, delete_message_is}
 use Rattle.mx_tables.proofs.Statements.{passes}
 use Rattle.mx_tables.proofs.StoredLemmas.{and_true, same_text, same_numbers, numbers_cmp, cast_int, cast_null}
+use Rattle.sqlite.specs.Listing.{understood}
+use Rattle.sqlite_tied.specs.Compute.{everything}
+use Rattle.sqlite_trees.specs.Tree.{Trees}
+use Rattle.mx_tables.specs.States.{Accepts}
+use Rattle.mx_tables.proofs.FaultLemmas.{IsWhole, select_accepted}
 use Rattle.mx_tables.proofs.ReadLemmas.{answers, answers_in_order, keyed}
 use Rattle.mx_tables.proofs.StateLemmas.{brings_same}
 use Rattle.mx_tables.proofs.WriteLemmas.{adds, drops, goes_as, goes_then}
@@ -52,6 +57,14 @@ finds_inbox p old new rows shown r h =
     (λ a b s t low. then-Equal _ ∙ value_cmp-Int (pos a.0.1) (pos b.0.1) ∙ numbers_cmp a.0.1 b.0.1 ∙ second_less _ _ (same_first p a.0.0 b.0.0 s t) low)
     select_inbox (codes "number" ∷ codes "kind" ∷ codes "details" ∷ []) select_inbox_is old new rows shown r h
     ∙ sym (map-map message_row (λ (e : (Name × ℕ) × Message). (e.0.1, e.1)) (of_name p (fmap.entries r.inbox)))
+
+held_whole : IsWhole select_held_numbers 1 (understood office_schema select_held_numbers)
+unfolding understood everything
+held_whole = (omega arith, refl)
+
+-- the database refuses no such query
+pub held_accepted : (p : Name) (db : Trees) → Accepts select_held_numbers (Text p ∷ []) db
+held_accepted p db = select_accepted select_held_numbers _ _ _ [] _ select_held_numbers_is (Text p ∷ []) db held_whole (λ h. cc)
 
 pub finds_numbers : (p : Name) (old new : State) (rows : List Row) → Shown select_held_numbers (Text p ∷ []) old new rows → (r : Rows) → Holds old.now r
     → length rows ≡ length (row_inbox_of r p)

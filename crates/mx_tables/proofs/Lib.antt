@@ -2,6 +2,7 @@ pub mod Common
 pub mod Texts
 pub mod Statements
 pub mod StateLemmas
+pub mod CauseLemmas
 pub mod StoredLemmas
 pub mod MapLists
 pub mod ValueLemmas
@@ -22,4 +23,5 @@ pub mod SettledLemmas
 pub mod CountedSums
 pub mod LoadLemmas
 pub mod ToldLemmas
+pub mod FaultLemmas
 pub mod MigrationLemmas

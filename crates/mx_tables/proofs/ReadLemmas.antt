@@ -149,7 +149,7 @@ module _ {K V : Type 0} {R : K → K → Ordering} {t : Place R V} (table : Belo
         reads_in_order names old.now rows (reads_as sql params old new office_schema h.has.schema _ text.is text.query.plain text.unlisted rows shown) r h
 
 -- what is asked about a name: the tree, the columns that are shown, and their names
-abbrev asked : About → ℕ × List Term × List (List ℕ)
+abbrev pub asked : About → ℕ × List Term × List (List ℕ)
 asked Member = (1, col 1 2 ∷ col 1 3 ∷ [], codes "granted" ∷ codes "unspent" ∷ [])
 asked Holder = (6, col 1 2 ∷ [], codes "member" ∷ [])
 asked Purse = (
@@ -165,7 +165,7 @@ asked Own = (
 asked Owner = (8, col 1 2 ∷ [], codes "holder" ∷ [])
 asked Next = (8, col 1 9 ∷ [], codes "next_message" ∷ [])
 
-selects : (a : About) → IsSelect (about_text a) (asked a).0 (is_given 1 0 ∷ []) (asked a).1 [] (asked a).2
+pub selects : (a : About) → IsSelect (about_text a) (asked a).0 (is_given 1 0 ∷ []) (asked a).1 [] (asked a).2
 unfolding understood everything
 selects Member = record { is = refl; query = record { plain = (refl, refl); silent = λ _ _. refl }; unlisted = refl }
 selects a = record { is = refl; query = record { plain = (refl, refl); silent = λ _ _. refl }; unlisted = refl }

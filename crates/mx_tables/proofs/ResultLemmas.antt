@@ -41,6 +41,9 @@ use Rattle.mx_tables.proofs.ValueLemmas.{same_made}
 use Rattle.mx_tables.proofs.MapLists.{any_mapped}
 use Rattle.mx_tables.proofs.Texts.{is_given, IsInsert, IsSelect, IsDelete}
 use Rattle.mx_tables.proofs.StoredLemmas.{and_true, same_text, cast_null}
+use Rattle.sqlite_trees.specs.Tree.{Trees}
+use Rattle.mx_tables.specs.States.{Accepts}
+use Rattle.mx_tables.proofs.FaultLemmas.{IsWhole, select_accepted}
 use Rattle.mx_tables.proofs.ReadLemmas.{answers}
 use Rattle.mx_tables.proofs.StateLemmas.{brings_none}
 use Rattle.mx_tables.proofs.WriteLemmas.{adds, drops, no_actions, goes_as, goes_then, untouched}
@@ -273,3 +276,11 @@ archives p rows items first read put last is found moved emptied = record {
       subst (λ s. Holds last.now (record r { tray = results_but p r.tray; archive = s })) (archive_all p r.tray r.archive of.0 of.1) after;
   owned = λ held tells. emptied.owned held (moved.spares held (subst (λ (d : Database). Owned (d.trees 8) held) (sym found.same) tells));
 }
+
+archived_whole : IsWhole select_archived 2 (understood office_schema select_archived)
+unfolding understood everything
+archived_whole = (omega arith, refl)
+
+-- the database refuses no such query
+pub archived_accepted : (p t : List ℕ) (db : Trees) → Accepts select_archived (Text p ∷ Text t ∷ []) db
+archived_accepted p t db = select_accepted select_archived _ _ _ [] _ select_archived_is (Text p ∷ Text t ∷ []) db archived_whole (λ h. cc)

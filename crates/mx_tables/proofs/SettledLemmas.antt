@@ -1,5 +1,5 @@
 -- The statements on the settled details.
-use Rattle.mx_tables.proofs.Common.{◌≡◌, ℕ, pos, List, [], ◌∷◌, filter, codes, Ok, refl, ◌∙◌, IsPermutation, eq_by_cmp, nat_cmp, Null, Int, Text, Row, col, Executes, Rows, office_schema, number, Holds, Goes}
+use Rattle.mx_tables.proofs.Common.{arith, ◌≡◌, ℕ, pos, List, [], ◌∷◌, filter, codes, Ok, refl, ◌∙◌, IsPermutation, eq_by_cmp, nat_cmp, Null, Int, Text, Row, col, Executes, Rows, office_schema, number, Holds, Goes}
 use Rattle.std.proofs.Common.{map, subst}
 use Rattle.std.specs.Cmp.Lexicographic.{slice_cmp}
 use Rattle.std.specs.FinMap as fmap
@@ -18,6 +18,9 @@ use Rattle.mx_book.specs.declared.edits.Edit.TheVariants.{AddSettled}
 use Rattle.mx_book.specs.RowEdits.{rewritten}
 use Rattle.mx_tables.specs.Answers.{at_key}
 use Rattle.mx_tables.proofs.KeptLemmas as kept
+use Rattle.sqlite_trees.specs.Tree.{Trees}
+use Rattle.mx_tables.specs.States.{Accepts}
+use Rattle.mx_tables.proofs.FaultLemmas.{IsWhole, select_accepted}
 use Rattle.mx_tables.proofs.ReadLemmas.{answers}
 use Rattle.mx_tables.proofs.ResultLemmas.{same_texts}
 use Rattle.mx_tables.proofs.StoredLemmas.{and_true, cast_null, same_text}
@@ -59,3 +62,11 @@ finds_settled d valid old new rows shown r h each =
     subst (λ es. IsPermutation (map (λ (e : Settled). number 1 ∷ []) es) rows) (same_settled d valid r each)
     (answers kept.settled select_settled _ _ _ select_settled_is (Text (entry_text d) ∷ []) (λ (e : Settled). eq_by_cmp (slice_cmp nat_cmp) (entry_text e.0) (entry_text d)) (λ (e : Settled). number 1 ∷ [])
     (λ id e. and_true _ ∙ same_text (entry_text e.0) (entry_text d)) (λ id e. refl) old new rows shown r h)
+
+settled_whole : IsWhole select_settled 1 (understood office_schema select_settled)
+unfolding understood everything
+settled_whole = (omega arith, refl)
+
+-- the database refuses no such query
+pub settled_accepted : (t : List ℕ) (db : Trees) → Accepts select_settled (Text t ∷ []) db
+settled_accepted t db = select_accepted select_settled _ _ _ [] _ select_settled_is (Text t ∷ []) db settled_whole (λ h. cc)

@@ -1,5 +1,5 @@
 -- What a World's conditions say of the rows that spell it.
-use Rattle.mx_tables.proofs.Common.{◌≡◌, ℕ, ◌+◌, ◌<◌, ◌≤◌, List, [], ◌∷◌, length, refl, Some, None, Option, ◌∙◌, arith, option_map, nat_cmp, name_cmp, Name, Rows, PurseRow, AllByRecursion, length-map}
+use Rattle.mx_tables.proofs.Common.{◌≡◌, true, ℕ, ◌+◌, ◌<◌, ◌≤◌, List, [], ◌∷◌, length, refl, Some, None, Option, ◌∙◌, arith, option_map, nat_cmp, name_cmp, Name, Rows, PurseRow, AllByRecursion, length-map}
 use Rattle.std.proofs.Common.{map, sym, ap, subst}
 use Rattle.std.specs.FinMap as fmap
 use Rattle.mx_purse.specs.Messages.{IsMessage}
@@ -14,7 +14,11 @@ use Rattle.mx_book.specs.Conditions.{IsWorld, IsLine, IsNote, AreNumbered}
 use Rattle.mx_book.specs.Spells.{Spells}
 use Rattle.mx_book.proofs.NameLemmas.{names_total}
 use Rattle.mx_book.proofs.RowLemmas.{get_rows, there}
-use Rattle.mx_book.proofs.FoundLemmas.{some_of, none_found}
+use Rattle.mx_book.proofs.FoundLemmas.{some_of, none_found, value_found}
+use Rattle.mx_book.specs.Sums.{sum_values}
+use Rattle.mx_book.proofs.SumLemmas.{value_of, sum_values-insert}
+use Rattle.mx_book.specs.declared.values.MemberRow.{MemberRow}
+use Rattle.mx_pay.specs.Names.{is_name_text}
 use Rattle.mx_book.proofs.UnderLemmas.{get-under}
 use Rattle.mx_tables.specs.Answers.{AreMessages, HaveNumbers, ArePurses}
 use Rattle.mx_purse.specs.State.{State, IsInStatus}
@@ -32,6 +36,14 @@ few_lines p s h = omega (arith, h)
 line_found : (n : ℕ) (x : LineRow) (j : ℕ) (es : List (ℕ × LineRow)) → fmap.find nat_cmp n es ≡ Some x → AllByRecursion IsLine (map line_at es) → AreNumbered j (map line_at es) → (n < j + length es) × IsNote x.note
 line_found n x j [] at each numbered = absurd (cc)
 line_found n x j (e ∷ es) at each numbered = grind (arith, line_found n x (j + 1) es, fmap.nat_cmp-IsAntisymmetric n e.0)
+
+-- a member's grants are within all of them
+granted_within : (m : fmap.FinMap name_cmp MemberRow) (k : Name) (x : MemberRow) → fmap.get m k ≡ Some x → x.granted ≤ sum_values (λ (row : MemberRow). row.granted) m
+granted_within m k x at =
+    let f = λ (row : MemberRow). row.granted in
+    let put : sum_values f (fmap.insert m k (record { granted = 0; float = 0 })) + value_of f (fmap.get m k) ≡ sum_values f m + 0 = sum_values-insert names_total f m k (record { granted = 0; float = 0 }) in
+    let one : value_of f (fmap.get m k) ≡ x.granted = ap (value_of f) at in
+    omega (arith, put, one)
 
 module _ (r : Rows) (w : World) (h : Spells r w) where
   own : IsWorld (world_of r)
@@ -56,6 +68,18 @@ module _ (r : Rows) (w : World) (h : Spells r w) where
 
   pub purses_valid : ArePurses r
   purses_valid p x at = let it = own.purses.each p (row_of r p x) (there r p x at) in (it.named, it.purse)
+
+  pub holders_named : (p : Name) (x : PurseRow) → fmap.get r.purses p ≡ Some x → is_name_text x.holder ≡ true
+  holders_named p x at =
+      let it = own.purses.each p (row_of r p x) (there r p x at) in
+      let member = value_found _ it.holder in
+      (own.members.holders x.holder member.0 member.1).0
+
+  pub members_named : (k m : Name) → fmap.get r.holders k ≡ Some m → is_name_text m ≡ true
+  members_named k m at = own.members.named m (own.members.holders k m at).1
+
+  pub members_valid : (m : Name) (x : MemberRow) → fmap.get r.members m ≡ Some x → (x.granted ≤ most_number) × (x.float ≤ most_number)
+  members_valid m x at = (let part = granted_within r.members m x at in omega (arith, part, own.members.granted), own.members.floats m x at)
 
   pub lines_valid : AreLines r
   lines_valid k x at = by_purse (fmap.get r.purses k.0) refl

@@ -1,24 +1,31 @@
 -- What the tables keep true of their connection, and what a call does to it.
-use Rattle.std.specs.Prelude.{◌≡◌, ℕ, ◌≤◌, ◌⊎◌, Bool, false, if◌then◌else◌, List, Result, Ok, Err, None, IfOk, OnOk, OnErr, IsTrue, Option, Some}
+use Rattle.std.specs.Prelude.{◌≡◌, ℕ, ◌≤◌, ◌⊎◌, Bool, false, if◌then◌else◌, List, length, Result, Ok, Err, None, IfOk, IfErr, OnOk, OnErr, IsTrue, IsSome, Option, Some}
 use Rattle.sqlite_trees.specs.Tree.{Trees}
 use Rattle.sqlite_trees.specs.View.{doubt}
 use Rattle.sqlite_schema.specs.declared.schema.Schema.{Schema}
 use Rattle.sqlite_syntax.specs.declared.statement.Parsed.{Parsed}
 use Rattle.sqlite_resolve.specs.declared.error.CompileError.{CompileError}
 use Rattle.sqlite_resolve.specs.Compile.{first, returning}
-use Rattle.sqlite.specs.Effect.{Database}
+use Rattle.sqlite_trees.specs.declared.error.StoreError.TheVariants.{Io}
+use Rattle.sqlite.specs.Effect.{Database, RefusesToRead}
 use Rattle.sqlite.specs.Given.{IsPlain}
-use Rattle.sqlite.specs.Listing.{understood}
+use Rattle.sqlite.specs.Listing.{understood, reads_listing}
+use Rattle.sqlite.specs.declared.error.Error.{Error}
+use Rattle.sqlite.specs.declared.error.Error.TheVariants.{SqliteFailure}
+use Rattle.sqlite.specs.declared.error.ErrorCode.TheVariants as code
+use Rattle.sqlite_schema.specs.declared.command.Command.{Command}
+use Rattle.sqlite_resolve.specs.declared.compiled.Compiled.{Compiled}
+use Rattle.mx_book.specs.declared.contract.StoreFault.TheVariants.{Memory, Store}
 use Rattle.sqlite_value.specs.Order.{Row}
 use Rattle.sqlite_trees.specs.declared.store.Store.{Ghosts}
 use Rattle.sqlite.specs.declared.transaction.Transaction.{Transaction}
 use Rattle.sqlite.specs.Held.{Held, state}
-use Rattle.sqlite.specs.State.{State, HasCleanDisk, KeepsCommit, Executes}
+use Rattle.sqlite.specs.State.{State, HasCleanDisk, HasCause, KeepsCommit, Executes}
 use Rattle.mx_tables.specs.Schema.{office_schema}
 use Rattle.mx_book.specs.Rows.{Rows}
 use Rattle.mx_book.specs.declared.contract.StoreFault.{StoreFault}
 use Rattle.mx_book.specs.World.{World}
-use Rattle.mx_tables.specs.Holds.{Holds, SpellsOne}
+use Rattle.mx_tables.specs.Holds.{Holds, Spells, SpellsOne}
 use Rattle.mx_tables.specs.Owners.{OwnerIndex, IndexSlots, index_of, Owned}
 
 -- 0 while the disk has returned what was written and the connection is open, 1 once a fault has shut it, 2 once the disk has lied
@@ -179,3 +186,44 @@ pub record Commits {S T E : Type 0} (g : Ghosts S) (old new : Held S) (result : 
   pub ended : new.in_transaction ≡ false
   pub opens : HasCleanDisk (state g new) → IsTrue (state g new).is_open → IsTrue (state g old).is_open
   pub clean : doubt (state g old).is_clean ≤ doubt (state g new).is_clean
+
+-- ---- why a read fails
+
+-- how a fault of a statement is told
+abbrev pub told : Error → StoreFault
+told (SqliteFailure code.OutOfMemory) = Memory
+told _ = Store
+
+-- without a limit on steps the database refuses no such query with these parameters
+abbrev pub AcceptsCommand : Row → Trees → Command → Type 0
+AcceptsCommand params db command = (e : Error) → ¬ (RefusesToRead None command (record { schema = office_schema; trees = db }) params e)
+
+abbrev pub AcceptsText : List ℕ → Row → Trees → Result Compiled CompileError → Type 0
+AcceptsText sql params db (Ok c) = (length sql ≤ c.tail) × (length params ≡ length c.names) × AcceptsCommand params db c.command
+AcceptsText sql params db (Err e) = ⊥
+
+-- the text is one query of the office that the database doesn't refuse with these parameters
+pub record Accepts (sql : List ℕ) (params : Row) (db : Trees) : Type 0 where
+  pub accepts : AcceptsText sql params db (understood office_schema sql)
+  pub unlisted : reads_listing office_schema sql ≡ false
+
+-- the disk failed or refused in this call, and that was counted
+abbrev pub IsFaulted : State → State → Type 0
+IsFaulted old new = HasCause old new ⊥ Io
+
+-- A fault that isn't want of memory: the disk failed or refused in this call, or the connection has a limit on steps.
+abbrev pub Blames : State → State → StoreFault → Type 0
+Blames old new Memory = Unit {0}
+Blames old new Store = IsFaulted old new ⊎ IsSome old.step_limit
+
+-- What a read says of faults: they are counted, and only one shuts the connection. Of an open connection whose disk told no lie, this is to blame.
+pub record Explains (old new : State) (known blamed : Type 0) : Type 0 where
+  pub clean : doubt old.is_clean ≤ doubt new.is_clean
+  pub counts : old.faults ≤ new.faults
+  pub limit : new.step_limit ≡ old.step_limit
+  pub closes : HasCleanDisk new → IsTrue old.is_open → IsTrue new.is_open ⊎ IsFaulted old new
+  pub cause : HasCleanDisk new → worry old ≡ 0 → known → blamed
+
+-- a read fails only where the disk does, for want of memory, by a limit on steps, or where the rows spell no World
+pub record IsExplained {S T : Type 0} (g : Ghosts S) (old new : Held S) (result : Result T StoreFault) : Type 0 where
+  pub why : IsOurs (state g old) → Explains (state g old) (state g new) ((w : World) × Spells (state g old).now w) (IfErr result (Blames (state g old) (state g new)))

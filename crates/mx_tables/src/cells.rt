@@ -1,10 +1,11 @@
 //! The values of a row that was read.
-ghost use Rattle.std.specs.Prelude.{◌≡◌, ◌+◌, ◌<◌, ◌≤◌, IfOk, IfSome, option_map, pos};
+ghost use Rattle.std.specs.Prelude.{◌≡◌, ◌+◌, ◌<◌, ◌≤◌, IfOk, IfSome, IsUtf8, is_ok, is_some, true, option_map, pos};
 ghost use Rattle.sqlite_value.specs.Order.{column};
 ghost use Rattle.sqlite_value.specs.declared.value.Value.TheVariants.{Int, Text};
 ghost use Rattle.mx_pay.specs.Codes.{code, entry_text};
 ghost use Rattle.mx_pay.specs.Details.{IsDetails};
 ghost use Rattle.mx_pay.specs.Limits.{most_number};
+ghost use Rattle.mx_pay.specs.Names.{is_name_text};
 ghost use Rattle.mx_pay.specs.Log.{IsLogValue};
 ghost use Rattle.mx_purse.specs.State.{details_of};
 ghost use Rattle.mx_purse.specs.Words.{status_details, status_word};
@@ -18,7 +19,8 @@ use sqlite_value::value::ValueRef;
 
 /// The text in a column, if one is there.
 pub fn text_at(row: &Row, at: usize) -> Option<&str>
-    ensures { IfSome result (λ t. column row.now at ≡ Text t.now) }
+    ensures is { IfSome result (λ t. column row.now at ≡ Text t.now) }
+    ensures there { (t : _) → IsUtf8 t → column row.now at ≡ Text t → is_some result ≡ true }
 {
     match row.get_ref(at) {
         Ok(ValueRef::Text(text)) => std::str::from_utf8(text).ok(),
@@ -28,7 +30,9 @@ pub fn text_at(row: &Row, at: usize) -> Option<&str>
 
 /// The name in a column. Store where another value is there.
 pub fn name_at(row: &Row, at: usize) -> Result<Name, StoreFault>
-    ensures { IfOk result (λ name. column row.now at ≡ Text name) }
+    ensures is { IfOk result (λ name. column row.now at ≡ Text name) }
+    ensures there { (name : _) → is_name_text name ≡ true → column row.now at ≡ Text name
+        → is_ok result ≡ true }
 {
     let text = text_at(row, at).ok_or(StoreFault::Store)?;
     Name::read(text).ok_or(StoreFault::Store)
@@ -36,14 +40,19 @@ pub fn name_at(row: &Row, at: usize) -> Result<Name, StoreFault>
 
 /// The name in the first column of a row, where there is a row.
 pub fn name_in(row: Option<Row>) -> Result<Option<Name>, StoreFault>
-    ensures { IfOk result (λ name. option_map (λ r. column r 0) row ≡ option_map Text name) }
+    ensures is { IfOk result
+        (λ name. option_map (λ r. column r 0) row ≡ option_map Text name) }
+    ensures there { IfSome row
+        (λ r. (name : _) × (is_name_text name ≡ true) × (column r 0 ≡ Text name))
+        → is_ok result ≡ true }
 {
     row.map(|row| name_at(&row, 0)).transpose()
 }
 
 /// The integer in a column. Store where another value is there.
 pub fn integer_at(row: &Row, at: usize) -> Result<i64, StoreFault>
-    ensures { IfOk result (λ n. column row.now at ≡ Int n) }
+    ensures is { IfOk result (λ n. column row.now at ≡ Int n) }
+    ensures there { (n : _) → column row.now at ≡ Int n → is_ok result ≡ true }
 {
     match row.get_ref(at) {
         Ok(ValueRef::Int(n)) => Ok(n),
@@ -53,15 +62,18 @@ pub fn integer_at(row: &Row, at: usize) -> Result<i64, StoreFault>
 
 /// The number in a column. Store where another value is there.
 pub fn number_at(row: &Row, at: usize) -> Result<u64, StoreFault>
-    ensures { IfOk result (λ n. column row.now at ≡ Int (pos n)) }
+    ensures is { IfOk result (λ n. column row.now at ≡ Int (pos n)) }
+    ensures there { (n : _) → column row.now at ≡ Int (pos n) → is_ok result ≡ true }
 {
     u64::try_from(integer_at(row, at)?).map_err(|_| StoreFault::Store)
 }
 
 /// The number in the first column of a row, where there is a row.
 pub fn number_in(row: Option<Row>) -> Result<Option<u64>, StoreFault>
-    ensures { IfOk result
+    ensures is { IfOk result
         (λ number. option_map (λ r. column r 0) row ≡ option_map (λ n. Int (pos n)) number) }
+    ensures there { IfSome row (λ r. (n : _) × (column r 0 ≡ Int (pos n)))
+        → is_ok result ≡ true }
 {
     row.map(|row| number_at(&row, 0)).transpose()
 }
@@ -70,6 +82,8 @@ pub fn number_in(row: Option<Row>) -> Result<Option<u64>, StoreFault>
 pub fn money_at(row: &Row, at: usize) -> Result<u64, StoreFault>
     ensures shown { IfOk result (λ n. column row.now at ≡ Int (pos n)) }
     ensures valid { IfOk result (λ n. n ≤ most_number) }
+    ensures there { (n : _) → n ≤ most_number → column row.now at ≡ Int (pos n)
+        → is_ok result ≡ true }
 {
     let money = number_at(row, at)?;
     if money > MOST_NUMBER {

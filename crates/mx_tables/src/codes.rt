@@ -1,5 +1,6 @@
 //! The texts of messages, statuses and logs, as they are stored.
-ghost use Rattle.std.specs.Prelude.{◌≡◌, IfOk, string_bytes};
+ghost use Rattle.std.specs.Prelude.{◌≡◌, IfErr, IfOk, string_bytes};
+ghost use Rattle.mx_book.specs.declared.contract.StoreFault.TheVariants.{Memory};
 ghost use Rattle.mx_pay.specs.Codes.{code, entry_text};
 ghost use Rattle.mx_pay.specs.Details.{IsDetails};
 ghost use Rattle.mx_purse.specs.Words.{message_details, status_details};
@@ -23,6 +24,7 @@ pub const MOST_ENTRY_BYTES: usize = 97;
 pub fn entry_code(alloc: Global, details: &PayDetails) -> Result<String, StoreFault>
     ensures text { IfOk result (λ text. string_bytes text ≡ entry_text details.now) }
     ensures valid { IsDetails details.now }
+    ensures fault { IfErr result (λ e. e ≡ Memory) }
 {
     // The reader says the limits of the details.
     let _limits = details.value();

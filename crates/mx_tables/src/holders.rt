@@ -2,7 +2,7 @@
 ghost use Rattle.std.specs.Prelude.{◌≡◌};
 ghost use Rattle.std.specs.FinMap as fmap;
 ghost use Rattle.mx_book.specs.World.{is_of};
-ghost use Rattle.mx_tables.specs.States.{Looks, Reads, Tells, Writes};
+ghost use Rattle.mx_tables.specs.States.{IsExplained, Looks, Reads, Tells, Writes};
 ghost use Rattle.mx_book.specs.Reads.{holder_of};
 
 use crate::asking::{About, ask_about, run};
@@ -37,7 +37,9 @@ pub fn find_holder<S: Alter>(
     conn: &mut Connection<S>,
     name: &Name,
 ) -> Result<Option<Name>, StoreFault>
-    ensures { Reads S.Store conn.old conn.new result (λ r v. v ≡ fmap.get r.holders name.now) }
+    ensures reads { Reads S.Store conn.old conn.new result
+        (λ r v. v ≡ fmap.get r.holders name.now) }
+    ensures why { IsExplained S.Store conn.old conn.new result }
 {
     name_in(ask_about(conn, About::Holder, name)?)
 }

@@ -8,7 +8,7 @@ ghost use Rattle.mx_purse.specs.Messages.{IsMessage};
 ghost use Rattle.mx_purse.specs.Words.{message_word, message_details};
 ghost use Rattle.mx_book.specs.RowReads.{row_inbox_of};
 ghost use Rattle.mx_tables.specs.Answers.{first_three, message_row};
-ghost use Rattle.mx_tables.specs.States.{Reads, Writes, Tells};
+ghost use Rattle.mx_tables.specs.States.{IsExplained, Reads, Tells, Writes};
 ghost use Rattle.mx_book.specs.Reads.{inbox_of, message_of};
 
 use crate::asking::{ask, only, run_one};
@@ -73,8 +73,9 @@ pub fn list_inbox<S: Alter>(
 
 /// How many messages lie in the inbox of a purse.
 pub fn count_messages<S: Alter>(conn: &mut Connection<S>, purse: &Name) -> Result<usize, StoreFault>
-    ensures { Reads S.Store conn.old conn.new result
+    ensures reads { Reads S.Store conn.old conn.new result
         (λ r v. v ≡ length (row_inbox_of r purse.now)) }
+    ensures why { IsExplained S.Store conn.old conn.new result }
 {
     let rows = ask(
         conn,

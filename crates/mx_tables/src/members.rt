@@ -1,11 +1,13 @@
 //! Members.
-ghost use Rattle.std.specs.Prelude.{◌≡◌, IfOk, map, option_map};
+ghost use Rattle.std.specs.Prelude.{◌≡◌, ◌≤◌, IfOk, IfSome, is_ok, map, option_map, true};
+ghost use Rattle.mx_book.specs.declared.values.MemberRow.{MemberRow};
+ghost use Rattle.mx_pay.specs.Limits.{most_number};
 ghost use Rattle.std.specs.FinMap as fmap;
 ghost use Rattle.sqlite_value.specs.Order.{column};
 ghost use Rattle.sqlite_value.specs.declared.value.Value.TheVariants.{Text};
 ghost use Rattle.mx_tables.specs.Schema.{number};
 ghost use Rattle.mx_tables.specs.Answers.{first_two, member_shown};
-ghost use Rattle.mx_tables.specs.States.{Reads, Writes, Tells};
+ghost use Rattle.mx_tables.specs.States.{IsExplained, Reads, Writes, Tells};
 ghost use Rattle.mx_book.specs.Reads.{members_of};
 
 use crate::asking::{About, ask, ask_about, run, run_one};
@@ -18,7 +20,11 @@ use std::alloc::Global;
 
 /// What a row says of a member, where there is a row: its grants and its float.
 fn member_in(row: Option<Row>) -> Result<Option<MemberRow>, StoreFault>
-    ensures { IfOk result (λ m. option_map first_two row ≡ option_map member_shown m) }
+    ensures is { IfOk result (λ m. option_map first_two row ≡ option_map member_shown m) }
+    ensures there { IfSome row
+        (λ c. (x : MemberRow) × (x.granted ≤ most_number) × (x.float ≤ most_number)
+        × (column c 0 ≡ number x.granted) × (column c 1 ≡ number x.float))
+        → is_ok result ≡ true }
 {
     let Some(row) = row else {
         return Ok(None);
@@ -33,7 +39,9 @@ pub fn find_member<S: Alter>(
     conn: &mut Connection<S>,
     name: &Name,
 ) -> Result<Option<MemberRow>, StoreFault>
-    ensures { Reads S.Store conn.old conn.new result (λ r v. v ≡ fmap.get r.members name.now) }
+    ensures reads { Reads S.Store conn.old conn.new result
+        (λ r v. v ≡ fmap.get r.members name.now) }
+    ensures why { IsExplained S.Store conn.old conn.new result }
 {
     member_in(ask_about(conn, About::Member, name)?)
 }

@@ -9,7 +9,7 @@ ghost use Rattle.mx_book.specs.declared.values.PurseRow.{PurseRow};
 ghost use Rattle.mx_tables.specs.Answers.{ArePurses, Raises, place_of, purse_columns, purse_shown, state_columns, state_shown};
 ghost use Rattle.mx_tables.specs.Owners.{indexed};
 ghost use Rattle.mx_tables.specs.Schema.{office_schema};
-ghost use Rattle.mx_tables.specs.States.{Finds, Reads, Steps, Tells, Writes, WritesWith};
+ghost use Rattle.mx_tables.specs.States.{Finds, IsExplained, Reads, Steps, Tells, Writes, WritesWith};
 ghost use Rattle.mx_book.specs.Reads.{account_of, own_purse, has_purse};
 
 use crate::asking::{About, ask_about, ask_about_inside, run, run_one};
@@ -129,15 +129,17 @@ pub fn find_owner<S: Alter>(
     conn: &mut Connection<S>,
     name: &Name,
 ) -> Result<Option<Name>, StoreFault>
-    ensures { Reads S.Store conn.old conn.new result
+    ensures reads { Reads S.Store conn.old conn.new result
         (λ r v. v ≡ option_map (λ x. x.holder) (fmap.get r.purses name.now)) }
+    ensures why { IsExplained S.Store conn.old conn.new result }
 {
     name_in(ask_about(conn, About::Owner, name)?)
 }
 
 /// Whether there is a purse of that name.
 pub fn find_has_purse<S: Alter>(conn: &mut Connection<S>, name: &Name) -> Result<bool, StoreFault>
-    ensures { Tells S.Store conn.old conn.new result (λ w b. b ≡ has_purse w name.now) }
+    ensures tells { Tells S.Store conn.old conn.new result (λ w b. b ≡ has_purse w name.now) }
+    ensures why { IsExplained S.Store conn.old conn.new result }
 {
     Ok(find_owner(conn, name)?.is_some())
 }
@@ -148,8 +150,9 @@ pub fn find_is_own<S: Alter>(
     holder: &Name,
     name: &Name,
 ) -> Result<bool, StoreFault>
-    ensures { Tells S.Store conn.old conn.new result
+    ensures tells { Tells S.Store conn.old conn.new result
         (λ w b. b ≡ is_some (own_purse w holder.now name.now)) }
+    ensures why { IsExplained S.Store conn.old conn.new result }
 {
     Ok(is_of(holder, &find_owner(conn, name)?))
 }
@@ -159,8 +162,9 @@ pub fn find_place<S: Alter>(
     conn: &mut Connection<S>,
     name: &Name,
 ) -> Result<Option<u64>, StoreFault>
-    ensures { Reads S.Store conn.old conn.new result
+    ensures reads { Reads S.Store conn.old conn.new result
         (λ r v. v ≡ place_of r name.now) }
+    ensures why { IsExplained S.Store conn.old conn.new result }
 {
     let Some(next_message) = number_in(ask_about(conn, About::Next, name)?)? else {
         return Ok(None);

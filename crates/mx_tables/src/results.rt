@@ -7,7 +7,7 @@ ghost use Rattle.mx_book.specs.RowReads.{row_is_archived};
 ghost use Rattle.mx_book.specs.declared.edits.Edit.TheVariants.{ArchiveTray};
 ghost use Rattle.mx_tables.specs.Results.{Archives, AreDetails, Shows};
 ghost use Rattle.mx_tables.specs.Schema.{office_schema};
-ghost use Rattle.mx_tables.specs.States.{Reads, Steps, Writes, Tells};
+ghost use Rattle.mx_tables.specs.States.{IsExplained, Reads, Steps, Tells, Writes};
 ghost use Rattle.mx_book.specs.Reads.{tray_of};
 
 use crate::asking::{ask, ask_inside, only, run};
@@ -44,8 +44,9 @@ pub fn find_archived<S: Alter>(
     purse: &Name,
     details: &PayDetails,
 ) -> Result<bool, StoreFault>
-    ensures { Reads S.Store conn.old conn.new result
+    ensures reads { Reads S.Store conn.old conn.new result
         (λ r b. AreDetails r.archive → b ≡ row_is_archived r purse.now details.now) }
+    ensures why { IsExplained S.Store conn.old conn.new result }
 {
     let text = entry_code(alloc, details)?;
     let rows = ask(

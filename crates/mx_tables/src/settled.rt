@@ -4,7 +4,7 @@ ghost use Rattle.mx_book.specs.Conditions.{AreSettled};
 ghost use Rattle.mx_book.specs.RowEdits.{rewritten};
 ghost use Rattle.mx_book.specs.RowReads.{row_is_settled};
 ghost use Rattle.mx_book.specs.declared.edits.Edit.TheVariants.{AddSettled};
-ghost use Rattle.mx_tables.specs.States.{Reads, Writes};
+ghost use Rattle.mx_tables.specs.States.{IsExplained, Reads, Writes};
 
 use crate::asking::{ask, only, run};
 use crate::codes::entry_code;
@@ -36,8 +36,9 @@ pub fn find_settled<S: Alter>(
     conn: &mut Connection<S>,
     details: &PayDetails,
 ) -> Result<bool, StoreFault>
-    ensures { Reads S.Store conn.old conn.new result
+    ensures reads { Reads S.Store conn.old conn.new result
         (λ r b. AreSettled r.settled → b ≡ row_is_settled r details.now) }
+    ensures why { IsExplained S.Store conn.old conn.new result }
 {
     let text = entry_code(alloc, details)?;
     let rows = ask(

@@ -8,4 +8,4 @@ ask_inside-requires g c = rw c.text.ensures (about_query c.args.about)
 
 pub returns : goal.returns
 returns g c = finds_to g.S.Store c.only.result c.in_ok-ask_inside.ensures (λ r holds shown.
-    IfOk-weaker c.only.result _ _ (λ row one. about_is c.args.name.now _ _ _ r holds row one c.args.about (rw (c.text.ensures, c.text-2.ensures, c.as_str.ensures.text) at shown)) c.only.ensures)
+    IfOk-weaker c.only.result _ _ (λ row one. about_is c.args.name.now _ _ _ r holds row one c.args.about (rw (c.text.ensures, c.text-2.ensures, c.as_str.ensures.text) at shown)) c.only.ensures.one)

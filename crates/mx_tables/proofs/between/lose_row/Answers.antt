@@ -24,4 +24,4 @@ pub returns : goal.returns
 returns g c = reads_to g.S.Store c.loop-place.invariant.1 (λ r holds is purses entries.
     is purses entries
     ∙ sum_all (lost_by r.purses r.archive r.settled c.in_ok-purse.purse) c.in_ok-log.log c.loop-place.place (let all = c.loop-place.invariant.0 in omega (arith, c.loop-place-test.false, all))
-    ∙ log_is r c.args.row.now c.in_ok-purse.purse c.in_ok-log.log c.in_ok-purse.ensures c.in_ok-log.ensures.shown c.in_ok-log.ensures.valid)
+    ∙ log_is r c.args.row.now c.in_ok-purse.purse c.in_ok-log.log c.in_ok-purse.ensures.is c.in_ok-log.ensures.shown c.in_ok-log.ensures.valid)

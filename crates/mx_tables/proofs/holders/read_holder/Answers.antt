@@ -10,7 +10,7 @@ use Rattle.mx_tables.proofs.holders.read_holder.Goals as goal
 pub returns : goal.returns
 returns g c =
     let looks = c.in_ok-purses.ensures in
-    let found = c.in_ok-member.ensures in
+    let found = c.in_ok-member.ensures.reads in
     record {
       reads = λ ours tells. tell_holder g.S.Store _ (reads_to g.S.Store (reads_then g.S.Store found (looks.reads (found.stays ours).ours ((found.stays ours).index _ tells))) (λ rows holds both.
           let at : fmap.get rows.holders c.args.name.now ≡ Some c.in-Some.member = sym both.0 ∙ c.in-Some.is in
@@ -21,6 +21,6 @@ returns g c =
 
 pub returns-in_default : goal.returns-in_default
 returns-in_default g c = record {
-  reads = λ ours tells. tell_holder g.S.Store _ (reads_to g.S.Store c.in_ok-member.ensures (λ rows holds is. rw (sym is ∙ c.in_default.is) refl));
-  index = λ ours. (c.in_ok-member.ensures.stays ours).index _;
+  reads = λ ours tells. tell_holder g.S.Store _ (reads_to g.S.Store c.in_ok-member.ensures.reads (λ rows holds is. rw (sym is ∙ c.in_default.is) refl));
+  index = λ ours. (c.in_ok-member.ensures.reads.stays ours).index _;
 }

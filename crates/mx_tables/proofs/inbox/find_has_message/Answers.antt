@@ -19,7 +19,7 @@ returns-in_err-only g c = tells_fault g.S.Store c.in_ok-rows.ensures.reads c.fro
 pub returns : goal.returns
 returns g c = tell_has_message g.S.Store _ _ (reads_to g.S.Store c.in_ok-rows.ensures.reads (λ r holds shown low.
     let found = finds_number c.args.purse.now c.args.number _ _ _ (rw (c.text.ensures, c.as_str.ensures.text, c.number.ensures) at shown) r holds in
-    let it = got (pair_cmp name_cmp nat_cmp) (λ _. number c.args.number ∷ []) (c.args.purse.now, c.args.number) r.inbox _ _ found c.in_ok-only.ensures in
+    let it = got (pair_cmp name_cmp nat_cmp) (λ _. number c.args.number ∷ []) (c.args.purse.now, c.args.number) r.inbox _ _ found c.in_ok-only.ensures.one in
     grind (arith, it, c.is_some.ensures)))
 
 pub returns-then-number-gt-MOST_NUMBER : goal.returns-then-number-gt-MOST_NUMBER

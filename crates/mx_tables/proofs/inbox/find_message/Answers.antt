@@ -20,12 +20,12 @@ returns-in_err-row g c = tells_fault g.S.Store c.in_ok-rows.ensures.reads c.from
 
 pub returns-in-None : goal.returns-in-None
 returns-in-None g c = tell_message g.S.Store _ _ (reads_to g.S.Store c.in_ok-rows.ensures.reads (λ r holds shown valid low.
-    let it = message_is c.args.purse.now c.args.number _ _ _ (rw (c.text.ensures, c.as_str.ensures.text, c.number.ensures) at shown) r holds _ c.in_ok-row.ensures in
+    let it = message_is c.args.purse.now c.args.number _ _ _ (rw (c.text.ensures, c.as_str.ensures.text, c.number.ensures) at shown) r holds _ c.in_ok-row.ensures.one in
     grind (arith, it)))
 
 pub returns-in_ok-message_at-in-Some : goal.returns-in_ok-message_at-in-Some
 returns-in_ok-message_at-in-Some g c = tell_message g.S.Store _ _ (reads_to g.S.Store c.in_ok-rows.ensures.reads (λ r holds shown valid low.
-    let it = message_is c.args.purse.now c.args.number _ _ _ (rw (c.text.ensures, c.as_str.ensures.text, c.number.ensures) at shown) r holds _ c.in_ok-row.ensures in
+    let it = message_is c.args.purse.now c.args.number _ _ _ (rw (c.text.ensures, c.as_str.ensures.text, c.number.ensures) at shown) r holds _ c.in_ok-row.ensures.one in
     let one = one_mapped message_shown (fmap.get r.inbox (c.args.purse.now, c.args.number)) c.in-Some.row (sym c.in-Some.is ∙ it) in
     let read = c.in_ok-message_at-in-Some in
     ap Some (message_back one.0 read.field-0 c.in-Some.row (valid (c.args.purse.now, c.args.number) one.0 one.1) read.ensures.valid one.2 read.ensures.shown.0 read.ensures.shown.1) ∙ sym one.1))

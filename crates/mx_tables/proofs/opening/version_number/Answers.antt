@@ -13,4 +13,4 @@ returns-in-Ok-number_at-clause-known g c version sure has =
     let db = (state g.S.Store c.args.conn.now).now in
     let one = sym c.as_slice.ensures.value ∙ only_one c.as_slice.result.now c.row-item.result (omega arith) c.row-item.is in
     let rows = c.in-Ok.ensures.rows version sure has in
-    (version_there _ db c.in-Ok.rows.items rows c.row-item.result one c.in-Ok-number_at.ensures, λ k other. version_other k db c.in-Ok.rows.items rows c.row-item.result _ one c.in-Ok-number_at.ensures (λ e. other (sym e)))
+    (version_there _ db c.in-Ok.rows.items rows c.row-item.result one c.in-Ok-number_at.ensures.is, λ k other. version_other k db c.in-Ok.rows.items rows c.row-item.result _ one c.in-Ok-number_at.ensures.is (λ e. other (sym e)))

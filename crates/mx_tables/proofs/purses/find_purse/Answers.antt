@@ -8,13 +8,13 @@ use Rattle.mx_tables.proofs.CallLemmas.{reads_fault, reads_to}
 use Rattle.mx_tables.proofs.purses.find_purse.Goals as goal
 
 pub returns-in_err-row : goal.returns-in_err-row
-returns-in_err-row g c = reads_fault g.S.Store c.in_err-row.ensures c.from_residual.ensures.0
+returns-in_err-row g c = reads_fault g.S.Store c.in_err-row.ensures.reads c.from_residual.ensures.0
 
 pub returns-in-None : goal.returns-in-None
-returns-in-None g c = reads_to g.S.Store c.in_ok-row.ensures (λ r holds is purses. grind (arith, is))
+returns-in-None g c = reads_to g.S.Store c.in_ok-row.ensures.reads (λ r holds is purses. grind (arith, is))
 
 pub returns-in_ok-purse_in-in-Some : goal.returns-in_ok-purse_in-in-Some
-returns-in_ok-purse_in-in-Some g c = reads_to g.S.Store c.in_ok-row.ensures (λ r holds is purses.
+returns-in_ok-purse_in-in-Some g c = reads_to g.S.Store c.in_ok-row.ensures.reads (λ r holds is purses.
     let one = one_mapped purse_shown (fmap.get r.purses c.args.name.now) c.in-Some.row (sym c.in-Some.is ∙ is) in
     let read = c.in_ok-purse_in-in-Some in
     let kept = purses c.args.name.now one.0 one.1 in

@@ -9,5 +9,5 @@ ask-requires g c = select_redemption_is.query
 
 pub returns : goal.returns
 returns g c = tell_redemption g.S.Store _ _ (reads_to g.S.Store c.in_ok-rows.ensures.reads (λ r holds shown.
-    let it = redemption_is c.args.purse.now c.args.reference.now _ _ _ (rw (c.text.ensures, c.as_str.ensures.text, c.text-2.ensures, c.as_str-2.ensures.text) at shown) r holds _ c.in_ok-only.ensures in
+    let it = redemption_is c.args.purse.now c.args.reference.now _ _ _ (rw (c.text.ensures, c.as_str.ensures.text, c.text-2.ensures, c.as_str-2.ensures.text) at shown) r holds _ c.in_ok-only.ensures.one in
     grind (arith, it)))

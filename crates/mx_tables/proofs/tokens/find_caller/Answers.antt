@@ -27,13 +27,13 @@ returns-in-None g c = tell_caller g.S.Store _ (reads_to g.S.Store c.in_ok-rows.e
     let text = c.text.ensures in
     let found = finds_token t _ _ _ (rw text.value at shown) text.valid rows holds in
     sym (ap (cond (is_token t rows.operator) (Some Operator)) (fmap.get-entries rows.tokens t)
-    ∙ found_none token_cmp caller_shown t (book_tokens rows) _ found (c.in_ok-row.ensures ∙ ap one_or_none c.in-None.is))))
+    ∙ found_none token_cmp caller_shown t (book_tokens rows) _ found (c.in_ok-row.ensures.one ∙ ap one_or_none c.in-None.is))))
 
 pub returns-in_ok-caller_in-in-Some : goal.returns-in_ok-caller_in-in-Some
 returns-in_ok-caller_in-in-Some g c = tell_caller g.S.Store _ (reads_to g.S.Store c.in_ok-rows.ensures.reads (λ rows holds shown.
     let t = c.args.token.now in
     let text = c.text.ensures in
     let found = finds_token t _ _ _ (rw text.value at shown) text.valid rows holds in
-    let one = found_one token_cmp caller_shown t (book_tokens rows) _ c.in-Some.row found (c.in_ok-row.ensures ∙ ap one_or_none c.in-Some.is) in
+    let one = found_one token_cmp caller_shown t (book_tokens rows) _ c.in-Some.row found (c.in_ok-row.ensures.one ∙ ap one_or_none c.in-Some.is) in
     let read = c.in_ok-caller_in-in-Some.ensures in
     ap Some (caller_back one.0 c.in_ok-caller_in-in-Some.field-0 c.in-Some.row one.2 read.0 read.1) ∙ sym one.1 ∙ sym (ap (cond (is_token t rows.operator) (Some Operator)) (fmap.get-entries rows.tokens t))))

@@ -6,4 +6,4 @@ use Rattle.mx_tables.proofs.tables.TablesBook.settled.Goals as goal
 pub returns-clause-value : goal.returns-clause-value
 returns-clause-value g c w sure h =
     let holds : Holds (state g.S.Store c.self.inside.conn).now h.spelled.rows = rw c.self.view_is h.spelled.holds in
-    IfOk-weaker c.find_settled.result _ _ (λ r is. is (entries_valid h.spelled.rows w h.spelled.spells).settled ∙ settled_at h.spelled.rows w c.args.details.now h.spelled.spells) (c.find_settled.ensures.value c.self.invariant.0 sure h.spelled.rows holds)
+    IfOk-weaker c.find_settled.result _ _ (λ r is. is (entries_valid h.spelled.rows w h.spelled.spells).settled ∙ settled_at h.spelled.rows w c.args.details.now h.spelled.spells) (c.find_settled.ensures.reads.value c.self.invariant.0 sure h.spelled.rows holds)

@@ -1,0 +1,81 @@
+-- Why a read fails.
+use Rattle.mx_tables.proofs.Common.{◌≡◌, inl, inr, ℕ, List, Ok, Option, Some, None, refl, ◌∙◌, Row, office_schema}
+use Rattle.std.proofs.Common.{◌⊎◌, Err, Result, IsTrue, sym, ap, subst, append-nil}
+use Rattle.std.specs.Prelude.{IsSome, IfErr, IsErrAnd}
+use Rattle.sqlite_trees.specs.declared.error.StoreError.{StoreError}
+use Rattle.sqlite_trees.specs.declared.error.StoreError.TheVariants.{OutOfMemory, Io, Corrupt, Full, Broken, Unstorable}
+use Rattle.sqlite_trees.specs.Tree.{Trees}
+use Rattle.sqlite_resolve.specs.declared.compiled.Compiled.{Compiled}
+use Rattle.sqlite.specs.declared.error.Error.{Error}
+use Rattle.sqlite.specs.Effect.{RefusesToRead}
+use Rattle.sqlite.specs.Clock.{timed}
+use Rattle.sqlite.specs.Given.{IsPlain}
+use Rattle.sqlite.specs.Listing.{understood, reads_listing, IsSourceOf}
+use Rattle.sqlite.specs.State.{State, HasCleanDisk, HasCause, store_error, FailsToShow, FailsToQuery, IsNoStatement, IsNotRun, Survives}
+use Rattle.mx_book.specs.declared.contract.StoreFault.{StoreFault}
+use Rattle.mx_book.specs.declared.contract.StoreFault.TheVariants.{Memory, Store}
+use Rattle.mx_tables.specs.States.{worry, IsText, Accepts, AcceptsText, Blames, Explains, told}
+
+limited : (old new : State) (f : StoreFault) → IsSome old.step_limit → Blames old new f
+limited old new Memory h = tt
+limited old new Store h = inr h
+
+caused : (old new : State) → IsTrue old.is_open → (cause : StoreError) → HasCause old new ⊥ cause → Blames old new (told (store_error cause))
+caused old new live OutOfMemory h = tt
+caused old new live Io h = inl h
+caused old new live Corrupt h = inl h
+caused old new live Full h = inl h
+caused old new live Broken h = absurd (let e = sym h ∙ live in cc)
+caused old new live Unstorable h = absurd h
+
+limit_or : (o : Option ℕ) (Q : Option ℕ → Type 0) → Q o → IsSome o ⊎ Q None
+limit_or None Q h = inr h
+limit_or (Some n) Q h = inl refl
+
+module _ (sql : List ℕ) (params : Row) (old new : State) (e : Error) (text : IsText sql) (has : old.now.schema ≡ office_schema) (accepts : Accepts sql params old.now.trees) where
+  known : {r : Result Compiled _} → understood old.now.schema sql ≡ r → understood office_schema sql ≡ r
+  known is = ap (λ s. understood s sql) (sym has) ∙ is
+
+  never_refused : IsNoStatement old sql params e → ⊥
+  never_refused (inl h) = subst (AcceptsText sql params old.now.trees) (known h.1) accepts.accepts
+  never_refused (inr h) =
+      let fits = subst (AcceptsText sql params old.now.trees) (known h.1) accepts.accepts in
+      let bare = subst IsPlain (known h.1) text in
+      elim h.2 [
+        | inl part ↦ part.0 fits.0
+        | inr (inl count) ↦ count.0 fits.1
+        | inr (inr clock) ↦ clock.0 bare.1
+      ]
+
+  module _ (live : IsTrue old.is_open) where
+    not_run_told : IsNotRun old new sql params e → Blames old new (told e)
+    unfolding IsNotRun
+    not_run_told (inl h) = absurd (never_refused h.0)
+    not_run_told (inr h) = rw h.1 (caused old new live h.0 h.2)
+
+    shown_told : (c : Compiled) → understood old.now.schema sql ≡ Ok c → (now : ℕ) → FailsToShow old new sql c (timed params c.formats now) e c.returning → Blames old new (told e)
+    shown_told c is now h =
+        let fits = subst (AcceptsText sql params old.now.trees) (known is) accepts.accepts in
+        let bare = subst IsPlain (known is) text in
+        let it = rw (bare.0, bare.1, append-nil params) at h in
+        let db : it.0 ≡ old.now = subst (λ b. IsSourceOf b old.now it.0) (ap (λ s. reads_listing s sql) has ∙ accepts.unlisted) it.1 in
+        let same : it.0 ≡ record { schema = office_schema; trees = old.now.trees } = db ∙ ap (λ s. record { schema = s; trees = old.now.trees }) has in
+        let refused = subst (λ d. RefusesToRead old.step_limit c.command d params e) same it.2 in
+        elim (limit_or old.step_limit (λ limit. RefusesToRead limit c.command (record { schema = office_schema; trees = old.now.trees }) params e) refused) [
+          | inl some ↦ limited old new (told e) some
+          | inr none ↦ absurd (fits.2 e none)
+        ]
+
+    pub query_told : FailsToQuery sql params old new e → Blames old new (told e)
+    unfolding FailsToQuery
+    query_told (inl h) = not_run_told h
+    query_told (inr h) = shown_told h.0 h.1.is h.1.now h.2
+
+-- what a statement says of faults
+pub explained : {known blamed : Type 0} {Commits : Trees → Type 0} (old new : State) → Survives old new Commits → (HasCleanDisk new → worry old ≡ 0 → known → blamed) → Explains old new known blamed
+explained old new survives cause = record { clean = survives.clean; counts = survives.counts; limit = survives.limit; closes = survives.closes; cause = cause }
+
+-- a fault that `?` hands on
+pub handed : {X : Type 0} (r : Result X StoreFault) (f : StoreFault) (P : StoreFault → Type 0) → IsErrAnd r (λ e. e ≡ f) → P f → IfErr r P
+handed (Ok x) f P h it = tt
+handed (Err e) f P h it = subst P (sym h) it

@@ -1,0 +1,299 @@
+-- Why a read as a whole fails.
+use Rattle.mx_tables.proofs.Common.{◌≡◌, inl, inr, ℕ, ℤ, Int, ◌≤◌, List, [], ◌∷◌, length, true, false, Ok, Option, Some, None, refl, ◌∙◌, arith, is_eq, Row, column, number, Term, Text, IsPermutation, length-map, Ordering, eq_by_cmp, office_schema, state, Rows, Name, Database, Holds}
+use Rattle.std.proofs.Common.{Err, Result, T, Less, map, sym, ap, subst}
+use Rattle.std.specs.Prelude.{IsSome, IfErr, IsErrAnd, IfSome, ◌<◌, is_ok, option_map}
+use Rattle.std.proofs.lemmas.Result.{IfErr-weaker}
+use Rattle.std.proofs.lemmas.Bool.{cases_Bool}
+use Rattle.std.proofs.lemmas.List.Sorted.{length_permutation}
+use Rattle.std.specs.FinMap as fmap
+use Rattle.std.specs.FinMap.{IsAntisymmetric}
+use Rattle.std.specs.FinMap.Entries.{is_sorted, below_all}
+use Rattle.sqlite_value.specs.declared.keys.Key.{Key}
+use Rattle.sqlite_trees.specs.Tree.{Trees}
+use Rattle.sqlite_trees.specs.declared.store.Store.{Ghosts}
+use Rattle.sqlite_schema.specs.declared.command.Command.TheVariants.{Select}
+use Rattle.sqlite_resolve.specs.declared.compiled.Compiled.{Compiled}
+use Rattle.sqlite_resolve.specs.declared.error.CompileError.{CompileError}
+use Rattle.sqlite_tied.specs.Compute.{everything}
+use Rattle.sqlite.specs.Effect.{IsShown}
+use Rattle.sqlite.specs.Held.{Held}
+use Rattle.sqlite.specs.Listing.{understood}
+use Rattle.sqlite.specs.State.{State, HasCleanDisk, Shown}
+use Rattle.sqlite.proofs.Callers.{command_of}
+use Rattle.mx_pay.proofs.TestLemmas.{first_true, second_true, is_less, is_equal}
+use Rattle.mx_book.specs.World.{World}
+use Rattle.mx_book.specs.declared.contract.StoreFault.{StoreFault}
+use Rattle.mx_book.specs.declared.contract.StoreFault.TheVariants.{Memory, Store}
+use Rattle.mx_book.specs.declared.values.PurseRow.{PurseRow}
+use Rattle.sqlite_sql.specs.Term.{eval_all}
+use Rattle.mx_tables.specs.Answers.{at_key, about_text, member_shown, text_shown, purse_shown, own_shown, next_shown}
+use Rattle.mx_tables.specs.Holds.{Spells}
+use Rattle.mx_tables.specs.declared.asking.About.{About}
+use Rattle.mx_tables.specs.declared.asking.About.TheVariants.{Member, Holder, Purse, Own, Owner, Next}
+use Rattle.mx_tables.specs.States.{worry, Accepts, AcceptsText, AcceptsCommand, Blames, IsFaulted, Explains, IsExplained, Reads}
+use Rattle.mx_tables.proofs.Places.{Place, Belongs}
+use Rattle.mx_tables.proofs.StateLemmas.{sure, no_worry}
+use Rattle.mx_tables.proofs.CauseLemmas.{handed}
+use Rattle.mx_tables.proofs.Statements.{env, passes}
+use Rattle.mx_tables.proofs.StoredLemmas.{and_true, same_text}
+use Rattle.mx_pay.proofs.SameLemmas.{names_turned}
+use Rattle.mx_tables.proofs.Texts.{scan, alone, IsSelect, is_given}
+use Rattle.mx_tables.proofs.ReadLemmas.{answers, selects, asked}
+use Rattle.mx_tables.proofs.KeptLemmas as kept
+use Rattle.mx_tables.proofs.SoundLemmas.{holders_named, members_named, members_valid}
+use Rattle.mx_book.specs.Spells as book
+use Rattle.mx_book.specs.declared.values.MemberRow.{MemberRow}
+use Rattle.mx_pay.specs.Limits.{most_number}
+use Rattle.mx_pay.specs.Names.{is_name_text}
+
+-- ---- a key has one row at most
+
+module _ {K V : Type 0} (R : K → K → Ordering) (exact : IsAntisymmetric R) (q : K) where
+  none_above : (a : K) (es : List (K × V)) → eq_by_cmp R q a ≡ true → T (below_all R a es) → at_key R q es ≡ []
+  none_above a [] at h = refl
+  none_above a (e ∷ es) at h =
+      let less : R a e.0 ≡ Less = is_less _ (first_true _ _ h) in
+      let same : q ≡ a = exact q a (is_equal _ at) in
+      let apart : eq_by_cmp R q e.0 ≡ false = ap (λ k. is_eq (R k e.0)) same ∙ ap is_eq less in
+      rw apart (none_above a es at (second_true _ _ h))
+
+  at_most_one : (es : List (K × V)) → T (is_sorted R es) → length (at_key R q es) ≤ 1
+  at_most_one [] h = omega arith
+  at_most_one (e ∷ es) h = elim (cases_Bool (eq_by_cmp R q e.0)) [
+    | inl t ↦ rw (t, none_above e.0 es t (first_true _ _ h)) (omega arith)
+    | inr f ↦ rw f (at_most_one es (second_true _ _ h))
+  ]
+
+  pub few : {A : Type 0} (m : fmap.FinMap R V) (f : K × V → A) (rows : List A) → IsPermutation (map f (at_key R q (fmap.entries m))) rows → length rows ≤ 1
+  few m f rows h =
+      let size = length_permutation _ _ h in
+      let made = length-map (at_key R q (fmap.entries m)) f in
+      let most = at_most_one (fmap.entries m) (fmap.entries_sorted m) in
+      omega (arith, size, made, most)
+
+-- ---- a scan is not refused
+
+scan_accepted : (tree : ℕ) (terms project : List Term) (order : List (Term × Key)) (names : List (List ℕ)) (params : Row) (db : Trees)
+    → (IsShown (λ (r : Row). r) (record { schema = office_schema; trees = db }) (alone (scan tree terms project order)) params None → ⊥)
+    → AcceptsCommand params db (Select (alone (scan tree terms project order)) names)
+scan_accepted tree terms project order names params db typed e (inl h) = typed h.1
+scan_accepted tree terms project order names params db typed e (inr (inl h)) = elim h.1 [ inl never ↦ never | inr any ↦ any.4 ]
+scan_accepted tree terms project order names params db typed e (inr (inr h)) = absurd (let x = h.1 in cc)
+
+-- the text is one statement, with so many parameters
+abbrev pub IsWhole : List ℕ → ℕ → Result Compiled CompileError → Type 0
+IsWhole sql count (Ok c) = (length sql ≤ c.tail) × (count ≡ length c.names)
+IsWhole sql count (Err e) = ⊥
+
+accepted_as : (sql : List ℕ) (params : Row) (db : Trees) (r : Result Compiled CompileError) {k : _} → command_of r ≡ k → IsWhole sql (length params) r → AcceptsCommand params db k → AcceptsText sql params db r
+accepted_as sql params db (Ok c) is whole accepts = (whole.0, whole.1, subst (AcceptsCommand params db) (sym is) accepts)
+accepted_as sql params db (Err e) is whole accepts = whole
+
+pub select_accepted : (sql : List ℕ) (tree : ℕ) (terms project : List Term) (order : List (Term × Key)) (names : List (List ℕ)) → IsSelect sql tree terms project order names
+    → (params : Row) (db : Trees) → IsWhole sql (length params) (understood office_schema sql)
+    → (IsShown (λ (r : Row). r) (record { schema = office_schema; trees = db }) (alone (scan tree terms project order)) params None → ⊥) → Accepts sql params db
+select_accepted sql tree terms project order names text params db whole typed = record {
+  accepts = accepted_as sql params db (understood office_schema sql) text.is whole (scan_accepted tree terms project order names params db typed);
+  unlisted = text.unlisted;
+}
+
+-- ---- what is asked about a name
+
+about_whole : (a : About) → IsWhole (about_text a) 1 (understood office_schema (about_text a))
+unfolding understood everything
+about_whole Member = (omega arith, refl)
+about_whole a = (omega arith, refl)
+
+about_typed : (a : About) (p : Name) (db : Trees) → IsShown (λ (r : Row). r) (record { schema = office_schema; trees = db }) (alone (scan (asked a).0 (is_given 1 0 ∷ []) (asked a).1 [])) (Text p ∷ []) None → ⊥
+about_typed Member p db h = cc
+about_typed a p db h = cc
+
+pub about_accepted : (a : About) (p : Name) (db : Trees) → Accepts (about_text a) (Text p ∷ []) db
+about_accepted a p db = select_accepted (about_text a) _ _ _ [] _ (selects a) (Text p ∷ []) db (about_whole a) (about_typed a p db)
+
+-- a query at a key answers one row at most
+keyed_few : {K V : Type 0} {R : K → K → Ordering} {t : Place R V} (table : Belongs t) (q : K) (sql : List ℕ) (terms project : List Term) (names : List (List ℕ)) → IsSelect sql t.table.tree terms project [] names
+    → (params : Row) (show : V → Row)
+    → ((id : ℤ) (e : K × V) → passes terms params (Int id ∷ t.cells e) ≡ eq_by_cmp R q e.0) → ((id : ℤ) (e : K × V) → eval_all project (env params (Int id ∷ t.cells e)) ≡ show e.1)
+    → (old new : State) (rows : List Row) → Shown sql params old new rows → (r : Rows) → Holds old.now r → length rows ≤ 1
+keyed_few {R = R} {t = t} table q sql terms project names text params show tests shows old new rows shown r h =
+    few R table.kept.key.exact q (t.map.get r) (λ e. show e.1) rows (answers table sql terms project names text params (λ e. eq_by_cmp R q e.0) (λ e. show e.1) tests shows old new rows shown r h)
+
+-- no query about a name answers two rows
+pub about_few : (a : About) (p : Name) (old new : State) (rows : List Row) (r : Rows) → Holds old.now r → Shown (about_text a) (Text p ∷ []) old new rows → length rows ≤ 1
+about_few Member p old new rows r h shown = keyed_few kept.members p _ _ _ _ (selects Member) (Text p ∷ []) member_shown (λ id e. rw (same_text e.0 p) (and_true _ ∙ names_turned e.0 p)) (λ id e. refl) old new rows shown r h
+about_few Holder p old new rows r h shown = keyed_few kept.holders p _ _ _ _ (selects Holder) (Text p ∷ []) text_shown (λ id e. rw (same_text e.0 p) (and_true _ ∙ names_turned e.0 p)) (λ id e. refl) old new rows shown r h
+about_few Purse p old new rows r h shown = keyed_few kept.purses p _ _ _ _ (selects Purse) (Text p ∷ []) purse_shown (λ id e. rw (same_text e.0 p) (and_true _ ∙ names_turned e.0 p)) (λ id e. refl) old new rows shown r h
+about_few Own p old new rows r h shown = keyed_few kept.purses p _ _ _ _ (selects Own) (Text p ∷ []) own_shown (λ id e. rw (same_text e.0 p) (and_true _ ∙ names_turned e.0 p)) (λ id e. refl) old new rows shown r h
+about_few Owner p old new rows r h shown = keyed_few kept.purses p _ _ _ _ (selects Owner) (Text p ∷ []) (λ (x : PurseRow). text_shown x.holder) (λ id e. rw (same_text e.0 p) (and_true _ ∙ names_turned e.0 p)) (λ id e. refl) old new rows shown r h
+about_few Next p old new rows r h shown = keyed_few kept.purses p _ _ _ _ (selects Next) (Text p ∷ []) next_shown (λ id e. rw (same_text e.0 p) (and_true _ ∙ names_turned e.0 p)) (λ id e. refl) old new rows shown r h
+
+-- ---- one read after another
+
+-- what a read is to blame for that asks no more, and decodes what it got
+abbrev pub IsForMemory : StoreFault → Type 0
+IsForMemory f = f ≡ Memory
+
+by_memory : (old new : State) (f : StoreFault) → IsForMemory f → Blames old new f
+by_memory old new f is = rw is tt
+
+by_fault : (old new : State) (f : StoreFault) → IsFaulted old new → Blames old new f
+by_fault old new Memory h = tt
+by_fault old new Store h = inl h
+
+pub err_by_fault : {X : Type 0} (r : Result X StoreFault) (old new : State) → IsFaulted old new → IfErr r (Blames old new)
+err_by_fault (Ok x) old new h = tt
+err_by_fault (Err f) old new h = by_fault old new f h
+
+-- a fault of a later call is one of all of them
+later_blames : (a b c : State) → a.faults ≤ b.faults → b.step_limit ≡ a.step_limit → (f : StoreFault) → Blames b c f → Blames a c f
+later_blames a b c counts limit Memory h = tt
+later_blames a b c counts limit Store (inl h) = inl (omega (arith, counts, h))
+later_blames a b c counts limit Store (inr h) = inr (subst IsSome limit h)
+
+pub explains_as : {k l x y : Type 0} (old new : State) → Explains old new k x → (HasCleanDisk new → worry old ≡ 0 → l → k × (x → y)) → Explains old new l y
+explains_as old new h f = record {
+  clean = h.clean;
+  counts = h.counts;
+  limit = h.limit;
+  closes = h.closes;
+  cause = λ clean calm known. let it = f clean calm known in it.1 (h.cause clean calm it.0);
+}
+
+-- what was read is decoded
+pub explains_to : {k l x : Type 0} {U : Type 0} (old new : State) (r : Result U StoreFault) → Explains old new k x → (worry old ≡ 0 → worry new ≡ 0 → l → IfErr r IsForMemory) → Explains old new l (IfErr r (Blames old new))
+explains_to old new r h f = record {
+  clean = h.clean;
+  counts = h.counts;
+  limit = h.limit;
+  closes = h.closes;
+  cause = λ clean calm known. elim (h.closes clean (sure old calm).0) [
+    | inl up ↦ IfErr-weaker r _ _ (by_memory old new) (f calm (no_worry new up clean) known)
+    | inr failed ↦ err_by_fault r old new failed
+  ];
+}
+
+-- one read and then another
+pub explains_then : {k l x : Type 0} {U : Type 0} (a b c : State) (r : Result U StoreFault) → Explains a b k x → Explains b c l (IfErr r (Blames b c)) → (worry a ≡ 0 → worry b ≡ 0 → k → l) → Explains a c k (IfErr r (Blames a c))
+explains_then a b c r one two f =
+    let early = λ (clean : HasCleanDisk c). let it : HasCleanDisk b = (let e = two.clean in omega arith) in it in
+    let faulted : IsFaulted a b → IsFaulted a c = λ h. omega (arith, two.counts, h) in
+    let later : IsFaulted b c → IsFaulted a c = λ h. omega (arith, one.counts, h) in
+    record {
+      clean = (let e = one.clean in let g = two.clean in omega arith);
+      counts = omega (arith, one.counts, two.counts);
+      limit = two.limit ∙ one.limit;
+      closes = λ clean live. elim (one.closes (early clean) live) [
+        | inl mid ↦ elim (two.closes clean mid) [ inl end ↦ inl end | inr h ↦ inr (later h) ]
+        | inr h ↦ inr (faulted h)
+      ];
+      cause = λ clean calm known. elim (one.closes (early clean) (sure a calm).0) [
+        | inl mid ↦
+            let sound = no_worry b mid (early clean) in
+            IfErr-weaker r _ _ (later_blames a b c one.counts one.limit) (two.cause clean sound (f calm sound known))
+        | inr h ↦ err_by_fault r a c (faulted h)
+      ];
+    }
+
+module _ {S : Type 0} (g : Ghosts S) where
+  -- what was read of the rows is decoded
+  pub why_to : {X U : Type 0} {old new : Held S} {x : X} {r : Result U StoreFault} {is : Rows → X → Type 0} → Reads g old new (Ok x) is → IsExplained g old new (Ok x)
+      → ((w : World) (s : Spells (state g old).now w) → is s.rows x → IfErr r IsForMemory) → IsExplained g old new r
+  why_to {old = old} {new = new} {r = r} h one f = record {
+    why = λ ours. explains_to (state g old) (state g new) r (one.why ours) (λ was calm it. f it.0 it.1 (h.value ours calm it.1.rows it.1.holds));
+  }
+
+  -- one read and then another
+  pub why_then : {X U : Type 0} {a b c : Held S} {x : X} {r : Result U StoreFault} {is : Rows → X → Type 0} → Reads g a b (Ok x) is → IsExplained g a b (Ok x) → IsExplained g b c r → IsExplained g a c r
+  why_then {a = a} {b = b} {c = c} {r = r} h one two = record {
+    why = λ ours.
+        let kept = h.stays ours in
+        explains_then (state g a) (state g b) (state g c) r (one.why ours) (two.why kept.ours)
+        (λ was calm it. (it.0, subst (λ (d : Database). Spells d it.0) (sym (kept.same calm)) it.1));
+  }
+
+-- a decoding that gives a value has no fault
+pub no_fault : {X : Type 0} (r : Result X StoreFault) (P : StoreFault → Type 0) → is_ok r ≡ true → IfErr r P
+no_fault (Ok x) P h = tt
+no_fault (Err e) P h = absurd (cc)
+
+-- ---- what the rows of a World show is read
+
+-- the first column shows a name
+abbrev pub HasName : Row → Type 0
+HasName c = (name : Name) × (is_name_text name ≡ true) × (column c 0 ≡ Text name)
+
+-- the first two columns show grants and a float within their limits
+abbrev pub HasMoney : Row → Type 0
+HasMoney c = (x : MemberRow) × (x.granted ≤ most_number) × (x.float ≤ most_number) × (column c 0 ≡ number x.granted) × (column c 1 ≡ number x.float)
+
+-- the holder of a purse that is shown has a name
+pub owner_read : (r : Rows) (w : World) → book.Spells r w → (p : Name) (row : Option Row) → row ≡ option_map (λ (x : PurseRow). text_shown x.holder) (fmap.get r.purses p) → IfSome row HasName
+owner_read r w h p row is = subst (λ o. IfSome o HasName) (sym is) (by (fmap.get r.purses p) refl)
+  where
+    by : (o : Option PurseRow) → fmap.get r.purses p ≡ o → IfSome (option_map (λ (x : PurseRow). text_shown x.holder) o) HasName
+    by None e = tt
+    by (Some x) e = (x.holder, holders_named r w h p x e, refl)
+
+-- the member of a holder that is shown has a name
+pub holder_read : (r : Rows) (w : World) → book.Spells r w → (k : Name) (row : Option Row) → row ≡ option_map text_shown (fmap.get r.holders k) → IfSome row HasName
+holder_read r w h k row is = subst (λ o. IfSome o HasName) (sym is) (by (fmap.get r.holders k) refl)
+  where
+    by : (o : Option Name) → fmap.get r.holders k ≡ o → IfSome (option_map text_shown o) HasName
+    by None e = tt
+    by (Some m) e = (m, members_named r w h k m e, refl)
+
+-- the number of a purse's next message is shown
+pub next_read : (o : Option PurseRow) (row : Option Row) → row ≡ option_map next_shown o → IfSome row (λ c. (n : ℕ) × (column c 0 ≡ number n))
+next_read None row is = rw is tt
+next_read (Some x) row is = rw is (x.next_message, refl)
+
+-- the money of a member that is shown is within its limit
+pub member_read : (r : Rows) (w : World) → book.Spells r w → (m : Name) (row : Option Row) → row ≡ option_map member_shown (fmap.get r.members m) → IfSome row HasMoney
+member_read r w h m row is = subst (λ o. IfSome o HasMoney) (sym is) (by (fmap.get r.members m) refl)
+  where
+    by : (o : Option MemberRow) → fmap.get r.members m ≡ o → IfSome (option_map member_shown o) HasMoney
+    by None e = tt
+    by (Some x) e = let it = members_valid r w h m x e in (x, it.0, it.1, refl, refl)
+
+module _ {S : Type 0} (g : Ghosts S) where
+  -- no call but for memory
+  pub why_none : {U : Type 0} (a : Held S) {r : Result U StoreFault} → IfErr r IsForMemory → IsExplained g a a r
+  why_none a {r = r} f = record {
+    why = λ ours. record {
+      clean = omega arith;
+      counts = omega arith;
+      limit = refl;
+      closes = λ clean live. inl live;
+      cause = λ clean calm it. IfErr-weaker r _ _ (by_memory (state g a) (state g a)) f;
+    };
+  }
+
+  -- a query whose text is accepted
+  pub why_asked : {U : Type 0} {old new : Held S} {sql : List ℕ} {params : Row} {x : Type 0} (r : Result U StoreFault)
+      → Explains (state g old) (state g new) (((state g old).now.schema ≡ office_schema) × Accepts sql params (state g old).now.trees) x
+      → Accepts sql params (state g old).now.trees → (x → IfErr r (Blames (state g old) (state g new))) → IsExplained g old new r
+  why_asked {old = old} {new = new} r one accepts f = record {
+    why = λ ours. explains_as (state g old) (state g new) one (λ clean calm it. ((it.1.holds.has.schema, accepts), f));
+  }
+
+  -- what it showed is decoded
+  pub why_shown : {U : Type 0} {old new : Held S} (rows : List Row) (sql : List ℕ) (params : Row) {k x : Type 0} {r : Result U StoreFault}
+      → Explains (state g old) (state g new) k x → (worry (state g new) ≡ 0 → Shown sql params (state g old) (state g new) rows)
+      → ((w : World) (s : Spells (state g old).now w) → Shown sql params (state g old) (state g new) rows → IfErr r IsForMemory) → IsExplained g old new r
+  why_shown {old = old} {new = new} rows sql params {r = r} one shown f = record {
+    why = λ ours. explains_to (state g old) (state g new) r one (λ was calm it. f it.0 it.1 (shown calm));
+  }
+
+-- no row is one too many
+pub no_more : {X : Type 0} (r : Result X StoreFault) (n : ℕ) (P : StoreFault → Type 0) → n ≤ 1 → IfErr r (λ _. 1 < n) → IfErr r P
+no_more r n P low h = IfErr-weaker r _ _ (λ e two. absurd (omega (arith, low, two))) h
+
+module _ {S : Type 0} (g : Ghosts S) where
+  -- what a call that gave a value says of another value
+  pub why_ok : {X U : Type 0} {old new : Held S} {x : X} (y : U) → IsExplained g old new (Ok x) → IsExplained g old new (Ok y)
+  why_ok y h = record { why = h.why }
+
+  -- what a call that failed says of the fault that `?` hands on
+  pub why_handed : {X U : Type 0} {old new : Held S} (r : Result U StoreFault) {f : StoreFault} → IsErrAnd r (λ e. e ≡ f) → IsExplained {T = X} g old new (Err f) → IsExplained g old new r
+  why_handed {old = old} {new = new} r is h = record { why = λ ours. explains_as (state g old) (state g new) (h.why ours) (λ clean calm it. (it, handed r _ _ is)) }
