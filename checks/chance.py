@@ -259,6 +259,8 @@ class Chance:
             name = self.any_of(self.purses)
         elif holder.circle is None and self.happens(0.3):
             name = self.any_of(GHOSTS)
+        if self.happens(0.1):
+            yield self.by_clerk(member, "POST /purses", {"purse": name, "holder": self.fresh_name("x")})
         yield self.by_clerk(member, "POST /purses", {"purse": name, "holder": holder.name})
         if name in self.purses:
             yield from self.load(self.purses[name])
