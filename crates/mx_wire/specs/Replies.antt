@@ -70,7 +70,7 @@ done word = response (codes "200 OK") (done_body word)
 
 -- ---- the responses that are always the same
 
--- the status of a refusal: 403 to the wrong caller, 404 where something isn't there, 409 where it doesn't fit
+-- the response of a refusal, with its words: 403 to the wrong caller, 404 where something isn't there, 409 where it doesn't fit
 abbrev pub refusal_parts : Refusal → Parts
 refusal_parts refusal.NotForCaller = refused (codes "403 Forbidden") (refusal_text refusal.NotForCaller)
 refusal_parts refusal.NoSuchPurse = refused (codes "404 Not Found") (refusal_text refusal.NoSuchPurse)
