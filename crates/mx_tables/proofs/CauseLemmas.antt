@@ -14,13 +14,13 @@ use Rattle.sqlite.specs.Listing.{understood, reads_listing, IsSourceOf}
 use Rattle.sqlite.specs.State.{State, HasCleanDisk, HasCause, store_error, FailsToShow, FailsToQuery, IsNoStatement, IsNotRun, Survives}
 use Rattle.mx_book.specs.declared.contract.StoreFault.{StoreFault}
 use Rattle.mx_book.specs.declared.contract.StoreFault.TheVariants.{Memory, Store}
-use Rattle.mx_tables.specs.States.{worry, IsText, Accepts, AcceptsText, Blames, Explains, told}
+use Rattle.mx_tables.specs.States.{worry, IsText, Accepts, AcceptsText, Blames, Explains, fault_told}
 
 limited : (old new : State) (f : StoreFault) → IsSome old.step_limit → Blames old new f
 limited old new Memory h = tt
 limited old new Store h = inr h
 
-caused : (old new : State) → IsTrue old.is_open → (cause : StoreError) → HasCause old new ⊥ cause → Blames old new (told (store_error cause))
+caused : (old new : State) → IsTrue old.is_open → (cause : StoreError) → HasCause old new ⊥ cause → Blames old new (fault_told (store_error cause))
 caused old new live OutOfMemory h = tt
 caused old new live Io h = inl h
 caused old new live Corrupt h = inl h
@@ -48,12 +48,12 @@ module _ (sql : List ℕ) (params : Row) (old new : State) (e : Error) (text : I
       ]
 
   module _ (live : IsTrue old.is_open) where
-    not_run_told : IsNotRun old new sql params e → Blames old new (told e)
+    not_run_told : IsNotRun old new sql params e → Blames old new (fault_told e)
     unfolding IsNotRun
     not_run_told (inl h) = absurd (never_refused h.0)
     not_run_told (inr h) = rw h.1 (caused old new live h.0 h.2)
 
-    shown_told : (c : Compiled) → understood old.now.schema sql ≡ Ok c → (now : ℕ) → FailsToShow old new sql c (timed params c.formats now) e c.returning → Blames old new (told e)
+    shown_told : (c : Compiled) → understood old.now.schema sql ≡ Ok c → (now : ℕ) → FailsToShow old new sql c (timed params c.formats now) e c.returning → Blames old new (fault_told e)
     shown_told c is now h =
         let fits = subst (AcceptsText sql params old.now.trees) (known is) accepts.accepts in
         let bare = subst IsPlain (known is) text in
@@ -62,11 +62,11 @@ module _ (sql : List ℕ) (params : Row) (old new : State) (e : Error) (text : I
         let same : it.0 ≡ record { schema = office_schema; trees = old.now.trees } = db ∙ ap (λ s. record { schema = s; trees = old.now.trees }) has in
         let refused = subst (λ d. RefusesToRead old.step_limit c.command d params e) same it.2 in
         elim (limit_or old.step_limit (λ limit. RefusesToRead limit c.command (record { schema = office_schema; trees = old.now.trees }) params e) refused) [
-          | inl some ↦ limited old new (told e) some
+          | inl some ↦ limited old new (fault_told e) some
           | inr none ↦ absurd (fits.2 e none)
         ]
 
-    pub query_told : FailsToQuery sql params old new e → Blames old new (told e)
+    pub query_told : FailsToQuery sql params old new e → Blames old new (fault_told e)
     unfolding FailsToQuery
     query_told (inl h) = not_run_told h
     query_told (inr h) = shown_told h.0 h.1.is h.1.now h.2

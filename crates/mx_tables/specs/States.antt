@@ -190,8 +190,8 @@ pub record Commits {S T E : Type 0} (g : Ghosts S) (old new : Held S) (result : 
 -- ---- why a read fails
 
 -- how a fault of a statement is told
-abbrev pub told : Error → StoreFault
-told (SqliteFailure code.OutOfMemory) = Memory
+abbrev pub fault_told : Error → StoreFault
+fault_told (SqliteFailure code.OutOfMemory) = Memory
 told _ = Store
 
 -- without a limit on steps the database refuses no such query with these parameters
