@@ -192,7 +192,7 @@ pub record Commits {S T E : Type 0} (g : Ghosts S) (old new : Held S) (result : 
 -- how a fault of a statement is told
 abbrev pub fault_told : Error → StoreFault
 fault_told (SqliteFailure code.OutOfMemory) = Memory
-told _ = Store
+fault_told _ = Store
 
 -- without a limit on steps the database refuses no such query with these parameters
 abbrev pub AcceptsCommand : Row → Trees → Command → Type 0
