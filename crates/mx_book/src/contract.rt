@@ -6,8 +6,9 @@ ghost use Rattle.mx_book.specs.Reads.{who_of, member_of, holder_of, account_of, 
 ghost use Rattle.mx_book.specs.Totals.{totals_of, member_totals_of, members_totals_of};
 ghost use Rattle.mx_book.specs.Edits.{Fits, all_edited};
 ghost use Rattle.mx_book.specs.Keeps.{Keeps, Gives, MayLeave};
+ghost use Rattle.mx_book.specs.Stands.{IsWorking};
 ghost use Rattle.mx_book.specs.declared.contract.StoreFault.{StoreFault};
-ghost use Rattle.mx_book.specs.declared.contract.StoreFault.TheVariants.{Memory};
+ghost use Rattle.mx_book.specs.declared.contract.StoreFault.TheVariants.{Memory, Store};
 
 use crate::edits::Edit;
 use crate::values::{Account, Caller, HolderRow, Line, MemberRow, MemberTotals, Totals};
@@ -29,7 +30,7 @@ pub enum StoreFault {
 ///
 /// A contract sees the rows and the World that they spell, if they spell one. A read leaves the rows as they
 /// are and gives the World's value. `apply` makes all edits or none. What is said of the rows holds while
-/// doubt is 0.
+/// doubt is 0. Only a store that works gives an answer.
 ///
 /// A stop, at any moment, leaves what the next opening finds. While doubt is at most 1, no read adds to what a stop
 /// may leave, and `apply` adds the rows after all its edits alone. While doubt is 0 a stop leaves the rows as they are.
@@ -55,6 +56,7 @@ pub trait Book {
     /// Whose token it is, or None where it is nobody's.
     fn who(&mut self, alloc: Global, token: &Token) -> Result<Option<Caller>, StoreFault>
         ensures keeps { Keeps doubt rows leaves self.old self.new }
+        ensures answered { OnOk result (IsWorking doubt self.new) }
         ensures value { Gives doubt rows spells self.old self.new result
             (λ w r. r ≡ who_of w token.now) }
         ensures fault { IfErr result fails };
@@ -62,6 +64,7 @@ pub trait Book {
     /// The grants and the float of a member, or None where there is no such member.
     fn member(&mut self, alloc: Global, name: Name) -> Result<Option<MemberRow>, StoreFault>
         ensures keeps { Keeps doubt rows leaves self.old self.new }
+        ensures answered { OnOk result (IsWorking doubt self.new) }
         ensures value { Gives doubt rows spells self.old self.new result
             (λ w r. r ≡ member_of w name) }
         ensures fault { IfErr result fails };
@@ -69,6 +72,7 @@ pub trait Book {
     /// The member of a holder and how many purses the holder has, or None where there is no such holder.
     fn holder(&mut self, alloc: Global, name: Name) -> Result<Option<HolderRow>, StoreFault>
         ensures keeps { Keeps doubt rows leaves self.old self.new }
+        ensures answered { OnOk result (IsWorking doubt self.new) }
         ensures value { Gives doubt rows spells self.old self.new result
             (λ w r. r ≡ holder_of w name) }
         ensures fault { IfErr result fails };
@@ -77,6 +81,7 @@ pub trait Book {
     /// one, or None where there is no such purse.
     fn purse(&mut self, alloc: Global, name: Name) -> Result<Option<Account>, StoreFault>
         ensures keeps { Keeps doubt rows leaves self.old self.new }
+        ensures answered { OnOk result (IsWorking doubt self.new) }
         ensures value { Gives doubt rows spells self.old self.new result
             (λ w r. r ≡ account_of w name) }
         ensures fault { IfErr result fails };
@@ -84,6 +89,7 @@ pub trait Book {
     /// Whether there is a purse of that name.
     fn has_purse(&mut self, alloc: Global, name: Name) -> Result<bool, StoreFault>
         ensures keeps { Keeps doubt rows leaves self.old self.new }
+        ensures answered { OnOk result (IsWorking doubt self.new) }
         ensures value { Gives doubt rows spells self.old self.new result (λ w b. b ≡ has_purse w name) }
         ensures fault { IfErr result fails };
 
@@ -95,6 +101,7 @@ pub trait Book {
         purse: Name,
     ) -> Result<Option<Purse>, StoreFault>
         ensures keeps { Keeps doubt rows leaves self.old self.new }
+        ensures answered { OnOk result (IsWorking doubt self.new) }
         ensures value { Gives doubt rows spells self.old self.new result
             (λ w r. r ≡ own_purse w holder purse) }
         ensures fault { IfErr result fails };
@@ -102,6 +109,7 @@ pub trait Book {
     /// Whether the purse of that name is there and is this holder's.
     fn is_own(&mut self, alloc: Global, holder: Name, purse: Name) -> Result<bool, StoreFault>
         ensures keeps { Keeps doubt rows leaves self.old self.new }
+        ensures answered { OnOk result (IsWorking doubt self.new) }
         ensures value { Gives doubt rows spells self.old self.new result
             (λ w b. b ≡ is_some (own_purse w holder purse)) }
         ensures fault { IfErr result fails };
@@ -110,6 +118,7 @@ pub trait Book {
     /// its next message is below 10^15.
     fn finds_place(&mut self, alloc: Global, purse: Name) -> Result<bool, StoreFault>
         ensures keeps { Keeps doubt rows leaves self.old self.new }
+        ensures answered { OnOk result (IsWorking doubt self.new) }
         ensures value { Gives doubt rows spells self.old self.new result
             (λ w b. b ≡ finds_place w purse) }
         ensures fault { IfErr result fails };
@@ -117,6 +126,7 @@ pub trait Book {
     /// The names of a holder's purses, in order; none where there is no such holder.
     fn purses_of(&mut self, alloc: Global, holder: Name) -> Result<Vec<Name>, StoreFault>
         ensures keeps { Keeps doubt rows leaves self.old self.new }
+        ensures answered { OnOk result (IsWorking doubt self.new) }
         ensures value { Gives doubt rows spells self.old self.new result
             (λ w r. r.items ≡ purses_of w holder) }
         ensures fault { IfErr result (λ e. (e ≡ Memory) ⊎ fails e) };
@@ -124,6 +134,7 @@ pub trait Book {
     /// The messages in the inbox of a purse with their numbers, by number; none where there is no such purse.
     fn inbox(&mut self, alloc: Global, purse: Name) -> Result<Vec<(u64, Message)>, StoreFault>
         ensures keeps { Keeps doubt rows leaves self.old self.new }
+        ensures answered { OnOk result (IsWorking doubt self.new) }
         ensures value { Gives doubt rows spells self.old self.new result
             (λ w r. r.items ≡ inbox_of w purse) }
         ensures fault { IfErr result (λ e. (e ≡ Memory) ⊎ fails e) };
@@ -136,6 +147,7 @@ pub trait Book {
         number: u64,
     ) -> Result<Option<Message>, StoreFault>
         ensures keeps { Keeps doubt rows leaves self.old self.new }
+        ensures answered { OnOk result (IsWorking doubt self.new) }
         ensures value { Gives doubt rows spells self.old self.new result
             (λ w r. r ≡ message_of w purse number) }
         ensures fault { IfErr result fails };
@@ -143,6 +155,7 @@ pub trait Book {
     /// Whether a message of that number lies in the inbox of a purse.
     fn has_message(&mut self, alloc: Global, purse: Name, number: u64) -> Result<bool, StoreFault>
         ensures keeps { Keeps doubt rows leaves self.old self.new }
+        ensures answered { OnOk result (IsWorking doubt self.new) }
         ensures value { Gives doubt rows spells self.old self.new result
             (λ w b. b ≡ is_some (message_of w purse number)) }
         ensures fault { IfErr result fails };
@@ -157,6 +170,7 @@ pub trait Book {
         most: u64,
     ) -> Result<Vec<Line>, StoreFault>
         ensures keeps { Keeps doubt rows leaves self.old self.new }
+        ensures answered { OnOk result (IsWorking doubt self.new) }
         ensures value { Gives doubt rows spells self.old self.new result
             (λ w r. r.items ≡ lines_of w purse after most) }
         ensures fault { IfErr result (λ e. (e ≡ Memory) ⊎ fails e) };
@@ -164,6 +178,7 @@ pub trait Book {
     /// The names of the members, in order.
     fn members(&mut self, alloc: Global) -> Result<Vec<Name>, StoreFault>
         ensures keeps { Keeps doubt rows leaves self.old self.new }
+        ensures answered { OnOk result (IsWorking doubt self.new) }
         ensures value { Gives doubt rows spells self.old self.new result
             (λ w r. r.items ≡ members_of w) }
         ensures fault { IfErr result (λ e. (e ≡ Memory) ⊎ fails e) };
@@ -176,6 +191,7 @@ pub trait Book {
         reference: Name,
     ) -> Result<Option<Amount>, StoreFault>
         ensures keeps { Keeps doubt rows leaves self.old self.new }
+        ensures answered { OnOk result (IsWorking doubt self.new) }
         ensures value { Gives doubt rows spells self.old self.new result
             (λ w r. r ≡ load_of w purse reference) }
         ensures fault { IfErr result fails };
@@ -188,6 +204,7 @@ pub trait Book {
         reference: Name,
     ) -> Result<Option<Amount>, StoreFault>
         ensures keeps { Keeps doubt rows leaves self.old self.new }
+        ensures answered { OnOk result (IsWorking doubt self.new) }
         ensures value { Gives doubt rows spells self.old self.new result
             (λ w r. r ≡ redemption_of w purse reference) }
         ensures fault { IfErr result fails };
@@ -200,6 +217,7 @@ pub trait Book {
         details: &PayDetails,
     ) -> Result<bool, StoreFault>
         ensures keeps { Keeps doubt rows leaves self.old self.new }
+        ensures answered { OnOk result (IsWorking doubt self.new) }
         ensures value { Gives doubt rows spells self.old self.new result
             (λ w b. b ≡ is_archived w purse details.now) }
         ensures fault { IfErr result fails };
@@ -207,6 +225,7 @@ pub trait Book {
     /// Whether details are settled.
     fn settled(&mut self, alloc: Global, details: &PayDetails) -> Result<bool, StoreFault>
         ensures keeps { Keeps doubt rows leaves self.old self.new }
+        ensures answered { OnOk result (IsWorking doubt self.new) }
         ensures value { Gives doubt rows spells self.old self.new result
             (λ w b. b ≡ is_settled w details.now) }
         ensures fault { IfErr result fails };
@@ -214,6 +233,7 @@ pub trait Book {
     /// The results of read log of a purse that were sent and aren't archived; none where there is no such purse.
     fn tray(&mut self, alloc: Global, purse: Name) -> Result<Log, StoreFault>
         ensures keeps { Keeps doubt rows leaves self.old self.new }
+        ensures answered { OnOk result (IsWorking doubt self.new) }
         ensures value { Gives doubt rows spells self.old self.new result
             (λ w log. log ≡ tray_of w purse) }
         ensures fault { IfErr result fails };
@@ -222,6 +242,7 @@ pub trait Book {
     /// no such member.
     fn uncollected(&mut self, alloc: Global, member: Name) -> Result<u128, StoreFault>
         ensures keeps { Keeps doubt rows leaves self.old self.new }
+        ensures answered { OnOk result (IsWorking doubt self.new) }
         ensures value { Gives doubt rows spells self.old self.new result
             (λ w r. r ≡ uncollected_of w member) }
         ensures fault { IfErr result fails };
@@ -229,6 +250,7 @@ pub trait Book {
     /// What the books come to for the whole scheme.
     fn totals(&mut self, alloc: Global) -> Result<Totals, StoreFault>
         ensures keeps { Keeps doubt rows leaves self.old self.new }
+        ensures answered { OnOk result (IsWorking doubt self.new) }
         ensures value { Gives doubt rows spells self.old self.new result (λ w r. r ≡ totals_of w) }
         ensures fault { IfErr result fails };
 
@@ -240,6 +262,7 @@ pub trait Book {
         member: Name,
     ) -> Result<Option<MemberTotals>, StoreFault>
         ensures keeps { Keeps doubt rows leaves self.old self.new }
+        ensures answered { OnOk result (IsWorking doubt self.new) }
         ensures value { Gives doubt rows spells self.old self.new result
             (λ w r. r ≡ member_totals_of w member) }
         ensures fault { IfErr result fails };
@@ -247,6 +270,7 @@ pub trait Book {
     /// Each member, in order, with what the books come to for it.
     fn members_totals(&mut self, alloc: Global) -> Result<Vec<(Name, MemberTotals)>, StoreFault>
         ensures keeps { Keeps doubt rows leaves self.old self.new }
+        ensures answered { OnOk result (IsWorking doubt self.new) }
         ensures value { Gives doubt rows spells self.old self.new result
             (λ w r. r.items ≡ members_totals_of w) }
         ensures fault { IfErr result (λ e. (e ≡ Memory) ⊎ fails e) };
@@ -259,7 +283,7 @@ pub trait Book {
         ensures ok { (w : World) → doubt self.new ≡ 0 → spells (rows self.old) w
             → OnOk result (spells (rows self.new) (all_edited w edits.now)) }
         ensures err { doubt self.new ≡ 0 → OnErr result (rows self.new ≡ rows self.old) }
-        ensures answered { doubt self.new ≤ 1 → OnOk result (doubt self.new ≡ 0) }
+        ensures answered { OnOk result (IsWorking doubt self.new) }
         ensures stops { MayLeave doubt rows spells leaves self.old self.new
             (λ w. all_edited w edits.now) }
         ensures fault { IfErr result (λ e. (e ≡ Memory) ⊎ fails e) };
@@ -272,4 +296,7 @@ pub trait Book {
 
     /// While there is no doubt, a stop leaves the rows as they are, if it leaves any.
     ghost steady: { (b : Self) (r : Rows) → doubt b ≡ 0 → leaves b r → r ≡ rows b };
+
+    /// Only a book whose calls may fail by the store is ever doubted.
+    ghost doubted: { (b : Self) → (doubt b ≡ 0) ⊎ fails Store };
 }

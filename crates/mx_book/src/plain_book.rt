@@ -1,4 +1,5 @@
 //! The book in memory.
+ghost use Rattle.std.proofs.Common.{inl, refl};
 ghost use Rattle.mx_book.specs.World.{opening};
 ghost use Rattle.mx_book.specs.Rows.{Rows as Kept, world_of};
 ghost use Rattle.mx_book.specs.Shelves.{rows_of};
@@ -211,4 +212,6 @@ impl Book for PlainBook {
     ghost single = { one_world };
 
     ghost steady = { λ b r h left. absurd left };
+
+    ghost doubted = { λ _. inl refl };
 }

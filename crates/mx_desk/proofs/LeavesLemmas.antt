@@ -12,7 +12,7 @@ use Rattle.mx_desk.specs.declared.fault.DeskFault.TheVariants as fault
 use Rattle.mx_desk.specs.Leaves.{IsWritten, Leaves, Serves, Runs}
 use Rattle.mx_desk.specs.Requests.{Whole, First}
 use Rattle.mx_desk.specs.Serve.{Marked, MayBeMarked, world_after_one, outputs, requests_of, response_to, stop_text}
-use Rattle.mx_desk.specs.Steps.{State, StepCase, Steps, Ran, answered_by, answered_in}
+use Rattle.mx_desk.specs.Steps.{State, StepCase, Ran, answered_by, Turns}
 use Rattle.std.proofs.KnownBytes.{Appends-trans, Consumes-trans}
 use Rattle.mx_desk.proofs.LawfulLemmas.{lawful_requests}
 use Rattle.mx_desk.proofs.RequestLemmas.{Begins-append, Begins-snoc}
@@ -86,41 +86,51 @@ module _ (fails : StoreFault → Type 0) (s u t : State) (ms : List Marked) (ran
   by_case (Err fault.Write) (inr (inl c)) = none_more (take c.count (stop_text c.stop)) c.wrote c.world (stopped c.stop c.count)
   by_case (Err fault.Write) (inr (inr c)) = none_more [] c.wrote c.world nothing_more
 
+-- no request behind requests
+behind_none : (fails : StoreFault → Type 0) (s t : State) (r : Result ℕ DeskFault) (ms ns : List Marked) → [] ≡ ns → Runs fails s r ms t → Runs fails s r (ms ++ ns) t
+behind_none fails s t r ms ns none runs = subst (λ ns. Runs fails s r (ms ++ ns) t) none (subst (λ ms. Runs fails s r ms t) (sym (append-nil ms)) runs)
+
 -- one turn
-pub serves : (fails : StoreFault → Type 0) (s t : State) (r : Result Served DeskFault) (pending : List ℕ) → Steps fails s r t → Serves fails s r (record t { pending = pending })
-serves fails s t r pending turn =
+pub serves : (fails : StoreFault → Type 0) (s t : State) (r : Result Served DeskFault) (ms : List Marked) (pending : List ℕ) → Turns fails s r ms t → Serves fails s r ms (record t { pending = pending })
+serves fails s t r ms pending turns =
+    let turn = turns.turn in
     let led = by_case fails s s t [] (Ran-none fails s) turn.came turn.consumed pending r turn.then in
-    record { left = t.pending; turn = turn; out = led.0; leaves = led.1 }
+    record { left = t.pending; turns = turns; out = led.0; leaves = subst (λ ms. Leaves fails s ms led.0 (record t { pending = pending })) turns.answered led.1 }
 
 -- turns that answered, and one that ends the run
-pub runs_nothing : (fails : StoreFault → Type 0) (s u t : State) (ms : List Marked) (pending : List ℕ) → s.pending ≡ [] → Ran fails s ms u → Steps fails u (Ok served.Nothing) t → Runs fails s (Ok (length ms)) (record t { pending = pending })
-runs_nothing fails s u t ms pending fresh ran turn =
+pub runs_nothing : (fails : StoreFault → Type 0) (s u t : State) (ms ns : List Marked) (pending : List ℕ) → s.pending ≡ [] → Ran fails s ms u → Turns fails u (Ok served.Nothing) ns t
+    → Runs fails s (Ok (length ms)) (ms ++ ns) (record t { pending = pending })
+runs_nothing fails s u t ms ns pending fresh ran turns =
+    let turn = turns.turn in
     let c = turn.then in
     let written = nothing_more fails s u t ms ran turn.came turn.consumed pending in
-    record {
-      marked = ms;
+    let runs : Runs fails s (Ok (length ms)) ms (record t { pending = pending }) = record {
       out = ran.out ++ [];
       leaves = no_more fails s u t ms ran turn.came turn.consumed pending [] c.wrote c.world written;
       ends = serves_nothing fails s u t ms fresh ran turn;
-    }
+    } in
+    behind_none fails s _ _ ms ns turns.answered runs
 
-pub runs_stopped : (fails : StoreFault → Type 0) (s u t : State) (ms : List Marked) (pending : List ℕ) → s.pending ≡ [] → Ran fails s ms u → Steps fails u (Ok served.Stopped) t → Runs fails s (Ok (length ms + 1)) (record t { pending = pending })
-runs_stopped fails s u t ms pending fresh ran turn =
+pub runs_stopped : (fails : StoreFault → Type 0) (s u t : State) (ms ns : List Marked) (pending : List ℕ) → s.pending ≡ [] → Ran fails s ms u → Turns fails u (Ok served.Stopped) ns t
+    → Runs fails s (Ok (length ms + 1)) (ms ++ ns) (record t { pending = pending })
+runs_stopped fails s u t ms ns pending fresh ran turns =
+    let turn = turns.turn in
     let c = turn.then in
     let written = stopped_whole fails s u t ms ran turn.came turn.consumed pending c.stop in
-    record {
-      marked = ms;
+    let runs : Runs fails s (Ok (length ms + 1)) ms (record t { pending = pending }) = record {
       out = ran.out ++ stop_text c.stop;
       leaves = no_more fails s u t ms ran turn.came turn.consumed pending (stop_text c.stop) c.wrote c.world written;
       ends = serves_stopped fails s u t ms fresh ran turn;
-    }
+    } in
+    behind_none fails s _ _ ms ns turns.answered runs
 
-pub runs_faulty : (fails : StoreFault → Type 0) (s u t : State) (ms : List Marked) (e : DeskFault) (pending : List ℕ) → Ran fails s ms u → Steps fails u (Err e) t → Runs fails s (Err e) (record t { pending = pending })
-runs_faulty fails s u t ms e pending ran turn =
+pub runs_faulty : (fails : StoreFault → Type 0) (s u t : State) (ms ns : List Marked) (e : DeskFault) (pending : List ℕ) → Ran fails s ms u → Turns fails u (Err e) ns t
+    → Runs fails s (Err e) (ms ++ ns) (record t { pending = pending })
+runs_faulty fails s u t ms ns e pending ran turns =
+    let turn = turns.turn in
     let led = by_case fails s u t ms ran turn.came turn.consumed pending (Err e) turn.then in
-    record {
-      marked = ms ++ answered_in turn;
+    subst (λ ns. Runs fails s (Err e) (ms ++ ns) (record t { pending = pending })) turns.answered (record {
       out = led.0;
       leaves = led.1;
       ends = record { before = ms; at = u; ran = ran; left = t.pending; turn = turn; all = refl };
-    }
+    })

@@ -4,6 +4,7 @@ pub mod UniqueLemmas
 pub mod RequestLemmas
 pub mod Lists
 pub mod KnowsLemmas
+pub mod MoveLemmas
 pub mod StepLemmas
 pub mod RunLemmas
 pub mod ApartLemmas
@@ -11,5 +12,6 @@ pub mod LawLemmas
 pub mod ConservationLemmas
 pub mod RefinedLemmas
 pub mod LawfulLemmas
+pub mod DurableLemmas
 pub mod LeavesLemmas
 pub mod GivenUpLemmas

@@ -1,5 +1,5 @@
 -- Turns of the desk one after another.
-use Rattle.std.proofs.Common.{◌≡◌, ℕ, ◌+◌, List, [], ◌∷◌, ◌++◌, length, Option, Some, None, refl, sym, ap, ◌∙◌, inl, append_assoc, arith}
+use Rattle.std.proofs.Common.{◌≡◌, ℕ, ◌+◌, List, [], ◌∷◌, ◌++◌, length, Option, Some, None, refl, sym, ap, subst, ◌∙◌, inl, append_assoc, arith}
 use Rattle.std.specs.Prelude.{Ok, Err, IfSome}
 use Rattle.std.proofs.lemmas.List.{append-nil, map-append, take_all}
 use Rattle.std.specs.Io.KnownBytes.{Consumes, Keeps, IsAtEnd}
@@ -9,7 +9,7 @@ use Rattle.mx_desk.specs.declared.desk.Served.TheVariants as served
 use Rattle.mx_desk.specs.declared.fault.DeskFault.TheVariants as fault
 use Rattle.mx_desk.specs.Requests.{Begins, Nothing, Stops, First, none, nothing}
 use Rattle.mx_desk.specs.Serve.{Marked, MayBeMarked, AllMayBeMarked, world_after_one, response_to, stop_text, world_after, outputs, requests_of, ServedAll}
-use Rattle.mx_desk.specs.Steps.{State, Steps, Ran}
+use Rattle.mx_desk.specs.Steps.{State, Steps, Ran, Turns}
 use Rattle.std.proofs.KnownBytes.{Appends-nil, Appends-trans, Appends-kept, Consumes-nil, Consumes-trans}
 use Rattle.mx_desk.proofs.RequestLemmas.{Begins-append, Begins-snoc}
 
@@ -37,15 +37,15 @@ module _ (fails : StoreFault → Type 0) where
     answered = record { begins = rw (append-nil s.pending) none; marks = tt; out_is = refl; world_is = refl };
   }
 
-  pub Ran-step : (s u t : State) (ms : List Marked) → Ran fails s ms u → Steps fails u (Ok served.Answered) t → (m : Marked) × Ran fails s (ms ++ m ∷ []) t
-  Ran-step s u t ms ran step =
-      let a = step.then in
-      let m = a.marked in
-      let out_is = ran.answered.out_is in
-      let world_is = ran.answered.world_is in
-      let marked = a.marks in (
-        m,
-        record {
+  pub Ran-step : (s u t : State) (ms : List Marked) → Ran fails s ms u → (ns : List Marked) → Turns fails u (Ok served.Answered) ns t → Ran fails s (ms ++ ns) t
+  Ran-step s u t ms ran ns turns = subst (λ ns. Ran fails s (ms ++ ns) t) turns.answered (more turns.turn) where
+    more : (step : Steps fails u (Ok served.Answered) t) → Ran fails s (ms ++ step.then.marked ∷ []) t
+    more step =
+        let a = step.then in
+        let m = a.marked in
+        let out_is = ran.answered.out_is in
+        let world_is = ran.answered.world_is in
+        let marked = a.marks in record {
           came = ran.came ++ step.came;
           out = ran.out ++ response_to u.world m;
           consumed = Consumes-trans _ _ _ ran.came step.came ran.consumed step.consumed;
@@ -60,8 +60,7 @@ module _ (fails : StoreFault → Type 0) where
             out_is = rw (outputs-snoc, out_is, world_is) refl;
             world_is = a.world ∙ rw (world_after-snoc, world_is) refl;
           };
-        },
-      )
+        }
 
   append_nil_parts : (a b : List ℕ) → a ++ b ≡ [] → (a ≡ []) × (b ≡ [])
   append_nil_parts [] b e = (refl, e)
@@ -104,29 +103,37 @@ module _ (fails : StoreFault → Type 0) where
 
   -- ---- an answered request, and then a flush
 
-  pub flushed : (s t : State) (output : Option (List ℕ)) → Steps fails s (Ok served.Answered) t → Keeps t.output output → Steps fails s (Ok served.Answered) (record t { output = output })
-  flushed s t output step kept =
+  pub flushed : (s t : State) (ms : List Marked) (output : Option (List ℕ)) → Turns fails s (Ok served.Answered) ms t → Keeps t.output output → Turns fails s (Ok served.Answered) ms (record t { output = output })
+  flushed s t ms output turns kept =
+      let step = turns.turn in
       let a = step.then in record {
-        came = step.came;
-        consumed = step.consumed;
-        then = record { marked = a.marked; marks = a.marks; first = a.first; wrote = Appends-kept _ _ _ (response_to s.world a.marked) a.wrote kept; world = a.world };
+        turn = record {
+          came = step.came;
+          consumed = step.consumed;
+          then = record { marked = a.marked; marks = a.marks; first = a.first; wrote = Appends-kept _ _ _ (response_to s.world a.marked) a.wrote kept; world = a.world };
+        };
+        answered = turns.answered;
       }
 
-  pub unflushed : (s t : State) (output : Option (List ℕ)) → Steps fails s (Ok served.Answered) t → Keeps t.output output → Steps fails s (Err fault.Write) (record t { output = output })
-  unflushed s t output step kept =
+  pub unflushed : (s t : State) (ms : List Marked) (output : Option (List ℕ)) → Turns fails s (Ok served.Answered) ms t → Keeps t.output output → Turns fails s (Err fault.Write) ms (record t { output = output })
+  unflushed s t ms output turns kept =
+      let step = turns.turn in
       let a = step.then in
       let text : List ℕ = response_to s.world a.marked in
       let wrote = Appends-kept _ _ _ text a.wrote kept in record {
-        came = step.came;
-        consumed = step.consumed;
-        then = inl (record {
-          marked = a.marked;
-          marks = a.marks;
-          rest = t.pending;
-          count = length text;
-          first = a.first;
-          cut = omega arith;
-          wrote = rw (take_all (length text) text (omega arith)) wrote;
-          world = a.world;
-        });
+        turn = record {
+          came = step.came;
+          consumed = step.consumed;
+          then = inl (record {
+            marked = a.marked;
+            marks = a.marks;
+            rest = t.pending;
+            count = length text;
+            first = a.first;
+            cut = omega arith;
+            wrote = rw (take_all (length text) text (omega arith)) wrote;
+            world = a.world;
+          });
+        };
+        answered = turns.answered;
       }

@@ -1,5 +1,5 @@
 -- The ways that a turn of the desk ends.
-use Rattle.std.proofs.Common.{◌≡◌, ℕ, zero, suc, ◌*◌, ◌^◌, ◌+◌, ◌<◌, ◌≤◌, inl, inr, List, [], ◌++◌, length, take, drop, Option, Some, None, refl, sym, ◌∙◌, arith}
+use Rattle.std.proofs.Common.{◌≡◌, ℕ, zero, suc, ◌*◌, ◌^◌, ◌+◌, ◌<◌, ◌≤◌, inl, inr, List, [], ◌∷◌, ◌++◌, length, take, drop, Option, Some, None, refl, sym, ◌∙◌, arith}
 use Rattle.std.specs.Prelude.{Ok, Err, IfSome}
 use Rattle.std.proofs.lemmas.List.{append-nil}
 use Rattle.std.specs.Io.KnownBytes.{Appends, Consumes, IsAtEnd}
@@ -11,7 +11,7 @@ use Rattle.mx_desk.specs.Devices.{capped}
 use Rattle.mx_desk.specs.Requests.{Request, Next, Nothing, Stops, Whole, First, IsEnd, nothing}
 use Rattle.mx_desk.specs.Found.{IsOpen}
 use Rattle.mx_desk.specs.Serve.{Marked, MayBeMarked, world_after_one, response_to, stop_text}
-use Rattle.mx_desk.specs.Steps.{State, Steps, Waits}
+use Rattle.mx_desk.specs.Steps.{State, Turns, Waits}
 
 pub first_now : (b : List ℕ) (r : Request) (n : ℕ)
     → ((more : List ℕ) → First (b ++ more) (Whole r (drop n b ++ more))) → First b (Whole r (drop n b))
@@ -29,17 +29,20 @@ module _ (fails : StoreFault → Type 0) where
       → ((more : List ℕ) → First (pending ++ more) (Whole r (drop n pending ++ more)))
       → t.pending ≡ drop n pending
       → m.request ≡ r → MayBeMarked fails s.world m → Appends s.output t.output (response_to s.world m) → t.world ≡ world_after_one s.world m
-      → Steps fails s (Ok served.Answered) t
+      → Turns fails s (Ok served.Answered) (m ∷ []) t
   answered_step s t pending r n m c f left same marks wrote world = record {
-    came = c.came;
-    consumed = c.consumed;
-    then = record {
-      marked = m;
-      marks = marks;
-      first = rw (sym c.pending_is, left, same) (first_now pending r n f);
-      wrote = wrote;
-      world = world;
+    turn = record {
+      came = c.came;
+      consumed = c.consumed;
+      then = record {
+        marked = m;
+        marks = marks;
+        first = rw (sym c.pending_is, left, same) (first_now pending r n f);
+        wrote = wrote;
+        world = world;
+      };
     };
+    answered = refl;
   }
 
   pub cut_step : (s t : State) (pending : List ℕ) (r : Request) (n : ℕ) (m : Marked) (count : ℕ)
@@ -47,20 +50,23 @@ module _ (fails : StoreFault → Type 0) where
       → ((more : List ℕ) → First (pending ++ more) (Whole r (drop n pending ++ more)))
       → m.request ≡ r → MayBeMarked fails s.world m → count ≤ length (response_to s.world m)
       → Appends s.output t.output (take count (response_to s.world m)) → t.world ≡ world_after_one s.world m
-      → Steps fails s (Err fault.Write) t
+      → Turns fails s (Err fault.Write) (m ∷ []) t
   cut_step s t pending r n m count c f same marks cut wrote world = record {
-    came = c.came;
-    consumed = c.consumed;
-    then = inl (record {
-      marked = m;
-      marks = marks;
-      rest = drop n pending;
-      count = count;
-      first = rw (sym c.pending_is, same) (first_now pending r n f);
-      cut = cut;
-      wrote = wrote;
-      world = world;
-    });
+    turn = record {
+      came = c.came;
+      consumed = c.consumed;
+      then = inl (record {
+        marked = m;
+        marks = marks;
+        rest = drop n pending;
+        count = count;
+        first = rw (sym c.pending_is, same) (first_now pending r n f);
+        cut = cut;
+        wrote = wrote;
+        world = world;
+      });
+    };
+    answered = refl;
   }
 
   open_next : (b : List ℕ) (o : Option Stop) → IsOpen b o → (next : Next) × First b next × IsEnd next
@@ -86,34 +92,37 @@ module _ (fails : StoreFault → Type 0) where
 
   pub turns_step : (s t : State) (pending : List ℕ) (o : Option Stop)
       → Came s t pending → IsOpen pending o → t.pending ≡ pending → Appends s.output t.output [] → t.world ≡ s.world
-      → Steps fails s (Err fault.Turns) t
+      → Turns fails s (Err fault.Turns) [] t
   turns_step s t pending o c how left wrote world =
       let w = waits s t pending o c how left wrote world in
-      record { came = w.0; consumed = w.1; then = w.2 }
+      record { turn = record { came = w.0; consumed = w.1; then = w.2 }; answered = refl }
 
   pub read_step : (s t : State) (pending : List ℕ) (o : Option Stop)
       → Came s t pending → IsOpen pending o → t.pending ≡ pending → Appends s.output t.output [] → t.world ≡ s.world
-      → Steps fails s (Err fault.Read) t
+      → Turns fails s (Err fault.Read) [] t
   read_step s t pending o c how left wrote world =
       let w = waits s t pending o c how left wrote world in
-      record { came = w.0; consumed = w.1; then = w.2 }
+      record { turn = record { came = w.0; consumed = w.1; then = w.2 }; answered = refl }
 
   pub flush_step : (s t : State) (pending : List ℕ) (o : Option Stop)
       → Came s t pending → IsOpen pending o → t.pending ≡ pending → Appends s.output t.output [] → t.world ≡ s.world
-      → Steps fails s (Err fault.Write) t
+      → Turns fails s (Err fault.Write) [] t
   flush_step s t pending o c how left wrote world =
       let w = waits s t pending o c how left wrote world in
-      record { came = w.0; consumed = w.1; then = inr (inr w.2) }
+      record { turn = record { came = w.0; consumed = w.1; then = inr (inr w.2) }; answered = refl }
 
   -- a fault of the input, whatever comes after what is pending
   pub stop_step : (s t : State) (pending : List ℕ) (stop : Stop)
       → Came s t pending → ((more : List ℕ) → First (pending ++ more) (Stops stop))
       → Appends s.output t.output (stop_text stop) → t.world ≡ s.world
-      → Steps fails s (Ok served.Stopped) t
+      → Turns fails s (Ok served.Stopped) [] t
   stop_step s t pending stop c first wrote world = record {
-    came = c.came;
-    consumed = c.consumed;
-    then = record { stop = stop; first = at_any t.input; wrote = wrote; world = world };
+    turn = record {
+      came = c.came;
+      consumed = c.consumed;
+      then = record { stop = stop; first = at_any t.input; wrote = wrote; world = world };
+    };
+    answered = refl;
   }
     where
       at_any : (i : Option (List ℕ)) → IfSome i (λ rest. First ((s.pending ++ c.came) ++ rest) (Stops stop))
@@ -123,11 +132,14 @@ module _ (fails : StoreFault → Type 0) where
   pub cut_stop_step : (s t : State) (pending : List ℕ) (stop : Stop) (count : ℕ)
       → Came s t pending → ((more : List ℕ) → First (pending ++ more) (Stops stop)) → count ≤ length (stop_text stop)
       → Appends s.output t.output (take count (stop_text stop)) → t.world ≡ s.world
-      → Steps fails s (Err fault.Write) t
+      → Turns fails s (Err fault.Write) [] t
   cut_stop_step s t pending stop count c first cut wrote world = record {
-    came = c.came;
-    consumed = c.consumed;
-    then = inr (inl (record { stop = stop; count = count; first = at_any t.input; cut = cut; wrote = wrote; world = world }));
+    turn = record {
+      came = c.came;
+      consumed = c.consumed;
+      then = inr (inl (record { stop = stop; count = count; first = at_any t.input; cut = cut; wrote = wrote; world = world }));
+    };
+    answered = refl;
   }
     where
       at_any : (i : Option (List ℕ)) → IfSome i (λ rest. First ((s.pending ++ c.came) ++ rest) (Stops stop))
@@ -138,11 +150,14 @@ module _ (fails : StoreFault → Type 0) where
   pub stop_at_end : (s t : State) (pending : List ℕ) (stop : Stop)
       → Came s t pending → First pending (Stops stop) → IsAtEnd t.input
       → Appends s.output t.output (stop_text stop) → t.world ≡ s.world
-      → Steps fails s (Ok served.Stopped) t
+      → Turns fails s (Ok served.Stopped) [] t
   stop_at_end s t pending stop c first at_end wrote world = record {
-    came = c.came;
-    consumed = c.consumed;
-    then = record { stop = stop; first = at t.input at_end; wrote = wrote; world = world };
+    turn = record {
+      came = c.came;
+      consumed = c.consumed;
+      then = record { stop = stop; first = at t.input at_end; wrote = wrote; world = world };
+    };
+    answered = refl;
   }
     where
       at : (i : Option (List ℕ)) → IsAtEnd i → IfSome i (λ rest. First ((s.pending ++ c.came) ++ rest) (Stops stop))
@@ -152,11 +167,14 @@ module _ (fails : StoreFault → Type 0) where
   pub cut_stop_at_end : (s t : State) (pending : List ℕ) (stop : Stop) (count : ℕ)
       → Came s t pending → First pending (Stops stop) → IsAtEnd t.input → count ≤ length (stop_text stop)
       → Appends s.output t.output (take count (stop_text stop)) → t.world ≡ s.world
-      → Steps fails s (Err fault.Write) t
+      → Turns fails s (Err fault.Write) [] t
   cut_stop_at_end s t pending stop count c first at_end cut wrote world = record {
-    came = c.came;
-    consumed = c.consumed;
-    then = inr (inl (record { stop = stop; count = count; first = at t.input at_end; cut = cut; wrote = wrote; world = world }));
+    turn = record {
+      came = c.came;
+      consumed = c.consumed;
+      then = inr (inl (record { stop = stop; count = count; first = at t.input at_end; cut = cut; wrote = wrote; world = world }));
+    };
+    answered = refl;
   }
     where
       at : (i : Option (List ℕ)) → IsAtEnd i → IfSome i (λ rest. First ((s.pending ++ c.came) ++ rest) (Stops stop))
@@ -165,11 +183,14 @@ module _ (fails : StoreFault → Type 0) where
 
   pub nothing_step : (s t : State) (pending : List ℕ)
       → Came s t pending → pending ≡ [] → IsAtEnd t.input → Appends s.output t.output [] → t.world ≡ s.world
-      → Steps fails s (Ok served.Nothing) t
+      → Turns fails s (Ok served.Nothing) [] t
   nothing_step s t pending c empty at_end wrote world = record {
-    came = c.came;
-    consumed = c.consumed;
-    then = record { empty = sym c.pending_is ∙ empty; at_end = at_end; wrote = wrote; world = world };
+    turn = record {
+      came = c.came;
+      consumed = c.consumed;
+      then = record { empty = sym c.pending_is ∙ empty; at_end = at_end; wrote = wrote; world = world };
+    };
+    answered = refl;
   }
 
 pub smaller : (t0 t r p0 p q : ℕ) → t0 ≡ t + r → (r ≡ 0 → p ≡ p0) → p ≤ 12288 → q < p → 12289 * t + q < 12289 * t0 + p0

@@ -13,7 +13,7 @@ use Rattle.mx_desk.specs.Isolation.{IsApart}
 use Rattle.mx_desk.specs.Refinement.{commands_of}
 use Rattle.mx_desk.specs.Requests.{Begins}
 use Rattle.mx_desk.specs.Serve.{Marked, AllMayBeMarked, ServedAll, outputs, requests_of, response_to, stop_text, world_after}
-use Rattle.mx_desk.specs.Steps.{State, Steps, Faults, answered_in}
+use Rattle.mx_desk.specs.Steps.{State, Turns, Faults}
 
 -- Requests lead from one World to another. They keep each holder apart. From a World that commands lead to, they lead to such
 -- a World, none is refused because a purse or a float is full, and what they ask is what the abstract purses do (PRG-126: the
@@ -46,20 +46,19 @@ pub record Leaves (fails : StoreFault → Type 0) (s : State) (ms : List Marked)
   pub lawful : Lawful s.world ms t.world
 
 -- the first request alone: one turn, and what that leaves of the request that it answered
-pub record Serves (fails : StoreFault → Type 0) (s : State) (r : Result Served DeskFault) (t : State) : Type 0 where
+pub record Serves (fails : StoreFault → Type 0) (s : State) (r : Result Served DeskFault) (ms : List Marked) (t : State) : Type 0 where
   pub left : List ℕ
-  pub turn : Steps fails s r (record t { pending = left })
+  pub turns : Turns fails s r ms (record t { pending = left })
   pub out : List ℕ
-  pub leaves : Leaves fails s (answered_in turn) out t
+  pub leaves : Leaves fails s ms out t
 
 -- how a run ends: the whole input was served, or a fault came
 abbrev pub RunEnds : (StoreFault → Type 0) → State → List Marked → List ℕ → Result ℕ DeskFault → State → Type 0
 RunEnds fails s ms out (Ok n) t = ServedAll s.world s.input ms out n
 RunEnds fails s ms out (Err e) t = Faults fails s ms e t
 
--- a run: the requests that were answered, what that leaves, and how it ends
-pub record Runs (fails : StoreFault → Type 0) (s : State) (r : Result ℕ DeskFault) (t : State) : Type 0 where
-  pub marked : List Marked
+-- a run: what it leaves of the requests that were answered, and how it ends
+pub record Runs (fails : StoreFault → Type 0) (s : State) (r : Result ℕ DeskFault) (ms : List Marked) (t : State) : Type 0 where
   pub out : List ℕ
-  pub leaves : Leaves fails s marked out t
-  pub ends : RunEnds fails s marked out r t
+  pub leaves : Leaves fails s ms out t
+  pub ends : RunEnds fails s ms out r t

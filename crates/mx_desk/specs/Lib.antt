@@ -11,3 +11,4 @@ pub mod Isolation
 pub mod Conservation
 pub mod Refinement
 pub mod Leaves
+pub mod Durable

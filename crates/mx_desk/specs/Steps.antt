@@ -2,6 +2,7 @@
 use Rattle.std.specs.Prelude.{◌≡◌, ℕ, ◌<◌, ◌≤◌, ◌⊎◌, List, [], ◌∷◌, ◌++◌, length, take, Option, IfSome, Result, Ok, Err}
 use mathlib.Core.Logic.{inl}
 use Rattle.std.specs.Io.KnownBytes.{Appends, Consumes, IsAtEnd}
+use Rattle.mx_book.specs.Stands.{Attempt}
 use Rattle.mx_book.specs.World.{World}
 use Rattle.mx_book.specs.declared.contract.StoreFault.{StoreFault}
 use Rattle.mx_desk.specs.declared.head.Stop.{Stop}
@@ -10,7 +11,7 @@ use Rattle.mx_desk.specs.declared.desk.Served.TheVariants as served
 use Rattle.mx_desk.specs.declared.fault.DeskFault.{DeskFault}
 use Rattle.mx_desk.specs.declared.fault.DeskFault.TheVariants as fault
 use Rattle.mx_desk.specs.Requests.{Request, Next, Stops, Whole, First, IsEnd}
-use Rattle.mx_desk.specs.Serve.{Marked, MayBeMarked, world_after_one, response_to, stop_text, Answered}
+use Rattle.mx_desk.specs.Serve.{Marked, attempts, MayBeMarked, world_after_one, response_to, stop_text, Answered}
 
 -- where a run stands: the bytes read and not used, what the reader has left, what was written, and the World
 pub record State : Type 0 where
@@ -108,6 +109,11 @@ answered_by fails s b t r c = []
 abbrev pub answered_in : {fails : StoreFault → Type 0} {s : State} {r : Result Served DeskFault} {t : State} → Steps fails s r t → List Marked
 answered_in {fails} {s} {r} {t} turn = answered_by fails s (s.pending ++ turn.came) t r turn.then
 
+-- one turn, and the requests that it answered
+pub record Turns (fails : StoreFault → Type 0) (s : State) (r : Result Served DeskFault) (ms : List Marked) (t : State) : Type 0 where
+  pub turn : Steps fails s r t
+  pub answered : answered_in turn ≡ ms
+
 -- these requests were answered, the last of them perhaps in the turn in which that fault came
 pub record Faults (fails : StoreFault → Type 0) (s : State) (ms : List Marked) (e : DeskFault) (t : State) : Type 0 where
   pub before : List Marked
@@ -117,26 +123,27 @@ pub record Faults (fails : StoreFault → Type 0) (s : State) (ms : List Marked)
   pub turn : Steps fails at (Err e) (record t { pending = left })
   pub all : ms ≡ before ++ answered_in turn
 
--- a World stands of which this holds
-pub record Leads (Stands : World → Type 0) (Holds : World → Type 0) : Type 0 where
+-- these requests were answered, of which and of the World then this holds, and the book moved so
+pub record Leads (Holds Moves : List Marked → World → Type 0) : Type 0 where
   pub end : World
-  pub stands : Stands end
-  pub holds : Holds end
+  pub marked : List Marked
+  pub holds : Holds marked end
+  pub moves : Moves marked end
 
--- a request was answered with a mark that it may have, and the World that goes with it stands
-pub record IsReplied (fails : StoreFault → Type 0) (Stands : World → Type 0) (w : World) (r : Request) (old new : Option (List ℕ)) : Type 0 where
+-- a request was answered with a mark that it may have, and the book moved to the World that goes with it
+pub record IsReplied (fails : StoreFault → Type 0) (Moves : List Attempt → World → Type 0) (w : World) (r : Request) (old new : Option (List ℕ)) : Type 0 where
   pub marked : Marked
   pub request : marked.request ≡ r
   pub marks : MayBeMarked fails w marked
   pub wrote : Appends old new (response_to w marked)
-  pub stands : Stands (world_after_one w marked)
+  pub moves : Moves (attempts (marked ∷ [])) (world_after_one w marked)
 
 -- the same, but that the response was cut
-pub record IsCut (fails : StoreFault → Type 0) (Stands : World → Type 0) (w : World) (r : Request) (old new : Option (List ℕ)) : Type 0 where
+pub record IsCut (fails : StoreFault → Type 0) (Moves : List Attempt → World → Type 0) (w : World) (r : Request) (old new : Option (List ℕ)) : Type 0 where
   pub marked : Marked
   pub count : ℕ
   pub request : marked.request ≡ r
   pub marks : MayBeMarked fails w marked
   pub cut : count < length (response_to w marked)
   pub wrote : Appends old new (take count (response_to w marked))
-  pub stands : Stands (world_after_one w marked)
+  pub moves : Moves (attempts (marked ∷ [])) (world_after_one w marked)

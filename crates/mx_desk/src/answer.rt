@@ -4,7 +4,7 @@ ghost use Rattle.mx_book.specs.Keeps.{Keeps};
 ghost use Rattle.mx_book.specs.World.{World};
 ghost use Rattle.mx_desk.specs.Answers.{IsAnswer};
 ghost use Rattle.mx_desk.specs.Found.{request_view};
-ghost use Rattle.mx_desk.specs.Knows.{Knows, Stands};
+ghost use Rattle.mx_desk.specs.Knows.{KeptAt, Knows, Moves};
 ghost use Rattle.mx_desk.specs.Respond.{is_of_class, caller_of, after_body, after_caller, caller_takes, command_takes, respond, IsGivenUpFor, MayBeGivenUp};
 
 use crate::callers::Callers;
@@ -38,8 +38,11 @@ fn caller_of<B: Book>(
     field: Option<&[u8]>,
 ) -> Result<Option<Caller>, StoreFault>
     ensures keeps { Keeps B.doubt B.rows B.leaves office.old.book office.new.book }
-    ensures value { (w : World) → B.doubt office.new.book ≡ 0 → Stands (B.spells (B.rows office.old.book)) callers.old w → IfOk result (λ r. r ≡ caller_of w (option_map (λ x. x.now) field.entry)) }
-    ensures known { (w : World) → B.doubt office.new.book ≡ 0 → Stands (B.spells (B.rows office.old.book)) callers.old w → Knows w callers.new }
+    ensures value { (w : World) → B.doubt office.new.book ≤ 1
+        → KeptAt B.doubt B.rows B.spells office.old.book callers.old w
+        → IfOk result (λ r. r ≡ caller_of w (option_map (λ x. x.now) field.entry)) }
+    ensures known { (w : World) → B.doubt office.new.book ≤ 1
+        → KeptAt B.doubt B.rows B.spells office.old.book callers.old w → Knows w callers.new }
     ensures fault { IfErr result B.fails }
 {
     let Some(text) = field else {
@@ -67,8 +70,9 @@ fn answer_command<B: Book>(
     caller: Caller,
 ) -> Result<Response, StoreFault>
     ensures later { B.doubt office.old.book ≤ B.doubt office.new.book }
-    ensures answers { (w : World) → B.doubt office.new.book ≡ 0 → Stands (B.spells (B.rows office.old.book)) workspace.old.callers w
-        → IsAnswer (Stands (B.spells (B.rows office.new.book)) workspace.new.callers) w
+    ensures answers { (w : World) → B.doubt office.new.book ≤ 1
+        → KeptAt B.doubt B.rows B.spells office.old.book workspace.old.callers w
+        → IsAnswer (Moves B.doubt B.rows B.spells B.leaves office.old.book office.new.book workspace.new.callers w) w
         (after_body w caller (Some workspace.old.command))
         (IsGivenUpFor B.fails (command_takes w caller workspace.old.command)) result }
     ensures err { B.doubt office.new.book ≡ 0 → OnErr result (B.rows office.new.book ≡ B.rows office.old.book) }
@@ -95,8 +99,10 @@ fn answer_routed<B: Book>(
     request: &Received<'_>,
 ) -> Result<Response, StoreFault>
     ensures later { B.doubt office.old.book ≤ B.doubt office.new.book }
-    ensures answers { (w : World) → B.doubt office.new.book ≡ 0 → Stands (B.spells (B.rows office.old.book)) workspace.old.callers w
-        → IsAnswer (Stands (B.spells (B.rows office.new.book)) workspace.new.callers) w (after_caller w (request_view request.now) route.now (caller_of w (request_view request.now).token))
+    ensures answers { (w : World) → B.doubt office.new.book ≤ 1
+        → KeptAt B.doubt B.rows B.spells office.old.book workspace.old.callers w
+        → IsAnswer (Moves B.doubt B.rows B.spells B.leaves office.old.book office.new.book workspace.new.callers w) w
+        (after_caller w (request_view request.now) route.now (caller_of w (request_view request.now).token))
         (IsGivenUpFor B.fails (caller_takes w (request_view request.now) route.now
         (caller_of w (request_view request.now).token))) result }
     ensures err { B.doubt office.new.book ≡ 0 → OnErr result (B.rows office.new.book ≡ B.rows office.old.book) }
@@ -133,8 +139,10 @@ pub fn answer_request<B: Book>(
     request: &Received<'_>,
 ) -> Result<Response, StoreFault>
     ensures later { B.doubt office.old.book ≤ B.doubt office.new.book }
-    ensures answers { (w : World) → B.doubt office.new.book ≡ 0 → Stands (B.spells (B.rows office.old.book)) workspace.old.callers w
-        → IsAnswer (Stands (B.spells (B.rows office.new.book)) workspace.new.callers) w (respond w (request_view request.now)) (MayBeGivenUp B.fails w (request_view request.now)) result }
+    ensures answers { (w : World) → B.doubt office.new.book ≤ 1
+        → KeptAt B.doubt B.rows B.spells office.old.book workspace.old.callers w
+        → IsAnswer (Moves B.doubt B.rows B.spells B.leaves office.old.book office.new.book workspace.new.callers w) w
+        (respond w (request_view request.now)) (MayBeGivenUp B.fails w (request_view request.now)) result }
     ensures err { B.doubt office.new.book ≡ 0 → OnErr result (B.rows office.new.book ≡ B.rows office.old.book) }
 {
     match routes.route(request.method, request.path) {

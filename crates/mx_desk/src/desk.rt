@@ -1,14 +1,15 @@
 //! Requests one after another.
 ghost use Rattle.std.specs.Prelude.{◌≡◌, ◌+◌, ◌*◌, ◌<◌, ◌≤◌, ℕ, List, [], Ok, Err, IfOk, OnOk, OnErr, IfErr, IfSome, ◌≢◌, length, take};
 ghost use Rattle.std.specs.Io.KnownBytes.{Appends, Keeps};
+ghost use Rattle.mx_book.specs.Stands.{MovesTo};
 ghost use Rattle.mx_book.specs.World.{World};
 ghost use Rattle.mx_wire.specs.Replies.{unavailable};
 ghost use Rattle.mx_desk.specs.Devices.{capped};
 ghost use Rattle.mx_desk.specs.Found.{request_view};
-ghost use Rattle.mx_desk.specs.Knows.{Stands};
+ghost use Rattle.mx_desk.specs.Knows.{KeptAt, Moves};
 ghost use Rattle.mx_desk.specs.Leaves.{Runs, Serves};
-ghost use Rattle.mx_desk.specs.Serve.{Marked, MayBeMarked, response_to, world_after_one, stop_text, stop_fixed};
-ghost use Rattle.mx_desk.specs.Steps.{state, Steps, Leads, IsReplied, IsCut};
+ghost use Rattle.mx_desk.specs.Serve.{attempts, stop_text, stop_fixed};
+ghost use Rattle.mx_desk.specs.Steps.{state, Leads, Turns, IsReplied, IsCut};
 
 use crate::answer::answer_request;
 use crate::callers::Callers;
@@ -84,10 +85,16 @@ fn reply<W: Outlet, B: Book>(
     office: &mut Office<B>,
 ) -> Result<(), DeskFault>
     ensures later { B.doubt office.old.book ≤ B.doubt office.new.book }
-    ensures ok { (w : World) → B.doubt office.new.book ≡ 0 → Stands (B.spells (B.rows office.old.book)) workspace.old.callers w
-        → OnOk result (IsReplied B.fails (Stands (B.spells (B.rows office.new.book)) workspace.new.callers) w (request_view request.now) (W.contents writer.old.device) (W.contents writer.new.device)) }
-    ensures err { (w : World) → B.doubt office.new.book ≡ 0 → Stands (B.spells (B.rows office.old.book)) workspace.old.callers w
-        → OnErr result (IsCut B.fails (Stands (B.spells (B.rows office.new.book)) workspace.new.callers) w (request_view request.now) (W.contents writer.old.device) (W.contents writer.new.device)) }
+    ensures ok { (w : World) → B.doubt office.new.book ≤ 1
+        → KeptAt B.doubt B.rows B.spells office.old.book workspace.old.callers w
+        → OnOk result (IsReplied B.fails
+        (Moves B.doubt B.rows B.spells B.leaves office.old.book office.new.book workspace.new.callers w) w
+        (request_view request.now) (W.contents writer.old.device) (W.contents writer.new.device)) }
+    ensures err { (w : World) → B.doubt office.new.book ≤ 1
+        → KeptAt B.doubt B.rows B.spells office.old.book workspace.old.callers w
+        → OnErr result (IsCut B.fails
+        (Moves B.doubt B.rows B.spells B.leaves office.old.book office.new.book workspace.new.callers w) w
+        (request_view request.now) (W.contents writer.old.device) (W.contents writer.new.device)) }
     ensures fault { IfErr result (λ e. (e ≡ DeskFault.Write) × (writer.new.failures ≡ capped (writer.old.failures + 1))) }
     ensures whole { OnOk result (writer.new.failures ≡ writer.old.failures) }
 {
@@ -124,10 +131,12 @@ fn serve_next<R: Read, W: Outlet, B: Book>(
     office: &mut Office<B>,
 ) -> Result<Served, DeskFault>
     ensures later { B.doubt office.old.book ≤ B.doubt office.new.book }
-    ensures steps { (w : World) → B.doubt office.new.book ≡ 0 → Stands (B.spells (B.rows office.old.book)) workspace.old.callers w
-        → Leads (Stands (B.spells (B.rows office.new.book)) workspace.new.callers) (λ v. Steps B.fails
-        (state input.old (R.remaining reader.old.device) (W.contents writer.old.device) w) result
-        (state input.new (R.remaining reader.new.device) (W.contents writer.new.device) v)) }
+    ensures steps { (w : World) → B.doubt office.new.book ≤ 1
+        → KeptAt B.doubt B.rows B.spells office.old.book workspace.old.callers w
+        → Leads (λ ms v. Turns B.fails
+        (state input.old (R.remaining reader.old.device) (W.contents writer.old.device) w) result ms
+        (state input.new (R.remaining reader.new.device) (W.contents writer.new.device) v))
+        (λ ms. Moves B.doubt B.rows B.spells B.leaves office.old.book office.new.book workspace.new.callers w (attempts ms)) }
     ensures reads { (reads : ℕ) × (turns.old ≡ turns.new + reads) × (0 < reads → reads + length input.old ≤ 12288)
         × (reader.new.calls ≡ capped (reader.old.calls + reads)) }
     ensures turns { result ≡ Err DeskFault.Turns → (turns.new ≡ 0) × (turns.old + length input.old < 12288) }
@@ -179,6 +188,9 @@ fn serve_next<R: Read, W: Outlet, B: Book>(
 /// lead to it ends in such a World, and no command that the request asks is refused because a purse or a float is full. And
 /// the command that it asks is an operation of the abstract purses, in which a payment is one operation, for every choice of
 /// losses at the end.
+///
+/// It holds also where a fault of the store comes on the way. What a stop leaves then is the World in the end, or, where the
+/// request was given up, the World after it (`MovesTo`).
 pub fn serve_one<R: Read, W: Outlet, B: Book>(
     alloc: Global,
     reader: &mut Counted<R>,
@@ -187,10 +199,12 @@ pub fn serve_one<R: Read, W: Outlet, B: Book>(
     office: &mut Office<B>,
 ) -> Result<Served, DeskFault>
     ensures later { B.doubt office.old.book ≤ B.doubt office.new.book }
-    ensures serves { (w : World) → B.doubt office.new.book ≡ 0 → B.spells (B.rows office.old.book) w
-        → Leads (B.spells (B.rows office.new.book)) (λ now. Serves B.fails
-        (state [] (R.remaining reader.old.device) (W.contents writer.old.device) w) result
-        (state [] (R.remaining reader.new.device) (W.contents writer.new.device) now)) }
+    ensures serves { (w : World) → B.doubt office.new.book ≤ 1
+        → (B.doubt office.old.book ≡ 0 → B.spells (B.rows office.old.book) w)
+        → Leads (λ ms now. Serves B.fails
+        (state [] (R.remaining reader.old.device) (W.contents writer.old.device) w) result ms
+        (state [] (R.remaining reader.new.device) (W.contents writer.new.device) now))
+        (λ ms. MovesTo B.doubt B.rows B.spells B.leaves office.old.book office.new.book w (attempts ms)) }
     ensures reads { (reads : ℕ) × (reads ≤ 12288) × (reader.new.calls ≡ capped (reader.old.calls + reads)) }
     ensures never { result ≢ Err DeskFault.Turns }
     ensures read_failed { result ≡ Err DeskFault.Read → reader.new.failures ≡ capped (reader.old.failures + 1) }
@@ -230,6 +244,10 @@ pub const MOST_READS: u64 = 1_000_000_000;
 /// response may be cut. From a World that commands lead to they lead to such a World, and no command that a request asks is
 /// refused because a purse or a float is full. And the commands that the requests ask are operations of the abstract purses,
 /// in which a payment is one operation, for every choice of losses at the end.
+///
+/// It holds also where a fault of the store comes on the way: the responses before are as ever, and from then on each request
+/// that asks the book is given up. What a stop leaves, whenever it comes, is the World in the end, or that with one more of the
+/// requests that were given up, behind which nothing was changed (`MovesTo`).
 pub fn run<R: Read, W: Outlet, B: Book>(
     alloc: Global,
     reader: &mut Counted<R>,
@@ -238,10 +256,12 @@ pub fn run<R: Read, W: Outlet, B: Book>(
     office: &mut Office<B>,
 ) -> Result<u64, DeskFault>
     ensures later { B.doubt office.old.book ≤ B.doubt office.new.book }
-    ensures runs { (w : World) → B.doubt office.new.book ≡ 0 → B.spells (B.rows office.old.book) w
-        → Leads (B.spells (B.rows office.new.book)) (λ now. Runs B.fails
-        (state [] (R.remaining reader.old.device) (W.contents writer.old.device) w) result
-        (state [] (R.remaining reader.new.device) (W.contents writer.new.device) now)) }
+    ensures runs { (w : World) → B.doubt office.new.book ≤ 1
+        → (B.doubt office.old.book ≡ 0 → B.spells (B.rows office.old.book) w)
+        → Leads (λ ms now. Runs B.fails
+        (state [] (R.remaining reader.old.device) (W.contents writer.old.device) w) result ms
+        (state [] (R.remaining reader.new.device) (W.contents writer.new.device) now))
+        (λ ms. MovesTo B.doubt B.rows B.spells B.leaves office.old.book office.new.book w (attempts ms)) }
     ensures reads { (reads : ℕ) × (reads ≤ 1000000000) × (reader.new.calls ≡ capped (reader.old.calls + reads)) }
     ensures turns { result ≡ Err DeskFault.Turns → reader.new.calls ≡ capped (reader.old.calls + 1000000000) }
     ensures read_failed { result ≡ Err DeskFault.Read → reader.new.failures ≡ capped (reader.old.failures + 1) }

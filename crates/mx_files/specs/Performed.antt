@@ -3,6 +3,7 @@ use Rattle.std.specs.Prelude.{◌≡◌, ℕ, List, [], Option, Result, Ok, Err,
 use Rattle.std.specs.Io.KnownBytes.{Appends}
 use Rattle.mx_book.specs.World.{World}
 use Rattle.mx_book.specs.declared.contract.StoreFault.{StoreFault}
+use Rattle.mx_desk.specs.Serve.{Marked}
 use Rattle.mx_desk.specs.Steps.{State, state}
 use Rattle.mx_tasks.specs.Runs.{TaskRuns}
 use Rattle.mx_tasks.specs.declared.fault.TaskFault.{TaskFault}
@@ -15,8 +16,9 @@ EndsRun (Err e) result written output = IfErr result (λ fault. fault ≡ e) × 
 
 -- what a task that is a run leaves
 pub record PerformsRun {X : Type 0} (fails : StoreFault → Type 0) (s : State) (result : Result X TaskFault) (input output : Option (List ℕ)) : Type 0 where
+  pub marked : List Marked
   pub now : World
   pub written : Option (List ℕ)
   pub run : Result ℕ TaskFault
-  pub runs : TaskRuns fails s run (state [] input written now)
+  pub runs : TaskRuns fails s run marked (state [] input written now)
   pub ends : EndsRun run result written output

@@ -7,6 +7,7 @@ ghost use Rattle.mx_tables.specs.Holds.{SpellsOne};
 ghost use Rattle.mx_tables.specs.States.{Leaves, worry};
 ghost use Rattle.mx_tasks.specs.Faults.{Untouched};
 ghost use Rattle.mx_tasks.specs.Works.{Works};
+ghost use Rattle.mx_files.specs.Durable.{Endures};
 ghost use Rattle.mx_files.specs.Opened.{open_fault_of};
 
 use mx_book::Book;
@@ -55,6 +56,10 @@ pub fn make_in_store<S: Alter + Drop>(
 /// Does a piece of work over the books in a store, and gives what came of it, with the store. What came of it is said of the
 /// World that the books spelled (`works`). Where the store is refused, nothing was read or written.
 ///
+/// What was answered outlives a stop. Of requests, be they answered to the end or until a fault shut the store, it says what
+/// an opening finds after a stop at that moment (`Endures`): the World after them, or that with one more, which was given up.
+/// A stop in the midst of the work is a store that fails from there on, so that is said of each moment.
+///
 /// # Errors
 ///
 /// `NotThisSchema` where the store has no books of this version; `Store` where it has other tables, or refuses a statement;
@@ -68,8 +73,9 @@ pub fn over_store<S: Alter + Drop, R: Read, W: Outlet>(
 ) -> Result<(Result<Done, TaskFault>, Connection<S>), TaskFault>
     ensures later { IfOk result (λ x. worry (state_of S.Store store) ≤ worry (state_of S.Store x.1)) }
     ensures works { (w : World) → SpellsOne (state_of S.Store store).now w
-        → IfOk result (λ x. worry (state_of S.Store x.1) ≡ 0
-        → Works ⟦<Tables<S> as Book>⟧.fails (SpellsOne (state_of S.Store x.1).now)
+        → IfOk result (λ x. worry (state_of S.Store x.1) ≤ 1
+        → Works ⟦<Tables<S> as Book>⟧.fails (worry (state_of S.Store x.1) ≡ 0)
+        (SpellsOne (state_of S.Store x.1).now) (Endures (state_of S.Store x.1))
         (state [] (R.remaining reader.old.device) (W.contents writer.old.device) w) work.now x.0
         (R.remaining reader.new.device) (W.contents writer.new.device)) }
     ensures lasts { IfOk result (λ x. worry (state_of S.Store x.1) ≡ 0

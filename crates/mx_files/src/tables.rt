@@ -1,6 +1,7 @@
 //! A run over tables in memory.
-ghost use Rattle.std.specs.Prelude.{◌≡◌, []};
+ghost use Rattle.std.specs.Prelude.{◌≡◌, List, []};
 ghost use Rattle.mx_book.specs.World.{World, opening};
+ghost use Rattle.mx_desk.specs.Serve.{Marked};
 ghost use Rattle.mx_desk.specs.Steps.{state};
 ghost use Rattle.mx_office.specs.Reachable.{IsReachable};
 ghost use Rattle.mx_tasks.specs.Faults.{Untouched};
@@ -32,8 +33,8 @@ pub fn run_memory_tables<R: Read, W: Outlet>(
 ) -> Result<u64, TaskFault>
     ensures unbegun { IsUnbegun result → Untouched reader.old reader.new writer.old writer.new }
     ensures begins { IsReachable (opening operator) }
-    ensures runs { (now : World) × TaskRuns ⟦<Tables<MemStore> as Book>⟧.fails
-        (state [] (R.remaining reader.old.device) (W.contents writer.old.device) (opening operator)) result
+    ensures runs { (ms : List Marked) × (now : World) × TaskRuns ⟦<Tables<MemStore> as Book>⟧.fails
+        (state [] (R.remaining reader.old.device) (W.contents writer.old.device) (opening operator)) result ms
         (state [] (R.remaining reader.new.device) (W.contents writer.new.device) now) }
 {
     // The reader says that the token has its bytes.

@@ -1,6 +1,7 @@
 pub mod OwnLemmas
 pub mod CaseLemmas
 pub mod DecideLemmas
+pub mod WorkingLemmas
 pub mod AccountLemmas
 pub mod CommandLemmas
 pub mod MoneyLemmas

@@ -1,7 +1,8 @@
 -- A run and one command more.
-use Rattle.std.proofs.Common.{◌≡◌, ℕ, ◌+◌, ◌<◌, List, [], ◌∷◌, ◌++◌, length, take, get_or, sym, ◌∙◌, ap, subst}
+use Rattle.std.proofs.Common.{◌≡◌, ℕ, ◌+◌, ◌<◌, true, false, List, [], ◌∷◌, ◌++◌, length, take, get_or, refl, sym, ◌∙◌, ap, subst}
 use Rattle.std.proofs.lemmas.List.{take_more}
 use Rattle.std.specs.List.{AllByRecursion}
+use Rattle.mx_book.specs.Stands.{attempt}
 use Rattle.mx_book.specs.World.{World}
 use Rattle.mx_book.proofs.PartLemmas.{all_append}
 use Rattle.mx_book.specs.declared.contract.StoreFault.{StoreFault}
@@ -12,7 +13,7 @@ use Rattle.mx_office.specs.declared.values.Reply.{Reply}
 use Rattle.mx_office.specs.declared.values.Reply.TheVariants.{Refused}
 use Rattle.mx_office.specs.Commands.{IsAsked}
 use Rattle.mx_office.specs.Step.{Asked, step}
-use Rattle.mx_office.specs.Run.{IsRun, IsUndone, MayBeUndone}
+use Rattle.mx_office.specs.Run.{IsRun, IsUndone, MayBeUndone, attempts, is_unavailable}
 
 one_taken : (cs : List Asked) (i : ℕ) (c : Asked) → i < length cs → c ≡ get_or cs i c → take (i + 1) cs ≡ take i cs ++ c ∷ []
 one_taken cs i c lt at = take_more cs i c lt ∙ ap (λ x. take i cs ++ x ∷ []) (sym at)
@@ -61,3 +62,17 @@ module _ (fails : StoreFault → Type 0) where
   pub run_undone_at : (w v : World) (cs : List Asked) (i : ℕ) (c : Asked) (os more : List Outcome) (o : Outcome) → i < length cs → c ≡ get_or cs i c → IsRun fails w (take i cs) os v
       → MayBeUndone fails v c → o ≡ Unavailable → more ≡ os ++ o ∷ [] → IsRun fails w (take (i + 1) cs) more v
   run_undone_at w v cs i c os more o lt at is why o_is more_is = rw (one_taken cs i c lt at, more_is, o_is) (run_undone w v (take i cs) os c is why)
+
+  -- ---- attempts
+
+  attempts_more : (w v : World) (cs : List Asked) (os : List Outcome) (c : Asked) (o : Outcome) → IsRun fails w cs os v
+      → attempts (cs ++ c ∷ []) (os ++ o ∷ []) ≡ attempts cs os ++ attempt (is_unavailable o) (λ u. (step u c.0 c.1).world)
+  attempts_more w v [] [] c o is = refl
+  attempts_more w v [] (q ∷ os) c o is = absurd is
+  attempts_more w v (x ∷ cs) [] c o is = absurd is
+  attempts_more w v (x ∷ cs) (Replied q ∷ os) c o is = ap (λ ts. record { given_up = false; change = λ u. (step u x.0 x.1).world } ∷ ts) (attempts_more (step w x.0 x.1).world v cs os c o is.1)
+  attempts_more w v (x ∷ cs) (Unavailable ∷ os) c o is = ap (λ ts. record { given_up = true; change = λ u. (step u x.0 x.1).world } ∷ ts) (attempts_more w v cs os c o is.1)
+
+  pub attempts_at : (w v : World) (cs : List Asked) (i : ℕ) (c : Asked) (os more : List Outcome) (o : Outcome) → i < length cs → c ≡ get_or cs i c → IsRun fails w (take i cs) os v
+      → more ≡ os ++ o ∷ [] → attempts (take (i + 1) cs) more ≡ attempts (take i cs) os ++ attempt (is_unavailable o) (λ u. (step u c.0 c.1).world)
+  attempts_at w v cs i c os more o lt at is more_is = rw (one_taken cs i c lt at, more_is) (attempts_more w v (take i cs) os c o is)

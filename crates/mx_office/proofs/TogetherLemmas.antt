@@ -1,12 +1,11 @@
 -- The sums of the members come to those of the scheme, since each purse is of one member.
-use Rattle.std.proofs.Common.{◌≡◌, ℕ, ◌+◌, Bool, true, false, cond, List, map, refl, sym, ◌∙◌, ap, Option, Some, None, IsSome}
-use Rattle.std.specs.Prelude.{sum_by}
+use Rattle.std.proofs.Common.{◌≡◌, ℕ, cond, refl, sym, ◌∙◌, ap, Option, Some, None, IsSome}
 use Rattle.std.specs.FinMap as fmap
 use Rattle.mx_pay.specs.Names.{name_cmp, is_name}
 use Rattle.mx_pay.proofs.SameLemmas.{names_turned}
-use Rattle.mx_book.specs.Conditions.{IsWorld, all_granted}
-use Rattle.mx_book.specs.Sums.{sum_entries, sum_values}
-use Rattle.mx_book.specs.Totals.{balance_row, issued_row, members_totals_of, of_all, of_member, redeemed_row, sums_of, totals_of}
+use Rattle.mx_book.specs.Conditions.{IsWorld}
+use Rattle.mx_book.specs.Sums.{sum_values}
+use Rattle.mx_book.specs.Totals.{balance_row, issued_row, members_totals_of, of_all, of_member, redeemed_row, sums_of}
 use Rattle.mx_book.specs.Reads.{uncollected_row}
 use Rattle.mx_book.specs.World.{World, Row, Name, is_of, is_of_member}
 use Rattle.mx_book.specs.declared.values.MemberRow.{MemberRow}

@@ -1,9 +1,8 @@
 -- What a holder sees is of the holder's own purses.
-use Rattle.std.proofs.Common.{◌≡◌, ℕ, Bool, true, false, List, [], ◌∷◌, ◌++◌, refl, sym, ◌∙◌, ap, Option, Some, None, option_map, is_some, is_none, IsSome, ◌&&◌}
+use Rattle.std.proofs.Common.{◌≡◌, Bool, true, false, ◌++◌, refl, ◌∙◌, ap, Option, Some, None, option_map, is_some, is_none, IsSome, ◌&&◌}
 use Rattle.std.specs.List.{AllByRecursion}
 use Rattle.std.specs.Option.{option_map_or}
 use Rattle.std.specs.FinMap as fmap
-use Rattle.mx_pay.specs.Details.{Details}
 use Rattle.mx_pay.specs.Names.{is_name}
 use Rattle.mx_purse.specs.declared.message.Message.{Message}
 use Rattle.mx_book.specs.declared.values.Caller.{Caller}
@@ -19,7 +18,7 @@ use Rattle.mx_office.specs.Isolation.{Event, IsOf, only_if, for_holder, issued_e
 use Rattle.mx_office.specs.Step.{tell, unless, own_holding, idle_load, new_purse_refusal, settle_refusal, base, step}
 use Rattle.mx_office.proofs.OwnLemmas.{present, own_at, is_owned}
 use Rattle.mx_office.proofs.SeenLemmas.{both_parts}
-use Rattle.mx_office.proofs.StayLemmas.{Stays, holder_at, after_stays, step_stays}
+use Rattle.mx_office.proofs.StayLemmas.{Stays, after_stays, step_stays}
 
 -- ---- the holder's own stays so
 

@@ -4,7 +4,7 @@ use Rattle.std.proofs.lemmas.List.{append-nil, map-append}
 use Rattle.std.specs.Prelude.{is_none}
 use Rattle.std.specs.Option.{option_map_or}
 use Rattle.std.specs.FinMap as fmap
-use Rattle.mx_pay.specs.Names.{name_cmp, is_name}
+use Rattle.mx_pay.specs.Names.{is_name}
 use Rattle.mx_pay.specs.Details.{Details}
 use Rattle.mx_purse.specs.Operations.{pending, aborted, start_from_refusal, start_to_refusal, started, from_details, to_details, handled, after_message, load_refusal, loaded, credited, redeem_refusal, redeemed, credit_refusal}
 use Rattle.mx_purse.specs.State.{State}
@@ -22,7 +22,7 @@ use Rattle.mx_office.specs.declared.values.Refusal.TheVariants.{NoSuchPurse, NoS
 use Rattle.mx_office.specs.declared.values.Reply.{Reply}
 use Rattle.mx_office.specs.declared.values.Reply.TheVariants as reply
 use Rattle.mx_office.specs.Isolation.{Event, Holdings, on_holdings, after_event, local}
-use Rattle.mx_office.specs.Statement.{Item, item_of, items_in, payment_item, money_item, abort_items, message_items, command_items, asked_items, event_items, items_after, items_over}
+use Rattle.mx_office.specs.Statement.{Item, item_of, items_in, payment_item, money_item, abort_items, message_items, command_items, asked_items, items_after, items_over}
 use Rattle.mx_office.specs.Step.{Deed, Asks, idle, refusal_of_start, refusal_of_redeem, unless, unless_told, on_found, in_place, listed, abort_line, message_line, money_line, payment_line, with_purse, with_aborted, with_redemption, handle_message, asks, show, start_from, start_to, handle, discard, abort, read_log, redeem, inbox, statement, loaded_holding, settled_holding}
 use Rattle.mx_office.proofs.CaseLemmas.{by_room}
 

@@ -1,5 +1,6 @@
 -- A run of commands, some of which the book could not do.
-use Rattle.std.specs.Prelude.{◌≡◌, List, [], ◌∷◌}
+use Rattle.std.specs.Prelude.{◌≡◌, Bool, List, [], ◌∷◌}
+use Rattle.mx_book.specs.Stands.{Attempt}
 use Rattle.mx_book.specs.World.{World}
 use Rattle.mx_book.specs.declared.contract.StoreFault.{StoreFault}
 use Rattle.mx_book.specs.declared.values.Caller.{Caller}
@@ -22,6 +23,16 @@ IsRun fails w [] [] end = w ≡ end
 IsRun fails w (c ∷ cs) (Replied r ∷ os) end = (r ≡ (step w c.0 c.1).reply) × IsRun fails (step w c.0 c.1).world cs os end
 IsRun fails w (c ∷ cs) (Unavailable ∷ os) end = MayBeUndone fails w c × IsRun fails w cs os end
 IsRun fails w _ _ end = ⊥
+
+-- whether a command wasn't answered
+abbrev pub is_unavailable : Outcome → Bool
+is_unavailable (Replied r) = Bool.false
+is_unavailable Unavailable = Bool.true
+
+-- commands as attempts: those that weren't answered are given up
+abbrev pub attempts : List Asked → List Outcome → List Attempt
+attempts (c ∷ cs) (o ∷ os) = record { given_up = is_unavailable o; change = λ w. (step w c.0 c.1).world } ∷ attempts cs os
+attempts _ _ = []
 
 -- a run of these outcomes ends in a World that stands
 pub record Leads (fails : StoreFault → Type 0) (Stands : World → Type 0) (w : World) (cs : List Asked) (os : List Outcome) : Type 0 where

@@ -2,6 +2,7 @@
 ghost use Rattle.std.specs.Prelude.{◌≡◌, [], false, nat_lt, OnOk, IfErr};
 ghost use Rattle.mx_pay.specs.Log.{log_len};
 ghost use Rattle.mx_book.specs.Keeps.{Keeps, Gives};
+ghost use Rattle.mx_book.specs.Stands.{IsWorking};
 ghost use Rattle.mx_book.specs.Reads.{finds_place, tray_of};
 ghost use Rattle.mx_book.specs.World.{World};
 ghost use Rattle.mx_office.specs.Commands.{IsCommand};
@@ -29,6 +30,7 @@ pub(crate) fn archive<B: Book>(
     decided: &mut Decided,
 ) -> Result<(), StoreFault>
     ensures keeps { Keeps B.doubt B.rows B.leaves book.old book.new }
+    ensures answered { OnOk result (IsWorking B.doubt book.new) }
     ensures decides { (w : World) → B.doubt book.new ≡ 0 → B.spells (B.rows book.old) w → OnOk result (Decides w (archive w purse) decided.new) }
     ensures idle { (w : World) → B.doubt book.new ≡ 0 → B.spells (B.rows book.old) w
         → OnOk result (nat_lt 0 (log_len (tray_of w purse)) ≡ false → decided.new.edits ≡ []) }
@@ -60,6 +62,7 @@ fn may_clear<B: Book>(
     details: &Log,
 ) -> Result<bool, StoreFault>
     ensures keeps { Keeps B.doubt B.rows B.leaves book.old book.new }
+    ensures answered { IsWorking B.doubt book.old → OnOk result (IsWorking B.doubt book.new) }
     ensures value { Gives B.doubt B.rows B.spells book.old book.new result
         (λ w b. b ≡ may_clear w purse details.now) }
     ensures fault { IfErr result B.fails }
@@ -83,6 +86,7 @@ pub(crate) fn clear<B: Book>(
     decided: &mut Decided,
 ) -> Result<(), StoreFault>
     ensures keeps { Keeps B.doubt B.rows B.leaves book.old book.new }
+    ensures answered { OnOk result (IsWorking B.doubt book.new) }
     ensures decides { (w : World) → IsCommand (Command.Clear purse details.now) → B.doubt book.new ≡ 0 → B.spells (B.rows book.old) w → OnOk result (Decides w (clear w purse details.now) decided.new) }
     ensures idle { (w : World) → B.doubt book.new ≡ 0 → B.spells (B.rows book.old) w
         → OnOk result (finds_place w purse ≡ false → decided.new.edits ≡ []) }
@@ -108,6 +112,7 @@ fn is_archived_for_both<B: Book>(
     details: &PayDetails,
 ) -> Result<bool, StoreFault>
     ensures keeps { Keeps B.doubt B.rows B.leaves book.old book.new }
+    ensures answered { OnOk result (IsWorking B.doubt book.new) }
     ensures value { Gives B.doubt B.rows B.spells book.old book.new result
         (λ w b. b ≡ is_archived_for_both w details.now) }
     ensures fault { IfErr result B.fails }
@@ -136,6 +141,7 @@ pub(crate) fn settle<B: Book>(
     decided: &mut Decided,
 ) -> Result<(), StoreFault>
     ensures keeps { Keeps B.doubt B.rows B.leaves book.old book.new }
+    ensures answered { OnOk result (IsWorking B.doubt book.new) }
     ensures decides { (w : World) → IsCommand (Command.Settle details.now) → B.doubt book.new ≡ 0
         → B.spells (B.rows book.old) w → OnOk result (Decides w (settle w details.now) decided.new) }
     ensures fault { IfErr result B.fails }

@@ -12,6 +12,7 @@ use mx_pay::{Amount, Name, PayDetails};
 use mx_purse::{CreditRefusal, Handled, LoadRefusal, Message, Purse, RedeemRefusal, StartRefusal};
 
 /// The command is refused, and nothing is to change.
+#[inline(always)]
 pub(crate) fn refuse(decided: &mut Decided, refusal: Refusal)
     ensures reply { decided.new.reply ≡ Reply.Refused refusal }
     ensures edits { decided.new.edits ≡ [] }
@@ -20,6 +21,7 @@ pub(crate) fn refuse(decided: &mut Decided, refusal: Refusal)
 }
 
 /// The command is answered so, and nothing is to change.
+#[inline(always)]
 pub(crate) fn tell(decided: &mut Decided, reply: Reply)
     ensures reply { decided.new.reply ≡ reply }
     ensures edits { decided.new.edits ≡ [] }
@@ -29,6 +31,7 @@ pub(crate) fn tell(decided: &mut Decided, reply: Reply)
 }
 
 /// The command is answered so, by this edit.
+#[inline(always)]
 pub(crate) fn make(decided: &mut Decided, reply: Reply, edit: &Edit)
     ensures reply { decided.new.reply ≡ reply }
     ensures edits { decided.new.edits ≡ edit.now ∷ [] }
@@ -100,6 +103,7 @@ pub(crate) fn sent_for(handled: &Handled) -> Option<(Name, Message)>
 }
 
 /// The command is answered so, by the edits for a purse as it is now, its new line, and a message that finds a place.
+#[inline(always)]
 pub(crate) fn make_purse(
     decided: &mut Decided,
     reply: Reply,
@@ -116,6 +120,7 @@ pub(crate) fn make_purse(
 }
 
 /// The command is answered so, by the edit for a message that finds a place.
+#[inline(always)]
 pub(crate) fn make_message(decided: &mut Decided, reply: Reply, message: Option<(Name, Message)>)
     ensures reply { decided.new.reply ≡ reply }
     ensures edits { decided.new.edits ≡ put_edits message }

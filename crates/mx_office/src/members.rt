@@ -1,6 +1,7 @@
 //! The commands of the operator and of clerks.
 ghost use Rattle.std.specs.Prelude.{◌≡◌, OnOk, IfErr};
 ghost use Rattle.mx_book.specs.Keeps.{Keeps, Gives};
+ghost use Rattle.mx_book.specs.Stands.{IsWorking};
 ghost use Rattle.mx_book.specs.World.{World};
 ghost use Rattle.mx_office.specs.Commands.{IsCommand};
 ghost use Rattle.mx_office.specs.Decides.{Decides, purse_count};
@@ -25,6 +26,7 @@ pub(crate) fn new_member<B: Book>(
     decided: &mut Decided,
 ) -> Result<(), StoreFault>
     ensures keeps { Keeps B.doubt B.rows B.leaves book.old book.new }
+    ensures answered { OnOk result (IsWorking B.doubt book.new) }
     ensures decides { (w : World) → IsCommand (Command.NewMember member token) → B.doubt book.new ≡ 0 → B.spells (B.rows book.old) w → OnOk result (Decides w (new_member w member token) decided.new) }
     ensures fault { IfErr result B.fails }
 {
@@ -54,6 +56,7 @@ pub(crate) fn new_holder<B: Book>(
     decided: &mut Decided,
 ) -> Result<(), StoreFault>
     ensures keeps { Keeps B.doubt B.rows B.leaves book.old book.new }
+    ensures answered { OnOk result (IsWorking B.doubt book.new) }
     ensures decides { (w : World) → IsCommand (Command.NewHolder holder token) → B.doubt book.new ≡ 0 → B.spells (B.rows book.old) w → OnOk result (Decides w (new_holder w member holder token) decided.new) }
     ensures fault { IfErr result B.fails }
 {
@@ -86,6 +89,7 @@ fn purse_count<B: Book>(
     holder: Name,
 ) -> Result<Option<usize>, StoreFault>
     ensures keeps { Keeps B.doubt B.rows B.leaves book.old book.new }
+    ensures answered { OnOk result (IsWorking B.doubt book.new) }
     ensures value { Gives B.doubt B.rows B.spells book.old book.new result
         (λ w o. o ≡ purse_count w member holder) }
     ensures fault { IfErr result B.fails }
@@ -106,6 +110,7 @@ pub(crate) fn new_purse<B: Book>(
     decided: &mut Decided,
 ) -> Result<(), StoreFault>
     ensures keeps { Keeps B.doubt B.rows B.leaves book.old book.new }
+    ensures answered { OnOk result (IsWorking B.doubt book.new) }
     ensures decides { (w : World) → IsCommand (Command.NewPurse purse holder) → B.doubt book.new ≡ 0 → B.spells (B.rows book.old) w → OnOk result (Decides w (new_purse w member purse holder) decided.new) }
     ensures fault { IfErr result B.fails }
 {

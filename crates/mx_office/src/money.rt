@@ -3,6 +3,7 @@ ghost use Rattle.std.specs.Prelude.{◌≡◌, ◌≤◌, ◌⊎◌, [], OnOk, I
 ghost use Rattle.mx_book.specs.declared.contract.StoreFault.TheVariants.{Memory};
 ghost use Rattle.mx_book.specs.Conditions.{all_granted};
 ghost use Rattle.mx_book.specs.Keeps.{Keeps, Gives};
+ghost use Rattle.mx_book.specs.Stands.{IsWorking};
 ghost use Rattle.mx_book.specs.Reads.{load_of, member_of};
 ghost use Rattle.mx_book.specs.World.{World};
 ghost use Rattle.mx_office.specs.Commands.{IsCommand};
@@ -28,6 +29,7 @@ const MOST: u128 = MOST_NUMBER as u128;
 /// How much a member was granted; 0 where there is no such member.
 fn granted_of<B: Book>(book: &mut B, alloc: Global, member: Name) -> Result<u64, StoreFault>
     ensures keeps { Keeps B.doubt B.rows B.leaves book.old book.new }
+    ensures answered { OnOk result (IsWorking B.doubt book.new) }
     ensures value { Gives B.doubt B.rows B.spells book.old book.new result
         (λ w n. n ≡ granted_to w member) }
     ensures fault { IfErr result B.fails }
@@ -41,6 +43,7 @@ fn granted_of<B: Book>(book: &mut B, alloc: Global, member: Name) -> Result<u64,
 /// The sum of all grants.
 fn all_granted<B: Book>(book: &mut B, alloc: Global) -> Result<u128, StoreFault>
     ensures keeps { Keeps B.doubt B.rows B.leaves book.old book.new }
+    ensures answered { OnOk result (IsWorking B.doubt book.new) }
     ensures value { Gives B.doubt B.rows B.spells book.old book.new result
         (λ w n. n ≡ all_granted w) }
     ensures fault { IfErr result (λ e. (e ≡ Memory) ⊎ B.fails e) }
@@ -62,6 +65,7 @@ pub(crate) fn grant<B: Book>(
     decided: &mut Decided,
 ) -> Result<(), StoreFault>
     ensures keeps { Keeps B.doubt B.rows B.leaves book.old book.new }
+    ensures answered { OnOk result (IsWorking B.doubt book.new) }
     ensures decides { (w : World) → B.doubt book.new ≡ 0 → B.spells (B.rows book.old) w → OnOk result (Decides w (grant w member amount) decided.new) }
     ensures fault { IfErr result (λ e. (e ≡ Memory) ⊎ B.fails e) }
     ensures memory { (w : World) → B.doubt book.new ≡ 0 → B.spells (B.rows book.old) w
@@ -128,6 +132,7 @@ pub(crate) fn load<B: Book>(
     decided: &mut Decided,
 ) -> Result<(), StoreFault>
     ensures keeps { Keeps B.doubt B.rows B.leaves book.old book.new }
+    ensures answered { OnOk result (IsWorking B.doubt book.new) }
     ensures decides { (w : World) → IsCommand (Command.Load purse amount reference) → B.doubt book.new ≡ 0 → B.spells (B.rows book.old) w → OnOk result (Decides w (load_purse w member purse amount reference) decided.new) }
     ensures idle { (w : World) → B.doubt book.new ≡ 0 → B.spells (B.rows book.old) w
         → OnOk result (IsTrue (is_some (load_of w purse reference)) → decided.new.edits ≡ []) }
@@ -169,6 +174,7 @@ fn member_purse<B: Book>(
     purse: Name,
 ) -> Result<Option<Purse>, StoreFault>
     ensures keeps { Keeps B.doubt B.rows B.leaves book.old book.new }
+    ensures answered { OnOk result (IsWorking B.doubt book.new) }
     ensures value { Gives B.doubt B.rows B.spells book.old book.new result
         (λ w o. o ≡ member_purse w member purse) }
     ensures fault { IfErr result B.fails }
@@ -187,6 +193,7 @@ pub(crate) fn collect<B: Book>(
     decided: &mut Decided,
 ) -> Result<(), StoreFault>
     ensures keeps { Keeps B.doubt B.rows B.leaves book.old book.new }
+    ensures answered { OnOk result (IsWorking B.doubt book.new) }
     ensures decides { (w : World) → B.doubt book.new ≡ 0 → B.spells (B.rows book.old) w → OnOk result (Decides w (collect w member) decided.new) }
     ensures fault { IfErr result B.fails }
 {
@@ -220,6 +227,7 @@ pub(crate) fn reconcile<B: Book>(
     decided: &mut Decided,
 ) -> Result<(), StoreFault>
     ensures keeps { Keeps B.doubt B.rows B.leaves book.old book.new }
+    ensures answered { OnOk result (IsWorking B.doubt book.new) }
     ensures decides { (w : World) → B.doubt book.new ≡ 0 → B.spells (B.rows book.old) w → OnOk result (Decides w (reconcile w) decided.new) }
     ensures edits { OnOk result (decided.new.edits ≡ []) }
     ensures fault { IfErr result B.fails }

@@ -4,6 +4,7 @@ ghost use Rattle.std.specs.List.{AllByRecursion};
 ghost use Rattle.std.specs.Prelude.{◌≡◌, ◌≤◌, ◌⊎◌, [], false, length, IfOk, IfErr, IsTrue, OnOk, OnErr};
 ghost use Rattle.mx_book.specs.Edits.{Fits, all_edited};
 ghost use Rattle.mx_book.specs.Keeps.{Keeps};
+ghost use Rattle.mx_book.specs.Stands.{Attempts, IsWorking, MovesTo};
 ghost use Rattle.mx_book.specs.World.{World, Name as HolderName};
 ghost use Rattle.mx_book.specs.declared.contract.StoreFault.TheVariants.{Memory};
 ghost use Rattle.mx_office.specs.declared.values.Refusal.{Refusal};
@@ -11,12 +12,12 @@ ghost use Rattle.mx_office.specs.declared.values.Reply.TheVariants.{Refused};
 ghost use Rattle.mx_office.specs.Abstract.{Refines};
 ghost use Rattle.mx_office.specs.Commands.{IsAsked, IsCommand};
 ghost use Rattle.mx_office.specs.Conservation.{IsNeverFullOutcome};
-ghost use Rattle.mx_office.specs.Decides.{Decides};
+ghost use Rattle.mx_office.specs.Decides.{Decides, IsForAnother};
 ghost use Rattle.mx_office.specs.Faults.{FailsFor, MayFail, MayNotDecide, is_read, lists, makes_edits};
 ghost use Rattle.mx_office.specs.Isolation.{cut, for_holder, local, told_to, view, view_of};
 ghost use Rattle.mx_office.specs.Lends.{LendsBook};
 ghost use Rattle.mx_office.specs.Reachable.{IsReachable, StandsBalanced};
-ghost use Rattle.mx_office.specs.Run.{IsUndone, Leads, answered, replies};
+ghost use Rattle.mx_office.specs.Run.{IsUndone, Leads, answered, attempts, replies};
 ghost use Rattle.mx_office.specs.Step.{base, step};
 
 use crate::archive::{archive, clear, settle};
@@ -76,6 +77,7 @@ impl<B: Book> Office<B> {
         command: &Command,
     ) -> Result<Decided, StoreFault>
         ensures keeps { Keeps B.doubt B.rows B.leaves self.old.book self.new.book }
+        ensures answered { IfOk result (λ d. IsWorking B.doubt self.new.book ⊎ IsForAnother caller command.now d) }
         ensures decides { (w : World) → B.doubt self.new.book ≡ 0 → B.spells (B.rows self.old.book) w → IfOk result (Decides w (base w caller command.now)) }
         ensures reads { IfOk result (λ d. IsTrue (is_read command.now) → d.edits ≡ []) }
         ensures edits { (w : World) → B.doubt self.new.book ≡ 0 → B.spells (B.rows self.old.book) w
@@ -101,6 +103,7 @@ impl<B: Book> Office<B> {
         decided: &mut Decided,
     ) -> Result<(), StoreFault>
         ensures keeps { Keeps B.doubt B.rows B.leaves self.old.book self.new.book }
+        ensures answered { OnOk result (IsWorking B.doubt self.new.book ⊎ IsForAnother caller command.now decided.new) }
         ensures decides { (w : World) → B.doubt self.new.book ≡ 0 → B.spells (B.rows self.old.book) w → OnOk result (Decides w (base w caller command.now) decided.new) }
         ensures reads { OnOk result (IsTrue (is_read command.now) → decided.new.edits ≡ []) }
         ensures edits { (w : World) → B.doubt self.new.book ≡ 0 → B.spells (B.rows self.old.book) w
@@ -128,6 +131,9 @@ impl<B: Book> Office<B> {
         ensures later { B.doubt self.old.book ≤ B.doubt self.new.book }
         ensures ok { (w : World) → B.doubt self.new.book ≡ 0 → B.spells (B.rows self.old.book) w → OnOk result (B.spells (B.rows self.new.book) (all_edited w decided.now.edits)) }
         ensures err { B.doubt self.new.book ≡ 0 → OnErr result (B.rows self.new.book ≡ B.rows self.old.book) }
+        ensures attempts { (w : World) → (B.doubt self.old.book ≡ 0 → B.spells (B.rows self.old.book) w)
+            → Attempts B.doubt B.rows B.spells B.leaves self.old.book self.new.book result w
+            (λ v. all_edited v decided.now.edits) }
         ensures nothing { decided.now.edits ≡ [] → IfErr result (λ _. ⊥) }
         ensures fault { IfErr result (λ e. (e ≡ Memory) ⊎ B.fails e) }
     {
@@ -147,6 +153,9 @@ impl<B: Book> Office<B> {
     /// It keeps holders apart: after an answer that succeeds, and for every holder, what is the holder's own of each of
     /// the holder's purses is what the holder's view of that one command makes of what it was (`accounts`), and the reply,
     /// where it is given to that holder, is the one that this view gives (`told`). What a view is stands at `isolation`.
+    ///
+    /// A stop leaves the World after a command that was answered. After one that wasn't it leaves the World before the command
+    /// or that after it (`attempts`).
     pub fn answer(
         &mut self,
         alloc: Global,
@@ -155,7 +164,13 @@ impl<B: Book> Office<B> {
     ) -> Result<Reply, StoreFault>
         ensures later { B.doubt self.old.book ≤ B.doubt self.new.book }
         ensures ok { (w : World) → B.doubt self.new.book ≡ 0 → B.spells (B.rows self.old.book) w → OnOk result (B.spells (B.rows self.new.book) (step w caller command.now).world) }
-        ensures reply { (w : World) → B.doubt self.new.book ≡ 0 → B.spells (B.rows self.old.book) w → IfOk result (λ r. r ≡ (step w caller command.now).reply) }
+        ensures attempts { (w : World) → B.doubt self.new.book ≤ 1
+            → (B.doubt self.old.book ≡ 0 → B.spells (B.rows self.old.book) w)
+            → Attempts B.doubt B.rows B.spells B.leaves self.old.book self.new.book result w
+            (λ v. (step v caller command.now).world) }
+        ensures reply { (w : World) → B.doubt self.new.book ≤ 1
+            → (B.doubt self.old.book ≡ 0 → B.spells (B.rows self.old.book) w)
+            → IfOk result (λ r. r ≡ (step w caller command.now).reply) }
         ensures accounts { (w v : World) → B.doubt self.new.book ≡ 0 → B.spells (B.rows self.old.book) w → B.spells (B.rows self.new.book) v → OnOk result ((h : HolderName) → cut v h ≡ (local (cut w h) (view_of w h caller command.now)).end) }
         ensures told { (w : World) → B.doubt self.new.book ≡ 0 → B.spells (B.rows self.old.book) w → IfOk result (λ r. (h : HolderName) → for_holder h caller r ≡ (local (cut w h) (view_of w h caller command.now)).replies) }
         ensures refused { B.doubt self.new.book ≡ 0 → IfOk result (λ r. (refusal : Refusal) → r ≡ Refused refusal → B.rows self.new.book ≡ B.rows self.old.book) }
@@ -184,13 +199,19 @@ impl<B: Book> Office<B> {
     ///
     /// The commands that were answered are operations of the abstract purses, in which a payment is one operation, for
     /// every choice of losses at the end (`refines`). What these are stands at `refinement`.
+    ///
+    /// What `run` says holds also where a fault shuts the store on the way. A stop leaves the World in the end, or that with one
+    /// more of the commands that weren't answered, behind which nothing was changed.
     pub fn run(
         &mut self,
         alloc: Global,
         commands: &[(Caller, Command)],
     ) -> Result<Vec<Outcome>, AllocError>
         ensures later { B.doubt self.old.book ≤ B.doubt self.new.book }
-        ensures run { (w : World) → B.doubt self.new.book ≡ 0 → B.spells (B.rows self.old.book) w → IfOk result (λ outcomes. Leads B.fails (B.spells (B.rows self.new.book)) w commands.now outcomes.items) }
+        ensures run { (w : World) → B.doubt self.new.book ≤ 1
+            → (B.doubt self.old.book ≡ 0 → B.spells (B.rows self.old.book) w)
+            → IfOk result (λ outcomes. Leads B.fails (MovesTo B.doubt B.rows B.spells B.leaves
+            self.old.book self.new.book w (attempts commands.now outcomes.items)) w commands.now outcomes.items) }
         ensures reachable { (w : World) → B.doubt self.new.book ≡ 0 → B.spells (B.rows self.old.book) w → IsReachable w → IfOk result (λ _. StandsBalanced (B.spells (B.rows self.new.book))) }
         ensures never_full { (w : World) → B.doubt self.new.book ≡ 0 → B.spells (B.rows self.old.book) w → IsReachable w → IfOk result (λ outcomes. AllByRecursion IsNeverFullOutcome outcomes.items) }
         ensures accounts { (w v : World) → B.doubt self.new.book ≡ 0 → B.spells (B.rows self.old.book) w → B.spells (B.rows self.new.book) v → IfOk result (λ outcomes. (h : HolderName) → cut v h ≡ (local (cut w h) (view h w (answered commands.now outcomes.items))).end) }
@@ -223,6 +244,7 @@ fn decide_operator<B: Book>(
     decided: &mut Decided,
 ) -> Result<(), StoreFault>
     ensures keeps { Keeps B.doubt B.rows B.leaves book.old book.new }
+    ensures answered { OnOk result (IsWorking B.doubt book.new ⊎ IsForAnother Caller.Operator command.now decided.new) }
     ensures decides { (w : World) → IsCommand command.now → B.doubt book.new ≡ 0 → B.spells (B.rows book.old) w → OnOk result (Decides w (base w Caller.Operator command.now) decided.new) }
     ensures reads { OnOk result (IsTrue (is_read command.now) → decided.new.edits ≡ []) }
     ensures edits { (w : World) → B.doubt book.new ≡ 0 → B.spells (B.rows book.old) w
@@ -254,6 +276,7 @@ fn decide_clerk<B: Book>(
     decided: &mut Decided,
 ) -> Result<(), StoreFault>
     ensures keeps { Keeps B.doubt B.rows B.leaves book.old book.new }
+    ensures answered { OnOk result (IsWorking B.doubt book.new ⊎ IsForAnother (Caller.Clerk member) command.now decided.new) }
     ensures decides { (w : World) → IsCommand command.now → B.doubt book.new ≡ 0 → B.spells (B.rows book.old) w → OnOk result (Decides w (base w (Caller.Clerk member) command.now) decided.new) }
     ensures reads { OnOk result (IsTrue (is_read command.now) → decided.new.edits ≡ []) }
     ensures edits { (w : World) → B.doubt book.new ≡ 0 → B.spells (B.rows book.old) w
@@ -291,6 +314,7 @@ fn decide_holder<B: Book>(
     decided: &mut Decided,
 ) -> Result<(), StoreFault>
     ensures keeps { Keeps B.doubt B.rows B.leaves book.old book.new }
+    ensures answered { OnOk result (IsWorking B.doubt book.new ⊎ IsForAnother (Caller.Holder holder) command.now decided.new) }
     ensures decides { (w : World) → IsCommand command.now → B.doubt book.new ≡ 0 → B.spells (B.rows book.old) w → OnOk result (Decides w (base w (Caller.Holder holder) command.now) decided.new) }
     ensures reads { OnOk result (IsTrue (is_read command.now) → decided.new.edits ≡ []) }
     ensures edits { (w : World) → B.doubt book.new ≡ 0 → B.spells (B.rows book.old) w

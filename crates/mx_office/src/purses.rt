@@ -2,6 +2,7 @@
 ghost use Rattle.std.specs.Prelude.{◌≡◌, ◌⊎◌, [], OnOk, IfErr, IsTrue, is_some, option_map};
 ghost use Rattle.mx_book.specs.declared.contract.StoreFault.TheVariants.{Memory};
 ghost use Rattle.mx_book.specs.Keeps.{Keeps, Gives};
+ghost use Rattle.mx_book.specs.Stands.{IsWorking};
 ghost use Rattle.mx_book.specs.World.{World};
 ghost use Rattle.mx_book.specs.Reads.{own_purse, purses_of, redemption_of};
 ghost use Rattle.mx_office.specs.Commands.{IsCommand};
@@ -29,6 +30,7 @@ pub(crate) fn placed<B: Book>(
     sent: Option<(Name, Message)>,
 ) -> Result<Option<(Name, Message)>, StoreFault>
     ensures keeps { Keeps B.doubt B.rows B.leaves book.old book.new }
+    ensures answered { IsWorking B.doubt book.old → OnOk result (IsWorking B.doubt book.new) }
     ensures value { Gives B.doubt B.rows B.spells book.old book.new result
         (λ w o. o ≡ placed w sent) }
     ensures fault { IfErr result B.fails }
@@ -52,6 +54,7 @@ pub(crate) fn purses<B: Book>(
     decided: &mut Decided,
 ) -> Result<(), StoreFault>
     ensures keeps { Keeps B.doubt B.rows B.leaves book.old book.new }
+    ensures answered { OnOk result (IsWorking B.doubt book.new) }
     ensures decides { (w : World) → B.doubt book.new ≡ 0 → B.spells (B.rows book.old) w → OnOk result (Decides w (tell w (Reply.Purses (purses_of w holder))) decided.new) }
     ensures edits { OnOk result (decided.new.edits ≡ []) }
     ensures fault { IfErr result (λ e. (e ≡ Memory) ⊎ B.fails e) }
@@ -71,6 +74,7 @@ pub(crate) fn show<B: Book>(
     decided: &mut Decided,
 ) -> Result<(), StoreFault>
     ensures keeps { Keeps B.doubt B.rows B.leaves book.old book.new }
+    ensures answered { OnOk result (IsWorking B.doubt book.new) }
     ensures decides { (w : World) → B.doubt book.new ≡ 0 → B.spells (B.rows book.old) w → OnOk result (Decides w (on_own w holder purse show) decided.new) }
     ensures edits { OnOk result (decided.new.edits ≡ []) }
     ensures fault { IfErr result B.fails }
@@ -97,6 +101,7 @@ pub(crate) fn inbox<B: Book>(
     decided: &mut Decided,
 ) -> Result<(), StoreFault>
     ensures keeps { Keeps B.doubt B.rows B.leaves book.old book.new }
+    ensures answered { OnOk result (IsWorking B.doubt book.new) }
     ensures decides { (w : World) → B.doubt book.new ≡ 0 → B.spells (B.rows book.old) w → OnOk result (Decides w (on_own w holder purse inbox) decided.new) }
     ensures edits { OnOk result (decided.new.edits ≡ []) }
     ensures fault { IfErr result (λ e. (e ≡ Memory) ⊎ B.fails e) }
@@ -123,6 +128,7 @@ pub(crate) fn statement<B: Book>(
     decided: &mut Decided,
 ) -> Result<(), StoreFault>
     ensures keeps { Keeps B.doubt B.rows B.leaves book.old book.new }
+    ensures answered { OnOk result (IsWorking B.doubt book.new) }
     ensures decides { (w : World) → B.doubt book.new ≡ 0 → B.spells (B.rows book.old) w → OnOk result (Decides w (on_own w holder purse (statement after)) decided.new) }
     ensures edits { OnOk result (decided.new.edits ≡ []) }
     ensures fault { IfErr result (λ e. (e ≡ Memory) ⊎ B.fails e) }
@@ -151,6 +157,7 @@ pub(crate) fn start_from<B: Book>(
     decided: &mut Decided,
 ) -> Result<(), StoreFault>
     ensures keeps { Keeps B.doubt B.rows B.leaves book.old book.new }
+    ensures answered { OnOk result (IsWorking B.doubt book.new) }
     ensures decides { (w : World) → B.doubt book.new ≡ 0 → B.spells (B.rows book.old) w → OnOk result (Decides w (on_own w holder purse (start_from peer value seq)) decided.new) }
     ensures fault { IfErr result B.fails }
 {
@@ -185,6 +192,7 @@ pub(crate) fn start_to<B: Book>(
     decided: &mut Decided,
 ) -> Result<(), StoreFault>
     ensures keeps { Keeps B.doubt B.rows B.leaves book.old book.new }
+    ensures answered { OnOk result (IsWorking B.doubt book.new) }
     ensures decides { (w : World) → B.doubt book.new ≡ 0 → B.spells (B.rows book.old) w → OnOk result (Decides w (on_own w holder purse (start_to peer value seq)) decided.new) }
     ensures fault { IfErr result B.fails }
 {
@@ -218,6 +226,7 @@ pub(crate) fn handle<B: Book>(
     decided: &mut Decided,
 ) -> Result<(), StoreFault>
     ensures keeps { Keeps B.doubt B.rows B.leaves book.old book.new }
+    ensures answered { OnOk result (IsWorking B.doubt book.new) }
     ensures decides { (w : World) → B.doubt book.new ≡ 0 → B.spells (B.rows book.old) w → OnOk result (Decides w (on_own w holder purse (handle number)) decided.new) }
     ensures fault { IfErr result B.fails }
 {
@@ -248,6 +257,7 @@ pub(crate) fn discard<B: Book>(
     decided: &mut Decided,
 ) -> Result<(), StoreFault>
     ensures keeps { Keeps B.doubt B.rows B.leaves book.old book.new }
+    ensures answered { OnOk result (IsWorking B.doubt book.new) }
     ensures decides { (w : World) → B.doubt book.new ≡ 0 → B.spells (B.rows book.old) w → OnOk result (Decides w (on_own w holder purse (discard number)) decided.new) }
     ensures fault { IfErr result B.fails }
 {
@@ -278,6 +288,7 @@ pub(crate) fn abort<B: Book>(
     decided: &mut Decided,
 ) -> Result<(), StoreFault>
     ensures keeps { Keeps B.doubt B.rows B.leaves book.old book.new }
+    ensures answered { OnOk result (IsWorking B.doubt book.new) }
     ensures decides { (w : World) → B.doubt book.new ≡ 0 → B.spells (B.rows book.old) w → OnOk result (Decides w (on_own w holder purse abort) decided.new) }
     ensures fault { IfErr result B.fails }
 {
@@ -302,6 +313,7 @@ fn not_kept<B: Book>(
     entry: Option<&PayDetails>,
 ) -> Result<Option<PayDetails>, StoreFault>
     ensures keeps { Keeps B.doubt B.rows B.leaves book.old book.new }
+    ensures answered { IsWorking B.doubt book.old → OnOk result (IsWorking B.doubt book.new) }
     ensures value { Gives B.doubt B.rows B.spells book.old book.new result
         (λ w o. o ≡ not_kept w purse (option_map (λ d. d.now) entry.entry)) }
     ensures fault { IfErr result B.fails }
@@ -330,6 +342,7 @@ pub(crate) fn read_log<B: Book>(
     decided: &mut Decided,
 ) -> Result<(), StoreFault>
     ensures keeps { Keeps B.doubt B.rows B.leaves book.old book.new }
+    ensures answered { OnOk result (IsWorking B.doubt book.new) }
     ensures decides { (w : World) → B.doubt book.new ≡ 0 → B.spells (B.rows book.old) w → OnOk result (Decides w (on_own w holder purse (read_log place)) decided.new) }
     ensures fault { IfErr result B.fails }
 {
@@ -357,6 +370,7 @@ pub(crate) fn redeem<B: Book>(
     decided: &mut Decided,
 ) -> Result<(), StoreFault>
     ensures keeps { Keeps B.doubt B.rows B.leaves book.old book.new }
+    ensures answered { OnOk result (IsWorking B.doubt book.new) }
     ensures decides { (w : World) → IsCommand (Command.Redeem purse amount reference) → B.doubt book.new ≡ 0 → B.spells (B.rows book.old) w → OnOk result (Decides w (on_own w holder purse (redeem amount reference)) decided.new) }
     ensures idle { (w : World) → B.doubt book.new ≡ 0 → B.spells (B.rows book.old) w
         → OnOk result (IsTrue (is_some (redemption_of w purse reference)) → decided.new.edits ≡ []) }

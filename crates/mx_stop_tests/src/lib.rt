@@ -5,6 +5,8 @@
 #[cfg(test)]
 mod disks;
 #[cfg(test)]
+mod lives;
+#[cfg(test)]
 mod made;
 #[cfg(test)]
 mod migrated;

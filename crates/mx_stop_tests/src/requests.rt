@@ -16,7 +16,7 @@ use std::process::Abort;
 use std::test::Fail;
 
 /// The member m, and its holders: ann with the purse p1, which is loaded with 100, and bob with q1.
-const FUNDED: &str = r#"
+pub(super) const FUNDED: &str = r#"
 operator POST /members {"member":"m","token":"00000000000000000000000000000002"} -> 200 {"done":"added"}
 clerk POST /holders {"holder":"ann","token":"0000000000000000000000000000000a"} -> 200 {"done":"added"}
 clerk POST /holders {"holder":"bob","token":"0000000000000000000000000000000b"} -> 200 {"done":"added"}
@@ -27,7 +27,7 @@ clerk POST /purses/p1/load {"amount":100,"ref":"a1"} -> 200 {"done":"loaded"}
 "#;
 
 /// p1 pays 60 to q1, which redeems 20 of them, and m collects these.
-const PAID: &str = r#"
+pub(super) const PAID: &str = r#"
 ann POST /purses/p1/start-from {"peer":"q1","value":60,"seq":0} -> 200 {"details":"p1,q1,60,0,0","done":"started"}
 bob POST /purses/q1/start-to {"peer":"p1","value":60,"seq":0} -> 200 {"details":"p1,q1,60,0,0","done":"started"}
 ann POST /purses/p1/handle {"number":0} -> 200 {"done":"value-sent"}
@@ -57,7 +57,7 @@ operator POST /settle {"details":"p1,q1,60,0,0"} -> 409 {"error":"already settle
 "#;
 
 /// What the books are asked for: what they tell, and then what they answer to requests that show the other rows.
-const LOOKS: &str = r#"
+pub(super) const LOOKS: &str = r#"
 operator GET /reconcile
 ann GET /purses
 bob GET /purses

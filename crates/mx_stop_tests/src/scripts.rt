@@ -113,3 +113,28 @@ pub(super) fn shown(
     }
     Some(all)
 }
+
+/// The requests of a script as one input. None where there is no memory for it.
+pub(super) fn input_of(alloc: Global, script: &str) -> Option<String> {
+    let mut input = String::new(alloc);
+    for line in script.lines() {
+        if let Some((request, _)) = line.split_once(" -> ") {
+            let bytes = request_of(alloc, request).ok()?;
+            input.push_str(bytes.as_str()).ok()?;
+        }
+    }
+    Some(input)
+}
+
+/// Serves an input as a whole, whatever the responses. None where there is no memory for them.
+pub(super) fn run_through(
+    alloc: Global,
+    routes: &Routes,
+    office: &mut Office<impl Book>,
+    input: &str,
+) -> Option<()> {
+    let mut reader = Counted::new(input.as_bytes());
+    let mut writer = Counted::new(Vec::new(alloc));
+    run(alloc, &mut reader, &mut writer, routes, office).ok()?;
+    Some(())
+}

@@ -1,5 +1,6 @@
 //! A book that leaves one call out.
 ghost use Rattle.std.specs.Prelude.{◌≡◌};
+ghost use Rattle.std.proofs.Common.{inr};
 
 use mx_book::{
     Account, Book, Caller, Edit, HolderRow, Line, MemberRow, MemberTotals, StoreFault, Totals,
@@ -261,4 +262,6 @@ impl<B: Book> Book for Faulty<B> {
     ghost single = { B.single };
 
     ghost steady = { λ b r. B.steady b.book r };
+
+    ghost doubted = { λ _. inr tt };
 }

@@ -9,8 +9,8 @@ use Rattle.sqlite.specs.Held.{Held}
 use Rattle.sqlite.specs.State.{HasCleanDisk}
 use Rattle.mx_book.specs.declared.contract.StoreFault.{StoreFault}
 use Rattle.mx_tables.specs.Owners.{OwnerIndex}
-use Rattle.mx_tables.specs.States.{Brings, WritesWith, Reads, Steps, Runs, Writes, Finds}
-use Rattle.mx_tables.proofs.StateLemmas.{brings_same, brings_none, stays_same, stays_then, sure_before, within_none, within_then}
+use Rattle.mx_tables.specs.States.{IsAwake, Brings, WritesWith, Reads, Steps, Runs, Writes, Finds}
+use Rattle.mx_tables.proofs.StateLemmas.{on_ok_anyway, on_ok_never, brings_same, brings_none, stays_same, stays_then, sure_before, within_none, within_then}
 use Rattle.mx_tables.proofs.WriteLemmas.{goes_as, goes_then}
 
 module _ {S : Type 0} (g : Ghosts S) where
@@ -18,23 +18,23 @@ module _ {S : Type 0} (g : Ghosts S) where
 
   -- no read at all
   pub reads_none : {T : Type 0} {old : Held S} {r : Result T StoreFault} {is : Rows → T → Type 0}
-      → ((rows : Rows) → Holds (state g old).now rows → IfOk r (is rows)) → Reads g old old r is
-  reads_none {old = old} f = record { stays = λ ours. stays_same (state g old) ours; value = λ ours calm rows holds. f rows holds }
+      → IsAwake (state g old) → ((rows : Rows) → Holds (state g old).now rows → IfOk r (is rows)) → Reads g old old r is
+  reads_none {old = old} {r = r} live f = record { stays = λ ours. stays_same (state g old) ours; value = λ ours calm rows holds. f rows holds; live = on_ok_anyway r live }
 
   -- what follows from what was read
   pub reads_to : {T U : Type 0} {old new : Held S} {x : T} {r : Result U StoreFault} {is : Rows → T → Type 0} {other : Rows → U → Type 0}
       → Reads g old new (Ok x) is → ((rows : Rows) → Holds (state g old).now rows → is rows x → IfOk r (other rows)) → Reads g old new r other
-  reads_to h f = record { stays = h.stays; value = λ ours calm rows holds. f rows holds (h.value ours calm rows holds) }
+  reads_to {r = r} h f = record { stays = h.stays; value = λ ours calm rows holds. f rows holds (h.value ours calm rows holds); live = on_ok_anyway r h.live }
 
   -- a fault after a read
   pub reads_fault : {T U : Type 0} {old new : Held S} {q : Result T StoreFault} {r : Result U StoreFault} {is : Rows → T → Type 0} {other : Rows → U → Type 0}
       → Reads g old new q is → IsErr r → Reads g old new r other
-  reads_fault {r = r} {other = other} h fault = record { stays = h.stays; value = λ ours calm rows holds. IfOk-from_err r (other rows) fault }
+  reads_fault {r = r} {other = other} h fault = record { stays = h.stays; value = λ ours calm rows holds. IfOk-from_err r (other rows) fault; live = on_ok_never r _ fault }
 
   -- what follows from what a read gives
   pub reads_more : {T : Type 0} {old new : Held S} {r : Result T StoreFault} {is other : Rows → T → Type 0}
       → Reads g old new r is → ((rows : Rows) → Holds (state g old).now rows → (x : T) → is rows x → other rows x) → Reads g old new r other
-  reads_more {r = r} h f = record { stays = h.stays; value = λ ours calm rows holds. IfOk-weaker r _ _ (f rows holds) (h.value ours calm rows holds) }
+  reads_more {r = r} h f = record { stays = h.stays; value = λ ours calm rows holds. IfOk-weaker r _ _ (f rows holds) (h.value ours calm rows holds); live = h.live }
 
   -- a read after a read
   pub reads_then : {T U : Type 0} {a b c : Held S} {x : T} {r : Result U StoreFault} {is : Rows → T → Type 0} {other : Rows → U → Type 0}
@@ -46,6 +46,7 @@ module _ {S : Type 0} (g : Ghosts S) where
         let before = sure_before (state g b) (state g c) (two.stays kept.ours).later calm in
         let same : Holds (state g b).now rows = subst (λ (d : Database). Holds d rows) (sym (kept.same before)) holds in
         IfOk-weaker r _ _ (λ y is. (one.value ours before rows holds, is)) (two.value kept.ours calm rows same);
+    live = two.live;
   }
 
   -- ---- steps inside a transaction

@@ -1,5 +1,5 @@
 -- The statements on inboxes.
-use Rattle.mx_tables.proofs.Common.{◌≡◌, ℕ, length, List, [], ◌∷◌, refl, ℤ, pos, ◌+◌, true, Some, Option, codes, Ok, ◌∙◌, arith, AllByRecursion, length-map, Text, Int, number, office_schema, option_map, IsPermutation, Ordering, nat_cmp, is_eq, eq_by_cmp, Binary, Row, column, col, Database, Executes, name_cmp, is_name, Name, Rows, rewritten, PurseRow, Holds, Goes}
+use Rattle.mx_tables.proofs.Common.{◌≡◌, ◌<◌, ℕ, None, length, List, [], ◌∷◌, refl, ℤ, pos, ◌+◌, true, Some, Option, codes, Ok, ◌∙◌, arith, AllByRecursion, length-map, Text, Int, number, office_schema, option_map, IsPermutation, Ordering, nat_cmp, is_eq, eq_by_cmp, Binary, Row, column, col, Database, Executes, name_cmp, is_name, Name, Rows, rewritten, PurseRow, Holds, Goes}
 use Rattle.std.proofs.Common.{map, ap, not, Err, Result, IfOk, sym, subst, Less}
 use Rattle.std.proofs.lemmas.List.Sorted.{length_permutation}
 use Rattle.mx_purse.specs.declared.message.Message.{Message}
@@ -7,7 +7,7 @@ use Rattle.mx_purse.specs.Messages.{IsMessage}
 use Rattle.mx_purse.specs.Words.{message_word, message_details}
 use Rattle.mx_purse.proofs.WordLemmas.{same_message}
 use Rattle.mx_tables.specs.Schema.{message_cells}
-use Rattle.mx_tables.specs.Answers.{message_row, at_key, message_shown, first_three, AreMessages, Raises, one_or_none}
+use Rattle.mx_tables.specs.Answers.{message_row, at_key, message_shown, first_three, AreMessages, HaveNumbers, Raises, one_or_none}
 use Rattle.mx_tables.proofs.ValueLemmas.{same_made, same_words}
 use Rattle.std.specs.FinMap as fmap
 use Rattle.std.specs.Ordering.{ordering_then}
@@ -16,6 +16,7 @@ use Rattle.sqlite_value.specs.Keys.{ascending}
 use Rattle.sqlite_value.proofs.OrderLemmas.{value_cmp-Int, then-Equal}
 use Rattle.sqlite_trees.proofs.ListLemmas.{map-map}
 use Rattle.sqlite.specs.State.{State, Shown}
+use Rattle.mx_pay.specs.Limits.{most_number}
 use Rattle.mx_pay.proofs.SameLemmas.{names_turned}
 use Rattle.mx_book.specs.RowEdits.{on_purse}
 use Rattle.mx_book.specs.declared.edits.Edit.TheVariants.{AddMessage}
@@ -124,6 +125,14 @@ drops_message p n old new count has ran =
     goes_as _ _ _ old new (λ r h. ap (λ m. record r { inbox = m }) (remove_is r.inbox (p, n)))
     (drops kept.inbox delete_message _ _ delete_message_is (Text p ∷ number n ∷ []) (eq_by_cmp (pair_cmp name_cmp nat_cmp) (p, n))
     (at_message p n) (λ id e. refl) refl old new count has ran)
+
+-- no message has a number above 10^15
+pub none_above : (r : Rows) (p : Name) (n : ℕ) → HaveNumbers r → most_number < n → fmap.get r.inbox (p, n) ≡ None
+none_above r p n low above = by_message (fmap.get r.inbox (p, n)) refl
+  where
+    by_message : (o : Option Message) → fmap.get r.inbox (p, n) ≡ o → o ≡ None
+    by_message None e = refl
+    by_message (Some m) e = absurd (let it = low (p, n) m e in omega (arith, it, above))
 
 pub adds_message : (p : Name) (n : ℕ) (m : Message) (old new : State) (count : ℕ) → old.now.schema ≡ office_schema
     → Executes insert_message (Text p ∷ number n ∷ Text (message_word m) ∷ Text (message_details m) ∷ []) old new (Ok count) → Goes (λ r. record r { inbox = fmap.insert r.inbox (p, n) m }) old new

@@ -26,7 +26,7 @@ use Rattle.std.proofs.lemmas.Int.{ints}
 use Rattle.std.proofs.lemmas.Bool.Decides.{nat_tests}
 use Rattle.std.proofs.lemmas.List.{take_more}
 use Rattle.mx_book.specs.declared.contract.StoreFault.{StoreFault}
-use Rattle.mx_tables.proofs.StateLemmas.{sure_before}
+use Rattle.mx_tables.proofs.StateLemmas.{on_ok_anyway, sure_before}
 use Rattle.mx_tables.specs.Schema.{purse_cells}
 use Rattle.mx_tables.specs.Holds.{HaveCells}
 use Rattle.sqlite_trees.specs.declared.store.Store.{Ghosts}
@@ -34,7 +34,7 @@ use Rattle.sqlite.specs.Held.{Held}
 use Rattle.mx_book.specs.Index.{names_under}
 use Rattle.mx_book.specs.RowReads.{row_purses_of}
 use Rattle.mx_book.proofs.HeldLemmas.{held_names}
-use Rattle.mx_tables.specs.States.{worry, IsOurs, Stays, TellsOwners, Looks, Reads}
+use Rattle.mx_tables.specs.States.{worry, IsAwake, IsOurs, Stays, TellsOwners, Looks, Reads}
 use Rattle.mx_tables.specs.Owners.{OwnerIndex, IndexSlots, index_of, NumbersDiffer, HasOwner, is_owned_in, Owned, Lists}
 use Rattle.mx_tables.proofs.LoadLemmas.{any_named}
 use Rattle.mx_tables.proofs.Texts.{select_owners, select_owners_is}
@@ -207,13 +207,14 @@ held_of db r held h it n (Some p) =
 -- what an index tells that is kept or was made is so of the rows that were there
 pub looks_under : {S T : Type 0} (g : Ghosts S) (old new : Held S) (before : Option IndexSlots) (held : IndexSlots) (h : Name) {r : Result T StoreFault} {is : Rows → T → Type 0} → (IsOurs (state g old) → Stays (state g old) (state g new))
     → (IsOurs (state g old) → TellsOwners (state g old) before → TellsOwners (state g new) (Some held)) → ((rows : Rows) → names_under (index_of held) h ≡ row_purses_of rows h → IfOk r (is rows))
-    → Looks g old new before (Some held) (Reads g old new r is)
-looks_under g old new before held h stays tells f = record {
-  reads = λ ours was. record {
+    → Looks g old new before (Some held) (IsAwake (state g new) → Reads g old new r is)
+looks_under g old new before held h {r = r} stays tells f = record {
+  reads = λ ours was live. record {
     stays = stays;
     value = λ ours calm rows holds.
         let there : Holds (state g new).now rows = subst (λ (d : Database). Holds d rows) (sym ((stays ours).same calm)) holds in
         f rows (held_names rows.purses (index_of held) (held_of (state g new).now rows (index_of held) there (tells ours was calm)) h);
+    live = on_ok_anyway r live;
   };
   index = tells;
 }

@@ -1,6 +1,8 @@
 -- What a statement leaves of the connection.
 use Rattle.mx_tables.proofs.Common.{◌≡◌, inl, inr, ℕ, ◌≤◌, Bool, true, false, List, Ok, Option, Some, None, refl, ◌∙◌, arith, Row, Database, state, Holds, office_schema, Rows}
 use Rattle.std.proofs.Common.{◌⊎◌, Err, Result, is_ok, OnOk, OnErr, IsTrue, sym, ap, ap₂, subst}
+use Rattle.std.proofs.lemmas.Result.{IfOk-from_err}
+use Rattle.std.specs.Result.{IsErr}
 use Rattle.sqlite_trees.specs.View.{doubt}
 use Rattle.sqlite_trees.specs.Tree.{Trees}
 use Rattle.sqlite_trees.proofs.Doubt.{no_doubt, clean_of}
@@ -21,7 +23,7 @@ use Rattle.sqlite.specs.Listing.{understood, listing_schema, if_select}
 use Rattle.sqlite.specs.State.{State, HasCleanDisk, IsUnchanged, IsRolledBack, Shows, Fails, FailsToQuery, FailsToShow, IsNotRun, Shown, ShowsRows, KeepsCommit, ExecutesInside, IsTooLate, Survives, CommitsShowing}
 use Rattle.mx_book.specs.declared.contract.StoreFault.{StoreFault}
 use Rattle.mx_tables.specs.Owners.{OwnerIndex, IndexSlots, index_of, Owned, IsKeptUp}
-use Rattle.mx_tables.specs.States.{worry, IsAt, IsOurs, IsText, IsSilent, ShowsNothing, StaysIdle, Stays, StaysAt, Within, Stops, Brings, Applies, Commits, TellsOwners}
+use Rattle.mx_tables.specs.States.{worry, IsAwake, IsAt, IsOurs, IsText, IsSilent, ShowsNothing, StaysIdle, Stays, StaysAt, Within, Stops, Brings, Applies, Commits, TellsOwners}
 
 -- a statement that fails changes nothing, or its transaction is rolled back
 abbrev pub Quits : State → State → Type 0
@@ -43,6 +45,21 @@ no_worry s live clean = rw (live, clean_of s.is_clean clean) refl
 -- up to 1 the disk told no lie
 pub not_lied : (s : State) → worry s ≤ 1 → HasCleanDisk s
 not_lied s h = no_doubt s.is_clean (grind (arith, h))
+
+pub awake : (s : State) → (HasCleanDisk s → IsTrue s.is_open) → IsAwake s
+awake s live h = no_worry s (live (not_lied s h)) (not_lied s h)
+
+pub awake_by : {T E : Type 0} (s : State) (r : Result T E) → (HasCleanDisk s → OnOk r (IsTrue s.is_open)) → OnOk r (IsAwake s)
+awake_by s (Ok x) live = awake s live
+awake_by s (Err e) live = tt
+
+-- what is so anyway is so where the answer is Ok, and where it is a fault nothing is said
+pub on_ok_anyway : {T E P : Type 0} (r : Result T E) → P → OnOk r P
+on_ok_anyway (Ok x) p = p
+on_ok_anyway (Err e) p = tt
+
+pub on_ok_never : {T E : Type 0} (r : Result T E) (P : Type 0) → IsErr r → OnOk r P
+on_ok_never r P fault = IfOk-from_err r (λ _. P) fault
 
 worry_rises : (a b : ℕ) → a ≤ 2 → (b ≡ 0 → a ≡ 0) → (b ≤ 1 → a ≤ 1) → a ≤ b
 worry_rises a b low h k = grind (arith, h, k)
@@ -185,7 +202,12 @@ begun_open : {S : Type 0} (g : Ghosts S) (sql : List ℕ) (params : Row) (old ne
 begun_open g sql params old new (inl h) = h.1.0.was_open
 begun_open g sql params old new (inr h) = (showed sql params (state g old) (state g new) _ h.1).2.was_open
 
--- a query that begins leaves the rows
+-- a query that begins leaves the connection open
+pub begun_live : {S : Type 0} (g : Ghosts S) (sql : List ℕ) (params : Row) (old new : Held S) → HasBegun g sql params old new → IsTrue (state g new).is_open
+begun_live g sql params old new (inl h) = h.1.0.is_open
+begun_live g sql params old new (inr h) = (showed sql params (state g old) (state g new) _ h.1).2.is_open
+
+-- and the rows
 pub begun_stays : {S : Type 0} (g : Ghosts S) (sql : List ℕ) (params : Row) (old new : Held S) → IsText sql → IsSilent sql → IsOurs (state g old) → (old.in_transaction ≡ false → new.in_transaction ≡ false)
     → Survives (state g old) (state g new) (CommitsShowing sql params (state g old)) → (HasCleanDisk (state g new) → HasBegun g sql params old new) → Stays (state g old) (state g new)
 begun_stays g sql params old new text silent ours mode survives begun =

@@ -29,6 +29,7 @@ use Rattle.mx_tables.specs.Answers.{ArePurses, AreMessages, HaveNumbers}
 use Rattle.mx_tables.specs.Pages.{AreLines}
 use Rattle.mx_tables.specs.Results.{AreDetails, AreEntries}
 use Rattle.mx_tables.specs.States.{Reads, Tells}
+use Rattle.mx_tables.proofs.StateLemmas.{on_ok_never}
 use Rattle.mx_tables.proofs.SoundLemmas.{messages_valid, numbers_valid, purses_valid, lines_valid, entries_valid, tray_valid, tray_as}
 
 module _ {S : Type 0} (g : Ghosts S) {old new : Held S} where
@@ -38,12 +39,13 @@ module _ {S : Type 0} (g : Ghosts S) {old new : Held S} where
     stays = h.stays;
     value = λ ours w calm one.
         IfOk-weaker r _ _ (f one.spelled.rows w one.spelled.spells) (h.value ours calm one.spelled.rows one.spelled.holds);
+    live = h.live;
   }
 
   -- a fault after a read
   pub tells_fault : {T U : Type 0} {q : Result T StoreFault} {r : Result U StoreFault} {is : Rows → T → Type 0} {says : World → U → Type 0}
       → Reads g old new q is → IsErr r → Tells g old new r says
-  tells_fault {r = r} {says = says} h fault = record { stays = h.stays; value = λ ours w calm one. IfOk-from_err r (says w) fault }
+  tells_fault {r = r} {says = says} h fault = record { stays = h.stays; value = λ ours w calm one. IfOk-from_err r (says w) fault; live = on_ok_never r _ fault }
 
   -- ---- one value, or none
 

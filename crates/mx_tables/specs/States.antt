@@ -35,6 +35,10 @@ worry_at live clean = if clean then (if live then 0 else 1) else 2
 abbrev pub worry : State → ℕ
 worry s = worry_at s.is_open s.is_clean
 
+-- a disk that told no lie has an open connection
+abbrev pub IsAwake : State → Type 0
+IsAwake s = worry s ≤ 1 → worry s ≡ 0
+
 -- between calls no transaction is open, all is committed, and the schema is this one
 pub record IsAt (of : Schema) (s : State) : Type 0 where
   pub autocommit : s.in_transaction ≡ false
@@ -133,15 +137,18 @@ pub record Sees (old new : State) (is : Rows → Type 0) : Type 0 where
 
 -- ---- what one call is
 
--- A read: the connection is as it was but for a fault, and without doubt what is given is so of the rows.
+-- A read: the connection is as it was but for a fault, without doubt what is given is so of the rows, and a connection that a
+-- fault has shut gives nothing.
 pub record Reads {S T : Type 0} (g : Ghosts S) (old new : Held S) (result : Result T StoreFault) (is : Rows → T → Type 0) : Type 0 where
   pub stays : IsOurs (state g old) → Stays (state g old) (state g new)
   pub value : IsOurs (state g old) → worry (state g new) ≡ 0 → (r : Rows) → Holds (state g old).now r → IfOk result (is r)
+  pub live : OnOk result (IsAwake (state g new))
 
 -- A read of the World: the same, where what is given is so of the World that the rows spell.
 pub record Tells {S T : Type 0} (g : Ghosts S) (old new : Held S) (result : Result T StoreFault) (is : World → T → Type 0) : Type 0 where
   pub stays : IsOurs (state g old) → Stays (state g old) (state g new)
   pub value : IsOurs (state g old) → (w : World) → worry (state g new) ≡ 0 → SpellsOne (state g old).now w → IfOk result (is w)
+  pub live : OnOk result (IsAwake (state g new))
 
 -- a read that goes by an index of purses by holder, or makes one
 pub record Looks {S : Type 0} (g : Ghosts S) (old new : Held S) (before after : Option IndexSlots) (read : Type 0) : Type 0 where

@@ -1,12 +1,13 @@
 //! The value between purses: what is on its way, and what is lost.
 ghost use Rattle.std.specs.Prelude.{◌≡◌};
+ghost use Rattle.sqlite.specs.Held.{state};
 ghost use Rattle.mx_pay.specs.Log.{has_logged};
 ghost use Rattle.mx_book.specs.RowEdits.{log_at};
 ghost use Rattle.mx_book.specs.RowTotals.{has_sent, lost_by};
 ghost use Rattle.mx_tables.specs.Answers.{ArePurses};
 ghost use Rattle.mx_tables.specs.Counted.{left_value, log_row, result_row, waiting_row};
 ghost use Rattle.mx_tables.specs.Results.{AreDetails, AreEntries};
-ghost use Rattle.mx_tables.specs.States.{Reads};
+ghost use Rattle.mx_tables.specs.States.{IsAwake, Reads};
 
 use crate::cells::{entry_at, log_at, name_at, status_at};
 use crate::purses::find_purse;
@@ -60,13 +61,13 @@ pub fn value_left<S: Alter>(
 }
 
 /// What the purse of the status in a row waits for, where it has left the other purse; nothing where it waits for no value.
-/// Store where the row shows no status.
+/// Store where the row shows no status. The connection was found open.
 pub fn await_row<S: Alter>(
     alloc: Global,
     conn: &mut Connection<S>,
     row: &Row,
 ) -> Result<u128, StoreFault>
-    ensures { Reads S.Store conn.old conn.new result
+    ensures { IsAwake (state S.Store conn.old) → Reads S.Store conn.old conn.new result
         (λ r n. ArePurses r → AreDetails r.archive
         → n ≡ waiting_row r.purses r.archive row.now) }
 {
@@ -77,14 +78,14 @@ pub fn await_row<S: Alter>(
 }
 
 /// The value of details that are logged for a purse, where they are to it, it has left the other purse, and they aren't
-/// settled.
+/// settled. The connection was found open.
 fn lost_by<S: Alter>(
     alloc: Global,
     conn: &mut Connection<S>,
     purse: &Name,
     details: &PayDetails,
 ) -> Result<u128, StoreFault>
-    ensures { Reads S.Store conn.old conn.new result
+    ensures { IsAwake (state S.Store conn.old) → Reads S.Store conn.old conn.new result
         (λ r n. ArePurses r → AreEntries r
         → n ≡ lost_by r.purses r.archive r.settled purse.now details.now) }
 {
@@ -99,13 +100,13 @@ fn lost_by<S: Alter>(
     }
 }
 
-/// What is lost by the log in a row.
+/// What is lost by the log in a row, by a connection that was found open.
 pub fn lose_row<S: Alter>(
     alloc: Global,
     conn: &mut Connection<S>,
     row: &Row,
 ) -> Result<u128, StoreFault>
-    ensures { Reads S.Store conn.old conn.new result
+    ensures { IsAwake (state S.Store conn.old) → Reads S.Store conn.old conn.new result
         (λ r n. ArePurses r → AreEntries r
         → n ≡ log_row r.purses r.archive r.settled row.now) }
 {

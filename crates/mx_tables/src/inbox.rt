@@ -11,7 +11,7 @@ ghost use Rattle.mx_tables.specs.Answers.{first_three, message_row};
 ghost use Rattle.mx_tables.specs.States.{IsExplained, Reads, Tells, Writes};
 ghost use Rattle.mx_book.specs.Reads.{inbox_of, message_of};
 
-use crate::asking::{ask, only, run_one};
+use crate::asking::{ask, find_live, only, run_one};
 use crate::cells::{number_at, text_at};
 use crate::codes::message_code;
 use crate::given;
@@ -94,6 +94,7 @@ pub fn find_message<S: Alter>(
     ensures { Tells S.Store conn.old conn.new result (λ w v. v ≡ message_of w purse.now number) }
 {
     if number > MOST_NUMBER {
+        find_live(conn)?;
         return Ok(None);
     }
     let rows = ask(
@@ -117,6 +118,7 @@ pub fn find_has_message<S: Alter>(
         (λ w b. b ≡ is_some (message_of w purse.now number)) }
 {
     if number > MOST_NUMBER {
+        find_live(conn)?;
         return Ok(false);
     }
     let rows = ask(

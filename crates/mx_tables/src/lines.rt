@@ -1,5 +1,5 @@
 //! The lines of the statements of purses.
-ghost use Rattle.std.specs.Prelude.{◌≡◌, ◌<◌, ◌^◌, IfOk, IfSome, string_bytes};
+ghost use Rattle.std.specs.Prelude.{◌≡◌, ◌<◌, ◌^◌, IfOk, IfSome, OnOk, string_bytes};
 ghost use Rattle.std.specs.FinMap as fmap;
 ghost use Rattle.sqlite.specs.Held.{state};
 ghost use Rattle.sqlite_value.specs.Order.{column};
@@ -8,10 +8,10 @@ ghost use Rattle.mx_book.specs.Conditions.{IsNote};
 ghost use Rattle.mx_book.specs.Rows.{line_row};
 ghost use Rattle.mx_book.specs.Words as words;
 ghost use Rattle.mx_tables.specs.Pages.{GivesLine, first_five, line_shown};
-ghost use Rattle.mx_tables.specs.States.{IsOurs, Stays, Writes, worry, Tells};
+ghost use Rattle.mx_tables.specs.States.{IsAwake, IsOurs, Stays, Writes, worry, Tells};
 ghost use Rattle.mx_book.specs.Reads.{lines_of};
 
-use crate::asking::{fault_of, run};
+use crate::asking::{fault_of, find_live, run};
 use crate::cells::{amount_at, entry_at, number_at, text_at};
 use crate::codes::MOST_ENTRY_BYTES;
 use crate::given::{self, MOST_KEPT};
@@ -100,6 +100,7 @@ fn next_line<S: Alter>(rows: &mut Rows<'_, S>) -> Result<Option<Line>, StoreFaul
         → Stays (state S.Store rows.old.conn.now) (state S.Store rows.new.conn.now) }
     ensures shown { worry (state S.Store rows.new.conn.now) ≡ 0
         → IfOk result (GivesLine S.Store rows.old.conn.now rows.new.conn.now) }
+    ensures live { OnOk result (IsAwake (state S.Store rows.new.conn.now)) }
     ensures valid { IfOk result (λ line. IfSome line (λ l. IsNote l.note)) }
 {
     if let Err(error) = rows.advance() {
@@ -124,6 +125,7 @@ pub fn list_lines<S: Alter>(
 {
     let mut lines = Vec::new(alloc);
     if after > MOST_KEPT {
+        find_live(conn)?;
         return Ok(lines);
     }
     let found = conn.query(

@@ -1,12 +1,12 @@
 //! The index of purses by holder, which is kept in memory.
-ghost use Rattle.std.specs.Prelude.{◌≡◌, IfOk, None, Some, fold, length};
+ghost use Rattle.std.specs.Prelude.{◌≡◌, IfOk, None, OnOk, Some, fold, length};
 ghost use Rattle.sqlite.specs.Held.{state};
 ghost use Rattle.mx_book.specs.Reads.{purses_of};
 ghost use Rattle.mx_book.specs.RowReads.{row_purses_of};
 ghost use Rattle.mx_tables.specs.Owners.{IsKeptUp, Lists, index_of, indexed};
-ghost use Rattle.mx_tables.specs.States.{IsOurs, Looks, Reads, Stays, Tells, TellsOwners};
+ghost use Rattle.mx_tables.specs.States.{IsAwake, IsOurs, Looks, Reads, Stays, Tells, TellsOwners};
 
-use crate::asking::ask;
+use crate::asking::{ask, find_live};
 use crate::cells::{integer_at, name_at};
 use mx_book::held::{Held, count_held, names_held};
 use mx_book::{Edit, StoreFault};
@@ -43,6 +43,8 @@ fn take_index<S: Alter>(
         → Stays (state S.Store conn.old) (state S.Store conn.new) }
     ensures tells { IsOurs (state S.Store conn.old) → TellsOwners (state S.Store conn.old) kept.old
         → IfOk result (λ held. TellsOwners (state S.Store conn.new) (Some held)) }
+    ensures live { IsAwake (state S.Store conn.old)
+        → OnOk result (IsAwake (state S.Store conn.new)) }
     ensures taken { kept.new ≡ None }
 {
     if let Some(held) = kept.take() {
@@ -52,7 +54,7 @@ fn take_index<S: Alter>(
     index_rows(alloc, &rows)
 }
 
-/// How many purses a holder has.
+/// How many purses a holder has, by a connection that was found open.
 pub fn count_purses<S: Alter>(
     alloc: Global,
     conn: &mut Connection<S>,
@@ -60,7 +62,8 @@ pub fn count_purses<S: Alter>(
     holder: &Name,
 ) -> Result<usize, StoreFault>
     ensures { Looks S.Store conn.old conn.new kept.old kept.new
-        (Reads S.Store conn.old conn.new result (λ r v. v ≡ length (row_purses_of r holder.now))) }
+        (IsAwake (state S.Store conn.old)
+        → Reads S.Store conn.old conn.new result (λ r v. v ≡ length (row_purses_of r holder.now))) }
 {
     let held = take_index(alloc, conn, kept)?;
     let count = count_held(&held, *holder);
@@ -68,7 +71,8 @@ pub fn count_purses<S: Alter>(
     Ok(count)
 }
 
-/// The names of the purses of a holder, in order.
+/// The names of the purses of a holder, in order. The connection is found open first, since an index that is kept answers
+/// without it.
 pub fn list_purses<S: Alter>(
     alloc: Global,
     conn: &mut Connection<S>,
@@ -78,6 +82,7 @@ pub fn list_purses<S: Alter>(
     ensures { Looks S.Store conn.old conn.new kept.old kept.new
         (Tells S.Store conn.old conn.new result (λ w v. v.items ≡ purses_of w holder.now)) }
 {
+    find_live(conn)?;
     let held = take_index(alloc, conn, kept)?;
     let names = names_held(alloc, &held, *holder);
     *kept = Some(held);

@@ -1,6 +1,7 @@
 //! What the books come to: sums over rows.
 ghost use Rattle.std.specs.Prelude.{◌≡◌, ◌+◌, ◌≤◌, IfOk, pos, sum_by};
 ghost use Rattle.std.specs.FinMap as fmap;
+ghost use Rattle.sqlite.specs.Held.{state};
 ghost use Rattle.sqlite_value.specs.Order.{column};
 ghost use Rattle.sqlite_value.specs.declared.value.Value.TheVariants.{Int};
 ghost use Rattle.mx_book.specs.RowEdits.{member_at};
@@ -9,7 +10,7 @@ ghost use Rattle.mx_book.specs.Sums.{sum_values};
 ghost use Rattle.mx_tables.specs.Answers.{ArePurses};
 ghost use Rattle.mx_tables.specs.Counted.{adds_text, amounts_text, counted_row, most_of, number_of, row_adds, row_sums, sum_of};
 ghost use Rattle.mx_tables.specs.Results.{AreEntries};
-ghost use Rattle.mx_tables.specs.States.{Reads, Tells};
+ghost use Rattle.mx_tables.specs.States.{IsAwake, Reads, Tells};
 ghost use Rattle.mx_book.specs.Totals.{member_totals_of, totals_of};
 
 use crate::asking::ask;
@@ -44,13 +45,13 @@ pub(crate) fn find_member_at<S: Alter>(
     }
 }
 
-/// Whether a purse counts.
+/// Whether a purse counts, by a connection that was found open.
 fn counts<S: Alter>(
     conn: &mut Connection<S>,
     scope: &Scope,
     purse: &Name,
 ) -> Result<bool, StoreFault>
-    ensures { Reads S.Store conn.old conn.new result
+    ensures { IsAwake (state S.Store conn.old) → Reads S.Store conn.old conn.new result
         (λ r b. b ≡ is_counted r.holders scope.now (fmap.get r.purses purse.now)) }
 {
     match scope {
@@ -59,14 +60,14 @@ fn counts<S: Alter>(
     }
 }
 
-/// What a row adds to a sum: its number, where the purse that it names counts.
+/// What a row adds to a sum, by a connection that was found open: its number, where the purse that it names counts.
 fn count_row<S: Alter>(
     conn: &mut Connection<S>,
     amounts: Amounts,
     scope: &Scope,
     row: &Row,
 ) -> Result<u128, StoreFault>
-    ensures { Reads S.Store conn.old conn.new result
+    ensures { IsAwake (state S.Store conn.old) → Reads S.Store conn.old conn.new result
         (λ r n. n ≡ counted_row r.purses r.holders scope.now row.now) }
 {
     let purse = name_at(row, 0)?;
@@ -140,14 +141,14 @@ impl Adds {
     }
 }
 
-/// What a row adds to a sum.
+/// What a row adds to a sum, by a connection that was found open.
 fn row_adds<S: Alter>(
     alloc: Global,
     conn: &mut Connection<S>,
     adds: &Adds,
     row: &Row,
 ) -> Result<u128, StoreFault>
-    ensures { Reads S.Store conn.old conn.new result
+    ensures { IsAwake (state S.Store conn.old) → Reads S.Store conn.old conn.new result
         (λ r n. ArePurses r → AreEntries r → n ≡ row_adds r adds.now row.now) }
 {
     match adds {

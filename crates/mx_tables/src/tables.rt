@@ -1,5 +1,6 @@
 //! The book on tables.
 ghost use Rattle.std.specs.Prelude.{◌≡◌, ◌≢◌, ◌≤◌, false, IfOk, IfErr, MatchResult};
+ghost use Rattle.std.proofs.Common.{inr};
 ghost use Rattle.sqlite.specs.Held.{state};
 ghost use Rattle.mx_book.specs.World.{opening};
 ghost use Rattle.mx_tables.specs.Schema.{no_schema};
@@ -313,6 +314,8 @@ impl<S: Alter> Book for Tables<S> {
     fn totals(&mut self, alloc: Global) -> Result<Totals, StoreFault> {
         sum_scheme(alloc, &mut self.conn)
     }
+
+    ghost doubted = { λ _. inr tt };
 
     ghost sound = { λ db w h. h.spelled.spells.sound };
 

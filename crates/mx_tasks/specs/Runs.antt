@@ -1,8 +1,9 @@
 -- Runs of the program.
-use Rattle.std.specs.Prelude.{◌≡◌, ◌⊎◌, ℕ, Result, Ok, Err}
+use Rattle.std.specs.Prelude.{◌≡◌, ◌⊎◌, ℕ, List, [], Result, Ok, Err}
 use Rattle.mx_book.specs.declared.contract.StoreFault.{StoreFault}
 use Rattle.mx_desk.specs.declared.fault.DeskFault.{DeskFault}
 use Rattle.mx_desk.specs.Leaves.{Runs}
+use Rattle.mx_desk.specs.Serve.{Marked}
 use Rattle.mx_desk.specs.Steps.{State}
 use Rattle.mx_tasks.specs.Faults.{fault_of}
 use Rattle.mx_tasks.specs.declared.fault.TaskFault.{TaskFault}
@@ -22,5 +23,5 @@ abbrev pub IsUnbegun : Result ℕ TaskFault → Type 0
 IsUnbegun result = (result ≡ Err Memory) ⊎ (result ≡ Err Store)
 
 -- a run: it didn't begin, and all is as it was; or it is one of the desk
-abbrev pub TaskRuns : (StoreFault → Type 0) → State → Result ℕ TaskFault → State → Type 0
-TaskRuns fails s result t = (IsUnbegun result × (t ≡ s)) ⊎ ((r : Result ℕ DeskFault) × (result ≡ task_result r) × Runs fails s r t)
+abbrev pub TaskRuns : (StoreFault → Type 0) → State → Result ℕ TaskFault → List Marked → State → Type 0
+TaskRuns fails s result ms t = (IsUnbegun result × (ms ≡ []) × (t ≡ s)) ⊎ ((r : Result ℕ DeskFault) × (result ≡ task_result r) × Runs fails s r ms t)

@@ -4,6 +4,7 @@ use Rattle.std.specs.Fmt.{decimal}
 use Rattle.mx_pay.specs.declared.names.Name.{Name}
 use Rattle.mx_book.specs.World.{World}
 use Rattle.mx_book.specs.declared.contract.StoreFault.{StoreFault}
+use Rattle.mx_desk.specs.Serve.{Marked}
 use Rattle.mx_desk.specs.Steps.{State, Leads, state}
 use Rattle.mx_report.specs.Import.{IsBroken, IsImported, Tally, tally_of}
 use Rattle.mx_report.specs.declared.rolls.RollReport.{RollReport}
@@ -24,16 +25,16 @@ abbrev pub IsText : {A : Type 0} → List ℕ → String A → Type 0
 IsText text line = string_bytes line ≡ text
 
 -- a run: nothing is said but its responses
-abbrev pub WorksRun : (StoreFault → Type 0) → State → Result Done TaskFault → State → Type 0
-WorksRun fails s result t = (run : Result ℕ TaskFault) × TaskRuns fails s run t × MatchResult result (λ d. IsSaid [] d × IsOk run) (λ e. run ≡ Err e)
+abbrev pub WorksRun : (StoreFault → Type 0) → State → Result Done TaskFault → List Marked → State → Type 0
+WorksRun fails s result ms t = (run : Result ℕ TaskFault) × TaskRuns fails s run ms t × MatchResult result (λ d. IsSaid [] d × IsOk run) (λ e. run ≡ Err e)
 
 -- how many connections were served
 abbrev pub served_text : ℕ → List ℕ
 served_text n = codes "served " ++ decimal n ++ codes "\n"
 
 -- connections: how many were served is said
-abbrev pub WorksServe : (StoreFault → Type 0) → World → ℕ → Result Done TaskFault → World → Type 0
-WorksServe fails w count result now = ServesConnections fails w count result now × IfOk result (IsSaid (served_text count))
+abbrev pub WorksServe : (StoreFault → Type 0) → World → ℕ → Result Done TaskFault → List Marked → World → Type 0
+WorksServe fails w count result ms now = ServesConnections fails w count result ms now × IfOk result (IsSaid (served_text count))
 
 -- the import of a roll: its report is said; or it broke off; or it is done and there is no memory to report it
 abbrev pub Imports : {X : Type 0} → (World → Type 0) → World → List ℕ → (List ℕ → X → Type 0) → Result X TaskFault → Type 0
@@ -57,9 +58,10 @@ IsReport w purse d = (report_of w purse ≡ Some d.text.items) × (d.fault ≡ f
 abbrev pub WorksReport : World → Option Name → Result Done TaskFault → Type 0
 WorksReport w purse result = MatchResult result (IsReport w purse) (λ e. e ≡ NoSuchPurse → report_of w purse ≡ None)
 
--- work that began with the World of s: what stands of the books, what comes of it, and what was read and written
-abbrev pub Works : (StoreFault → Type 0) → (World → Type 0) → State → Work → Result Done TaskFault → Option (List ℕ) → Option (List ℕ) → Type 0
-Works fails Stands s Run result input output = Leads Stands (λ now. WorksRun fails s result (state [] input output now))
-Works fails Stands s (Serve port count) result input output = Leads Stands (WorksServe fails s.world count result)
-Works fails Stands s (Import roll) result input output = ImportsFile Stands s.world IsSaid result
-Works fails Stands s (Report purse) result input output = Stands s.world × WorksReport s.world purse result
+-- work that began with the World of s: what comes of it, what was read and written, and where the books stand. Of requests that
+-- is said also where the store was shut on the way, and else where it is sure.
+abbrev pub Works : (StoreFault → Type 0) → Type 0 → (World → Type 0) → (List Marked → World → Type 0) → State → Work → Result Done TaskFault → Option (List ℕ) → Option (List ℕ) → Type 0
+Works fails Sure Stands Moves s Run result input output = Leads (λ ms now. WorksRun fails s result ms (state [] input output now)) Moves
+Works fails Sure Stands Moves s (Serve port count) result input output = Leads (WorksServe fails s.world count result) Moves
+Works fails Sure Stands Moves s (Import roll) result input output = Sure → ImportsFile Stands s.world IsSaid result
+Works fails Sure Stands Moves s (Report purse) result input output = Sure → Stands s.world × WorksReport s.world purse result

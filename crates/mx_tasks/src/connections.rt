@@ -1,6 +1,8 @@
 //! Connections, one after another.
 ghost use Rattle.std.specs.Prelude.{◌≡◌, ◌≤◌, IfOk};
+ghost use Rattle.mx_book.specs.Stands.{MovesTo};
 ghost use Rattle.mx_book.specs.World.{World};
+ghost use Rattle.mx_desk.specs.Serve.{attempts};
 ghost use Rattle.mx_desk.specs.Steps.{Leads};
 ghost use Rattle.mx_tasks.specs.Connections.{Connects, ServesConnections};
 
@@ -49,8 +51,9 @@ fn serve_connection<B: Book>(
     office: &mut Office<B>,
 )
     ensures later { B.doubt office.old.book ≤ B.doubt office.new.book }
-    ensures serves { (w : World) → B.doubt office.new.book ≡ 0 → B.spells (B.rows office.old.book) w
-        → Leads (B.spells (B.rows office.new.book)) (Connects B.fails w) }
+    ensures serves { (w : World) → B.doubt office.new.book ≤ 1 → (B.doubt office.old.book ≡ 0 → B.spells (B.rows office.old.book) w)
+        → Leads (Connects B.fails w)
+        (λ ms. MovesTo B.doubt B.rows B.spells B.leaves office.old.book office.new.book w (attempts ms)) }
 {
     let mut reader = Counted::new(Timed::new(rt, stream));
     let mut writer = Counted::new(Alarmed::new(Timed::new(rt, stream), alarm));
@@ -89,8 +92,9 @@ pub fn serve_connections<B: Book>(
 ) -> io::Result<u64>
     ensures all { IfOk result (λ served. served ≡ count) }
     ensures later { B.doubt office.old.book ≤ B.doubt office.new.book }
-    ensures serves { (w : World) → B.doubt office.new.book ≡ 0 → B.spells (B.rows office.old.book) w
-        → Leads (B.spells (B.rows office.new.book)) (ServesConnections B.fails w count result) }
+    ensures serves { (w : World) → B.doubt office.new.book ≤ 1 → (B.doubt office.old.book ≡ 0 → B.spells (B.rows office.old.book) w)
+        → Leads (ServesConnections B.fails w count result)
+        (λ ms. MovesTo B.doubt B.rows B.spells B.leaves office.old.book office.new.book w (attempts ms)) }
 {
     let mut alarm = Alarm::new(rt);
     'connections: for _ in 0..count {

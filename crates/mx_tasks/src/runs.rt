@@ -1,6 +1,8 @@
 //! What the program does for a run: requests from a reader, responses to a writer.
-ghost use Rattle.std.specs.Prelude.{◌≡◌, ◌≤◌, [], Err, IfErr};
+ghost use Rattle.std.specs.Prelude.{◌≡◌, ◌≤◌, List, [], Err, IfErr};
+ghost use Rattle.mx_book.specs.Stands.{MovesTo};
 ghost use Rattle.mx_book.specs.World.{World, opening};
+ghost use Rattle.mx_desk.specs.Serve.{Marked, attempts};
 ghost use Rattle.mx_desk.specs.Steps.{state, Leads};
 ghost use Rattle.mx_office.specs.Reachable.{IsReachable};
 ghost use Rattle.mx_tasks.specs.Faults.{Untouched};
@@ -35,10 +37,11 @@ pub fn run_office<R: Read, W: Outlet, B: Book>(
     ensures unbegun { result ≡ Err TaskFault.Memory → (office.new ≡ office.old)
         × Untouched reader.old reader.new writer.old writer.new }
     ensures fault { IfErr result IsRunFault }
-    ensures runs { (w : World) → B.doubt office.new.book ≡ 0 → B.spells (B.rows office.old.book) w
-        → Leads (B.spells (B.rows office.new.book)) (λ now. TaskRuns B.fails
-        (state [] (R.remaining reader.old.device) (W.contents writer.old.device) w) result
-        (state [] (R.remaining reader.new.device) (W.contents writer.new.device) now)) }
+    ensures runs { (w : World) → B.doubt office.new.book ≤ 1 → (B.doubt office.old.book ≡ 0 → B.spells (B.rows office.old.book) w)
+        → Leads (λ ms now. TaskRuns B.fails
+        (state [] (R.remaining reader.old.device) (W.contents writer.old.device) w) result ms
+        (state [] (R.remaining reader.new.device) (W.contents writer.new.device) now))
+        (λ ms. MovesTo B.doubt B.rows B.spells B.leaves office.old.book office.new.book w (attempts ms)) }
 {
     let routes = Routes::new(alloc)?;
     let count = run(alloc, reader, writer, &routes, office)?;
@@ -65,8 +68,8 @@ pub fn run_memory<R: Read, W: Outlet>(
     ensures unbegun { result ≡ Err TaskFault.Memory → Untouched reader.old reader.new writer.old writer.new }
     ensures fault { IfErr result IsRunFault }
     ensures begins { IsReachable (opening operator) }
-    ensures runs { (now : World) × TaskRuns ⟦<PlainBook as Book>⟧.fails
-        (state [] (R.remaining reader.old.device) (W.contents writer.old.device) (opening operator)) result
+    ensures runs { (ms : List Marked) × (now : World) × TaskRuns ⟦<PlainBook as Book>⟧.fails
+        (state [] (R.remaining reader.old.device) (W.contents writer.old.device) (opening operator)) result ms
         (state [] (R.remaining reader.new.device) (W.contents writer.new.device) now) }
 {
     // The reader says that the token has its bytes.

@@ -1,7 +1,9 @@
 //! What is done over the books in a file.
 ghost use Rattle.std.specs.Prelude.{◌≡◌, ◌≤◌, ◌⊎◌, [], IfOk, string_bytes};
 ghost use Rattle.mx_book.specs.Keeps.{Keeps};
+ghost use Rattle.mx_book.specs.Stands.{MovesTo};
 ghost use Rattle.mx_book.specs.World.{World};
+ghost use Rattle.mx_desk.specs.Serve.{attempts};
 ghost use Rattle.mx_desk.specs.Steps.{state, Leads};
 ghost use Rattle.mx_tasks.specs.Faults.{Untouched};
 ghost use Rattle.mx_tasks.specs.Works.{ImportsFile, IsSaid, Works, WorksReport, WorksRun, WorksServe, served_text};
@@ -85,8 +87,9 @@ fn serve_on<B: Book>(
     office: &mut Office<B>,
 ) -> Result<Done, TaskFault>
     ensures later { B.doubt office.old.book ≤ B.doubt office.new.book }
-    ensures serves { (w : World) → B.doubt office.new.book ≡ 0 → B.spells (B.rows office.old.book) w
-        → Leads (B.spells (B.rows office.new.book)) (WorksServe B.fails w count result) }
+    ensures serves { (w : World) → B.doubt office.new.book ≤ 1 → (B.doubt office.old.book ≡ 0 → B.spells (B.rows office.old.book) w)
+        → Leads (WorksServe B.fails w count result)
+        (λ ms. MovesTo B.doubt B.rows B.spells B.leaves office.old.book office.new.book w (attempts ms)) }
 {
     match serve_connections(rt, listener, u64::from(count), routes, office) {
         Ok(served) => Ok(said(served_text(rt.alloc(), served)?.into_bytes())),
@@ -102,8 +105,9 @@ fn serve<B: Book>(
     office: &mut Office<B>,
 ) -> Result<Done, TaskFault>
     ensures later { B.doubt office.old.book ≤ B.doubt office.new.book }
-    ensures serves { (w : World) → B.doubt office.new.book ≡ 0 → B.spells (B.rows office.old.book) w
-        → Leads (B.spells (B.rows office.new.book)) (WorksServe B.fails w count result) }
+    ensures serves { (w : World) → B.doubt office.new.book ≤ 1 → (B.doubt office.old.book ≡ 0 → B.spells (B.rows office.old.book) w)
+        → Leads (WorksServe B.fails w count result)
+        (λ ms. MovesTo B.doubt B.rows B.spells B.leaves office.old.book office.new.book w (attempts ms)) }
 {
     let Ok(listener) = listen(rt, port) else {
         return Err(TaskFault::Net);
@@ -123,10 +127,11 @@ fn run<R: Read, W: Outlet, B: Book>(
     writer: &mut Counted<W>,
 ) -> Result<Done, TaskFault>
     ensures later { B.doubt office.old.book ≤ B.doubt office.new.book }
-    ensures runs { (w : World) → B.doubt office.new.book ≡ 0 → B.spells (B.rows office.old.book) w
-        → Leads (B.spells (B.rows office.new.book)) (λ now. WorksRun B.fails
-        (state [] (R.remaining reader.old.device) (W.contents writer.old.device) w) result
-        (state [] (R.remaining reader.new.device) (W.contents writer.new.device) now)) }
+    ensures runs { (w : World) → B.doubt office.new.book ≤ 1 → (B.doubt office.old.book ≡ 0 → B.spells (B.rows office.old.book) w)
+        → Leads (λ ms now. WorksRun B.fails
+        (state [] (R.remaining reader.old.device) (W.contents writer.old.device) w) result ms
+        (state [] (R.remaining reader.new.device) (W.contents writer.new.device) now))
+        (λ ms. MovesTo B.doubt B.rows B.spells B.leaves office.old.book office.new.book w (attempts ms)) }
 {
     run_office(alloc, office, reader, writer)?;
     Ok(said(Vec::new(alloc)))
@@ -159,8 +164,9 @@ pub fn do_work<R: Read, W: Outlet, B: Book>(
 ) -> Result<Done, TaskFault>
     ensures later { B.doubt office.old.book ≤ B.doubt office.new.book }
     ensures untouched { (work.now ≡ Run) ⊎ Untouched reader.old reader.new writer.old writer.new }
-    ensures works { (w : World) → B.doubt office.new.book ≡ 0 → B.spells (B.rows office.old.book) w
-        → Works B.fails (B.spells (B.rows office.new.book))
+    ensures works { (w : World) → B.doubt office.new.book ≤ 1 → (B.doubt office.old.book ≡ 0 → B.spells (B.rows office.old.book) w)
+        → Works B.fails (B.doubt office.new.book ≡ 0) (B.spells (B.rows office.new.book))
+        (λ ms. MovesTo B.doubt B.rows B.spells B.leaves office.old.book office.new.book w (attempts ms))
         (state [] (R.remaining reader.old.device) (W.contents writer.old.device) w) work.now result
         (R.remaining reader.new.device) (W.contents writer.new.device) }
 {

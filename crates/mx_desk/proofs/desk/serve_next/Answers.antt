@@ -1,12 +1,13 @@
-use Rattle.std.proofs.Common.{◌+◌, [], ◌++◌, Ok, length, refl, sym, ap, ◌∙◌, append_assoc, arith, length-append}
+use Rattle.std.proofs.Common.{◌+◌, [], ◌∷◌, ◌++◌, Ok, length, refl, sym, ap, ◌∙◌, append_assoc, arith, length-append}
 use Rattle.std.proofs.lemmas.Bool.{eqb-true, eqb-false}
 use Rattle.std.proofs.lemmas.List.{append-nil}
 use Rattle.std.proofs.lemmas.Result.{err_from_is_err_and}
 use Rattle.mx_desk.specs.Found.{request_view}
-use Rattle.mx_desk.specs.Knows.{Stands}
+use Rattle.mx_desk.specs.Knows.{KeptAt}
 use Rattle.mx_desk.specs.Serve.{world_after_one}
 use Rattle.std.proofs.KnownBytes.{Appends-nil, Appends-trans, Appends-kept, Consumes-nil, Consumes-trans, Consumes-kept}
 use Rattle.mx_desk.proofs.RequestLemmas.{Whole-shorter}
+use Rattle.mx_desk.proofs.MoveLemmas.{moves_not, moves_since}
 use Rattle.mx_desk.proofs.StepLemmas.{answered_step, cut_step, turns_step, read_step, flush_step, stop_step, cut_stop_step, stop_at_end, cut_stop_at_end, nothing_step, smaller, first_now, open_room, capped_none, capped_more}
 use Rattle.mx_desk.proofs.desk.serve_next.Goals as goal
 
@@ -23,15 +24,16 @@ pieces-init g c = record {
 }
 
 pub returns-in_err-reply-in-Whole-clause-steps : goal.returns-in_err-reply-in-Whole-clause-steps
-returns-in_err-reply-in-Whole-clause-steps g c = λ w honest spelled.
+returns-in_err-reply-in-Whole-clause-steps g c = λ w low kept.
     let p = err_from_is_err_and c.from_residual.result c.from_residual.ensures.1 in
-    let still : Stands (g.B.Book.spells (g.B.Book.rows c.pieces.office.book)) c.pieces.workspace.callers w = rw (c.pieces.invariant.office, c.pieces.invariant.callers) spelled in
-    let err = c.in_err-reply-in-Whole.ensures.err w honest still in
+    let still : KeptAt g.B.Book.doubt g.B.Book.rows g.B.Book.spells c.pieces.office.book c.pieces.workspace.callers w = rw (c.pieces.invariant.office, c.pieces.invariant.callers) kept in
+    let err = c.in_err-reply-in-Whole.ensures.err w low still in
     let came = c.pieces.invariant.came in
     let less = err.cut in
     rw (p.1, p.2, c.in_err-reply-in-Whole.ensures.fault.0) (record {
       end = world_after_one w err.marked;
-      stands = err.stands;
+      marked = err.marked ∷ [];
+      moves = moves_since _ w _ _ (ap (λ o. o.book) c.pieces.invariant.office) err.moves;
       holds =
           cut_step g.B.Book.fails _ _ c.pieces.input (request_view c.in-Whole.request) c.in-Whole.end err.marked err.count
           (record { came = came.0; consumed = came.1; pending_is = came.2 })
@@ -42,13 +44,14 @@ returns-in_err-reply-in-Whole-clause-steps g c = λ w honest spelled.
     })
 
 pub returns-in-Whole-clause-steps : goal.returns-in-Whole-clause-steps
-returns-in-Whole-clause-steps g c = λ w honest spelled.
-    let still : Stands (g.B.Book.spells (g.B.Book.rows c.pieces.office.book)) c.pieces.workspace.callers w = rw (c.pieces.invariant.office, c.pieces.invariant.callers) spelled in
-    let ok = c.in_ok-reply-in-Whole.ensures.ok w honest still in
+returns-in-Whole-clause-steps g c = λ w low kept.
+    let still : KeptAt g.B.Book.doubt g.B.Book.rows g.B.Book.spells c.pieces.office.book c.pieces.workspace.callers w = rw (c.pieces.invariant.office, c.pieces.invariant.callers) kept in
+    let ok = c.in_ok-reply-in-Whole.ensures.ok w low still in
     let came = c.pieces.invariant.came in
     record {
       end = world_after_one w ok.marked;
-      stands = ok.stands;
+      marked = ok.marked ∷ [];
+      moves = moves_since _ w _ _ (ap (λ o. o.book) c.pieces.invariant.office) ok.moves;
       holds =
           answered_step g.B.Book.fails _ _ c.pieces.input (request_view c.in-Whole.request) c.in-Whole.end ok.marked
           (record { came = came.0; consumed = came.1; pending_is = came.2 })
@@ -67,14 +70,15 @@ returns-in-Whole-clause-smaller g c =
     (rw c.forget.ensures (Whole-shorter c.pieces.input _ _ (first_now c.pieces.input (request_view c.in-Whole.request) c.in-Whole.end whole)))
 
 pub returns-in_err-write_stop-in-Stopped-clause-steps : goal.returns-in_err-write_stop-in-Stopped-clause-steps
-returns-in_err-write_stop-in-Stopped-clause-steps g c = λ w honest spelled.
+returns-in_err-write_stop-in-Stopped-clause-steps g c = λ w low kept.
     let p = err_from_is_err_and c.from_residual-in_err-write_stop-in-Stopped.result c.from_residual-in_err-write_stop-in-Stopped.ensures.1 in
     let err = c.in_err-write_stop-in-Stopped.ensures.err in
     let came = c.pieces.invariant.came in
     let how = c.in-Stopped.ensures in
     rw (p.1, p.2, c.in_err-write_stop-in-Stopped.ensures.fault) (record {
       end = w;
-      stands = rw (c.pieces.invariant.office, c.pieces.invariant.callers) spelled;
+      marked = [];
+      moves = rw (c.pieces.invariant.office, c.pieces.invariant.callers) (moves_not _ w kept);
       holds =
           cut_stop_step g.B.Book.fails _ _ c.pieces.input c.in-Stopped.stop err.0
           (record { came = came.0; consumed = came.1; pending_is = came.2 })
@@ -85,12 +89,13 @@ returns-in_err-write_stop-in-Stopped-clause-steps g c = λ w honest spelled.
     })
 
 pub returns-in-Stopped-clause-steps : goal.returns-in-Stopped-clause-steps
-returns-in-Stopped-clause-steps g c = λ w honest spelled.
+returns-in-Stopped-clause-steps g c = λ w low kept.
     let came = c.pieces.invariant.came in
     let how = c.in-Stopped.ensures in
     record {
       end = w;
-      stands = rw (c.pieces.invariant.office, c.pieces.invariant.callers) spelled;
+      marked = [];
+      moves = rw (c.pieces.invariant.office, c.pieces.invariant.callers) (moves_not _ w kept);
       holds =
           stop_step g.B.Book.fails _ _ c.pieces.input c.in-Stopped.stop
           (record { came = came.0; consumed = came.1; pending_is = came.2 })
@@ -100,12 +105,13 @@ returns-in-Stopped-clause-steps g c = λ w honest spelled.
     }
 
 pub returns-in_default-clause-steps : goal.returns-in_default-clause-steps
-returns-in_default-clause-steps g c = λ w honest spelled.
+returns-in_default-clause-steps g c = λ w low kept.
     let came = c.pieces.invariant.came in
     let how = c.in-Open.ensures in
     record {
       end = w;
-      stands = rw (c.pieces.invariant.office, c.pieces.invariant.callers) spelled;
+      marked = [];
+      moves = rw (c.pieces.invariant.office, c.pieces.invariant.callers) (moves_not _ w kept);
       holds =
           nothing_step g.B.Book.fails _ _ c.pieces.input
           (record { came = came.0; consumed = came.1; pending_is = came.2 })
@@ -116,7 +122,7 @@ returns-in_default-clause-steps g c = λ w honest spelled.
     }
 
 pub returns-in_err-write_stop-in-Open-clause-steps : goal.returns-in_err-write_stop-in-Open-clause-steps
-returns-in_err-write_stop-in-Open-clause-steps g c = λ w honest spelled.
+returns-in_err-write_stop-in-Open-clause-steps g c = λ w low kept.
     let p = err_from_is_err_and c.from_residual-in_err-write_stop-in-Open.result c.from_residual-in_err-write_stop-in-Open.ensures.1 in
     let err = c.in_err-write_stop-in-Open.ensures.err in
     let came = c.pieces.invariant.came in
@@ -124,7 +130,8 @@ returns-in_err-write_stop-in-Open-clause-steps g c = λ w honest spelled.
     let last = rw (c.pending.ensures.value, c.in-Some.is) at how in
     rw (p.1, p.2, c.in_err-write_stop-in-Open.ensures.fault) (record {
       end = w;
-      stands = rw (c.pieces.invariant.office, c.pieces.invariant.callers) spelled;
+      marked = [];
+      moves = rw (c.pieces.invariant.office, c.pieces.invariant.callers) (moves_not _ w kept);
       holds =
           cut_stop_at_end g.B.Book.fails _ _ c.pieces.input c.in-Some.stop err.0
           (record { came = came.0; consumed = came.1; pending_is = came.2 })
@@ -136,13 +143,14 @@ returns-in_err-write_stop-in-Open-clause-steps g c = λ w honest spelled.
     })
 
 pub returns-in-Open-clause-steps : goal.returns-in-Open-clause-steps
-returns-in-Open-clause-steps g c = λ w honest spelled.
+returns-in-Open-clause-steps g c = λ w low kept.
     let came = c.pieces.invariant.came in
     let how = c.in-Open.ensures in
     let last = rw (c.pending.ensures.value, c.in-Some.is) at how in
     record {
       end = w;
-      stands = rw (c.pieces.invariant.office, c.pieces.invariant.callers) spelled;
+      marked = [];
+      moves = rw (c.pieces.invariant.office, c.pieces.invariant.callers) (moves_not _ w kept);
       holds =
           stop_at_end g.B.Book.fails _ _ c.pieces.input c.in-Some.stop
           (record { came = came.0; consumed = came.1; pending_is = came.2 })
@@ -153,13 +161,14 @@ returns-in-Open-clause-steps g c = λ w honest spelled.
     }
 
 pub returns-in_err-flush_out-clause-steps : goal.returns-in_err-flush_out-clause-steps
-returns-in_err-flush_out-clause-steps g c = λ w honest spelled.
+returns-in_err-flush_out-clause-steps g c = λ w low kept.
     let p = err_from_is_err_and c.from_residual-in_err-flush_out.result c.from_residual-in_err-flush_out.ensures.1 in
     let came = c.pieces.invariant.came in
     let how = c.in-Open.ensures in
     rw (p.1, p.2, c.in_err-flush_out.ensures.fault) (record {
       end = w;
-      stands = rw (c.pieces.invariant.office, c.pieces.invariant.callers) spelled;
+      marked = [];
+      moves = rw (c.pieces.invariant.office, c.pieces.invariant.callers) (moves_not _ w kept);
       holds =
           flush_step g.B.Book.fails _ _ c.pieces.input c.in-Open.fault
           (record { came = came.0; consumed = came.1; pending_is = came.2 })
@@ -170,12 +179,13 @@ returns-in_err-flush_out-clause-steps g c = λ w honest spelled.
     })
 
 pub returns-then-turns-eq0-clause-steps : goal.returns-then-turns-eq0-clause-steps
-returns-then-turns-eq0-clause-steps g c = λ w honest spelled.
+returns-then-turns-eq0-clause-steps g c = λ w low kept.
     let came = c.pieces.invariant.came in
     let how = c.in-Open.ensures in
     record {
       end = w;
-      stands = rw (c.pieces.invariant.office, c.pieces.invariant.callers) spelled;
+      marked = [];
+      moves = rw (c.pieces.invariant.office, c.pieces.invariant.callers) (moves_not _ w kept);
       holds =
           turns_step g.B.Book.fails _ _ c.pieces.input c.in-Open.fault
           (record { came = came.0; consumed = came.1; pending_is = came.2 })
@@ -186,14 +196,15 @@ returns-then-turns-eq0-clause-steps g c = λ w honest spelled.
     }
 
 pub returns-in_err-ended-clause-steps : goal.returns-in_err-ended-clause-steps
-returns-in_err-ended-clause-steps g c = λ w honest spelled.
+returns-in_err-ended-clause-steps g c = λ w low kept.
     let p = err_from_is_err_and c.from_residual-in_err-ended.result c.from_residual-in_err-ended.ensures.1 in
     let came = c.pieces.invariant.came in
     let how = c.in-Open.ensures in
     let err = c.in_err-ended.ensures.err in
     rw (p.1, p.2, c.in_err-ended.ensures.fault) (record {
       end = w;
-      stands = rw (c.pieces.invariant.office, c.pieces.invariant.callers) spelled;
+      marked = [];
+      moves = rw (c.pieces.invariant.office, c.pieces.invariant.callers) (moves_not _ w kept);
       holds =
           read_step g.B.Book.fails _ _ c.pieces.input c.in-Open.fault
           (record { came = came.0; consumed = Consumes-kept _ _ _ came.0 came.1 err.1; pending_is = came.2 })

@@ -9,10 +9,11 @@ returns-in_err-run_memory g c =
     let led = c.run_memory.ensures.runs in
     rw (p.1, p.2) (record {
       performs = record {
-        now = led.0;
+        marked = led.0;
+        now = led.1;
         written = g.W.Write.contents c.run_memory.new.writer.device;
         run = c.run_memory.result;
-        runs = led.1;
+        runs = led.2;
         ends = rw (c.in_err-run_memory.was) (refl, tt, refl);
       };
     })
@@ -22,10 +23,11 @@ returns g c =
     let led = c.run_memory.ensures.runs in
     record {
       performs = record {
-        now = led.0;
+        marked = led.0;
+        now = led.1;
         written = g.W.Write.contents c.run_memory.new.writer.device;
         run = c.run_memory.result;
-        runs = led.1;
+        runs = led.2;
         ends = rw (c.in_ok-run_memory.was) (c.say.ensures.ok, c.say.ensures.fault);
       };
     }

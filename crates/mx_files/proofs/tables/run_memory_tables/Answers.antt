@@ -1,8 +1,9 @@
-use Rattle.std.proofs.Common.{refl, inl, inr, ap, ◌∙◌, Err, rules}
+use Rattle.std.proofs.Common.{refl, inl, inr, ap, ◌∙◌, [], Err, rules}
 use Rattle.std.proofs.lemmas.Result.{err_from_is_err_and}
 use Rattle.sqlite.specs.Held.{state as state_of}
 use Rattle.sqlite.specs.Steps.{over_memory}
 use Rattle.mx_book.specs.World.{opening}
+use Rattle.mx_book.proofs.StandLemmas.{low_sure}
 use Rattle.mx_tables.specs.Holds.{SpellsOne}
 use Rattle.mx_files.proofs.TableLemmas.{no_worry, unmade}
 use Rattle.mx_tasks.proofs.RunLemmas.{never_store, opening_reachable}
@@ -15,14 +16,14 @@ returns-in_err-store-clause-begins g c = opening_reachable c.args.operator c.as_
 pub returns-in_err-store-clause-runs : goal.returns-in_err-store-clause-runs
 returns-in_err-store-clause-runs g c =
     let p = err_from_is_err_and c.from_residual.result c.from_residual.ensures.1 in
-    (opening c.args.operator, inl (inl (p.1 ∙ ap Err p.2), refl))
+    ([], opening c.args.operator, inl (inl (p.1 ∙ ap Err p.2), refl, refl))
 
 -- the tables can't be made
 pub returns-in-Err-clause-begins : goal.returns-in-Err-clause-begins
 returns-in-Err-clause-begins g c = opening_reachable c.args.operator c.as_bytes-bytes.ensures.valid
 
 pub returns-in-Err-clause-runs : goal.returns-in-Err-clause-runs
-returns-in-Err-clause-runs g c = (opening c.args.operator, inl (rw (c.unmade.ensures) (unmade c.in-Err.refused.fault (search rules)), refl))
+returns-in-Err-clause-runs g c = ([], opening c.args.operator, inl (rw (c.unmade.ensures) (unmade c.in-Err.refused.fault (search rules)), refl, refl))
 
 -- a run over them
 pub returns-clause-begins : goal.returns-clause-begins
@@ -31,8 +32,8 @@ returns-clause-begins g c = opening_reachable c.args.operator c.as_bytes-bytes.e
 pub returns-clause-runs : goal.returns-clause-runs
 returns-clause-runs g c =
     let spelled : SpellsOne (state_of over_memory c.new-kept.result.book).now (opening c.args.operator) = rw c.new-kept.ensures (c.in-Ok.ensures.opens (no_worry c.in-Ok.book)) in
-    let led = c.run_office.ensures.runs (opening c.args.operator) (no_worry c.run_office.new.office.book) spelled in
-    (led.end, led.holds)
+    let led = c.run_office.ensures.runs (opening c.args.operator) (low_sure (no_worry c.run_office.new.office.book)) (λ _. spelled) in
+    (led.marked, led.end, led.holds)
 
 pub returns-clause-unbegun : goal.returns-clause-unbegun
 returns-clause-unbegun g c = λ unbegun.

@@ -5,6 +5,7 @@ use Rattle.mx_office.proofs.money.all_granted.Goals as goal
 pub loop-member-preserved : goal.loop-member-preserved
 loop-member-preserved g c = record {
   keeps = search rules;
+  working = c.in_ok-granted_of.ensures.answered;
   items = search rules;
   sum = λ w honest spelled.
       let before : g.B.Book.doubt c.loop-member.book ≡ 0 = search rules in

@@ -1,4 +1,5 @@
 use Rattle.std.proofs.Common.{◌∙◌, ◌≡◌, rules, sym, subst, false, Some, None}
+use Rattle.mx_book.proofs.StandLemmas.{low_sure}
 use Rattle.mx_report.specs.Roll.{is_same, asker}
 use Rattle.mx_report.proofs.RowLemmas.{row_same, row_unasked, row_asked}
 use Rattle.mx_report.proofs.rolls.import_row.Goals as goal
@@ -22,4 +23,4 @@ returns-clause-ok g c = λ w honest spelled.
     let stands = subst (λ r. g.B.Book.spells r w) (sym (c.asker.ensures.keeps.same decided)) seen in
     let same : is_same w c.args.row.now ≡ false = sym (c.in_ok-is_same.ensures.value w before spelled) ∙ c.if-branch.false in
     let somebody : asker w c.args.row.now ≡ Some c.in-Some.caller = sym (c.in_ok-caller.ensures.value w decided seen) ∙ c.in-Some.is in
-    row_asked _ w c.args.row.now c.in-Some.caller c.in_ok-reply.reply _ same somebody (rw c.command.ensures at (c.in_ok-reply.ensures.reply w honest stands)) c.outcome_of.ensures (rw c.command.ensures at (c.in_ok-reply.ensures.ok w honest stands)) (rw c.command.ensures at c.answer.ensures.asked)
+    row_asked _ w c.args.row.now c.in-Some.caller c.in_ok-reply.reply _ same somebody (rw c.command.ensures at (c.in_ok-reply.ensures.reply w (low_sure honest) (λ _. stands))) c.outcome_of.ensures (rw c.command.ensures at (c.in_ok-reply.ensures.ok w honest stands)) (rw c.command.ensures at c.answer.ensures.asked)

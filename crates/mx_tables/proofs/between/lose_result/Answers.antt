@@ -13,7 +13,7 @@ returns-then-is_logged g c = reads_to g.S.Store c.in_ok-kept.ensures (λ r holds
     ∙ result_is r c.args.row.now c.in_ok-purse.purse c.in_ok-details.details c.in_ok-purse.ensures.is c.in_ok-details.ensures.shown c.in_ok-details.ensures.valid)
 
 pub returns-else-is_logged : goal.returns-else-is_logged
-returns-else-is_logged g c = reads_more g.S.Store (reads_then g.S.Store c.in_ok-kept.ensures c.lost_by.ensures) (λ r holds n both purses entries.
+returns-else-is_logged g c = reads_more g.S.Store (reads_then g.S.Store c.in_ok-kept.ensures (c.lost_by.ensures c.in_ok-kept.ensures.live)) (λ r holds n both purses entries.
     let known = ap (λ o. has_logged (log_at o) c.in_ok-details.details) (sym (both.0 purses)) ∙ sym c.is_logged.ensures in
     both.1 purses entries ∙ logged_no_more r c.in_ok-purse.purse c.in_ok-details.details (known ∙ c.if-is_logged.false)
     ∙ result_is r c.args.row.now c.in_ok-purse.purse c.in_ok-details.details c.in_ok-purse.ensures.is c.in_ok-details.ensures.shown c.in_ok-details.ensures.valid)

@@ -3,10 +3,10 @@ use Rattle.mx_tables.proofs.CallLemmas.{reads_to, reads_more, reads_then}
 use Rattle.mx_tables.proofs.between.lost_by.Goals as goal
 
 pub returns-then-settled : goal.returns-then-settled
-returns-then-settled g c = reads_to g.S.Store c.in_ok-settled.ensures.reads (λ r holds is purses entries. let found = is entries.settled in grind (arith, found))
+returns-then-settled g c live = reads_to g.S.Store c.in_ok-settled.ensures.reads (λ r holds is purses entries. let found = is entries.settled in grind (arith, found))
 
 pub returns-else-settled : goal.returns-else-settled
-returns-else-settled g c = reads_more g.S.Store (reads_then g.S.Store c.in_ok-settled.ensures.reads c.value_left.ensures) (λ r holds n both purses entries.
+returns-else-settled g c live = reads_more g.S.Store (reads_then g.S.Store c.in_ok-settled.ensures.reads c.value_left.ensures) (λ r holds n both purses entries.
     let found = both.0 entries.settled in
     let left = both.1 purses entries.archive in
     grind (arith, found, left))

@@ -4,15 +4,26 @@ use Rattle.std.specs.FinMap as fmap
 use Rattle.mx_book.specs.RowReads.{purse_rows_of}
 use Rattle.mx_book.specs.declared.values.HolderRow.{HolderRow}
 use Rattle.mx_tables.proofs.CallLemmas.{reads_to, reads_then}
-use Rattle.mx_tables.proofs.ToldLemmas.{tell_holder}
+use Rattle.mx_tables.proofs.ToldLemmas.{tell_holder, tells_fault}
 use Rattle.mx_tables.proofs.holders.read_holder.Goals as goal
+
+pub returns-in_err-purses : goal.returns-in_err-purses
+returns-in_err-purses g c =
+    let looks = c.in_err-purses.ensures in
+    let found = c.in_ok-member.ensures.reads in
+    record {
+      reads = λ ours tells.
+          tells_fault g.S.Store (reads_then g.S.Store found (looks.reads (found.stays ours).ours ((found.stays ours).index _ tells) found.live))
+          c.from_residual-in_err-purses.ensures.0;
+      index = λ ours tells. looks.index (found.stays ours).ours ((found.stays ours).index _ tells);
+    }
 
 pub returns : goal.returns
 returns g c =
     let looks = c.in_ok-purses.ensures in
     let found = c.in_ok-member.ensures.reads in
     record {
-      reads = λ ours tells. tell_holder g.S.Store _ (reads_to g.S.Store (reads_then g.S.Store found (looks.reads (found.stays ours).ours ((found.stays ours).index _ tells))) (λ rows holds both.
+      reads = λ ours tells. tell_holder g.S.Store _ (reads_to g.S.Store (reads_then g.S.Store found (looks.reads (found.stays ours).ours ((found.stays ours).index _ tells) found.live)) (λ rows holds both.
           let at : fmap.get rows.holders c.args.name.now ≡ Some c.in-Some.member = sym both.0 ∙ c.in-Some.is in
           let count = both.1 ∙ length-map (purse_rows_of c.args.name.now (fmap.entries rows.purses)) (λ (e : Name × PurseRow). e.0) in
           rw at (ap (λ n. let it : HolderRow = record { member = c.in-Some.member; purses = n } in Some it) count)));

@@ -1,9 +1,9 @@
-use Rattle.mx_tables.proofs.Common.{Some, ◌∙◌, arith, rules}
+use Rattle.mx_tables.proofs.Common.{Some, ◌∙◌, arith}
 use Rattle.std.proofs.Common.{sym, ap}
 use Rattle.std.specs.FinMap as fmap
 use Rattle.mx_tables.specs.Answers.{message_shown}
 use Rattle.mx_tables.proofs.CallLemmas.{reads_to}
-use Rattle.mx_tables.proofs.InboxLemmas.{message_is, message_back}
+use Rattle.mx_tables.proofs.InboxLemmas.{message_is, message_back, none_above}
 use Rattle.mx_tables.proofs.ReadLemmas.{one_mapped}
 use Rattle.mx_tables.proofs.Texts.{select_message_is}
 use Rattle.mx_tables.proofs.ToldLemmas.{tell_message, tells_fault}
@@ -13,7 +13,7 @@ pub ask-requires : goal.ask-requires
 ask-requires g c = select_message_is.query
 
 pub returns-in_err-rows : goal.returns-in_err-rows
-returns-in_err-rows g c = tells_fault g.S.Store c.in_err-rows.ensures.reads c.from_residual.ensures.0
+returns-in_err-rows g c = tells_fault g.S.Store c.in_err-rows.ensures.reads c.from_residual-in_err-rows.ensures.0
 
 pub returns-in_err-row : goal.returns-in_err-row
 returns-in_err-row g c = tells_fault g.S.Store c.in_ok-rows.ensures.reads c.from_residual-in_err-row.ensures.0
@@ -31,4 +31,5 @@ returns-in_ok-message_at-in-Some g c = tell_message g.S.Store _ _ (reads_to g.S.
     ap Some (message_back one.0 read.field-0 c.in-Some.row (valid (c.args.purse.now, c.args.number) one.0 one.1) read.ensures.valid one.2 read.ensures.shown.0 read.ensures.shown.1) ∙ sym one.1))
 
 pub returns-then-number-gt-MOST_NUMBER : goal.returns-then-number-gt-MOST_NUMBER
-returns-then-number-gt-MOST_NUMBER g c = tell_message g.S.Store _ _ (search rules)
+returns-then-number-gt-MOST_NUMBER g c = tell_message g.S.Store _ _ (reads_to g.S.Store c.in_ok-find_live.ensures (λ r holds is valid low.
+    sym (none_above r c.args.purse.now c.args.number low (omega (arith, c.if-number-gt-MOST_NUMBER.true)))))

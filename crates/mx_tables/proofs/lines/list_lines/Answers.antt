@@ -6,9 +6,9 @@ use Rattle.sqlite.specs.Held.{Held}
 use Rattle.sqlite.specs.Listing.{understood}
 use Rattle.sqlite.proofs.Callers.{begun_plain}
 use Rattle.sqlite_trees.specs.declared.store.Store.{Ghosts}
-use Rattle.mx_tables.specs.States.{worry, IsOurs, Stays}
-use Rattle.mx_tables.proofs.StateLemmas.{sure, sure_before, stays_then, begun_stays, refused_stays}
-use Rattle.mx_tables.proofs.CallLemmas.{reads_none}
+use Rattle.mx_tables.specs.States.{worry, IsAwake, IsOurs, Stays}
+use Rattle.mx_tables.proofs.StateLemmas.{awake, begun_live, sure, sure_before, stays_then, begun_stays, refused_stays}
+use Rattle.mx_tables.proofs.CallLemmas.{reads_to}
 use Rattle.mx_tables.proofs.LineLemmas.{no_page, Noted, select_lines, select_lines_is, one_more, no_more, begins, ended, full_page, last_page}
 use Rattle.mx_tables.proofs.ToldLemmas.{tell_lines}
 use Rattle.mx_tables.proofs.lines.list_lines.Goals as goal
@@ -25,7 +25,7 @@ both_ways : (k m : ℕ) → k ≤ m → m ≤ k → k ≡ m
 both_ways k m up down = omega arith
 
 pub returns-then-after-gt-MOST_KEPT : goal.returns-then-after-gt-MOST_KEPT
-returns-then-after-gt-MOST_KEPT g c = tell_lines g.S.Store _ _ _ (reads_none g.S.Store (λ rows holds valid.
+returns-then-after-gt-MOST_KEPT g c = tell_lines g.S.Store _ _ _ (reads_to g.S.Store c.in_ok-find_live.ensures (λ rows holds is valid.
     c.new-lines.ensures.items ∙ sym (no_page c.args.purse.now c.args.after c.args.most rows valid (omega (arith, c.if-after-gt-MOST_KEPT.true)))))
 
 pub returns-in-Err : goal.returns-in-Err
@@ -33,6 +33,7 @@ returns-in-Err g c = tell_lines g.S.Store _ _ _ (record {
   stays = λ ours.
       refused_stays g.S.Store _ _ c.args.conn.now c.query-found.follows.lender-at-none c.query-found.result _ c.in-Err.is select_lines_is.query.silent ours c.query-found.follows.holds-at-none;
   value = λ ours sound kept holds. tt;
+  live = tt;
 })
 
 pub rows-init : goal.rows-init
@@ -44,6 +45,7 @@ rows-init g c =
       ap length c.new-lines.ensures.items,
       rw c.new-lines.ensures.items tt,
       λ ours. begun_stays g.S.Store select_lines _ c.args.conn.now c.in-Ok.rows.conn.now select_lines_is.query.plain select_lines_is.query.silent ours made.mode made.survives made.begun,
+      awake new (λ clean. begun_live g.S.Store select_lines _ c.args.conn.now c.in-Ok.rows.conn.now (made.begun clean)),
       λ ours sound.
           let began = begun_stays g.S.Store select_lines _ c.args.conn.now c.in-Ok.rows.conn.now select_lines_is.query.plain select_lines_is.query.silent ours made.mode made.survives made.begun in
           let has = ours.schema (sure_before old new began.later sound) in
@@ -62,9 +64,10 @@ rows-preserved g c =
       search rules,
       rw pushed (All-push Noted c.rows.lines.items c.in-Some.line before.2 (rw c.in-Some.is at made.valid)),
       λ ours. let was = before.3 ours in stays_then (state g.S.Store c.args.conn.now) mid new was (made.stays was.ours),
+      made.live,
       λ ours sound.
           let step = made.stays (before.3 ours).ours in
-          let was = before.4 ours (sure_before mid new step.later sound) in
+          let was = before.5 ours (sure_before mid new step.later sound) in
           rw pushed (one_more g.S.Store select_lines _ c.rows.rows.conn.now c.next_line.new.rows.conn.now was.0 was.1 c.rows.lines.items was.2 c.in-Some.line (rw c.in-Some.is at made.shown sound)),
     )
 
@@ -74,6 +77,7 @@ returns-in_err-line g c = tell_lines g.S.Store _ _ _ (record {
       let same : c.next_line.new.rows.conn.now ≡ c.conn-in_err-line-1.given.0 = sym (c.conn-in_err-line-1.given.1 (sym (c.next_line.ensures.same_reference ∙ c.rows.invariant.0 ∙ c.in-Ok.ensures.same_reference)) ∙ c.drop-rows.ensures) in
       stays_on g.S.Store c.args.conn.now c.rows.rows.conn.now c.next_line.new.rows.conn.now c.conn-in_err-line-1.given.0 (c.rows.invariant.3 ours) c.next_line.ensures.stays same;
   value = λ ours sound kept holds. search rules;
+  live = search rules;
 })
 
 pub returns-in_default : goal.returns-in_default
@@ -91,11 +95,14 @@ returns-in_default g c = tell_lines g.S.Store _ _ _ (record {
       let same : c.next_line.new.rows.conn.now ≡ c.conn-in_default-1.given.0 = sym (c.conn-in_default-1.given.1 (sym (c.next_line.ensures.same_reference ∙ c.rows.invariant.0 ∙ c.in-Ok.ensures.same_reference)) ∙ c.drop-rows-in_default.ensures) in
       let last : worry new ≡ 0 = subst (λ h. worry (state g.S.Store h) ≡ 0) (sym same) sound in
       let early = sure_before mid new (made.stays first.ours).later last in
-      let was = before.4 ours early in
+      let was = before.5 ours early in
       let there : Holds mid.now kept = subst (λ (d : Database). Holds d kept) (sym (first.same early)) holds in
       let shown = no_more g.S.Store select_lines _ c.rows.rows.conn.now c.next_line.new.rows.conn.now was.0 was.1 (rw c.in_default.is at made.shown last) in
       let few : length c.rows.lines.items ≤ c.args.most = fewer _ _ _ before.1 c.rows-test.true in
       last_page c.args.purse.now c.args.after c.args.most kept valid was.0 c.rows.lines.items was.2 before.2 few (ended c.args.purse.now c.args.after mid new was.0 shown kept there);
+  live =
+      let same : c.next_line.new.rows.conn.now ≡ c.conn-in_default-1.given.0 = sym (c.conn-in_default-1.given.1 (sym (c.next_line.ensures.same_reference ∙ c.rows.invariant.0 ∙ c.in-Ok.ensures.same_reference)) ∙ c.drop-rows-in_default.ensures) in
+      subst (λ h. IsAwake (state g.S.Store h)) same c.in_ok-line.ensures.live;
 })
 
 pub returns-then-is_err : goal.returns-then-is_err
@@ -104,6 +111,7 @@ returns-then-is_err g c = tell_lines g.S.Store _ _ _ (record {
       let same : c.next_line.new.rows.conn.now ≡ c.conn-then-is_err-1.given.0 = sym (c.conn-then-is_err-1.given.1 (sym (c.next_line.ensures.same_reference ∙ c.rows.invariant.0 ∙ c.in-Ok.ensures.same_reference)) ∙ c.drop-rows-then-is_err.ensures) in
       stays_on g.S.Store c.args.conn.now c.rows.rows.conn.now c.next_line.new.rows.conn.now c.conn-then-is_err-1.given.0 (c.rows.invariant.3 ours) c.next_line.ensures.stays same;
   value = λ ours sound kept holds. tt;
+  live = tt;
 })
 
 pub returns : goal.returns
@@ -116,9 +124,12 @@ returns g c = tell_lines g.S.Store _ _ _ (record {
       let before = c.rows.invariant in
       let same : c.rows.rows.conn.now ≡ c.conn-2-1.given.0 = sym (c.conn-2-1.given.1 (sym (c.rows.invariant.0 ∙ c.in-Ok.ensures.same_reference)) ∙ c.drop-rows-2.ensures) in
       let last : worry mid ≡ 0 = subst (λ h. worry (state g.S.Store h) ≡ 0) (sym same) sound in
-      let was = before.4 ours last in
+      let was = before.5 ours last in
       let there : Holds mid.now kept = subst (λ (d : Database). Holds d kept) (sym ((before.3 ours).same last)) holds in
       let all = begins c.args.purse.now c.args.after g.S.Store c.rows.rows.conn.now was.0 was.1 kept there in
       let many : length c.rows.lines.items ≡ c.args.most = before.1 ∙ both_ways _ _ c.rows.auto.counter-end c.rows-test.false in
       full_page c.args.purse.now c.args.after c.args.most kept valid was.0 all.0 c.rows.lines.items was.2 before.2 many all.1;
+  live =
+      let same : c.rows.rows.conn.now ≡ c.conn-2-1.given.0 = sym (c.conn-2-1.given.1 (sym (c.rows.invariant.0 ∙ c.in-Ok.ensures.same_reference)) ∙ c.drop-rows-2.ensures) in
+      subst (λ h. IsAwake (state g.S.Store h)) same c.rows.invariant.4;
 })

@@ -2,12 +2,12 @@ use Rattle.mx_tables.proofs.Common.{◌≡◌, List, length, AllByRecursion, Row
 use Rattle.std.proofs.Common.{map}
 use Rattle.sqlite.specs.Given.{HasGiven}
 use Rattle.mx_book.specs.Conditions.{IsNote}
-use Rattle.mx_tables.specs.States.{worry, IsOurs, Stays}
+use Rattle.mx_tables.specs.States.{worry, IsAwake, IsOurs, Stays}
 use Rattle.mx_tables.specs.Pages.{first_five, line_shown}
 use Rattle.mx_tables.proofs.LineLemmas.{select_lines, given}
 use Rattle.mx_tables.proofs.lines.list_lines.Given as goal
 
--- the query has given the rows of the lines so far, and the rows of the tables stay
+-- the query has given the rows of the lines so far, the rows of the tables stay, and the connection is open
 abbrev pub invariant-rows : goal.invariant-rows
 invariant-rows g l =
     let old = state g.S.Store l.fn.conn in
@@ -16,4 +16,5 @@ invariant-rows g l =
     × (length l.lines.items ≡ l.counter)
     × AllByRecursion (λ line. IsNote line.note) l.lines.items
     × (IsOurs old → Stays old now)
+    × IsAwake now
     × (IsOurs old → worry now ≡ 0 → (rows : List Row) × HasGiven g.S.Store select_lines (given l.purse l.after) l.rows.conn.now rows × (map first_five rows ≡ map line_shown l.lines.items))

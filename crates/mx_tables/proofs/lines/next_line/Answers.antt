@@ -1,7 +1,7 @@
 use Rattle.mx_tables.proofs.Common.{◌≡◌, inl, None, Some, refl, state}
 use Rattle.std.proofs.Common.{ap, sym}
 use Rattle.sqlite.specs.Given.{row_if}
-use Rattle.mx_tables.proofs.StateLemmas.{sure, step_stays, failed_quits}
+use Rattle.mx_tables.proofs.StateLemmas.{awake, sure, step_stays, failed_quits}
 use Rattle.mx_tables.proofs.lines.next_line.Goals as goal
 
 pub returns-in-Err-clause-stays : goal.returns-in-Err-clause-stays
@@ -24,6 +24,12 @@ returns-in_err-line_in-clause-stays g c ours =
 pub returns-clause-stays : goal.returns-clause-stays
 returns-clause-stays g c ours =
     step_stays (state g.S.Store c.args.rows.now.conn.now) (state g.S.Store c.advance.new.self.conn.now) ours c.in_default.ensures.mode c.in_default.ensures.survives (λ clean. inl (c.in_default.ensures.same clean))
+
+pub returns-in_default-get-clause-live : goal.returns-in_default-get-clause-live
+returns-in_default-get-clause-live g c = awake (state g.S.Store c.advance.new.self.conn.now) (λ clean. (c.in_default.ensures.same clean).0.is_open)
+
+pub returns-clause-live : goal.returns-clause-live
+returns-clause-live g c = awake (state g.S.Store c.advance.new.self.conn.now) (λ clean. (c.in_default.ensures.same clean).0.is_open)
 
 pub returns-in_default-get-clause-shown : goal.returns-in_default-get-clause-shown
 returns-in_default-get-clause-shown g c sound =

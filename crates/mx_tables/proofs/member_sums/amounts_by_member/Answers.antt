@@ -11,7 +11,7 @@ pub ask-requires : goal.ask-requires
 ask-requires g c = rw c.text.ensures (amounts_query c.args.amounts)
 
 pub loop-row-init : goal.loop-row-init
-loop-row-init g c = reads_none g.S.Store (λ rows holds m. ap (λ sums. sum_at sums m) c.new-sums.ensures ∙ sum_at_first m)
+loop-row-init g c = reads_none g.S.Store c.in_ok-rows.ensures.reads.live (λ rows holds m. ap (λ sums. sum_at sums m) c.new-sums.ensures ∙ sum_at_first m)
 
 pub loop-row-preserved : goal.loop-row-preserved
 loop-row-preserved g c =

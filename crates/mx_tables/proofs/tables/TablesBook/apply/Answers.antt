@@ -3,7 +3,7 @@ use Rattle.mx_tables.specs.Owners.{OwnerIndex, indexed}
 use Rattle.mx_tables.specs.Holds.{Spells}
 use Rattle.mx_tables.specs.States.{worry, Leaves, TellsOwners}
 use Rattle.mx_tables.proofs.KeptLemmas.{spelled_after, spelled_one}
-use Rattle.mx_tables.proofs.StateLemmas.{told_after, worry_later, sure, sure_before, no_worry, not_lied, ours_after, left_as_was}
+use Rattle.mx_tables.proofs.StateLemmas.{awake_by, told_after, worry_later, sure, sure_before, no_worry, not_lied, ours_after, left_as_was}
 use Rattle.std.proofs.lemmas.Result.{on_ok_weaker}
 use Rattle.mx_tables.proofs.tables.TablesBook.apply.Goals as goal
 
@@ -39,9 +39,7 @@ returns-clause-ok g c w h spelled =
     (c.edit_all-done.ensures.commits.all (sure new h).1)
 
 pub returns-clause-answered : goal.returns-clause-answered
-returns-clause-answered g c h =
-    let new = state g.S.Store c.edit_all-done.new.conn in
-    on_ok_weaker c.edit_all-done.result (λ live. no_worry new live (not_lied new h)) (c.edit_all-done.ensures.lives (not_lied new h))
+returns-clause-answered g c = awake_by (state g.S.Store c.edit_all-done.new.conn) c.edit_all-done.result c.edit_all-done.ensures.lives
 
 pub returns-clause-stops : goal.returns-clause-stops
 returns-clause-stops g c h db left =

@@ -1,0 +1,81 @@
+-- Lives, and stops between them.
+use Rattle.std.proofs.Common.{◌≡◌, ◌≤◌, ℕ, Bool, true, false, inl, inr, List, [], ◌∷◌, ◌++◌, Option, Some, None, IfSome, ap, subst, arith}
+use Rattle.std.specs.Prelude.{Result}
+use Rattle.sqlite.specs.State.{State as Connected, HasCleanDisk}
+use Rattle.sqlite_trees.proofs.Doubt.{clean_of}
+use Rattle.mx_book.specs.World.{World}
+use Rattle.mx_book.specs.declared.contract.StoreFault.{StoreFault}
+use Rattle.mx_desk.specs.Durable.{Lasts, Lives, ended, stopped, unborn}
+use Rattle.mx_desk.specs.Leaves.{Lawful}
+use Rattle.mx_desk.specs.Serve.{Marked}
+use Rattle.mx_desk.specs.Steps.{Leads, State, state}
+use Rattle.mx_desk.proofs.LawfulLemmas.{lawful_requests}
+use Rattle.mx_tables.specs.States.{worry, worry_at}
+use Rattle.mx_tasks.specs.Runs.{TaskRuns}
+use Rattle.mx_tasks.specs.declared.fault.TaskFault.{TaskFault}
+use Rattle.mx_lives.specs.Lived.{LivedTo, LivesOver, RunsOver, lived, lived_more, unlived}
+
+-- what two clauses say of what is there, together
+pub if_some_both : {X : Type 0} (o : Option X) (P Q R : X → Type 0) → ((x : X) → P x → Q x → R x) → IfSome o P → IfSome o Q → IfSome o R
+if_some_both None P Q R f p q = tt
+if_some_both (Some x) P Q R f p q = f x p q
+
+-- up to 1 where the disk told no lie
+low_at : (live : Bool) → worry_at live true ≤ 1
+low_at true = omega arith
+low_at false = omega arith
+
+pub low_if_clean : (s : Connected) → HasCleanDisk s → worry s ≤ 1
+low_if_clean s clean = rw (clean_of s.is_clean clean) (low_at s.is_open)
+
+-- ---- lives
+
+module _ {fails : StoreFault → Type 0} where
+  -- what is promised of requests holds of those of a run
+  task_lawful : (s : State) (r : Result ℕ TaskFault) (ms : List Marked) (t : State) → TaskRuns fails s r ms t → Lawful s.world ms t.world
+  task_lawful s r ms t (inl none) = rw (none.1) (lawful_requests s.world t.world [] (ap (λ (u : State). u.world) none.2))
+  task_lawful s r ms t (inr runs) = runs.2.leaves.lawful
+
+  -- lives over inputs are lives
+  over_lives : (inputs : List (List ℕ)) (w now : World) (ms : List Marked) → LivesOver fails inputs w ms now → Lives w ms now
+  over_lives _ _ _ _ (unlived {w}) = unborn
+  over_lives _ _ _ _ (lived {inputs} {input} {w} {v} {now} {ms} {ns} before run) =
+      ended (over_lives inputs w v ms before) (task_lawful _ _ _ _ run.runs)
+  over_lives _ _ _ _ (lived_more {inputs} {input} {w} {v} {now} {ms} {ns} before run m given_up) =
+      stopped (over_lives inputs w v ms before) (task_lawful _ _ _ _ run.runs) m given_up
+
+  -- what lives over inputs led to
+  lived_to : (Spelled : World → Type 0) (inputs : List (List ℕ)) (w end : World) (ms : List Marked) → LivesOver fails inputs w ms end → Spelled end → LivedTo fails Spelled inputs w
+  lived_to Spelled inputs w end ms over spelled = record { marked = ms; end = end; over = over; as_one = over_lives inputs w end ms over; spelled = spelled }
+
+  -- a run over an input
+  pub run_over : {Moves Left : List Marked → World → Type 0} {rest output : Option (List ℕ)} (from written : Option (List ℕ)) (input : List ℕ) (w : World) (result : Result ℕ TaskFault) → from ≡ Some input → written ≡ Some []
+      → ((ms : List Marked) (now : World) → Moves ms now → Left ms now)
+      → Leads (λ ms now. TaskRuns fails (state [] from written w) result ms (state [] rest output now)) Moves → Leads (RunsOver fails w input) Left
+  run_over {Moves} {Left} {rest} {output} from written input w result given empty f led = record {
+    end = led.end;
+    marked = led.marked;
+    holds = record {
+      result = result;
+      rest = rest;
+      output = output;
+      runs = subst (λ (o : Option (List ℕ)). TaskRuns fails (state [] (Some input) o w) result led.marked (state [] rest output led.end)) empty
+          (subst (λ (i : Option (List ℕ)). TaskRuns fails (state [] i written w) result led.marked (state [] rest output led.end)) given led.holds);
+    };
+    moves = f led.marked led.end led.moves;
+  }
+
+  -- before the first
+  pub lived_none : (Spelled : World → Type 0) (w : World) → Spelled w → LivedTo fails Spelled [] w
+  lived_none Spelled w spelled = lived_to Spelled [] w w [] unlived spelled
+
+  -- one more
+  pub lived_next : (Before After : World → Type 0) (inputs : List (List ℕ)) (input : List ℕ) (w : World) → LivedTo fails Before inputs w
+      → ((v : World) → Before v → Leads (RunsOver fails v input) (Lasts After)) → LivedTo fails After (inputs ++ input ∷ []) w
+  lived_next Before After inputs input w before next = by (next before.end before.spelled) where
+    after : (ns : List Marked) (now : World) → RunsOver fails before.end input ns now → Lasts After ns now → LivedTo fails After (inputs ++ input ∷ []) w
+    after ns now run (inl here) = lived_to After _ w now _ (lived before.over run) here
+    after ns now run (inr more) = lived_to After _ w _ _ (lived_more before.over run more.0 more.1) more.2
+
+    by : Leads (RunsOver fails before.end input) (Lasts After) → LivedTo fails After (inputs ++ input ∷ []) w
+    by led = after led.marked led.end led.holds led.moves

@@ -1,0 +1,33 @@
+use Rattle.std.proofs.Common.{◌≤◌, ◌<◌, [], map, length, arith}
+use Rattle.std.proofs.lemmas.List.{get_or-map, length-map, take_all, take_more}
+use Rattle.mx_lives.proofs.LifeLemmas.{lived_next, lived_none}
+use Rattle.mx_lives.proofs.lives.live_on.Goals as goal
+
+pub inputs-init : goal.inputs-init
+inputs-init g c = record {
+  awake = c.in-Ok.ensures.live;
+  led = λ w spelled sure. lived_none _ w (rw (c.in-Ok.ensures.same sure) spelled);
+}
+
+pub inputs-preserved : goal.inputs-preserved
+inputs-preserved g c =
+    let texts = map (λ input. input.now) c.args.inputs.now in
+    let many = length-map c.args.inputs.now (λ input. input.now) in
+    let below : c.inputs.input-index < length texts = omega (arith, c.inputs-test.true) in
+    let this = get_or-map (λ input. input.now) c.args.inputs.now c.inputs.input-index _ [] c.inputs-test.true in
+    record {
+      awake = c.in_ok-book.ensures.awake;
+      led = λ w spelled sure.
+          let was = c.inputs.invariant.awake (c.in_ok-book.ensures.calm sure) in
+          rw (take_more texts c.inputs.input-index [] below, this) (lived_next _ _ _ _ w (c.inputs.invariant.led w spelled was) (λ v here. c.in_ok-book.ensures.lives v was here sure));
+    }
+
+pub returns : goal.returns
+returns g c =
+    let texts = map (λ input. input.now) c.args.inputs.now in
+    let many = length-map c.args.inputs.now (λ input. input.now) in
+    let past : length texts ≤ c.inputs.input-index = omega (arith, c.inputs-test.false) in
+    let all = take_all c.inputs.input-index texts past in
+    record {
+      lives = λ w spelled sure. rw c.into_store.ensures.same (rw all at (c.inputs.invariant.led w spelled (rw c.into_store.ensures.same at sure)));
+    }

@@ -1,0 +1,132 @@
+//! Two lives over the same files: a file stops in the first life, and the second goes on with what a book in memory has after
+//! the requests that the first answered, or after one more.
+use crate::disks::{
+    Disks, EACH, MOST_CALLS, Stopping, as_written, connected, files_of, have_stopped,
+    never_stopping, stopping_after,
+};
+use crate::made::new_books;
+use crate::offices::{serve_in, shown_in, with_book};
+use crate::requests::{FUNDED, LOOKS, PAID};
+use crate::scripts::{input_of, length_of, run_through, serve, shown};
+use mx_book::Book;
+use mx_lives::live_on;
+use mx_office::Office;
+use mx_wire::Routes;
+use sqlite::Files;
+use sqlite_disk::Memory;
+use std::alloc::Global;
+use std::process::Abort;
+use std::test::Fail;
+
+/// The inputs of two lives, the files of new books before them, and what a book in memory shows after each number of requests
+/// of the first and all of the second.
+#[derive(Drop)]
+struct TwoLives {
+    inputs: [String; 2],
+    before: Files<Memory>,
+    looks: Vec<String>,
+}
+
+/// What books show after the first requests of the first life, and then the second.
+fn look_after(
+    rt: &(impl Abort + AllocGlobal),
+    routes: &Routes,
+    office: &mut Office<impl Book>,
+    count: usize,
+    second: &str,
+) -> Option<String> {
+    serve(rt, routes, office, FUNDED, count)?;
+    run_through(rt.alloc(), routes, office, second)?;
+    shown(rt.alloc(), routes, office, LOOKS)
+}
+
+/// What a book in memory shows after each number of requests of the first life, and then the second.
+fn looks_after(
+    rt: &(impl Abort + AllocGlobal),
+    routes: &Routes,
+    second: &str,
+) -> Option<Vec<String>> {
+    let mut looks = Vec::new(rt.alloc());
+    for count in 0..=length_of(FUNDED) {
+        let text = with_book(
+            rt.alloc(),
+            |office| look_after(rt, routes, office, count, second),
+        )?;
+        looks.push(text).ok()?;
+    }
+    Some(looks)
+}
+
+/// A set-up, and then a payment.
+fn two_lives(rt: &(impl Abort + AllocGlobal), routes: &Routes) -> Option<TwoLives> {
+    let alloc = rt.alloc();
+    let second = input_of(alloc, PAID)?;
+    let looks = looks_after(rt, routes, second.as_str())?;
+    Some(TwoLives {
+        inputs: [input_of(alloc, FUNDED)?, second],
+        before: new_books(alloc)?,
+        looks,
+    })
+}
+
+/// What the books in files show that both lives have left. None where they couldn't be opened.
+fn lived_through(alloc: Global, routes: &Routes, case: &TwoLives, disks: Disks) -> Option<String> {
+    let store = connected(alloc, disks).ok()?;
+    let [first, second] = &case.inputs;
+    let end = live_on(alloc, store, &[first.as_bytes(), second.as_bytes()])?;
+    let left = as_written(alloc, &files_of(end)).ok()?;
+    let ended = shown_in(alloc, routes, never_stopping(alloc, &left).ok()?, LOOKS);
+    ended.done.flatten()
+}
+
+/// Lives both lives over copies of the files, of which one stops after so many calls, and asserts what is left: what is shown
+/// after as many requests as the first answers before that stop, or one more. Gives whether it stopped in the first.
+fn assert_lived(
+    rt: &(impl Abort + AllocGlobal),
+    routes: &Routes,
+    case: &TwoLives,
+    which: Stopping,
+    calls: u64,
+) -> Result<bool, Fail> {
+    let alloc = rt.alloc();
+    let disks = stopping_after(alloc, &case.before, which, calls)?;
+    let mut first = serve_in(rt, routes, disks, FUNDED);
+    let disks = stopping_after(alloc, &case.before, which, calls)?;
+    let left = lived_through(alloc, routes, case, disks);
+    match first.done {
+        Some(count) => {
+            let count = count.ok_or("not served")?;
+            let text = left.ok_or("not opened")?;
+            let found = case.looks.get(count) == Some(&text)
+                || case.looks.get(count.saturating_add(1)) == Some(&text);
+            assert!(rt; found, "after {count}: {text}");
+        }
+        None => assert!(rt; left.is_none()),
+    }
+    Ok(have_stopped(&mut first.files))
+}
+
+/// Asserts it of a stop at each call in turn, up to one that never comes.
+fn assert_each_life(
+    rt: &(impl Abort + AllocGlobal),
+    routes: &Routes,
+    case: &TwoLives,
+    which: Stopping,
+) -> Result<(), Fail> {
+    for calls in 0..MOST_CALLS {
+        if !assert_lived(rt, routes, case, which, calls)? {
+            return Ok(());
+        }
+    }
+    Err("there are more calls")?
+}
+
+#[test]
+fn stops_between_two_lives(rt: HostRuntime) -> Result<(), Fail> {
+    let routes = Routes::new(rt.alloc())?;
+    let case = two_lives(&rt, &routes).ok_or("no memory")?;
+    for which in EACH {
+        assert_each_life(&rt, &routes, &case, which)?;
+    }
+    Ok(())
+}
