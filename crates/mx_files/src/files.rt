@@ -173,6 +173,15 @@ fn is_there(rt: &HostRuntime, path: &str, number: u64) -> bool {
     }
 }
 
+/// Opens an empty file as a new database. Each of its pages ends in SQLite's page checksum, by which an opening finds most of
+/// what changed in the file since it was closed.
+fn open_new(rt: &HostRuntime, path: &str) -> Result<Connection<Store>, TaskFault> {
+    match Connection::open_with_sums(rt, path) {
+        Ok(store) => Ok(store),
+        Err(error) => Err(unopened(error)),
+    }
+}
+
 /// Makes new books in an empty file with that number, closes it, and puts it in the place of another.
 fn put_books(
     rt: &HostRuntime,
@@ -181,7 +190,7 @@ fn put_books(
     place: &str,
     operator: Token,
 ) -> Result<(), TaskFault> {
-    let store = make_in_store(rt.alloc(), open(rt, made)?, operator)?;
+    let store = make_in_store(rt.alloc(), open_new(rt, made)?, operator)?;
     once_closed(Ok(()), store.close().is_ok())?;
     if !is_there(rt, made, number) {
         return Err(TaskFault::File);
