@@ -106,11 +106,13 @@ fn purse_of(matches: &ArgMatches<'_>) -> Result<Option<Name>, Misfit>
 
 // Why a `run` names no task whose token, if it has one, can be read.
 fn run_misfit(matches: &ArgMatches<'_>) -> Misfit {
-    match (text_of(matches, "memory"), text_of(matches, "FILE")) {
-        (Some("true"), Some(_)) => Misfit::FileAndMemory,
-        (Some("true"), None) => Misfit::NoToken,
-        (_, Some(_)) => Misfit::TokenForFile,
-        (_, None) => Misfit::NoBooks,
+    let is_in_memory = text_of(matches, "memory") == Some("true");
+    let names_file = text_of(matches, "FILE").is_some();
+    match (is_in_memory, names_file) {
+        (true, true) => Misfit::FileAndMemory,
+        (true, false) => Misfit::NoToken,
+        (false, true) => Misfit::TokenForFile,
+        (false, false) => Misfit::NoBooks,
     }
 }
 

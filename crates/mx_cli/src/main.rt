@@ -50,7 +50,11 @@ fn refuse(rt: &HostRuntime, text: &str) -> ExitCode
 }
 
 fn words_of(alloc: Global, args: &[String]) -> Result<Vec<&str>, AllocError> {
-    args.iter().skip(1).map(|word| word.as_str()).collect(alloc)
+    let mut words = Vec::new(alloc);
+    for word in args.iter().skip(1) {
+        words.push(word.as_str())?;
+    }
+    Ok(words)
 }
 
 /// Reads the command line, does its task and gives the status.
