@@ -24,7 +24,7 @@ use Rattle.mx_tables.specs.Answers.{member_shown, ArePurses}
 use Rattle.mx_tables.specs.States.{IsQuery}
 use Rattle.mx_tables.proofs.MemberLemmas.{filter_everything}
 use Rattle.mx_tables.proofs.Statements.{env, passes}
-use Rattle.mx_tables.proofs.StoredLemmas.{and_true, same_numbers, same_text}
+use Rattle.mx_tables.proofs.StoredLemmas.{and_true, same_numbers}
 use Rattle.mx_tables.proofs.Texts.{IsSelect}
 use Rattle.mx_tables.proofs.ReadLemmas.{answers, answers_in_order}
 use Rattle.mx_tables.proofs.KeptLemmas.{members}
@@ -37,7 +37,6 @@ use Rattle.mx_book.specs.RowEdits.{member_at, log_at}
 use Rattle.mx_book.specs.RowTotals.{row_members_totals_of, awaited, lost_by, lost_in_log, lost_in_archive}
 use Rattle.mx_book.specs.declared.totals.Scope.TheVariants.{Member}
 use Rattle.mx_tables.specs.declared.member_sums.MemberSums.{MemberSums}
-use Rattle.std.specs.Cmp.Lexicographic.{slice_cmp}
 use Rattle.std.proofs.lemmas.List.{take_all}
 use Rattle.std.proofs.lemmas.Option.{IfSome_then}
 use Rattle.mx_pay.specs.Limits.{most_entries}

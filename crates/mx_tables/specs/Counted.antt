@@ -1,5 +1,5 @@
 -- What rows that were read add to sums, which purses they are of, and what the sums are.
-use Rattle.std.specs.Prelude.{ℕ, pos, negsuc, Bool, ◌&&◌, ◌||◌, List, [], ◌∷◌, codes, if◌then◌else◌, bytes_eq, unwrap_or, Option, Some, None, true, false}
+use Rattle.std.specs.Prelude.{ℕ, pos, negsuc, Bool, ◌&&◌, ◌||◌, List, [], ◌∷◌, codes, if◌then◌else◌, bytes_eq, unwrap_or, Option, Some, None}
 use Rattle.std.specs.FinMap as fmap
 use Rattle.sqlite_value.specs.declared.value.Value.{Value}
 use Rattle.sqlite_value.specs.declared.value.Value.TheVariants.{Null, Int, Real, Text, Blob}
