@@ -1,7 +1,6 @@
-//! The tasks of the program over the files that they name, and over tables in memory.
+//! The tasks of the program over the files that they name.
 #![tactic(auto)]
 
 pub mod books;
 pub mod files;
 pub mod perform;
-pub mod tables;

@@ -7,9 +7,9 @@ ghost use Rattle.mx_office.specs.Reachable.{IsReachable};
 ghost use Rattle.mx_tasks.specs.Faults.{Untouched};
 ghost use Rattle.mx_tasks.specs.Runs.{IsUnbegun, TaskRuns};
 
-use crate::books::unmade;
 use mx_book::Book;
 use mx_desk::{Counted, Outlet};
+use mx_files::books::unmade;
 use mx_office::Office;
 use mx_pay::Token;
 use mx_tables::Tables;
@@ -21,8 +21,8 @@ use std::io::Read;
 
 /// Answers the requests of the input over new tables in memory that are given up at the end, for the operator with that
 /// token, and says how many responses were written, as `run_memory` does over a book in memory. A request may be given up,
-/// answered 503 and changing nothing, wherever a statement is refused. A fault is `Memory` or `Store` where the tables can't be made, or `Memory`
-/// where there is none for the routes, and then nothing was read or written; or that of the desk.
+/// answered 503 and changing nothing, wherever a statement is refused. A fault is `Memory` or `Store` where the tables can't be
+/// made, or `Memory` where there is none for the routes, and then nothing was read or written; or that of the desk.
 ///
 /// A store in memory returns what was written to it, so nothing is said under a doubt.
 pub fn run_memory_tables<R: Read, W: Outlet>(

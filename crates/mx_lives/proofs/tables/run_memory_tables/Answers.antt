@@ -5,9 +5,9 @@ use Rattle.sqlite.specs.Steps.{over_memory}
 use Rattle.mx_book.specs.World.{opening}
 use Rattle.mx_book.proofs.StandLemmas.{low_sure}
 use Rattle.mx_tables.specs.Holds.{SpellsOne}
-use Rattle.mx_files.proofs.TableLemmas.{no_worry, unmade}
+use Rattle.mx_lives.proofs.TableLemmas.{no_worry, unmade}
 use Rattle.mx_tasks.proofs.RunLemmas.{never_store, opening_reachable}
-use Rattle.mx_files.proofs.tables.run_memory_tables.Goals as goal
+use Rattle.mx_lives.proofs.tables.run_memory_tables.Goals as goal
 
 -- there is no memory for the store
 pub returns-in_err-store-clause-begins : goal.returns-in_err-store-clause-begins
