@@ -1,5 +1,5 @@
 -- The words of the program's faults, and which faults of the layers below they are.
-use Rattle.std.specs.Prelude.{◌≡◌, ℕ, List, codes}
+use Rattle.std.specs.Prelude.{◌≡◌, ◌⊎◌, ℕ, List, codes}
 use Rattle.mx_tasks.specs.declared.fault.TaskFault.{TaskFault}
 use Rattle.mx_tasks.specs.declared.fault.TaskFault.TheVariants.{Read, Write, Turns, Memory, Store, NotThisSchema, FileExists, File, Net, NoSuchPurse, Roll, RollTooLarge}
 use Rattle.mx_book.specs.declared.contract.StoreFault.{StoreFault}
@@ -33,6 +33,14 @@ fault_of desk.Turns = Turns
 abbrev pub store_fault_of : StoreFault → TaskFault
 store_fault_of store.Memory = Memory
 store_fault_of store.Store = Store
+
+-- a fault of what asks a book: want of memory, or that of a book whose calls may fail so
+abbrev pub IsBookFault : (StoreFault → Type 0) → TaskFault → Type 0
+IsBookFault fails e = (e ≡ Memory) ⊎ (fails store.Store × (e ≡ Store))
+
+-- and of a report, which may be of a purse that isn't there
+abbrev pub IsReportFault : (StoreFault → Type 0) → TaskFault → Type 0
+IsReportFault fails e = (e ≡ NoSuchPurse) ⊎ IsBookFault fails e
 
 -- a fault of a roll that is imported
 abbrev pub roll_fault_of : RollFaultKind → TaskFault

@@ -1,5 +1,5 @@
 -- What work over the books does, and what comes of it.
-use Rattle.std.specs.Prelude.{◌≡◌, ◌≤◌, ◌⊎◌, ℕ, Bool, true, false, List, [], ◌++◌, Option, Some, None, Result, Err, IfOk, IsOk, IsErr, MatchResult, codes, length, String, string_bytes}
+use Rattle.std.specs.Prelude.{◌≡◌, ◌≤◌, ◌⊎◌, ℕ, Bool, true, false, List, [], ◌++◌, Option, Some, None, Result, Err, IfOk, IfErr, IsOk, IsErr, MatchResult, codes, length, String, string_bytes}
 use Rattle.std.specs.Fmt.{decimal}
 use Rattle.mx_pay.specs.declared.names.Name.{Name}
 use Rattle.mx_book.specs.World.{World}
@@ -9,6 +9,7 @@ use Rattle.mx_desk.specs.Steps.{State, Leads, state}
 use Rattle.mx_report.specs.Import.{IsBroken, IsImported, Tally, tally_of}
 use Rattle.mx_report.specs.declared.rolls.RollReport.{RollReport}
 use Rattle.mx_tasks.specs.Connections.{ServesConnections}
+use Rattle.mx_tasks.specs.Faults.{IsReportFault}
 use Rattle.mx_tasks.specs.Runs.{TaskRuns}
 use Rattle.mx_tasks.specs.Texts.{import_text, is_even_of, report_of}
 use Rattle.mx_tasks.specs.declared.fault.TaskFault.{TaskFault}
@@ -64,4 +65,5 @@ abbrev pub Works : (StoreFault → Type 0) → Type 0 → (World → Type 0) →
 Works fails Sure Stands Moves s Run result input output = Leads (λ ms now. WorksRun fails s result ms (state [] input output now)) Moves
 Works fails Sure Stands Moves s (Serve port count) result input output = Leads (WorksServe fails s.world count result) Moves
 Works fails Sure Stands Moves s (Import roll) result input output = Sure → ImportsFile Stands s.world IsSaid result
-Works fails Sure Stands Moves s (Report purse) result input output = Sure → Stands s.world × WorksReport s.world purse result
+Works fails Sure Stands Moves s (Report purse) result input output =
+    IfErr result (IsReportFault fails) × (Sure → Stands s.world × WorksReport s.world purse result)

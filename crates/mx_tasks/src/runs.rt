@@ -23,10 +23,11 @@ use std::io::Read;
 /// failed, `Turns` where 1,000,000,000 reads didn't reach the end of the input, `Write` where a response couldn't be
 /// written or flushed.
 ///
-/// What is said of the bytes holds where the office's rows spell a World, and its book has no doubt in the end. Then it is a
-/// run of the desk (`runs`): however it ends, the requests that it answered keep holders apart; from a World that commands
-/// lead to they lead to such a World, and no command that they ask is refused because a purse or a float is full; and what
-/// they ask are operations of the abstract purses, in which a payment is one operation, for every choice of losses at the end.
+/// What is said of the bytes holds where the office's rows spell a World, and its store told no lie; a fault may have shut it on
+/// the way. Then it is a run of the desk (`runs`): however it ends, the requests that it answered keep holders apart; from a
+/// World that commands lead to they lead to such a World, and no command that they ask is refused because a purse or a float
+/// is full; and what they ask are operations of the abstract purses, in which a payment is one operation, for every choice of
+/// losses at the end.
 pub fn run_office<R: Read, W: Outlet, B: Book>(
     alloc: Global,
     office: &mut Office<B>,

@@ -1,8 +1,9 @@
 //! What the program prints of an import, and of the books.
-ghost use Rattle.std.specs.Prelude.{◌≡◌, ◌≢◌, IfOk, Some, None, Err, string_bytes};
+ghost use Rattle.std.specs.Prelude.{◌≡◌, IfOk, IfErr, Some, None, string_bytes};
 ghost use Rattle.mx_book.specs.Keeps.{Keeps, Gives};
 ghost use Rattle.mx_book.specs.Reads.{account_of};
 ghost use Rattle.mx_book.specs.World.{World};
+ghost use Rattle.mx_tasks.specs.Faults.{IsBookFault, IsReportFault};
 ghost use Rattle.mx_tasks.specs.Texts.{Denies, Reports, counts_text, import_text, is_even_account};
 ghost use Rattle.mx_tasks.specs.Texts.{numbered_line, reason_text, row_line};
 
@@ -75,7 +76,7 @@ fn reconciliation<B: Book>(alloc: Global, book: &mut B) -> Result<Reported, Task
     ensures keeps { Keeps B.doubt B.rows B.leaves book.old book.new }
     ensures value { Gives B.doubt B.rows B.spells book.old book.new result
         (λ w. Reports w None) }
-    ensures fault { result ≢ Err TaskFault.NoSuchPurse }
+    ensures fault { IfErr result (IsBookFault B.fails) }
 {
     let report = reconcile(alloc, book)?;
     let text = reconcile_text(alloc, &report)?;
@@ -93,7 +94,7 @@ fn has_balance<B: Book>(
     ensures keeps { Keeps B.doubt B.rows B.leaves book.old book.new }
     ensures value { Gives B.doubt B.rows B.spells book.old book.new result
         (λ w even. even ≡ is_even_account lines.now (account_of w purse)) }
-    ensures fault { result ≢ Err TaskFault.NoSuchPurse }
+    ensures fault { IfErr result (IsBookFault B.fails) }
 {
     match book.purse(alloc, purse)? {
         Some(account) => Ok(is_even_statement(lines, account.purse.balance())),
@@ -106,6 +107,7 @@ fn purse_statement<B: Book>(alloc: Global, book: &mut B, purse: Name) -> Result<
     ensures keeps { Keeps B.doubt B.rows B.leaves book.old book.new }
     ensures value { Gives B.doubt B.rows B.spells book.old book.new result
         (λ w. Reports w (Some purse)) }
+    ensures fault { IfErr result (IsReportFault B.fails) }
     ensures none { (w : World) → B.doubt book.new ≡ 0 → B.spells (B.rows book.old) w
         → Denies w (Some purse) result }
 {
@@ -122,7 +124,7 @@ fn purse_statement<B: Book>(alloc: Global, book: &mut B, purse: Name) -> Result<
 ///
 /// # Errors
 ///
-/// `NoSuchPurse` where there is no such purse; a fault of the book's reads; `Memory`.
+/// `NoSuchPurse` where there is no such purse; `Store` where the book's reads may fail so; `Memory`.
 pub fn report_text<B: Book>(
     alloc: Global,
     book: &mut B,
@@ -131,6 +133,7 @@ pub fn report_text<B: Book>(
     ensures keeps { Keeps B.doubt B.rows B.leaves book.old book.new }
     ensures value { Gives B.doubt B.rows B.spells book.old book.new result
         (λ w. Reports w purse) }
+    ensures fault { IfErr result (IsReportFault B.fails) }
     ensures none { (w : World) → B.doubt book.new ≡ 0 → B.spells (B.rows book.old) w
         → Denies w purse result }
 {

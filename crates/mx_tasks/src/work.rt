@@ -1,11 +1,11 @@
 //! What is done over the books in a file.
-ghost use Rattle.std.specs.Prelude.{◌≡◌, ◌≤◌, ◌⊎◌, [], IfOk, string_bytes};
+ghost use Rattle.std.specs.Prelude.{◌≡◌, ◌≤◌, ◌⊎◌, [], IfOk, IfErr, string_bytes};
 ghost use Rattle.mx_book.specs.Keeps.{Keeps};
 ghost use Rattle.mx_book.specs.Stands.{MovesTo};
 ghost use Rattle.mx_book.specs.World.{World};
 ghost use Rattle.mx_desk.specs.Serve.{attempts};
 ghost use Rattle.mx_desk.specs.Steps.{state, Leads};
-ghost use Rattle.mx_tasks.specs.Faults.{Untouched};
+ghost use Rattle.mx_tasks.specs.Faults.{IsReportFault, Untouched};
 ghost use Rattle.mx_tasks.specs.Works.{ImportsFile, IsSaid, Works, WorksReport, WorksRun, WorksServe, served_text};
 ghost use Rattle.mx_tasks.specs.declared.work.Work.TheVariants.{Run};
 
@@ -61,6 +61,7 @@ fn said(text: Vec<u8>) -> Done
 /// What the books come to, or the statement of a purse.
 fn report<B: Book>(alloc: Global, book: &mut B, purse: Option<Name>) -> Result<Done, TaskFault>
     ensures keeps { Keeps B.doubt B.rows B.leaves book.old book.new }
+    ensures fault { IfErr result (IsReportFault B.fails) }
     ensures reports { (w : World) → B.doubt book.new ≡ 0 → B.spells (B.rows book.old) w
         → WorksReport w purse result }
 {
