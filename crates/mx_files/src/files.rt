@@ -1,10 +1,9 @@
 //! The files of books.
-ghost use Rattle.std.specs.Prelude.{◌≡◌, IfOk, IfErr};
 
-use crate::books::{make_in_store, over_store, unmade};
+use crate::closing::{make_and_close, migrate_and_close, work_and_close};
 use mx_desk::{Counted, Outlet};
 use mx_pay::Token;
-use mx_tables::{Migrated, migrate};
+use mx_tables::Migrated;
 use mx_tasks::rolls::file_fault;
 use mx_tasks::{Done, TaskFault, Work};
 use sqlite::{Connection, Error, ErrorCode, File, FileStore};
@@ -126,19 +125,6 @@ fn place_for(rt: &HostRuntime, path: &str) -> Result<String, TaskFault> {
     Ok(place)
 }
 
-/// Passes on what was answered before a file was closed. Where that is a fault, it stays the fault; else it is `Store` where
-/// the file wasn't closed.
-fn once_closed<T: Drop>(answer: Result<T, TaskFault>, is_closed: bool) -> Result<T, TaskFault>
-    ensures ok { IfOk result (λ value. answer ≡ Ok value) }
-    ensures first { IfErr answer (λ fault. result ≡ Err fault) }
-{
-    let value = answer?;
-    if !is_closed {
-        return Err(TaskFault::Store);
-    }
-    Ok(value)
-}
-
 /// Removes what an `init` that was broken off has left, where it left something. What is no database, or no log of one, isn't
 /// that, and stays.
 fn clear(rt: &HostRuntime, path: &str) -> Result<(), TaskFault> {
@@ -190,8 +176,7 @@ fn put_books(
     place: &str,
     operator: Token,
 ) -> Result<(), TaskFault> {
-    let store = make_in_store(rt.alloc(), open_new(rt, made)?, operator)?;
-    once_closed(Ok(()), store.close().is_ok())?;
+    make_and_close(rt.alloc(), open_new(rt, made)?, operator)?;
     if !is_there(rt, made, number) {
         return Err(TaskFault::File);
     }
@@ -255,9 +240,7 @@ pub fn over_file<R: Read, W: Outlet>(
     reader: &mut Counted<R>,
     writer: &mut Counted<W>,
 ) -> Result<Done, TaskFault> {
-    let found = open_found(rt, path)?;
-    let (answer, store) = over_store(rt, found, work, reader, writer)?;
-    once_closed(answer, store.close().is_ok())
+    work_and_close(rt, open_found(rt, path)?, work, reader, writer)
 }
 
 /// Brings the books in a file that is there to the schema of this version.
@@ -268,10 +251,5 @@ pub fn over_file<R: Read, W: Outlet>(
 /// where its log belongs; `NotThisSchema` where it is empty or has no books of this version or the one before; `Store` where
 /// it has other tables, refuses a statement or can't be closed; `Memory`.
 pub fn migrate_file(rt: &HostRuntime, path: &str) -> Result<Migrated, TaskFault> {
-    let mut store = open_found(rt, path)?;
-    let answer = match migrate(rt.alloc(), &mut store) {
-        Ok(migrated) => Ok(migrated),
-        Err(fault) => Err(unmade(fault)),
-    };
-    once_closed(answer, store.close().is_ok())
+    migrate_and_close(rt.alloc(), open_found(rt, path)?)
 }

@@ -2,5 +2,6 @@
 #![tactic(auto)]
 
 pub mod books;
+mod closing;
 pub mod files;
 pub mod perform;
