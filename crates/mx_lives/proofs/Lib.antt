@@ -1,2 +1,3 @@
 pub mod LifeLemmas
 pub mod TableLemmas
+pub mod FileLemmas

@@ -1,6 +1,7 @@
 -- Lives, and stops between them.
-use Rattle.std.proofs.Common.{◌≡◌, ◌≤◌, ℕ, Bool, true, false, inl, inr, List, [], ◌∷◌, ◌++◌, Option, Some, None, IfSome, ap, subst, arith}
+use Rattle.std.proofs.Common.{◌≡◌, ◌≤◌, ℕ, Bool, true, false, inl, inr, List, [], ◌∷◌, ◌++◌, Option, Some, None, IfSome, ap, subst, sym, ◌∙◌, arith}
 use Rattle.std.specs.Prelude.{Result}
+use Rattle.sqlite.specs.Effect.{Database}
 use Rattle.sqlite.specs.State.{State as Connected, HasCleanDisk}
 use Rattle.sqlite_trees.proofs.Doubt.{clean_of}
 use Rattle.mx_book.specs.World.{World}
@@ -10,7 +11,9 @@ use Rattle.mx_desk.specs.Leaves.{Lawful}
 use Rattle.mx_desk.specs.Serve.{Marked}
 use Rattle.mx_desk.specs.Steps.{Leads, State, state}
 use Rattle.mx_desk.proofs.LawfulLemmas.{lawful_requests}
-use Rattle.mx_tables.specs.States.{worry, worry_at}
+use Rattle.mx_tables.specs.Holds.{SpellsOne}
+use Rattle.mx_tables.specs.Schema.{office_schema}
+use Rattle.mx_tables.specs.States.{IsOurs, worry, worry_at}
 use Rattle.mx_tasks.specs.Runs.{TaskRuns}
 use Rattle.mx_tasks.specs.declared.fault.TaskFault.{TaskFault}
 use Rattle.mx_lives.specs.Lived.{LivedTo, LivesOver, RunsOver, lived, lived_more, unlived}
@@ -27,6 +30,10 @@ low_at false = omega arith
 
 pub low_if_clean : (s : Connected) → HasCleanDisk s → worry s ≤ 1
 low_if_clean s clean = rw (clean_of s.is_clean clean) (low_at s.is_open)
+
+-- books that are opened spell what their database does, which has the schema of the office then
+pub opened_spells : (was : Database) (book : Connected) (w : World) → IsOurs book → book.now ≡ was → worry book ≡ 0 → (was.schema ≡ office_schema → SpellsOne was w) → SpellsOne book.now w
+opened_spells was book w ours same sure spelled = rw same (spelled (sym (ap (λ (db : Database). db.schema) same) ∙ ours.schema sure))
 
 -- ---- lives
 

@@ -5,14 +5,13 @@ ghost use Rattle.mx_book.specs.World.{World};
 ghost use Rattle.mx_desk.specs.Durable.{Lasts};
 ghost use Rattle.mx_desk.specs.Steps.{Leads};
 ghost use Rattle.mx_tables.specs.Holds.{SpellsOne};
-ghost use Rattle.mx_tables.specs.States.{IsAwake, Leaves, worry};
+ghost use Rattle.mx_tables.specs.Schema.{office_schema};
+ghost use Rattle.mx_tables.specs.States.{IsAwake, IsOurs, Leaves, worry};
 ghost use Rattle.mx_lives.specs.Lived.{LivedTo, RunsOver};
 
+use crate::answered::answered;
 use mx_book::Book;
-use mx_desk::Counted;
-use mx_office::Office;
 use mx_tables::Tables;
-use mx_tasks::runs::run_office;
 use sqlite::{Alter, Connection};
 use sqlite_trees::store::Reopen;
 use std::alloc::Global;
@@ -50,11 +49,7 @@ fn live<S: Alter + Reopen + Drop>(alloc: Global, book: Tables<S>, input: &[u8]) 
         (Lasts (SpellsOne (state S.Store again).now))) }
     ensures awake { IfSome result (λ again. IsAwake (state S.Store again)) }
 {
-    let mut office = Office::new(book);
-    let mut reader = Counted::new(input);
-    let mut writer = Counted::new(Vec::new(alloc));
-    let _ = run_office(alloc, &mut office, &mut reader, &mut writer);
-    stopped(alloc, office.into_book())
+    stopped(alloc, answered(alloc, book, input))
 }
 
 /// Lives over the books in a store, one for each input, in order. A life begins with the books as the one before left them,
@@ -77,7 +72,11 @@ pub fn live_on<S: Alter + Reopen + Drop>(
     store: Connection<S>,
     inputs: &[&[u8]],
 ) -> Option<Connection<S>>
-    ensures lives { (w : World) → SpellsOne (state S.Store store).now w
+    ensures calm { IfSome result (λ end. worry (state S.Store end) ≡ 0
+        → worry (state S.Store store) ≡ 0) }
+    ensures ours { IfSome result (λ end. IsOurs (state S.Store end)) }
+    ensures lives { (w : World) → ((state S.Store store).now.schema ≡ office_schema
+        → SpellsOne (state S.Store store).now w)
         → IfSome result (λ end. worry (state S.Store end) ≡ 0
         → LivedTo ⟦<Tables<S> as Book>⟧.fails (SpellsOne (state S.Store end).now)
         (map (λ input. input.now) inputs.now) w) }

@@ -3,6 +3,8 @@
 #![tactic(auto)]
 
 #[cfg(test)]
+mod closed;
+#[cfg(test)]
 mod disks;
 #[cfg(test)]
 mod lives;

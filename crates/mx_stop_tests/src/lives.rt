@@ -21,10 +21,10 @@ use std::test::Fail;
 /// The inputs of two lives, the files of new books before them, and what a book in memory shows after each number of requests
 /// of the first and all of the second.
 #[derive(Drop)]
-struct TwoLives {
-    inputs: [String; 2],
+pub(super) struct TwoLives {
+    pub(super) inputs: [String; 2],
     before: Files<Memory>,
-    looks: Vec<String>,
+    pub(super) looks: Vec<String>,
 }
 
 /// What books show after the first requests of the first life, and then the second.
@@ -58,7 +58,7 @@ fn looks_after(
 }
 
 /// A set-up, and then a payment.
-fn two_lives(rt: &(impl Abort + AllocGlobal), routes: &Routes) -> Option<TwoLives> {
+pub(super) fn two_lives(rt: &(impl Abort + AllocGlobal), routes: &Routes) -> Option<TwoLives> {
     let alloc = rt.alloc();
     let second = input_of(alloc, PAID)?;
     let looks = looks_after(rt, routes, second.as_str())?;

@@ -1,12 +1,15 @@
 use Rattle.std.proofs.Common.{◌≤◌, ◌<◌, [], map, length, arith}
 use Rattle.std.proofs.lemmas.List.{get_or-map, length-map, take_all, take_more}
-use Rattle.mx_lives.proofs.LifeLemmas.{lived_next, lived_none}
+use Rattle.sqlite.specs.Held.{state}
+use Rattle.mx_tables.proofs.StateLemmas.{sure_before}
+use Rattle.mx_lives.proofs.LifeLemmas.{lived_next, lived_none, opened_spells}
 use Rattle.mx_lives.proofs.lives.live_on.Goals as goal
 
 pub inputs-init : goal.inputs-init
 inputs-init g c = record {
   awake = c.in-Ok.ensures.live;
-  led = λ w spelled sure. lived_none _ w (rw (c.in-Ok.ensures.same sure) spelled);
+  calm = sure_before (state g.S.Store c.args.store) (state g.S.Store c.in-Ok.opened) c.in-Ok.ensures.later;
+  led = λ w spelled sure. lived_none _ w (opened_spells (state g.S.Store c.args.store).now (state g.S.Store c.in-Ok.opened) w c.in-Ok.ensures.ours (c.in-Ok.ensures.same sure) sure spelled);
 }
 
 pub inputs-preserved : goal.inputs-preserved
@@ -17,6 +20,7 @@ inputs-preserved g c =
     let this = get_or-map (λ input. input.now) c.args.inputs.now c.inputs.input-index _ [] c.inputs-test.true in
     record {
       awake = c.in_ok-book.ensures.awake;
+      calm = λ sure. c.inputs.invariant.calm (c.inputs.invariant.awake (c.in_ok-book.ensures.calm sure));
       led = λ w spelled sure.
           let was = c.inputs.invariant.awake (c.in_ok-book.ensures.calm sure) in
           rw (take_more texts c.inputs.input-index [] below, this) (lived_next _ _ _ _ w (c.inputs.invariant.led w spelled was) (λ v here. c.in_ok-book.ensures.lives v was here sure));
@@ -29,5 +33,7 @@ returns g c =
     let past : length texts ≤ c.inputs.input-index = omega (arith, c.inputs-test.false) in
     let all = take_all c.inputs.input-index texts past in
     record {
+      calm = λ sure. c.inputs.invariant.calm (rw c.into_store.ensures.same at sure);
+      ours = c.into_store.ensures.ours;
       lives = λ w spelled sure. rw c.into_store.ensures.same (rw all at (c.inputs.invariant.led w spelled (rw c.into_store.ensures.same at sure)));
     }

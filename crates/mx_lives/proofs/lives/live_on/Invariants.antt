@@ -2,6 +2,7 @@ use Rattle.std.proofs.Common.{◌≡◌, map, take}
 use Rattle.sqlite.specs.Held.{state}
 use Rattle.mx_book.specs.World.{World}
 use Rattle.mx_tables.specs.Holds.{SpellsOne}
+use Rattle.mx_tables.specs.Schema.{office_schema}
 use Rattle.mx_tables.specs.States.{IsAwake, worry}
 use Rattle.mx_lives.specs.Lived.{LivedTo}
 use Rattle.mx_lives.proofs.lives.live_on.Given as goal
@@ -10,6 +11,7 @@ use Rattle.mx_lives.proofs.lives.live_on.Given as goal
 abbrev pub invariant-inputs : goal.invariant-inputs
 invariant-inputs g l = record {
   awake : IsAwake (state g.S.Store l.book);
-  led : (w : World) → SpellsOne (state g.S.Store l.fn.store).now w → worry (state g.S.Store l.book) ≡ 0
+  calm : worry (state g.S.Store l.book) ≡ 0 → worry (state g.S.Store l.fn.store) ≡ 0;
+  led : (w : World) → ((state g.S.Store l.fn.store).now.schema ≡ office_schema → SpellsOne (state g.S.Store l.fn.store).now w) → worry (state g.S.Store l.book) ≡ 0
       → LivedTo (λ _. Unit {0}) (SpellsOne (state g.S.Store l.book).now) (take l.input-index (map (λ input. input.now) l.fn.inputs)) w;
 }

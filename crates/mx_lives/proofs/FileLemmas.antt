@@ -1,0 +1,61 @@
+-- What the bytes of files hold, and what a close leaves of them.
+use Rattle.std.proofs.Common.{◌≡◌, List, ap, ap₂, sym, subst, ◌∙◌, inl}
+use Rattle.std.proofs.Math.Logic.{∥∥₁_elim}
+use Rattle.sqlite_disk.specs.declared.Disk.{Ghosts}
+use Rattle.sqlite_disk.specs.declared.Files.{Files}
+use Rattle.sqlite_schema.specs.declared.schema.Schema.{Schema}
+use Rattle.sqlite_store.specs.declared.store.FileStore.{FileStore}
+use Rattle.sqlite_trees.specs.Props.{Trees-set}
+use Rattle.sqlite_trees.specs.Tree.{Trees}
+use Rattle.sqlite_wal.specs.Recovery.{Image}
+use Rattle.sqlite.specs.Closing.{HoldsAlone, IsCopied}
+use Rattle.sqlite.specs.Effect.{Database}
+use Rattle.sqlite.specs.Files.{Finds, file_state, image_of}
+use Rattle.sqlite.specs.Held.{Held}
+use Rattle.sqlite.specs.State.{Opens}
+use Rattle.mx_book.specs.World.{World}
+use Rattle.mx_desk.specs.Durable.{Lasts}
+use Rattle.mx_desk.specs.Serve.{Marked}
+use Rattle.mx_desk.specs.Steps.{Leads}
+use Rattle.mx_tables.specs.Holds.{SpellsOne}
+use Rattle.mx_tables.specs.Schema.{office_schema}
+use Rattle.mx_tables.specs.States.{IsOurs, worry}
+use Rattle.mx_tables.proofs.StateLemmas.{no_worry}
+use Rattle.mx_lives.specs.InFiles.{AreClosed, HoldBooks, HoldBooksAlone}
+
+-- lives that end with a close are lives
+pub closed_lasts : {D : Type 0} {g : Ghosts D} (files : Files D) {Holds : List Marked → World → Type 0} → Leads Holds (λ _ now. AreClosed g files now) → Leads Holds (Lasts (HoldBooks (image_of g files)))
+closed_lasts files led = record { end = led.end; marked = led.marked; holds = led.holds; moves = inl led.moves.seen.both }
+
+-- a database of the office with these trees
+is_ours : (db : Database) (trees : Trees) → db.schema ≡ office_schema → db.trees ≡ trees → db ≡ record { schema = office_schema; trees = trees }
+is_ours db trees schema same = ap₂ (λ (s : Schema) (t : Trees). record { schema = s; trees = t }) schema same
+
+module _ {D : Type 0} {g : Ghosts D} where
+  -- a close of the books that spell a World leaves their bytes
+  pub books_closed : (c : Held (FileStore D g)) (files : Files D) (w : World) → (worry (file_state c) ≡ 0 → IsOurs (file_state c)) → (worry (file_state c) ≡ 0 → SpellsOne (file_state c).now w) → IsCopied c files → AreClosed g files w
+  books_closed c files w ours spelled copied = record { seen = hold _ copied.seen; left = λ bytes left. hold bytes (copied.left bytes left) } where
+    sure : worry (file_state c) ≡ 0
+    sure = no_worry (file_state c) copied.was_open copied.was_clean
+
+    same : (file_state c).now ≡ record { schema = office_schema; trees = (file_state c).committed.trees }
+    same = is_ours (file_state c).now _ ((ours sure).schema sure) (sym (ap (λ (db : Database). db.trees) ((ours sure).steady sure)))
+
+    now : SpellsOne (record { schema = office_schema; trees = (file_state c).committed.trees }) w
+    now = subst (λ (db : Database). SpellsOne db w) same (spelled sure)
+
+    hold : (bytes : Image) → HoldsAlone bytes (file_state c).committed.trees → HoldBooksAlone bytes w
+    hold bytes held = record {
+      both = record { trees = (file_state c).committed.trees; held = held.both; spelled = now };
+      alone = record { trees = (file_state c).committed.trees; held = held.alone; spelled = now };
+    }
+
+  -- books that are opened in files spell what the bytes say
+  pub books_found : (c : Held (FileStore D g)) (files : Files D) (w : World) (db : Database) → HoldBooks (image_of g files) w → Finds files c → Opens (file_state c)
+      → db ≡ (file_state c).now → db.schema ≡ office_schema → SpellsOne db w
+  books_found c files w db books finds opens same schema = rw (is_ours db books.trees schema trees) books.spelled where
+    committed : (file_state c).committed.trees ≡ books.trees
+    committed = ∥∥₁_elim books.held (Trees-set _ _) (finds.holds books.trees)
+
+    trees : db.trees ≡ books.trees
+    trees = ap (λ (d : Database). d.trees) (same ∙ opens.clean) ∙ committed

@@ -1,0 +1,170 @@
+//! Lives over the books in two files of any disk, a database and its log. Each life opens the files and closes them.
+ghost use Rattle.std.specs.Prelude.{◌≡◌, ◌≤◌, IfSome, map};
+ghost use Rattle.sqlite_wal.specs.Reads.{AreClean};
+ghost use Rattle.sqlite.specs.Closing.{IsCopied};
+ghost use Rattle.sqlite.specs.Files.{Finds, IsOpened, file_state, image_of};
+ghost use Rattle.sqlite.specs.Held.{state};
+ghost use Rattle.sqlite.specs.State.{HasCleanDisk};
+ghost use Rattle.mx_book.specs.World.{World, opening};
+ghost use Rattle.mx_desk.specs.Steps.{Leads};
+ghost use Rattle.mx_office.specs.Reachable.{IsReachable};
+ghost use Rattle.mx_tables.specs.Holds.{SpellsOne};
+ghost use Rattle.mx_tables.specs.Schema.{office_schema};
+ghost use Rattle.mx_tables.specs.States.{IsOurs, worry};
+ghost use Rattle.mx_lives.specs.InFiles.{AreClosed, HoldBooks};
+ghost use Rattle.mx_lives.specs.Lived.{LivedTo, RunsOver};
+
+use crate::answered::answered;
+use crate::lives::live_on;
+use mx_book::Book;
+use mx_files::books::make_in_store;
+use mx_pay::Token;
+use mx_tables::Tables;
+use sqlite::{Alter, Connection, FileStore, Files, Options};
+use sqlite_disk::{Crash, Disk};
+use std::alloc::Global;
+
+/// Opens the database in two files. None where they can't be opened.
+fn opened<D: Disk + Drop>(
+    alloc: Global,
+    files: Files<D>,
+    options: Options,
+) -> Option<Connection<FileStore<D>>>
+    ensures found { IfSome result (λ c. HasCleanDisk (file_state c) → Finds files c) }
+    ensures opened { IfSome result (λ c. HasCleanDisk (file_state c) → IsOpened c) }
+{
+    if !files.may_be_used() {
+        return None;
+    }
+    match Connection::open_files_with(alloc, files, options, true) {
+        Ok(store) => Some(store),
+        Err(_) => None,
+    }
+}
+
+/// Closes the two files of a database, and gives them back. None where they can't be closed.
+fn closed<D: Disk + Drop>(store: Connection<FileStore<D>>) -> Option<Files<D>>
+    ensures { IfSome result (λ files. AreClean D.Disk files.log files.db → IsCopied store files) }
+{
+    match store.close_files() {
+        Ok(files) => Some(files),
+        Err((_, left)) => {
+            drop(left.close());
+            None
+        }
+    }
+}
+
+/// Makes new books in two files, for the operator with this token, and closes the files. None where that fails.
+///
+/// What is said holds of files that have returned what was written to them, and that nobody else wrote (`AreClean`). Then the
+/// bytes of the files are those of books that have nothing but the operator's token: as they are, with the database file
+/// alone, and as a stop may leave them. That World is one that commands lead to (`begins`).
+pub fn new_files<D: Disk + Drop>(
+    alloc: Global,
+    files: Files<D>,
+    options: Options,
+    operator: Token,
+) -> Option<Files<D>>
+    ensures made { IfSome result
+        (λ left. AreClean D.Disk left.log left.db → AreClosed D.Disk left (opening operator)) }
+    ensures begins { IsReachable (opening operator) }
+{
+    // The reader says that the token has its bytes.
+    let _bytes = operator.as_bytes();
+    let store = opened(alloc, files, options)?;
+    let Ok(made) = make_in_store(alloc, store, operator) else {
+        return None;
+    };
+    closed(made)
+}
+
+/// Opens the books in a store, answers the requests of an input, and gives the store back. None where it has no books.
+fn life_over<S: Alter + Drop>(
+    alloc: Global,
+    store: Connection<S>,
+    input: &[u8],
+) -> Option<Connection<S>>
+    ensures later { IfSome result
+        (λ left. worry (state S.Store store) ≤ worry (state S.Store left)) }
+    ensures ours { IfSome result (λ left. IsOurs (state S.Store left)) }
+    ensures lives { (w : World) → ((state S.Store store).now.schema ≡ office_schema
+        → SpellsOne (state S.Store store).now w)
+        → IfSome result (λ left. worry (state S.Store left) ≡ 0
+        → Leads (RunsOver ⟦<Tables<S> as Book>⟧.fails w input.now)
+        (λ _ now. SpellsOne (state S.Store left).now now)) }
+{
+    let Ok(book) = Tables::open(alloc, store) else {
+        return None;
+    };
+    Some(answered(alloc, book, input).into_store())
+}
+
+/// One life: opens the books in two files, answers the requests of an input, and closes the files. None where the files can't be
+/// opened or closed, or have no books.
+fn closed_life<D: Disk + Drop>(
+    alloc: Global,
+    files: Files<D>,
+    options: Options,
+    input: &[u8],
+) -> Option<Files<D>>
+    ensures clean { IfSome result
+        (λ left. AreClean D.Disk left.log left.db → AreClean D.Disk files.log files.db) }
+    ensures lives { (w : World) → HoldBooks (image_of D.Disk files) w
+        → IfSome result (λ left. AreClean D.Disk left.log left.db
+        → Leads (RunsOver ⟦<Tables<FileStore<D>> as Book>⟧.fails w input.now)
+        (λ _ now. AreClosed D.Disk left now)) }
+{
+    let store = opened(alloc, files, options)?;
+    closed(life_over(alloc, store, input)?)
+}
+
+/// Lives over the books in two files of any disk, a database and its log, one for each input, in order. A life opens the files,
+/// answers the requests of its input, and closes the files. Their responses go to a text that nobody gets. Gives back the
+/// files, and None where they couldn't be opened or closed, or have no books. No task of the program calls this: it says what
+/// the program's runs over a file come to, of the bytes in the file.
+///
+/// Where the bytes in the files were those of books that spell a World, all lives together are one list of requests, each life
+/// over exactly the bytes of its input, and the bytes that the files have in the end are those of books that spell the World
+/// after them (`lives`). So by the law `lives` of mx_desk, all that is promised of requests holds of those of all lives.
+///
+/// This holds of files that have returned what was written to them in all lives, and that nobody else wrote (`AreClean`). Of
+/// None nothing is said.
+pub fn closed_lives<D: Disk + Drop>(
+    alloc: Global,
+    files: Files<D>,
+    options: Options,
+    inputs: &[&[u8]],
+) -> Option<Files<D>>
+    ensures lives { (w : World) → HoldBooks (image_of D.Disk files) w
+        → IfSome result (λ left. AreClean D.Disk left.log left.db
+        → LivedTo ⟦<Tables<FileStore<D>> as Book>⟧.fails (HoldBooks (image_of D.Disk left))
+        (map (λ input. input.now) inputs.now) w) }
+{
+    let mut held = files;
+    'inputs: for input in inputs {
+        held = closed_life(alloc, held, options, input)?;
+    }
+    Some(held)
+}
+
+/// As `closed_lives`, with a stop in place of each close: the files are opened, each life is ended by a stop behind which the
+/// books are opened again (`live_on`), and the files are closed in the end. So a stop loses nothing that was answered, of the
+/// bytes in the files too.
+///
+/// All lives together are one list of requests (`lives`): of those that a life gave up one at most was done after all. A stop
+/// is a call of `crash`: each of the files forgets what its contract lets a stop make it forget.
+pub fn stopped_lives<D: Crash + Drop>(
+    alloc: Global,
+    files: Files<D>,
+    options: Options,
+    inputs: &[&[u8]],
+) -> Option<Files<D>>
+    ensures lives { (w : World) → HoldBooks (image_of D.Disk files) w
+        → IfSome result (λ left. AreClean D.Disk left.log left.db
+        → LivedTo ⟦<Tables<FileStore<D>> as Book>⟧.fails (AreClosed D.Disk left)
+        (map (λ input. input.now) inputs.now) w) }
+{
+    let store = opened(alloc, files, options)?;
+    closed(live_on(alloc, store, inputs)?)
+}
