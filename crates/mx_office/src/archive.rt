@@ -10,10 +10,7 @@ ghost use Rattle.mx_office.specs.Decides.{Decides, settlement_edits};
 ghost use Rattle.mx_office.specs.Step.{archive, clear, is_archived_for_both, may_clear, settle};
 ghost use Rattle.mx_office.specs.declared.values.Command.{Command};
 
-use crate::decisions::{
-    credit_refusal, make, make_message, make_purse, payment_line, refuse, tell,
-};
-use crate::purses::placed;
+use crate::decisions::{Sent, credit_refusal, make, make_purse, payment_line, refuse, tell};
 use crate::values::{Decided, Refusal, Reply};
 use mx_book::contract::{Book, StoreFault};
 use mx_book::edits::Edit;
@@ -100,8 +97,12 @@ pub(crate) fn clear<B: Book>(
         refuse(decided, Refusal::NotArchived);
         return Ok(());
     }
-    let message = placed(book, alloc, Some((purse, Message::Clear(*details))))?;
-    make_message(decided, Reply::Sent, message);
+    if !book.finds_place(alloc, purse)? {
+        tell(decided, Reply::Sent);
+        return Ok(());
+    }
+    let message = Message::Clear(*details);
+    make(decided, Reply::Sent, &Edit::AddMessage { purse, message });
     Ok(())
 }
 
@@ -129,7 +130,7 @@ fn make_settlement(decided: &mut Decided, purse: &Purse, details: &PayDetails)
     ensures edits { decided.new.edits ≡ settlement_edits purse.now details.now }
 {
     let line = payment_line(purse, LineKind::Settled, *details);
-    make_purse(decided, Reply::Settled, purse, Some(line), None);
+    make_purse(decided, Reply::Settled, purse, Some(line), &Sent::Nothing);
     decided.edits.push(&Edit::AddSettled { details: *details });
 }
 

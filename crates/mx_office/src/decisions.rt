@@ -1,9 +1,10 @@
 //! What decisions are made of.
-ghost use Rattle.std.specs.Prelude.{◌≡◌, ◌<◌, ◌==◌, ◌∷◌, ◌++◌, [], length, map, if◌then◌else◌};
-ghost use Rattle.mx_book.specs.declared.edits.Edit.TheVariants.{AddLine};
+ghost use Rattle.std.specs.Prelude.{◌≡◌, ◌<◌, ◌==◌, ◌∷◌, ◌++◌, [], length, map, option_map, if◌then◌else◌};
+ghost use Rattle.mx_book.specs.declared.edits.Edit.TheVariants.{AddLine, AddMessage};
 ghost use Rattle.mx_purse.specs.Operations.{sent_for};
 ghost use Rattle.mx_office.specs.Step.{abort_line, listed, message_line, money_line, payment_line, refusal_of_credit, refusal_of_load, refusal_of_redeem, refusal_of_start};
 ghost use Rattle.mx_office.specs.Decides.{purse_edits, put_edits, read_edits, redeem_edits};
+ghost use Rattle.mx_office.specs.Sent.{carried};
 
 use crate::values::{Decided, Refusal, Reply};
 use mx_book::edits::{Edit, Edits};
@@ -91,14 +92,37 @@ pub(crate) fn message_line(
     }
 }
 
-/// What is sent for a message that was handled so, and to which purse.
-pub(crate) fn sent_for(handled: &Handled) -> Option<(Name, Message)>
-    ensures { result ≡ sent_for handled.now }
+/// What a purse sends for a payment. It is small, as a message isn't.
+#[derive(Clone, Copy)]
+pub(crate) enum Sent {
+    Nothing,
+    /// The request for the value, to the purse that pays.
+    Req(PayDetails),
+    /// The value, to the purse that is paid.
+    Val(PayDetails),
+    /// The acknowledgement, to the purse that paid.
+    Ack(PayDetails),
+}
+
+/// What is sent for a message that was handled so.
+pub(crate) fn sent_for(handled: &Handled) -> Sent
+    ensures { carried result ≡ sent_for handled.now }
 {
     match handled {
-        Handled::Req(details) => Some((details.to(), Message::Val(*details))),
-        Handled::Val(details) => Some((details.from(), Message::Ack(*details))),
-        Handled::Ack(_) | Handled::Cleared | Handled::Ignored => None,
+        Handled::Req(details) => Sent::Val(*details),
+        Handled::Val(details) => Sent::Ack(*details),
+        Handled::Ack(_) | Handled::Cleared | Handled::Ignored => Sent::Nothing,
+    }
+}
+
+/// The purse to which something is sent.
+pub(crate) fn peer_of(sent: &Sent) -> Option<Name>
+    ensures { result ≡ option_map (λ m. m.0) (carried sent.now) }
+{
+    match sent {
+        Sent::Nothing => None,
+        Sent::Req(details) | Sent::Ack(details) => Some(details.from()),
+        Sent::Val(details) => Some(details.to()),
     }
 }
 
@@ -109,24 +133,14 @@ pub(crate) fn make_purse(
     reply: Reply,
     purse: &Purse,
     line: Option<Line>,
-    message: Option<(Name, Message)>,
+    sent: &Sent,
 )
     ensures reply { decided.new.reply ≡ reply }
-    ensures edits { decided.new.edits ≡ purse_edits purse.now line message }
+    ensures edits { decided.new.edits ≡ purse_edits purse.now line (carried sent.now) }
 {
     make(decided, reply, &Edit::SetPurse { purse: *purse });
     add_line(&mut decided.edits, purse.name(), line);
-    add_message(&mut decided.edits, message);
-}
-
-/// The command is answered so, by the edit for a message that finds a place.
-#[inline(always)]
-pub(crate) fn make_message(decided: &mut Decided, reply: Reply, message: Option<(Name, Message)>)
-    ensures reply { decided.new.reply ≡ reply }
-    ensures edits { decided.new.edits ≡ put_edits message }
-{
-    tell(decided, reply);
-    add_message(&mut decided.edits, message);
+    add_sent(&mut decided.edits, sent);
 }
 
 /// The command is answered so, by the edits for a purse as it is now, its new line, and the result that comes into the
@@ -141,21 +155,32 @@ pub(crate) fn make_read(
     ensures reply { decided.new.reply ≡ reply }
     ensures edits { decided.new.edits ≡ read_edits purse.now line new }
 {
-    make_purse(decided, reply, purse, line, None);
+    make_purse(decided, reply, purse, line, &Sent::Nothing);
     if let Some(details) = new {
         let purse = purse.name();
         decided.edits.push(&Edit::AddTray { purse, details });
     }
 }
 
-/// Adds the edit for a message, where there is one.
-fn add_message(edits: &mut Edits, message: Option<(Name, Message)>)
+/// Adds the edit for what is sent, where something is.
+fn add_sent(edits: &mut Edits, sent: &Sent)
     requires { length edits.old < 4 }
-    ensures { edits.new ≡ edits.old ++ put_edits message }
+    ensures { edits.new ≡ edits.old ++ put_edits (carried sent.now) }
 {
-    if let Some((purse, message)) = message {
-        edits.push(&Edit::AddMessage { purse, message });
+    match sent {
+        Sent::Nothing => {}
+        Sent::Req(details) => add_message(edits, details.from(), Message::Req(*details)),
+        Sent::Val(details) => add_message(edits, details.to(), Message::Val(*details)),
+        Sent::Ack(details) => add_message(edits, details.from(), Message::Ack(*details)),
     }
+}
+
+/// Adds the edit for a message.
+fn add_message(edits: &mut Edits, purse: Name, message: Message)
+    requires { length edits.old < 4 }
+    ensures { edits.new ≡ edits.old ++ AddMessage purse message ∷ [] }
+{
+    edits.push(&Edit::AddMessage { purse, message });
 }
 
 /// Adds the edit for a line, where there is one.
@@ -236,7 +261,7 @@ pub(crate) fn make_redemption(
 {
     let name = purse.name();
     let line = money_line(purse, LineKind::Redeemed, amount, reference);
-    make_purse(decided, Reply::Redeemed, purse, logged, None);
+    make_purse(decided, Reply::Redeemed, purse, logged, &Sent::Nothing);
     decided.edits.push(&Edit::AddLine { purse: name, line });
     decided.edits.push(&Edit::AddRedemption {
         purse: name,

@@ -8,40 +8,36 @@ ghost use Rattle.mx_book.specs.Reads.{own_purse, purses_of, redemption_of};
 ghost use Rattle.mx_office.specs.Commands.{IsCommand};
 ghost use Rattle.mx_office.specs.Decides.{Decides, not_kept, placed};
 ghost use Rattle.mx_office.specs.Faults.{FailsFor};
+ghost use Rattle.mx_office.specs.Sent.{carried};
 ghost use Rattle.mx_office.specs.Step.{abort, discard, handle, inbox, on_own, read_log, redeem, show, start_from, start_to, statement, tell};
 ghost use Rattle.mx_office.specs.declared.values.Command.{Command};
 
 use crate::decisions::{
-    abort_line, again, make, make_purse, make_read, make_redemption, message_line, redeem_refusal,
-    refuse, sent_for, start_refusal, tell,
+    Sent, abort_line, again, make, make_purse, make_read, make_redemption, message_line, peer_of,
+    redeem_refusal, refuse, sent_for, start_refusal, tell,
 };
 use crate::values::{Decided, Lines, Messages, Names, Refusal, Reply};
 use mx_book::contract::{Book, StoreFault};
 use mx_book::edits::Edit;
 use mx_book::values::MOST_LINES;
 use mx_pay::{Amount, Name, PayDetails, Seq};
-use mx_purse::Message;
 use std::alloc::Global;
 
-/// A message that was sent, where it finds a place. Elsewhere it vanishes.
-pub(crate) fn placed<B: Book>(
-    book: &mut B,
-    alloc: Global,
-    sent: Option<(Name, Message)>,
-) -> Result<Option<(Name, Message)>, StoreFault>
+/// What is sent, where it finds a place. Elsewhere it vanishes.
+pub(crate) fn placed<B: Book>(book: &mut B, alloc: Global, sent: Sent) -> Result<Sent, StoreFault>
     ensures keeps { Keeps B.doubt B.rows B.leaves book.old book.new }
     ensures answered { IsWorking B.doubt book.old → OnOk result (IsWorking B.doubt book.new) }
     ensures value { Gives B.doubt B.rows B.spells book.old book.new result
-        (λ w o. o ≡ placed w sent) }
+        (λ w s. carried s ≡ placed w (carried sent)) }
     ensures fault { IfErr result B.fails }
 {
-    let Some((peer, message)) = sent else {
-        return Ok(None);
+    let Some(peer) = peer_of(&sent) else {
+        return Ok(Sent::Nothing);
     };
     if book.finds_place(alloc, peer)? {
-        Ok(Some((peer, message)))
+        Ok(sent)
     } else {
-        Ok(None)
+        Ok(Sent::Nothing)
     }
 }
 
@@ -173,7 +169,13 @@ pub(crate) fn start_from<B: Book>(
         }
         Ok(details) => {
             let line = abort_line(&after, logged);
-            make_purse(decided, Reply::Started(details), &after, line, None);
+            make_purse(
+                decided,
+                Reply::Started(details),
+                &after,
+                line,
+                &Sent::Nothing,
+            );
             Ok(())
         }
     }
@@ -207,9 +209,9 @@ pub(crate) fn start_to<B: Book>(
             Ok(())
         }
         Ok(details) => {
-            let request = placed(book, alloc, Some((peer, Message::Req(details))))?;
+            let request = placed(book, alloc, Sent::Req(details))?;
             let line = abort_line(&after, logged);
-            make_purse(decided, Reply::Started(details), &after, line, request);
+            make_purse(decided, Reply::Started(details), &after, line, &request);
             Ok(())
         }
     }
@@ -242,7 +244,7 @@ pub(crate) fn handle<B: Book>(
     let handled = after.handle(&message);
     let answer = placed(book, alloc, sent_for(&handled))?;
     let line = message_line(&after, logged, &handled);
-    make_purse(decided, Reply::Handled(handled), &after, line, answer);
+    make_purse(decided, Reply::Handled(handled), &after, line, &answer);
     Ok(())
 }
 
@@ -300,7 +302,8 @@ pub(crate) fn abort<B: Book>(
     let reply = Reply::Aborted {
         logged: logged.is_some(),
     };
-    make_purse(decided, reply, &after, abort_line(&after, logged), None);
+    let line = abort_line(&after, logged);
+    make_purse(decided, reply, &after, line, &Sent::Nothing);
     Ok(())
 }
 

@@ -3,6 +3,7 @@ pub mod TestLemmas
 pub mod CodeLemmas
 pub mod EntryLemmas
 pub mod LogLemmas
+pub mod OrderLemmas
 pub mod PutLemmas
 pub mod SameLemmas
 pub mod TextLemmas

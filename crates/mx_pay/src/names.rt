@@ -1,10 +1,11 @@
 //! Names.
-ghost use Rattle.std.specs.Prelude.{◌≡◌, Some, None, nat_eq, refl, if◌then◌else◌, IsTrue};
+ghost use Rattle.std.specs.Prelude.{◌≡◌, ◌≤◌, ◌+◌, Some, None, nat_eq, refl, if◌then◌else◌, IsTrue, not, ◌==◌};
 ghost use Rattle.std.specs.Ordering.{nat_cmp};
 ghost use Rattle.std.specs.Cmp.{partial_equiv_from_equiv};
 ghost use Rattle.std.specs.Cmp.Lexicographic.{pointwise, slice_cmp, nat_list_eq_equiv, nat_list_cmp_total, texts_po, texts_ties};
-ghost use Rattle.std.specs.List.{list_all};
-ghost use Rattle.mx_pay.specs.Names.{is_name_text, is_name_byte, begins_with_letter, is_name};
+ghost use Rattle.std.specs.List.{list_all, prefix_len};
+ghost use Rattle.mx_pay.specs.Limits.{most_name_bytes};
+ghost use Rattle.mx_pay.specs.Names.{is_name_text, is_name_byte, begins_with_letter, is_name, unpadded, word_at};
 
 use std::cmp::Ordering;
 use std::marker::Model;
@@ -16,24 +17,23 @@ pub const MOST_NAME_BYTES: usize = 24;
 /// the first a letter. Names are ordered by their bytes. A contract sees a name as its bytes.
 #[derive(Clone, Copy, Debug)]
 pub struct Name {
+    // The text, and zeros behind it.
     bytes: [u8; MOST_NAME_BYTES],
-    len: u8,
 }
 
 impl Model for Name {
-    ghost use Rattle.std.specs.Prelude.{ℕ, List, length, take};
-    ghost use Rattle.std.proofs.lemmas.List.{length-take-le};
-    ghost use Rattle.mx_pay.specs.Names.{IsName, padded};
+    ghost use Rattle.std.specs.Prelude.{ℕ, List};
+    ghost use Rattle.mx_pay.specs.Names.{IsName, padded, unpadded};
 
     ghost Value = { List ℕ };
 
-    ghost view = { λ n. take n.len n.bytes };
+    ghost view = { λ n. unpadded n.bytes };
 
-    ghost invariant = { λ n. IsName n.bytes n.len };
+    ghost invariant = { λ n. IsName n.bytes };
 
-    ghost inverse = { λ name. record { bytes = padded name; len = length name } };
+    ghost inverse = { λ name. record { bytes = padded name } };
 
-    ghost inverse_ok = { λ n h i. record { bytes = h.exact i; len = length-take-le n.len n.bytes h.within i } };
+    ghost inverse_ok = { λ n h i. record { bytes = h.exact i } };
 }
 
 fn may_stand(b: u8) -> bool
@@ -64,6 +64,53 @@ fn is_text(bytes: &[u8]) -> bool
     bytes.len() <= MOST_NAME_BYTES && begins(bytes) && all_may_stand(bytes)
 }
 
+/// How many bytes stand before the first zero.
+fn text_len(bytes: &[u8]) -> usize
+    ensures { result ≡ prefix_len (λ b. not (b == 0)) bytes.now }
+{
+    bytes.iter().take_while(|b| **b != 0).count()
+}
+
+/// The bytes before the first zero.
+fn unpadded(bytes: &[u8]) -> &[u8]
+    ensures { result.now ≡ unpadded bytes.now }
+{
+    &bytes[..text_len(bytes)]
+}
+
+/// The number that the eight bytes from `at` on spell, the highest first.
+fn word(bytes: &[u8; MOST_NAME_BYTES], at: usize) -> u64
+    requires { at + 8 ≤ most_name_bytes }
+    ensures { result ≡ word_at bytes.now at }
+{
+    u64::from_be_bytes([
+        bytes[at],
+        bytes[at + 1],
+        bytes[at + 2],
+        bytes[at + 3],
+        bytes[at + 4],
+        bytes[at + 5],
+        bytes[at + 6],
+        bytes[at + 7],
+    ])
+}
+
+/// The order of two names' bytes: eight at a time, as numbers.
+#[tactic(auto, using(crate::proofs::OrderLemmas::by_first, crate::proofs::OrderLemmas::by_second, crate::proofs::OrderLemmas::by_third))]
+fn order(a: &[u8; MOST_NAME_BYTES], b: &[u8; MOST_NAME_BYTES]) -> Ordering
+    ensures { result ≡ slice_cmp nat_cmp a.now b.now }
+{
+    let (first, other) = (word(a, 0), word(b, 0));
+    if first != other {
+        return first.cmp(&other);
+    }
+    let (second, other) = (word(a, 8), word(b, 8));
+    if second != other {
+        return second.cmp(&other);
+    }
+    word(a, 16).cmp(&word(b, 16))
+}
+
 impl Name {
     /// The name that is spelled `text`. None exactly where `text` is no name: where it is empty, has more than
     /// 24 bytes, begins with another byte than `a` to `z`, or has a byte that is none of `a` to `z`, `0` to `9`
@@ -78,10 +125,7 @@ impl Name {
         }
         let mut bytes = [0u8; MOST_NAME_BYTES];
         bytes[..source.len()].copy_from_slice(source);
-        Some(Name {
-            bytes,
-            len: source.len() as u8,
-        })
+        Some(Name { bytes })
     }
 
     /// The text of the name, which `read` reads as this name: 1 to 24 bytes of ASCII.
@@ -89,7 +133,7 @@ impl Name {
         ensures text { result.now ≡ self.now }
         ensures valid { IsTrue (is_name_text self.now) }
     {
-        unsafe { std::str::from_utf8_unchecked(&self.bytes[..self.len as usize]) }
+        unsafe { std::str::from_utf8_unchecked(unpadded(&self.bytes)) }
     }
 }
 
@@ -98,8 +142,9 @@ impl PartialEq for Name {
 
     ghost laws = { partial_equiv_from_equiv nat_list_eq_equiv };
 
+    #[tactic(auto, using(crate::proofs::OrderLemmas::level_names))]
     fn eq(&self, other: &Name) -> bool {
-        self.as_str() == other.as_str()
+        self.cmp(other).is_eq()
     }
 }
 
@@ -126,16 +171,18 @@ impl Ord for Name {
 
     ghost matches_eq = { texts_ties };
 
+    #[tactic(auto, using(crate::proofs::OrderLemmas::names_cmp))]
     fn cmp(&self, other: &Name) -> Ordering {
-        self.as_str().cmp(other.as_str())
+        order(&self.bytes, &other.bytes)
     }
 }
 
 /// Whether two names are the same.
+#[tactic(auto, using(crate::proofs::OrderLemmas::names_cmp))]
 pub fn same_name(a: &Name, b: &Name) -> bool
     ensures value { result ≡ is_name a.now b.now }
     ensures first { IsTrue (is_name_text a.now) }
     ensures second { IsTrue (is_name_text b.now) }
 {
-    a.as_str().cmp(b.as_str()).is_eq()
+    order(&a.bytes, &b.bytes).is_eq()
 }

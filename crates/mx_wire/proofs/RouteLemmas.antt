@@ -1,10 +1,11 @@
 -- What matchit finds is one of its rows, and of an ASCII path it takes ASCII parts.
-use Rattle.std.proofs.Common.{◌≡◌, ℕ, zero, suc, ◌-◌, ◌<◌, ◌&&◌, List, [], ◌∷◌, Bool, true, false, length, drop, take, refl, subst, arith}
+use Rattle.std.proofs.Common.{◌≡◌, ℕ, zero, suc, ◌-◌, ◌<◌, ◌&&◌, List, [], ◌∷◌, Bool, true, false, length, drop, take, refl, sym, subst, arith}
 use Rattle.std.specs.Prelude.{Option, Some, None, cond, ◌==◌, nat_lt, nat_le}
 use Rattle.std.specs.Char.{is_ascii}
 use Rattle.std.specs.List.{list_all}
-use Rattle.std.specs.Str.{IsAscii, IsUtf8}
-use Rattle.std.proofs.lemmas.Bool.{and_parts}
+use Rattle.std.specs.Bool.{MatchBool}
+use Rattle.std.specs.Str.{IsAscii, IsNotAscii, IsUtf8}
+use Rattle.std.proofs.lemmas.Bool.{and_parts, and_from, false_from_ne_true}
 use Rattle.std.proofs.lemmas.Bool.Decides.{nat_tests}
 use Rattle.std.proofs.lemmas.Str.{IsAscii-take, IsAscii-drop, IsUtf8-from_ascii, IsUtf8-nil}
 use Rattle.matchit.specs.Rows.{RowsOf, param_token, catch_all_token}
@@ -24,6 +25,19 @@ pub IsAscii-from_test : (bs : List ℕ) → list_all is_ascii bs ≡ true → Is
 IsAscii-from_test [] h i = omega arith
 IsAscii-from_test (b ∷ bs) h zero = ascii_byte b (and_parts _ _ h).0
 IsAscii-from_test (b ∷ bs) h (suc i) = IsAscii-from_test bs (and_parts _ _ h).1 i
+
+test_of_byte : (b : ℕ) → b < 128 → is_ascii b ≡ true
+test_of_byte b h = grind (arith, nat_tests)
+
+test-from_IsAscii : (bs : List ℕ) → IsAscii bs → list_all is_ascii bs ≡ true
+test-from_IsAscii [] h = refl
+test-from_IsAscii (b ∷ bs) h = and_from _ _ (test_of_byte b (h 0)) (test-from_IsAscii bs (λ i. h (suc i)))
+
+-- a test that answers by the facts is that of each byte
+pub ascii_test : (bs : List ℕ) (answer : Bool) → MatchBool answer (IsAscii bs) (IsNotAscii bs) → answer ≡ list_all is_ascii bs
+ascii_test bs true h = sym (test-from_IsAscii bs h)
+ascii_test bs false h =
+    sym (false_from_ne_true _ (λ all. let low = IsAscii-from_test bs all h.0 in absurd (omega (arith, low, h.1))))
 
 -- ---- the parts of an ASCII path are texts
 

@@ -204,6 +204,60 @@ fn start_at(value: &Value<'_>) -> Option<(Name, Amount, Seq)>
     Some((peer, amount, seq))
 }
 
+/// The payment from a purse that a JSON value says, written over a command. Like `clear`, it stands alone for LLVM.
+#[inline(never)]
+fn start_from(purse: Name, value: &Value<'_>, command: &mut Command) -> Option<()>
+    requires { IsData value.now }
+    ensures { option_map (λ _. command.new) result ≡ said_by_holder (Route.StartFrom purse) (data_of value.now) }
+{
+    let (peer, value, seq) = start_at(value)?;
+    *command = Command::StartFrom {
+        purse,
+        peer,
+        value,
+        seq,
+    };
+    Some(())
+}
+
+/// The payment to a purse that a JSON value says, written over a command.
+#[inline(never)]
+fn start_to(purse: Name, value: &Value<'_>, command: &mut Command) -> Option<()>
+    requires { IsData value.now }
+    ensures { option_map (λ _. command.new) result ≡ said_by_holder (Route.StartTo purse) (data_of value.now) }
+{
+    let (peer, value, seq) = start_at(value)?;
+    *command = Command::StartTo {
+        purse,
+        peer,
+        value,
+        seq,
+    };
+    Some(())
+}
+
+/// The handling of a message that a JSON value says, written over a command.
+#[inline(never)]
+fn handle(purse: Name, value: &Value<'_>, command: &mut Command) -> Option<()>
+    requires { IsData value.now }
+    ensures { option_map (λ _. command.new) result ≡ said_by_holder (Route.Handle purse) (data_of value.now) }
+{
+    let number = seq_at(value, "number")?;
+    *command = Command::Handle { purse, number };
+    Some(())
+}
+
+/// The discard of a message that a JSON value says, written over a command.
+#[inline(never)]
+fn discard(purse: Name, value: &Value<'_>, command: &mut Command) -> Option<()>
+    requires { IsData value.now }
+    ensures { option_map (λ _. command.new) result ≡ said_by_holder (Route.Discard purse) (data_of value.now) }
+{
+    let number = seq_at(value, "number")?;
+    *command = Command::Discard { purse, number };
+    Some(())
+}
+
 /// The command that a holder's route and a JSON value say, written over another; None where they say none, and where the
 /// route is another.
 fn said_by_holder(route: &Route, value: &Value<'_>, command: &mut Command) -> Option<()>
@@ -211,32 +265,10 @@ fn said_by_holder(route: &Route, value: &Value<'_>, command: &mut Command) -> Op
     ensures { option_map (λ _. command.new) result ≡ said_by_holder route.now (data_of value.now) }
 {
     match *route {
-        Route::StartFrom(purse) => {
-            let (peer, value, seq) = start_at(value)?;
-            *command = Command::StartFrom {
-                purse,
-                peer,
-                value,
-                seq,
-            }
-        }
-        Route::StartTo(purse) => {
-            let (peer, value, seq) = start_at(value)?;
-            *command = Command::StartTo {
-                purse,
-                peer,
-                value,
-                seq,
-            }
-        }
-        Route::Handle(purse) => {
-            let number = seq_at(value, "number")?;
-            *command = Command::Handle { purse, number }
-        }
-        Route::Discard(purse) => {
-            let number = seq_at(value, "number")?;
-            *command = Command::Discard { purse, number }
-        }
+        Route::StartFrom(purse) => start_from(purse, value, command)?,
+        Route::StartTo(purse) => start_to(purse, value, command)?,
+        Route::Handle(purse) => handle(purse, value, command)?,
+        Route::Discard(purse) => discard(purse, value, command)?,
         Route::ReadLog(purse) => {
             let place = number_at(value, "place")?;
             *command = Command::ReadLog { purse, place }

@@ -173,10 +173,11 @@ fn is_post(method: &[u8]) -> bool
 }
 
 /// Whether all bytes are ASCII.
+#[tactic(auto, using(crate::proofs::RouteLemmas::ascii_test))]
 fn is_ascii(path: &[u8]) -> bool
     ensures { result ≡ list_all is_ascii path.now }
 {
-    path.iter().all(|byte| byte.is_ascii())
+    path.is_ascii()
 }
 
 /// The name that an ASCII path has at a key of its pattern. None exactly where its part isn't a name.

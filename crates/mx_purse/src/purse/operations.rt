@@ -1,15 +1,26 @@
 //! The operations of a purse.
-ghost use Rattle.std.specs.Prelude.{◌≡◌, ◌≤◌, None, IfOk, IfSome};
-ghost use Rattle.mx_pay.specs.Limits.{most_amount};
+ghost use Rattle.std.specs.Prelude.{◌≡◌, ◌≤◌, ◌<◌, false, None, IfOk, IfSome};
+ghost use Rattle.mx_pay.specs.Limits.{most_amount, most_entries};
+ghost use Rattle.mx_pay.specs.Log.{has_logged, log_len};
 ghost use Rattle.mx_pay.specs.Details.{IsDetails};
 ghost use Rattle.mx_purse.specs.State.{IsPurse};
-ghost use Rattle.mx_purse.specs.Operations.{or_refused, unless_refused, pending, aborted, start_worn, start_from_refusal, start_to_refusal, from_details, to_details, started, expects_req, expects_val, expects_ack, expects_clear, handled, after_message, read_entry, load_refusal, loaded, redeem_refusal, redeemed, credit_refusal, credited};
+ghost use Rattle.mx_purse.specs.Operations.{or_refused, unless_refused, pending, with_pending, aborted, start_worn, start_from_refusal, start_to_refusal, from_details, to_details, started, expects_req, expects_val, expects_ack, expects_clear, handled, after_message, read_entry, load_refusal, loaded, redeem_refusal, redeemed, credit_refusal, credited};
 
 use crate::message::{Handled, Message};
 use crate::purse::Purse;
 use crate::refusals::{CreditRefusal, LoadRefusal, RedeemRefusal, StartRefusal};
 use crate::status::Status;
 use mx_pay::{Amount, Log, MOST_NUMBER, Name, PayDetails, Seq};
+
+/// Adds what is pending to a log that has room for it and does not have it.
+fn add_pending(log: &mut Log, pending: &Option<PayDetails>)
+    requires { IfSome pending.now (λ d. (has_logged log.old d ≡ false) × (log_len log.old < most_entries)) }
+    ensures { log.new ≡ with_pending log.old pending.now }
+{
+    if let Some(details) = pending {
+        log.add(*details);
+    }
+}
 
 impl Purse {
     /// What an abort would log now: the details of the payment under way where the purse expects its value or
@@ -34,7 +45,7 @@ impl Purse {
     {
         let pending = self.pending();
         let lines = self.lines_left();
-        self.log = self.log_left();
+        add_pending(&mut self.log, &pending);
         self.lines = lines;
         self.status = Status::EaFrom;
         pending

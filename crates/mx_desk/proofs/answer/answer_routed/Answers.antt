@@ -1,12 +1,13 @@
-use Rattle.std.proofs.Common.{◌≡◌, List, false, refl, rules}
-use Rattle.std.specs.Prelude.{IsTrue, Some}
+use Rattle.std.proofs.Common.{◌≡◌, List, false, true, refl, rules}
+use Rattle.std.specs.Prelude.{IsTrue, Some, None}
 use Rattle.mx_wire.specs.Routes.{class_of}
 use Rattle.mx_book.specs.Stands.{Attempt}
 use Rattle.mx_book.specs.World.{World}
 use Rattle.mx_book.proofs.StandLemmas.{low_before, moves_behind, moves_kept, moves_unchanged}
 use Rattle.mx_desk.specs.Found.{request_view}
 use Rattle.mx_desk.specs.Knows.{Moves}
-use Rattle.mx_desk.specs.Respond.{after_caller, caller_of, is_of_class}
+use Rattle.mx_wire.specs.Bodies.{command_of}
+use Rattle.mx_desk.specs.Respond.{after_body, after_caller, caller_of, is_of_class}
 use Rattle.mx_desk.proofs.GivenUpLemmas.{answer_of_command}
 use Rattle.mx_desk.proofs.MoveLemmas.{answer_moves}
 use Rattle.mx_desk.proofs.answer.answer_routed.Goals as goal
@@ -31,3 +32,12 @@ returns-then-not-is_of_class-clause-answers g c = λ w low kept.
     let found : caller_of w (request_view c.args.request.now).token ≡ Some c.in-Some.caller = search rules in
     let class : is_of_class c.in-Some.caller (class_of c.args.route.now) ≡ false = search rules in
     rw (found, class) (refl, (moves_unchanged b.doubt b.rows b.spells b.leaves _ _ w w (λ _. w) refl refl c.caller_of.ensures.keeps kept.0, c.caller_of.ensures.known w low kept))
+
+pub returns-in-Err-BadBody-clause-answers : goal.returns-in-Err-BadBody-clause-answers
+unfolding after_caller after_body
+returns-in-Err-BadBody-clause-answers g c = λ w low kept.
+    let b = g.B.Book in
+    let found : caller_of w (request_view c.args.request.now).token ≡ Some c.in-Some.caller = search rules in
+    let class : is_of_class c.in-Some.caller (class_of c.args.route.now) ≡ true = search rules in
+    let bad : command_of c.args.route.now (request_view c.args.request.now).body ≡ None = search rules in
+    rw (found, class, bad) (refl, (moves_unchanged b.doubt b.rows b.spells b.leaves _ _ w w (λ _. w) refl refl c.caller_of.ensures.keeps kept.0, c.caller_of.ensures.known w low kept))

@@ -19,5 +19,5 @@ unfolding start_to
 returns-in_ok-request-in-Ok-clause-decides g c = λ w honest spelled.
     let q = c.in-Some.after in
     let d = to_details q c.args.peer c.args.value c.args.seq in
-    start_decides w _ _ q (start_to c.args.peer c.args.value c.args.seq) (start_to_refusal q c.args.peer) (Epv d) d (λ x. Some (c.args.peer, Req x)) (λ a is. rw is refl) (λ h. (h, λ _. tt)) _ (g.met.B.Book.sound _ w spelled) (search rules)
+    start_decides w _ _ q (start_to c.args.peer c.args.value c.args.seq) (start_to_refusal q c.args.peer) (Epv d) d (λ x. Some (x.from, Req x)) (λ a is. rw is refl) (λ h. (h, λ _. tt)) _ (g.met.B.Book.sound _ w spelled) (search rules)
     c.start_to.new.self c.in-Ok.details c.start_to.ensures.whole (search rules) (search rules) (search rules) (search rules)
