@@ -258,6 +258,32 @@ fn discard(purse: Name, value: &Value<'_>, command: &mut Command) -> Option<()>
     Some(())
 }
 
+/// The reading of a place of a purse's log that a JSON value says, written over a command.
+#[inline(never)]
+fn read_log(purse: Name, value: &Value<'_>, command: &mut Command) -> Option<()>
+    requires { IsData value.now }
+    ensures { option_map (λ _. command.new) result ≡ said_by_holder (Route.ReadLog purse) (data_of value.now) }
+{
+    let place = number_at(value, "place")?;
+    *command = Command::ReadLog { purse, place };
+    Some(())
+}
+
+/// The redemption from a purse that a JSON value says, written over a command.
+#[inline(never)]
+fn redeem(purse: Name, value: &Value<'_>, command: &mut Command) -> Option<()>
+    requires { IsData value.now }
+    ensures { option_map (λ _. command.new) result ≡ said_by_holder (Route.Redeem purse) (data_of value.now) }
+{
+    let (amount, reference) = money_at(value)?;
+    *command = Command::Redeem {
+        purse,
+        amount,
+        reference,
+    };
+    Some(())
+}
+
 /// The command that a holder's route and a JSON value say, written over another; None where they say none, and where the
 /// route is another.
 fn said_by_holder(route: &Route, value: &Value<'_>, command: &mut Command) -> Option<()>
@@ -269,26 +295,16 @@ fn said_by_holder(route: &Route, value: &Value<'_>, command: &mut Command) -> Op
         Route::StartTo(purse) => start_to(purse, value, command)?,
         Route::Handle(purse) => handle(purse, value, command)?,
         Route::Discard(purse) => discard(purse, value, command)?,
-        Route::ReadLog(purse) => {
-            let place = number_at(value, "place")?;
-            *command = Command::ReadLog { purse, place }
-        }
-        Route::Redeem(purse) => {
-            let (amount, reference) = money_at(value)?;
-            *command = Command::Redeem {
-                purse,
-                amount,
-                reference,
-            }
-        }
+        Route::ReadLog(purse) => read_log(purse, value, command)?,
+        Route::Redeem(purse) => redeem(purse, value, command)?,
         _ => return None,
     }
     Some(())
 }
 
-/// The command that a route and a JSON value say, written over another; None where they say none, and where the route
-/// needs no body.
-fn said(route: &Route, value: &Value<'_>, command: &mut Command) -> Option<()>
+/// The command that any route and a JSON value say, written over another, as `said` has it.
+#[inline(never)]
+fn said_by_any(route: &Route, value: &Value<'_>, command: &mut Command) -> Option<()>
     requires { IsData value.now }
     ensures { option_map (λ _. command.new) result ≡ said route.now (data_of value.now) }
 {
@@ -328,6 +344,23 @@ fn said(route: &Route, value: &Value<'_>, command: &mut Command) -> Option<()>
         _ => said_by_holder(route, value, command)?,
     }
     Some(())
+}
+
+/// The command that a route and a JSON value say, written over another; None where they say none, and where the route
+/// needs no body. What a holder says apart, since all the commands that a function makes are cleared where it begins.
+fn said(route: &Route, value: &Value<'_>, command: &mut Command) -> Option<()>
+    requires { IsData value.now }
+    ensures { option_map (λ _. command.new) result ≡ said route.now (data_of value.now) }
+{
+    match *route {
+        Route::StartFrom(_)
+        | Route::StartTo(_)
+        | Route::Handle(_)
+        | Route::Discard(_)
+        | Route::ReadLog(_)
+        | Route::Redeem(_) => said_by_holder(route, value, command),
+        _ => said_by_any(route, value, command),
+    }
 }
 
 /// The command of a route and a body, written over another one, which spares a copy of it. BadBody exactly where the body
