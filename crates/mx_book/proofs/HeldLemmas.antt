@@ -12,8 +12,12 @@ use Rattle.mx_book.specs.RowReads.{purse_rows_of}
 use Rattle.mx_book.proofs.IndexLemmas.{keys_under, is_key, has-added, has-dropped}
 use Rattle.mx_book.proofs.NameLemmas.{names_total, names_exact, same_name}
 
+-- the holder of a row
+abbrev holder_of : Option PurseRow → Option Name
+holder_of = option_map (λ (x : PurseRow). x.holder)
+
 -- the index without a purse, which had this row or none
-has-released : (held : FinSet (index_cmp name_cmp)) (n p : Name) (q : Option Name) (o : Option PurseRow) → fmap.contains_key (released held o p) (n, q) ≡ (fmap.contains_key held (n, q) && not (is_met (λ (x : PurseRow). is_name n x.holder) o && is_key name_cmp q p))
+has-released : (held : FinSet (index_cmp name_cmp)) (n p : Name) (q : Option Name) (o : Option PurseRow) → fmap.contains_key (released held (holder_of o) p) (n, q) ≡ (fmap.contains_key held (n, q) && not (is_met (λ (x : PurseRow). is_name n x.holder) o && is_key name_cmp q p))
 has-released held n p q None = grind arith
 has-released held n p q (Some x) = has-dropped name_cmp names_total held n x.holder q p
 
@@ -31,10 +35,10 @@ held_new purses held none nothing n (Some q) =
 
 module _ (purses : fmap.FinMap name_cmp PurseRow) (held : FinSet (index_cmp name_cmp)) (p : Name) (x : PurseRow) (is : IsHeld purses held) where
   -- a purse comes under its holder, and is no longer under the one before
-  pub held_put : IsHeld (fmap.insert purses p x) (fmap.insert (released held (fmap.get purses p) p) (x.holder, Some p) tt)
-  held_put n None = has-added name_cmp names_total (released held (fmap.get purses p) p) n x.holder None p ∙ grind (arith, has-released held n p None (fmap.get purses p), is n None)
+  pub held_put : IsHeld (fmap.insert purses p x) (fmap.insert (released held (holder_of (fmap.get purses p)) p) (x.holder, Some p) tt)
+  held_put n None = has-added name_cmp names_total (released held (holder_of (fmap.get purses p)) p) n x.holder None p ∙ grind (arith, has-released held n p None (fmap.get purses p), is n None)
   held_put n (Some q) =
-      has-added name_cmp names_total (released held (fmap.get purses p) p) n x.holder (Some q) p
+      has-added name_cmp names_total (released held (holder_of (fmap.get purses p)) p) n x.holder (Some q) p
       ∙ grind (arith, has-released held n p (Some q) (fmap.get purses p), is n (Some q), same_name q p, fmap.get-insert names_total purses p x q)
 
   -- a purse that stays with its holder

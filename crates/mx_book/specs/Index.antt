@@ -42,7 +42,7 @@ IsHeld purses held = IsIndex name_cmp (is_held purses) held
 abbrev pub names_under : FinSet (index_cmp name_cmp) → Name → List Name
 names_under held h = filter_map (λ (e : (Name × Option Name) × Unit {0}). e.0.1) (first_of h (rows_from (index_cmp name_cmp) (h, None) (fmap.entries held)))
 
--- the index without a purse, which had this row or none
-abbrev pub released : FinSet (index_cmp name_cmp) → Option PurseRow → Name → FinSet (index_cmp name_cmp)
+-- the index without a purse, which had this holder or isn't there
+abbrev pub released : FinSet (index_cmp name_cmp) → Option Name → Name → FinSet (index_cmp name_cmp)
 released held None p = held
-released held (Some x) p = fmap.remove held (x.holder, Some p)
+released held (Some h) p = fmap.remove held (h, Some p)

@@ -66,7 +66,7 @@ impl Book for PlainBook {
     }
 
     fn has_purse(&mut self, _alloc: Global, name: Name) -> Result<bool, StoreFault> {
-        Ok(self.shelves.purses.get(name).is_some())
+        Ok(self.shelves.purses.bare(name).is_some())
     }
 
     fn own_purse(

@@ -175,7 +175,7 @@ impl Shelves {
     pub fn account(&self, name: Name) -> Result<Option<Account>, StoreFault>
         ensures { result ≡ Ok (row_account_of (rows_of self.now) name) }
     {
-        let Some(row) = self.purses.get(name) else {
+        let Some(row) = self.purses.bare(name) else {
             return Ok(None);
         };
         let Some(member) = self.holders.get(row.holder) else {
@@ -184,7 +184,7 @@ impl Shelves {
         Ok(Some(Account {
             holder: row.holder,
             member: *member,
-            purse: row.purse,
+            purse: self.purses.whole(name, row),
             held: self.held(name),
             next_message: row.next_message,
         }))
@@ -195,8 +195,8 @@ impl Shelves {
     pub fn own_purse(&self, holder: Name, purse: Name) -> Result<Option<Purse>, StoreFault>
         ensures { result ≡ Ok (row_own_purse (rows_of self.now) holder purse) }
     {
-        match self.purses.get(purse) {
-            Some(row) if same_name(&holder, &row.holder) => Ok(Some(row.purse)),
+        match self.purses.bare(purse) {
+            Some(row) if same_name(&holder, &row.holder) => Ok(Some(self.purses.whole(purse, row))),
             _ => Ok(None),
         }
     }
@@ -205,7 +205,7 @@ impl Shelves {
     pub fn is_own(&self, holder: Name, purse: Name) -> bool
         ensures { result ≡ is_some (row_own_purse (rows_of self.now) holder purse) }
     {
-        match self.purses.get(purse) {
+        match self.purses.bare(purse) {
             None => false,
             Some(row) => same_name(&holder, &row.holder),
         }
@@ -215,7 +215,7 @@ impl Shelves {
     pub fn finds_place(&self, purse: Name) -> bool
         ensures { result ≡ row_finds_place (rows_of self.now) purse }
     {
-        match self.purses.get(purse) {
+        match self.purses.bare(purse) {
             None => false,
             Some(row) => self.held(purse) < MOST_MESSAGES && row.next_message < MOST_NUMBER,
         }
@@ -294,10 +294,7 @@ impl Shelves {
     pub fn tray_of(&self, purse: Name) -> Log
         ensures { result ≡ row_laid_of (rows_of self.now) purse }
     {
-        match self.purses.get(purse) {
-            None => Log::new(),
-            Some(row) => laid(&self.tray, purse, &row.purse.log()),
-        }
+        laid(&self.tray, purse, &self.purses.log_of(purse))
     }
 
     /// What the redemptions of the member's purses come to that aren't collected.

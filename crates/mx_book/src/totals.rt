@@ -2,21 +2,22 @@
 ghost use Rattle.std.specs.Prelude.{◌≡◌, ◌≤◌, ◌^◌, ℕ, List, sum_by, Some};
 ghost use Rattle.std.specs.FinMap.{get};
 ghost use Rattle.mx_pay.specs.Limits.{most_amount};
-ghost use Rattle.mx_pay.specs.Log.{has_logged};
+ghost use Rattle.mx_pay.specs.Log.{has_logged, none_logged};
+ghost use Rattle.mx_book.specs.Logs.{bare_balance, row_with};
 ghost use Rattle.mx_pay.specs.Names.{name_cmp};
 ghost use Rattle.mx_pay.specs.Details.{Details, details_cmp};
 ghost use Rattle.mx_book.specs.declared.values.MemberRow.{MemberRow as KeptMember};
-ghost use Rattle.mx_book.specs.declared.values.PurseRow.{PurseRow as KeptPurse};
+ghost use Rattle.mx_book.specs.declared.purses.BareRow.{BareRow as KeptBare};
 ghost use Rattle.mx_book.specs.declared.values.Redemption.{Redemption as Kept};
 ghost use Rattle.mx_book.specs.Slots.{map_of};
 ghost use Rattle.mx_book.specs.Left.{rows_left};
 ghost use Rattle.mx_book.specs.RowReads.{is_counted, counted_of, uncollected_amount};
 ghost use Rattle.mx_book.specs.RowEdits.{log_at};
 ghost use Rattle.mx_purse.specs.Operations.{expects_ack};
-ghost use Rattle.mx_book.specs.RowTotals.{counted_balance, has_sent, has_left, awaited, lost_by, lost_in_log, lost_in_archive};
+ghost use Rattle.mx_book.specs.RowTotals.{has_sent, has_left, awaited, lost_by, lost_in_log, lost_in_archive};
 ghost use Rattle.mx_book.specs.World.{Name as NameOf, result_cmp};
 
-use crate::purses::Purses;
+use crate::purses::{BareRow, Purses};
 use crate::redemptions::is_of;
 use crate::rows::Rows;
 use crate::table::Table;
@@ -121,8 +122,9 @@ pub(crate) fn uncollected_in(
 }
 
 /// Whether the purse of this row counts.
-fn counts(holders: &Table<Name, Name>, scope: &Scope, row: &PurseRow) -> bool
-    ensures { result ≡ is_counted (map_of name_cmp holders.now) scope.now (Some row.now) }
+fn counts(holders: &Table<Name, Name>, scope: &Scope, row: &BareRow) -> bool
+    ensures { result ≡ is_counted (map_of name_cmp holders.now) scope.now
+        (Some (row_with row.now none_logged)) }
 {
     match scope {
         Scope::Scheme => true,
@@ -135,16 +137,17 @@ fn counts(holders: &Table<Name, Name>, scope: &Scope, row: &PurseRow) -> bool
 
 /// The balances of those of these purses that count.
 pub(crate) fn balances_in(
-    rows: Rows<'_, Name, PurseRow>,
+    rows: Rows<'_, Name, BareRow>,
     holders: &Table<Name, Name>,
     scope: &Scope,
 ) -> u128
-    ensures { result ≡ sum_by (λ (e : List ℕ × KeptPurse). counted_balance (map_of name_cmp holders.now) scope.now e.1) (rows_left rows.entry) }
+    ensures { result ≡ sum_by (λ (e : List ℕ × KeptBare). bare_balance (map_of name_cmp holders.now)
+        scope.now e.1) (rows_left rows.entry) }
 {
     let mut sum = 0;
     for row in rows {
         if counts(holders, scope, &row.1) {
-            sum += row.1.purse.balance() as u128;
+            sum += row.1.purse.balance as u128;
         }
     }
     sum
@@ -163,9 +166,9 @@ fn has_left(purses: &Purses, archive: &Table<(Name, PayDetails), ()>, details: &
 fn has_sent(purses: &Purses, purse: Name, details: &PayDetails) -> bool
     ensures { result ≡ has_sent (get (map_of name_cmp purses.now) purse) details.now }
 {
-    match purses.get(purse) {
+    match purses.bare(purse) {
         None => false,
-        Some(row) => is_sent_by(row, details),
+        Some(row) => waits(row.purse.status, details) || purses.log_of(purse).has(details),
     }
 }
 
@@ -206,15 +209,15 @@ fn awaited(status: Status, purses: &Purses, archive: &Table<(Name, PayDetails), 
 
 /// What these purses wait for that has left the other purse.
 pub(crate) fn transit_in(
-    rows: Rows<'_, Name, PurseRow>,
+    rows: Rows<'_, Name, BareRow>,
     purses: &Purses,
     archive: &Table<(Name, PayDetails), ()>,
 ) -> u128
-    ensures { result ≡ sum_by (λ (e : List ℕ × KeptPurse). awaited (map_of name_cmp purses.now) (map_of result_cmp archive.now) e.1.purse.status) (rows_left rows.entry) }
+    ensures { result ≡ sum_by (λ (e : List ℕ × KeptBare). awaited (map_of name_cmp purses.now) (map_of result_cmp archive.now) e.1.purse.status) (rows_left rows.entry) }
 {
     let mut sum = 0;
     for row in rows {
-        sum += awaited(row.1.purse.status(), purses, archive) as u128;
+        sum += awaited(row.1.purse.status, purses, archive) as u128;
     }
     sum
 }
@@ -265,20 +268,20 @@ fn lost_in_log(
 
 /// What is lost by the logs of these purses.
 pub(crate) fn lost_in_logs(
-    rows: Rows<'_, Name, PurseRow>,
+    rows: Rows<'_, Name, BareRow>,
     purses: &Purses,
     archive: &Table<(Name, PayDetails), ()>,
     settled: &Table<PayDetails, ()>,
 ) -> u128
-    ensures value { result ≡ sum_by (λ (e : List ℕ × KeptPurse).
+    ensures value { result ≡ sum_by (λ (e : List ℕ × KeptBare).
         lost_in_log (map_of name_cmp purses.now) (map_of result_cmp archive.now)
-        (map_of details_cmp settled.now) e.0 e.1.purse.log)
+        (map_of details_cmp settled.now) e.0 (log_at (get (map_of name_cmp purses.now) e.0)))
         (rows_left rows.entry) }
     ensures limit { result ≤ 2 ^ 112 }
 {
     let mut sum = 0;
     for row in rows {
-        sum += lost_in_log(purses, archive, settled, row.0, &row.1.purse.log());
+        sum += lost_in_log(purses, archive, settled, row.0, &purses.log_of(row.0));
     }
     sum
 }
@@ -306,10 +309,7 @@ fn lost_in_archive(
 fn is_logged(purses: &Purses, purse: Name, details: &PayDetails) -> bool
     ensures { result ≡ has_logged (log_at (get (map_of name_cmp purses.now) purse)) details.now }
 {
-    match purses.get(purse) {
-        None => false,
-        Some(row) => row.purse.log().has(details),
-    }
+    purses.log_of(purse).has(details)
 }
 
 /// What is lost by these archived details, where the logs haven't them still.

@@ -1,4 +1,5 @@
 pub mod State
+pub mod Bare
 pub mod Messages
 pub mod Conditions
 pub mod Operations

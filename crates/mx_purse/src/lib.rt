@@ -10,5 +10,6 @@ pub mod words;
 
 pub use message::{Handled, Message};
 pub use purse::Purse;
+pub use purse::bare::BarePurse;
 pub use refusals::{CreditRefusal, LoadRefusal, RedeemRefusal, StartRefusal};
 pub use status::Status;

@@ -3,6 +3,7 @@ ghost use Rattle.std.specs.Prelude.{◌≡◌, ◌≤◌, ◌+◌, ◌^◌, ◌�
 ghost use Rattle.mx_pay.specs.Limits.{most_number};
 ghost use Rattle.mx_purse.specs.State.{new_purse, IsPurse};
 
+pub mod bare;
 mod operations;
 
 use crate::conditions::are_whole;

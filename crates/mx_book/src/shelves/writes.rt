@@ -9,7 +9,7 @@ use crate::edits::Edit;
 use crate::redemptions::{collect, member_of, owe};
 use crate::results::archive;
 use crate::shelves::Shelves;
-use crate::values::{Caller, Line, LineRow, MemberRow, PurseRow, Redemption};
+use crate::values::{Caller, Line, LineRow, MemberRow, Redemption};
 use mx_pay::{Amount, Name, Token};
 use mx_purse::message::Message;
 use mx_purse::purse::Purse;
@@ -47,12 +47,7 @@ impl Shelves {
         ensures edited { rows_of self.new ≡ rewritten (rows_of self.old) (Edit.NewPurse purse holder) }
         ensures room { SpendsOne 0 self.old self.new }
     {
-        let row = PurseRow {
-            holder,
-            purse: Purse::new(purse),
-            next_message: 0,
-        };
-        self.purses.put(purse, row);
+        self.purses.put(purse, holder, &Purse::new(purse));
     }
 
     /// Sets a purse that is there.
@@ -62,12 +57,9 @@ impl Shelves {
         ensures room { SpendsOne 0 self.old self.new }
     {
         let name = purse.name();
-        if let Some(row) = self.purses.get(name) {
-            let row = PurseRow {
-                purse: *purse,
-                ..*row
-            };
-            self.purses.set(name, row);
+        if let Some(row) = self.purses.bare(name) {
+            let row = *row;
+            self.purses.set(name, &row, purse);
         }
     }
 
@@ -78,14 +70,10 @@ impl Shelves {
         ensures edited { rows_of self.new ≡ rewritten (rows_of self.old) (Edit.AddMessage purse message) }
         ensures room { SpendsOne 0 self.old self.new }
     {
-        if let Some(row) = self.purses.get(purse) {
-            let number = row.next_message;
-            let row = PurseRow {
-                next_message: number + 1,
-                ..*row
-            };
-            self.purses.set(purse, row);
-            self.inbox.put((purse, number), message);
+        if let Some(row) = self.purses.bare(purse) {
+            let row = *row;
+            self.purses.set_next(purse, &row, row.next_message + 1);
+            self.inbox.put((purse, row.next_message), message);
         }
     }
 

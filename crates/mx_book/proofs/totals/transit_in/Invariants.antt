@@ -2,7 +2,7 @@ use Rattle.std.proofs.Common.{◌≡◌, ◌+◌, ◌≤◌, ◌*◌, ◌++◌, 
 use Rattle.std.specs.Prelude.{sum_by}
 use Rattle.mx_pay.specs.Limits.{most_amount}
 use Rattle.mx_pay.specs.Names.{name_cmp}
-use Rattle.mx_book.specs.declared.values.PurseRow.{PurseRow as Kept}
+use Rattle.mx_book.specs.declared.purses.BareRow.{BareRow as Kept}
 use Rattle.mx_book.specs.Slots.{map_of}
 use Rattle.mx_book.specs.World.{result_cmp}
 use Rattle.mx_book.specs.RowTotals.{awaited}
