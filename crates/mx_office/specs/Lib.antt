@@ -3,7 +3,7 @@ pub mod Isolation
 pub mod Texts
 pub mod Run
 pub mod Lends
-pub mod Sent
+pub mod Outgoing
 pub mod Decides
 pub mod Commands
 pub mod Balance

@@ -10,7 +10,7 @@ ghost use Rattle.mx_office.specs.Decides.{Decides, settlement_edits};
 ghost use Rattle.mx_office.specs.Step.{archive, clear, is_archived_for_both, may_clear, settle};
 ghost use Rattle.mx_office.specs.declared.values.Command.{Command};
 
-use crate::decisions::{Sent, credit_refusal, make, make_purse, payment_line, refuse, tell};
+use crate::decisions::{Outgoing, credit_refusal, make, make_purse, payment_line, refuse, tell};
 use crate::values::{Decided, Refusal, Reply};
 use mx_book::contract::{Book, StoreFault};
 use mx_book::edits::Edit;
@@ -130,7 +130,13 @@ fn make_settlement(decided: &mut Decided, purse: &Purse, details: &PayDetails)
     ensures edits { decided.new.edits ≡ settlement_edits purse.now details.now }
 {
     let line = payment_line(purse, LineKind::Settled, *details);
-    make_purse(decided, Reply::Settled, purse, Some(line), &Sent::Nothing);
+    make_purse(
+        decided,
+        Reply::Settled,
+        purse,
+        Some(line),
+        &Outgoing::Nothing,
+    );
     decided.edits.push(&Edit::AddSettled { details: *details });
 }
 

@@ -4,7 +4,7 @@ ghost use Rattle.mx_book.specs.declared.edits.Edit.TheVariants.{AddLine, AddMess
 ghost use Rattle.mx_purse.specs.Operations.{sent_for};
 ghost use Rattle.mx_office.specs.Step.{abort_line, listed, message_line, money_line, payment_line, refusal_of_credit, refusal_of_load, refusal_of_redeem, refusal_of_start};
 ghost use Rattle.mx_office.specs.Decides.{purse_edits, put_edits, read_edits, redeem_edits};
-ghost use Rattle.mx_office.specs.Sent.{carried};
+ghost use Rattle.mx_office.specs.Outgoing.{carried};
 
 use crate::values::{Decided, Refusal, Reply};
 use mx_book::edits::{Edit, Edits};
@@ -94,7 +94,7 @@ pub(crate) fn message_line(
 
 /// What a purse sends for a payment. It is small, as a message isn't.
 #[derive(Clone, Copy)]
-pub(crate) enum Sent {
+pub(crate) enum Outgoing {
     Nothing,
     /// The request for the value, to the purse that pays.
     Req(PayDetails),
@@ -105,24 +105,24 @@ pub(crate) enum Sent {
 }
 
 /// What is sent for a message that was handled so.
-pub(crate) fn sent_for(handled: &Handled) -> Sent
+pub(crate) fn sent_for(handled: &Handled) -> Outgoing
     ensures { carried result ≡ sent_for handled.now }
 {
     match handled {
-        Handled::Req(details) => Sent::Val(*details),
-        Handled::Val(details) => Sent::Ack(*details),
-        Handled::Ack(_) | Handled::Cleared | Handled::Ignored => Sent::Nothing,
+        Handled::Req(details) => Outgoing::Val(*details),
+        Handled::Val(details) => Outgoing::Ack(*details),
+        Handled::Ack(_) | Handled::Cleared | Handled::Ignored => Outgoing::Nothing,
     }
 }
 
 /// The purse to which something is sent.
-pub(crate) fn peer_of(sent: &Sent) -> Option<Name>
+pub(crate) fn peer_of(sent: &Outgoing) -> Option<Name>
     ensures { result ≡ option_map (λ m. m.0) (carried sent.now) }
 {
     match sent {
-        Sent::Nothing => None,
-        Sent::Req(details) | Sent::Ack(details) => Some(details.from()),
-        Sent::Val(details) => Some(details.to()),
+        Outgoing::Nothing => None,
+        Outgoing::Req(details) | Outgoing::Ack(details) => Some(details.from()),
+        Outgoing::Val(details) => Some(details.to()),
     }
 }
 
@@ -133,7 +133,7 @@ pub(crate) fn make_purse(
     reply: Reply,
     purse: &Purse,
     line: Option<Line>,
-    sent: &Sent,
+    sent: &Outgoing,
 )
     ensures reply { decided.new.reply ≡ reply }
     ensures edits { decided.new.edits ≡ purse_edits purse.now line (carried sent.now) }
@@ -155,7 +155,7 @@ pub(crate) fn make_read(
     ensures reply { decided.new.reply ≡ reply }
     ensures edits { decided.new.edits ≡ read_edits purse.now line new }
 {
-    make_purse(decided, reply, purse, line, &Sent::Nothing);
+    make_purse(decided, reply, purse, line, &Outgoing::Nothing);
     if let Some(details) = new {
         let purse = purse.name();
         decided.edits.push(&Edit::AddTray { purse, details });
@@ -163,15 +163,15 @@ pub(crate) fn make_read(
 }
 
 /// Adds the edit for what is sent, where something is.
-fn add_sent(edits: &mut Edits, sent: &Sent)
+fn add_sent(edits: &mut Edits, sent: &Outgoing)
     requires { length edits.old < 4 }
     ensures { edits.new ≡ edits.old ++ put_edits (carried sent.now) }
 {
     match sent {
-        Sent::Nothing => {}
-        Sent::Req(details) => add_message(edits, details.from(), Message::Req(*details)),
-        Sent::Val(details) => add_message(edits, details.to(), Message::Val(*details)),
-        Sent::Ack(details) => add_message(edits, details.from(), Message::Ack(*details)),
+        Outgoing::Nothing => {}
+        Outgoing::Req(details) => add_message(edits, details.from(), Message::Req(*details)),
+        Outgoing::Val(details) => add_message(edits, details.to(), Message::Val(*details)),
+        Outgoing::Ack(details) => add_message(edits, details.from(), Message::Ack(*details)),
     }
 }
 
@@ -261,7 +261,7 @@ pub(crate) fn make_redemption(
 {
     let name = purse.name();
     let line = money_line(purse, LineKind::Redeemed, amount, reference);
-    make_purse(decided, Reply::Redeemed, purse, logged, &Sent::Nothing);
+    make_purse(decided, Reply::Redeemed, purse, logged, &Outgoing::Nothing);
     decided.edits.push(&Edit::AddLine { purse: name, line });
     decided.edits.push(&Edit::AddRedemption {
         purse: name,

@@ -12,7 +12,7 @@ ghost use Rattle.mx_office.specs.Faults.{FailsFor};
 ghost use Rattle.mx_office.specs.Step.{collect, grant, load_purse, reconcile};
 ghost use Rattle.mx_office.specs.declared.values.Command.{Command};
 
-use crate::decisions::{Sent, again, load_refusal, make, make_purse, money_line, refuse, tell};
+use crate::decisions::{Outgoing, again, load_refusal, make, make_purse, money_line, refuse, tell};
 use crate::values::{Decided, Refusal, Reply};
 use mx_book::contract::{Book, StoreFault};
 use mx_book::edits::Edit;
@@ -108,7 +108,13 @@ fn make_load(
 {
     let name = purse.name();
     let line = money_line(purse, LineKind::Loaded, amount, reference);
-    make_purse(decided, Reply::Loaded, purse, Some(line), &Sent::Nothing);
+    make_purse(
+        decided,
+        Reply::Loaded,
+        purse,
+        Some(line),
+        &Outgoing::Nothing,
+    );
     decided.edits.push(&Edit::AddLoad {
         purse: name,
         reference,

@@ -8,13 +8,13 @@ ghost use Rattle.mx_book.specs.Reads.{own_purse, purses_of, redemption_of};
 ghost use Rattle.mx_office.specs.Commands.{IsCommand};
 ghost use Rattle.mx_office.specs.Decides.{Decides, not_kept, placed};
 ghost use Rattle.mx_office.specs.Faults.{FailsFor};
-ghost use Rattle.mx_office.specs.Sent.{carried};
+ghost use Rattle.mx_office.specs.Outgoing.{carried};
 ghost use Rattle.mx_office.specs.Step.{abort, discard, handle, inbox, on_own, read_log, redeem, show, start_from, start_to, statement, tell};
 ghost use Rattle.mx_office.specs.declared.values.Command.{Command};
 
 use crate::decisions::{
-    Sent, abort_line, again, make, make_purse, make_read, make_redemption, message_line, peer_of,
-    redeem_refusal, refuse, sent_for, start_refusal, tell,
+    Outgoing, abort_line, again, make, make_purse, make_read, make_redemption, message_line,
+    peer_of, redeem_refusal, refuse, sent_for, start_refusal, tell,
 };
 use crate::values::{Decided, Lines, Messages, Names, Refusal, Reply};
 use mx_book::contract::{Book, StoreFault};
@@ -24,7 +24,11 @@ use mx_pay::{Amount, Name, PayDetails, Seq};
 use std::alloc::Global;
 
 /// What is sent, where it finds a place. Elsewhere it vanishes.
-pub(crate) fn placed<B: Book>(book: &mut B, alloc: Global, sent: Sent) -> Result<Sent, StoreFault>
+pub(crate) fn placed<B: Book>(
+    book: &mut B,
+    alloc: Global,
+    sent: Outgoing,
+) -> Result<Outgoing, StoreFault>
     ensures keeps { Keeps B.doubt B.rows B.leaves book.old book.new }
     ensures answered { IsWorking B.doubt book.old → OnOk result (IsWorking B.doubt book.new) }
     ensures value { Gives B.doubt B.rows B.spells book.old book.new result
@@ -32,12 +36,12 @@ pub(crate) fn placed<B: Book>(book: &mut B, alloc: Global, sent: Sent) -> Result
     ensures fault { IfErr result B.fails }
 {
     let Some(peer) = peer_of(&sent) else {
-        return Ok(Sent::Nothing);
+        return Ok(Outgoing::Nothing);
     };
     if book.finds_place(alloc, peer)? {
         Ok(sent)
     } else {
-        Ok(Sent::Nothing)
+        Ok(Outgoing::Nothing)
     }
 }
 
@@ -174,7 +178,7 @@ pub(crate) fn start_from<B: Book>(
                 Reply::Started(details),
                 &after,
                 line,
-                &Sent::Nothing,
+                &Outgoing::Nothing,
             );
             Ok(())
         }
@@ -209,7 +213,7 @@ pub(crate) fn start_to<B: Book>(
             Ok(())
         }
         Ok(details) => {
-            let request = placed(book, alloc, Sent::Req(details))?;
+            let request = placed(book, alloc, Outgoing::Req(details))?;
             let line = abort_line(&after, logged);
             make_purse(decided, Reply::Started(details), &after, line, &request);
             Ok(())
@@ -303,7 +307,7 @@ pub(crate) fn abort<B: Book>(
         logged: logged.is_some(),
     };
     let line = abort_line(&after, logged);
-    make_purse(decided, reply, &after, line, &Sent::Nothing);
+    make_purse(decided, reply, &after, line, &Outgoing::Nothing);
     Ok(())
 }
 
