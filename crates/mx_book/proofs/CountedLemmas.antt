@@ -16,8 +16,8 @@ use Rattle.mx_book.specs.World.{World, Row, Name, is_of_member}
 use Rattle.mx_book.specs.Rows.{Rows, world_of, row_of, amount_of, mark_of, IsProper, NoStray}
 use Rattle.mx_book.specs.Reads.{uncollected_row}
 use Rattle.mx_book.specs.Totals.{issued_row, redeemed_row, balance_row}
-use Rattle.mx_book.specs.declared.totals.Scope.{Scope}
-use Rattle.mx_book.specs.declared.totals.Scope.TheVariants.{Scheme, Member}
+use Rattle.mx_book.specs.declared.values.Scope.{Scope}
+use Rattle.mx_book.specs.declared.values.Scope.TheVariants.{Scheme, Member}
 use Rattle.mx_book.specs.RowReads.{is_counted, counted_of, uncollected_amount, row_uncollected_of}
 use Rattle.mx_book.specs.RowTotals.{row_issued_of, row_redeemed_of, counted_balance, row_balances_of}
 use Rattle.mx_book.proofs.NameLemmas.{names_total, same_name}

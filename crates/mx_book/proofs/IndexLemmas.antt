@@ -14,7 +14,7 @@ use Rattle.std.specs.FinMap.Entries.{find, is_sorted, below_all}
 use Rattle.std.specs.FinSet.{FinSet}
 use Rattle.mx_pay.specs.Names.{name_cmp, is_name}
 use Rattle.mx_book.specs.World.{Name}
-use Rattle.mx_book.specs.Blocks.{rows_from, first_of}
+use Rattle.mx_sorted.specs.Blocks.{rows_from, first_of}
 use Rattle.mx_book.specs.Index.{index_cmp, is_met}
 use Rattle.mx_book.specs.RowReads.{of_name}
 use Rattle.mx_book.specs.Under.{those, with_second}

@@ -21,7 +21,7 @@ use Rattle.mx_book.specs.declared.edits.Edit.TheVariants.{SetPurse, AddMessage, 
 use Rattle.mx_book.specs.Edits.{edited, all_edited, Suits, AllSuit}
 use Rattle.mx_book.proofs.NameLemmas.{names_total, names_exact, same_name, get-inserted}
 use Rattle.mx_book.proofs.FoundLemmas.{some_of}
-use Rattle.mx_book.proofs.PartLemmas.{all_append}
+use Rattle.std.proofs.ByRecursion.{All-append as all_append}
 use Rattle.mx_book.proofs.KeepLemmas.{is_row, set_stays, message_stays, dropped_stays}
 
 -- ---- two writes at one key

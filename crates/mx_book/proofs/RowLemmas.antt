@@ -5,13 +5,21 @@ use Rattle.std.specs.declared.cmp.Ordering.{Ordering}
 use Rattle.std.specs.Ordering.{nat_cmp}
 use Rattle.std.specs.Cmp.{IsTotalOrder, nat_cmp_total}
 use Rattle.std.specs.FinMap as fmap
+use Rattle.std.specs.FinMap.{IsAntisymmetric}
 use Rattle.mx_pay.specs.Names.{name_cmp, is_name}
 use Rattle.mx_book.specs.World.{Row, Name, change_row, changed_row}
 use Rattle.mx_book.proofs.NameLemmas.{names_total, names_exact, same_name}
 use Rattle.mx_book.specs.declared.values.PurseRow.{PurseRow}
 use Rattle.mx_book.specs.Under.{pair_cmp}
 use Rattle.mx_book.specs.Rows.{Rows, world_of, row_of, IsProper, HasNoStray, NoStray}
-use Rattle.mx_book.proofs.UnderLemmas.{get-remake, pair_total}
+use Rattle.mx_book.proofs.UnderLemmas.{get-remake, pair_total, pair_exact}
+
+-- the order of keys that are a purse and a reference
+pub keys_total : IsTotalOrder (pair_cmp name_cmp name_cmp)
+keys_total = pair_total names_total names_total
+
+pub keys_exact : IsAntisymmetric (pair_cmp name_cmp name_cmp)
+keys_exact = pair_exact names_exact names_exact
 
 -- what the rows say of a name
 abbrev pub row_at : Rows → Name → Option Row

@@ -16,11 +16,9 @@ use Rattle.mx_book.proofs.CountedLemmas.{uncollected_is}
 use Rattle.mx_book.proofs.TotalLemmas.{totals_are, member_totals_are, members_totals_are}
 use Rattle.mx_book.specs.Totals.{totals_of, member_totals_of, members_totals_of}
 use Rattle.mx_book.specs.RowTotals.{row_totals_of, row_member_totals_of, row_members_totals_of}
-use Rattle.mx_book.specs.declared.totals.Scope.TheVariants.{Member}
+use Rattle.mx_book.specs.declared.values.Scope.TheVariants.{Member}
 use Rattle.mx_book.proofs.EditLemmas.{edits_spelled, all_able_there}
-use Rattle.mx_book.proofs.FitLemmas.{all_fit_there}
 use Rattle.mx_book.proofs.ResultLemmas.{laid_is}
-use Rattle.mx_book.specs.Due.{all_fit}
 use Rattle.mx_book.specs.Conditions.{IsWorld}
 use Rattle.mx_book.specs.Spells.{Spells}
 
@@ -103,9 +101,6 @@ pub able_of : (r : Rows) (w : World) (es : List Edit) → Spells r w → Fits w 
 able_of r w es h fits = all_able_there r w es h.spelled fits.each
 
 -- ---- what a write needs, and what it leaves
-
-pub fit_always : (r s : Rows) (es : List Edit) → ∥ Spells r (world_of r) ∥₁ → s ≡ r → ((w : World) → ◌≡◌ {A = ℕ} 0 0 → Spells r w → Fits w es) → IsTrue (all_fit s es)
-fit_always r s es h is fits = subst (λ (z : Rows). IsTrue (all_fit z es)) (sym is) (∥∥₁_elim h (hlevel props) (λ one. all_fit_there r (world_of r) es one.spelled (fits (world_of r) refl one).each))
 
 pub able_always : (r s : Rows) (es : List Edit) → ∥ Spells r (world_of r) ∥₁ → s ≡ r → ((w : World) → ◌≡◌ {A = ℕ} 0 0 → Spells r w → Fits w es) → IsTrue (all_able s es)
 able_always r s es h is fits = subst (λ (z : Rows). IsTrue (all_able z es)) (sym is) (∥∥₁_elim h (hlevel props) (λ one. able_of r (world_of r) es one (fits (world_of r) refl one)))

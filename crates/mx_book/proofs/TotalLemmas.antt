@@ -2,7 +2,7 @@
 use Rattle.std.proofs.Common.{◌≡◌}
 use Rattle.std.specs.Prelude.{map, option_map}
 use Rattle.std.specs.FinMap as fmap
-use Rattle.mx_book.specs.declared.totals.Scope.TheVariants.{Scheme, Member}
+use Rattle.mx_book.specs.declared.values.Scope.TheVariants.{Scheme, Member}
 use Rattle.mx_book.specs.declared.values.MemberRow.{MemberRow}
 use Rattle.mx_book.specs.World.{Name}
 use Rattle.mx_book.specs.Conditions.{IsWorld}

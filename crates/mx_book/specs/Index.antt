@@ -6,7 +6,7 @@ use Rattle.std.specs.FinMap as fmap
 use Rattle.std.specs.FinSet.{FinSet}
 use Rattle.mx_pay.specs.Names.{name_cmp, is_name}
 use Rattle.mx_book.specs.declared.values.PurseRow.{PurseRow}
-use Rattle.mx_book.specs.Blocks.{rows_from, first_of}
+use Rattle.mx_sorted.specs.Blocks.{rows_from, first_of}
 use Rattle.mx_book.specs.Under.{pair_cmp}
 use Rattle.mx_book.specs.World.{Name}
 

@@ -9,8 +9,8 @@ use Rattle.mx_pay.specs.Limits.{most_number}
 use Rattle.mx_purse.specs.State.{State}
 use Rattle.mx_purse.specs.declared.message.Message.{Message}
 use Rattle.mx_book.specs.Limits.{most_messages}
-use Rattle.mx_book.specs.declared.totals.Scope.{Scope}
-use Rattle.mx_book.specs.declared.totals.Scope.TheVariants.{Scheme, Member}
+use Rattle.mx_book.specs.declared.values.Scope.{Scope}
+use Rattle.mx_book.specs.declared.values.Scope.TheVariants.{Scheme, Member}
 use Rattle.mx_book.specs.declared.values.Caller.{Caller}
 use Rattle.mx_book.specs.declared.values.Caller.TheVariants.{Operator}
 use Rattle.mx_book.specs.declared.values.PurseRow.{PurseRow}

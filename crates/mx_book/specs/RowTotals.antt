@@ -8,8 +8,8 @@ use Rattle.mx_pay.specs.Log.{Entries, has_logged, logged}
 use Rattle.mx_purse.specs.Operations.{expects_ack}
 use Rattle.mx_purse.specs.declared.status.Status.{Status}
 use Rattle.mx_purse.specs.declared.status.Status.TheVariants.{Epv}
-use Rattle.mx_book.specs.declared.totals.Scope.{Scope}
-use Rattle.mx_book.specs.declared.totals.Scope.TheVariants.{Scheme, Member}
+use Rattle.mx_book.specs.declared.values.Scope.{Scope}
+use Rattle.mx_book.specs.declared.values.Scope.TheVariants.{Scheme, Member}
 use Rattle.mx_book.specs.declared.values.MemberRow.{MemberRow}
 use Rattle.mx_book.specs.declared.values.MemberTotals.{MemberTotals}
 use Rattle.mx_book.specs.declared.values.PurseRow.{PurseRow}

@@ -2,11 +2,11 @@
 ghost use Rattle.std.specs.Prelude.{◌≡◌, length, IfOk};
 ghost use Rattle.mx_pay.specs.Names.{name_cmp};
 ghost use Rattle.mx_book.specs.Index.{index_cmp, names_under};
-ghost use Rattle.mx_book.specs.Slots.{map_of};
+ghost use Rattle.mx_sorted.specs.Slots.{map_of};
 
-use crate::table::Table;
 use mx_pay::Name;
 use mx_pay::names::same_name;
+use mx_sorted::Table;
 use std::alloc::{AllocError, Global};
 
 /// Names of purses, each under its holder. None is no purse, and comes before all of them.

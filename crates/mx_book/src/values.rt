@@ -166,3 +166,12 @@ pub struct Totals {
     /// What left a purse and will not reach the other any more.
     pub lost: u128,
 }
+
+/// Whose purses count in a sum.
+#[derive(Clone, Copy)]
+pub enum Scope {
+    /// Those of the whole scheme.
+    Scheme,
+    /// Those of the holders of this member.
+    Member(Name),
+}

@@ -1,6 +1,6 @@
 //! Connections over a loopback socket.
 use crate::scratch::{expect, request, response, with_office};
-use mx_book::PlainBook;
+use mx_memory::PlainBook;
 use mx_office::Office;
 use mx_tasks::connections::{listen, serve_connections};
 use mx_wire::Routes;

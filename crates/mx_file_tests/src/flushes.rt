@@ -1,8 +1,8 @@
 //! A writer that shows nothing of its bytes before a flush, and a reader that gives one piece a call.
 use crate::scratch::{expect, request, response, with_office};
-use mx_book::PlainBook;
 use mx_desk::desk::run;
 use mx_desk::{Counted, Outlet};
+use mx_memory::PlainBook;
 use mx_office::Office;
 use mx_wire::Routes;
 use std::alloc::Global;

@@ -1,5 +1,5 @@
 //! What the tests stand on: a folder of their own, an office, requests and responses.
-use mx_book::PlainBook;
+use mx_memory::PlainBook;
 use mx_office::Office;
 use mx_pay::Token;
 use mx_wire::Routes;

@@ -8,8 +8,9 @@ ghost use Rattle.mx_files.specs.Performed.{PerformsRun};
 
 use crate::files::{make_file, migrate_file, over_file};
 use mx_args::Task;
-use mx_book::{Book, PlainBook};
+use mx_book::Book;
 use mx_desk::{Counted, Outlet};
+use mx_memory::PlainBook;
 use mx_pay::Token;
 use mx_tables::Migrated;
 use mx_tasks::runs::run_memory;

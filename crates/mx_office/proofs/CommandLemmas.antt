@@ -33,7 +33,7 @@ use Rattle.mx_book.specs.Conditions.{IsWorld, AreNumbered, IsLine, MayLie}
 use Rattle.mx_book.specs.Limits.{most_lines}
 use Rattle.mx_book.specs.Reads.{from_row, own_purse, inbox_of, page, lines_of, message_of, redemption_of}
 use Rattle.mx_book.proofs.FoundLemmas.{value_found}
-use Rattle.mx_book.proofs.PartLemmas.{all_append}
+use Rattle.std.proofs.ByRecursion.{All-append as all_append}
 use Rattle.mx_book.proofs.MoneyLemmas.{with_redemption, redemptions_stay, redemption_leads, redemption_suits}
 use Rattle.mx_book.proofs.PurseLemmas.{with_lines, line_edits, discard_leads, discard_suits, discard_stays}
 use Rattle.mx_office.specs.declared.values.Decided.{Decided}

@@ -4,7 +4,7 @@ use Rattle.std.proofs.lemmas.List.{take_more}
 use Rattle.std.specs.List.{AllByRecursion}
 use Rattle.mx_book.specs.Stands.{attempt}
 use Rattle.mx_book.specs.World.{World}
-use Rattle.mx_book.proofs.PartLemmas.{all_append}
+use Rattle.std.proofs.ByRecursion.{All-append as all_append}
 use Rattle.mx_book.specs.declared.contract.StoreFault.{StoreFault}
 use Rattle.mx_office.specs.declared.values.Outcome.{Outcome}
 use Rattle.mx_office.specs.declared.values.Outcome.TheVariants.{Reply as Replied, Unavailable}

@@ -2,7 +2,7 @@
 use Rattle.std.proofs.Common.{List, [], ◌∷◌, ◌++◌, ◌∙◌, ap, sym, subst}
 use Rattle.std.specs.List.{AllByRecursion}
 use Rattle.mx_book.specs.World.{World, opening}
-use Rattle.mx_book.proofs.PartLemmas.{all_append}
+use Rattle.std.proofs.ByRecursion.{All-append as all_append}
 use Rattle.mx_book.specs.declared.contract.StoreFault.{StoreFault}
 use Rattle.mx_book.specs.declared.values.Caller.{Caller}
 use Rattle.mx_office.specs.declared.values.Command.{Command}

@@ -9,7 +9,7 @@ use Rattle.mx_book.specs.declared.values.Caller.{Caller}
 use Rattle.mx_book.specs.declared.values.Caller.TheVariants.{Operator, Clerk, Holder}
 use Rattle.mx_book.specs.World.{World, Row, Name, has_room, set_row, new_row}
 use Rattle.mx_book.proofs.NameLemmas.{get-inserted}
-use Rattle.mx_book.proofs.PartLemmas.{all_append}
+use Rattle.std.proofs.ByRecursion.{All-append as all_append}
 use Rattle.mx_office.specs.declared.values.Command.{Command}
 use Rattle.mx_office.specs.declared.values.Command.TheVariants.{NewPurse, Load, Settle}
 use Rattle.mx_office.specs.declared.values.Refusal.{Refusal}

@@ -4,7 +4,7 @@ use Rattle.std.proofs.lemmas.List.{append-nil}
 use Rattle.std.specs.List.{AllByRecursion}
 use Rattle.csv.specs.Reading.{ExplainsRead, RowStep, owned_rows_left}
 use Rattle.csv.specs.declared.error.ErrorKind.{ErrorKind}
-use Rattle.mx_book.proofs.PartLemmas.{all_append}
+use Rattle.std.proofs.ByRecursion.{All-append as all_append}
 use Rattle.mx_book.specs.declared.values.Caller.{Caller}
 use Rattle.mx_book.specs.World.{World}
 use Rattle.mx_office.specs.Commands.{IsAsked}

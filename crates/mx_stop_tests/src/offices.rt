@@ -1,7 +1,7 @@
 //! Offices over files, and over a book in memory, each lent to what a test does with it.
 use crate::disks::{Disks, Ended, Store, connected, files_of};
 use crate::scripts::{serve, shown};
-use mx_book::PlainBook;
+use mx_memory::PlainBook;
 use mx_office::Office;
 use mx_pay::Token;
 use mx_tables::Tables;

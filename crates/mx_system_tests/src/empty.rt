@@ -1,6 +1,6 @@
 //! Offices in which nothing is but the operator's token, over each kind of book.
 use crate::faulty::Faulty;
-use mx_book::PlainBook;
+use mx_memory::PlainBook;
 use mx_office::Office;
 use mx_pay::Token;
 use mx_tables::Tables;

@@ -1,6 +1,7 @@
 //! The import of rolls into books in memory and into tables: rolls with what is told of them, worked out by hand.
 use crate::empty::{with_book, with_tables};
-use mx_book::{Book, PlainBook};
+use mx_book::Book;
+use mx_memory::PlainBook;
 use mx_office::Office;
 use mx_report::{RollFault, RollFaultKind, RollReason, RollReport, import_roll};
 use std::alloc::{AllocError, Global};

@@ -16,7 +16,7 @@ use Rattle.mx_book.specs.Sums.{sum_entries, sum_values}
 use Rattle.mx_book.specs.RowReads.{is_counted}
 use Rattle.mx_book.specs.declared.values.MemberRow.{MemberRow}
 use Rattle.mx_book.proofs.NameLemmas.{names_total, same_name}
-use Rattle.mx_book.specs.declared.totals.Scope.{Scope}
+use Rattle.mx_book.specs.declared.values.Scope.{Scope}
 use Rattle.mx_tables.specs.Counted.{number_of, owed_shown, counted_row, amounts_text, amounts_of, text_of, row_sums, sum_at, sums_at, member_listed, totals_with, totals_row, if_some, status_shown, waiting_shown, log_shown, result_shown, left_value, waiting_at, waiting_row, log_row, result_row, adds_text, row_adds, sum_of}
 use Rattle.mx_tables.specs.declared.sums.Amounts.{Amounts}
 use Rattle.mx_tables.specs.declared.sums.Amounts.TheVariants.{Uncollected, Issued, Redeemed, Balances}
@@ -35,7 +35,7 @@ use Rattle.sqlite_value.proofs.OrderLemmas.{value_cmp-Text, then-Equal}
 use Rattle.sqlite_trees.proofs.ListLemmas.{map-map}
 use Rattle.mx_book.specs.RowEdits.{member_at, log_at}
 use Rattle.mx_book.specs.RowTotals.{row_members_totals_of, awaited, lost_by, lost_in_log, lost_in_archive}
-use Rattle.mx_book.specs.declared.totals.Scope.TheVariants.{Member}
+use Rattle.mx_book.specs.declared.values.Scope.TheVariants.{Member}
 use Rattle.mx_tables.specs.declared.member_sums.MemberSums.{MemberSums}
 use Rattle.std.proofs.lemmas.List.{take_all}
 use Rattle.std.proofs.lemmas.Option.{IfSome_then}

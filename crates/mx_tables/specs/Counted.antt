@@ -11,12 +11,12 @@ use Rattle.mx_book.specs.RowReads.{is_counted, row_uncollected_of}
 use Rattle.mx_book.specs.RowTotals.{row_issued_of, row_redeemed_of, row_balances_of, has_left, lost_in_log, lost_in_archive, row_transit_of}
 use Rattle.mx_book.specs.declared.values.PurseRow.{PurseRow}
 use Rattle.mx_book.specs.declared.values.Redemption.{Redemption}
-use Rattle.mx_book.specs.declared.totals.Scope.{Scope}
+use Rattle.mx_book.specs.declared.values.Scope.{Scope}
 use Rattle.mx_tables.specs.declared.sums.Sums.{Sums}
 use Rattle.mx_tables.specs.Schema.{number}
 use Rattle.mx_tables.specs.declared.sums.Amounts.{Amounts}
 use Rattle.mx_tables.specs.declared.sums.Amounts.TheVariants.{Uncollected, Issued, Redeemed, Balances}
-use Rattle.mx_book.specs.Slots.{map_of}
+use Rattle.mx_sorted.specs.Slots.{map_of}
 use Rattle.mx_book.specs.declared.values.MemberRow.{MemberRow}
 use Rattle.mx_book.specs.declared.values.MemberTotals.{MemberTotals}
 use Rattle.mx_tables.specs.declared.member_sums.MemberSums.{MemberSums}

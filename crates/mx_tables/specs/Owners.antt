@@ -12,7 +12,7 @@ use Rattle.sqlite_rules.specs.Lists.{Has}
 use Rattle.mx_pay.specs.Names.{name_cmp, is_name}
 use Rattle.mx_book.specs.World.{Name}
 use Rattle.mx_book.specs.Index.{index_cmp, IsIndex}
-use Rattle.mx_book.specs.Slots.{Slots, map_of}
+use Rattle.mx_sorted.specs.Slots.{Slots, map_of}
 use Rattle.mx_book.specs.declared.edits.Edit.{Edit}
 use Rattle.mx_book.specs.declared.edits.Edit.TheVariants.{NewPurse}
 

@@ -14,7 +14,7 @@ use crate::purses::find_purse;
 use crate::results::find_archived;
 use crate::settled::find_settled;
 use crate::sums::plus;
-use mx_book::totals::is_sent_by;
+use mx_book::sent::is_sent_by;
 use mx_book::{PurseRow, StoreFault};
 use mx_pay::names::same_name;
 use mx_pay::{Name, PayDetails};

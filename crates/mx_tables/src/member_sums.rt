@@ -2,8 +2,8 @@
 ghost use Rattle.std.specs.Prelude.{◌≡◌, ◌+◌, IfOk, List, OnOk, map};
 ghost use Rattle.std.specs.FinMap as fmap;
 ghost use Rattle.mx_pay.specs.Names.{name_cmp};
-ghost use Rattle.mx_book.specs.Slots.{map_of};
-ghost use Rattle.mx_book.specs.declared.totals.Scope.TheVariants.{Member};
+ghost use Rattle.mx_sorted.specs.Slots.{map_of};
+ghost use Rattle.mx_book.specs.declared.values.Scope.TheVariants.{Member};
 ghost use Rattle.mx_tables.specs.Counted.{amounts_of, counted_row, sum_at, totals_row};
 ghost use Rattle.mx_tables.specs.States.{Reads, Tells};
 ghost use Rattle.mx_book.specs.Totals.{members_totals_of};
@@ -11,9 +11,9 @@ ghost use Rattle.mx_book.specs.Totals.{members_totals_of};
 use crate::asking::ask;
 use crate::cells::{money_at, name_at};
 use crate::sums::{Amounts, find_member_at, plus};
-use mx_book::table::Table;
 use mx_book::{MemberTotals, StoreFault};
 use mx_pay::Name;
+use mx_sorted::Table;
 use sqlite::{Alter, Connection, Row};
 use std::alloc::Global;
 

@@ -9,9 +9,10 @@ ghost use Rattle.mx_tasks.specs.Faults.{Untouched};
 ghost use Rattle.mx_tasks.specs.Runs.{IsRunFault, TaskRuns};
 
 use crate::fault::TaskFault;
-use mx_book::{Book, PlainBook};
+use mx_book::Book;
 use mx_desk::desk::run;
 use mx_desk::{Counted, Outlet};
+use mx_memory::PlainBook;
 use mx_office::Office;
 use mx_pay::Token;
 use mx_wire::Routes;

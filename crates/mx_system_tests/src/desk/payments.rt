@@ -3,7 +3,7 @@ use super::devices::Pieces;
 use super::scripts::Exchange;
 use super::{FUNDED, STANDING, assert_told, played, serve_from};
 use crate::empty::with_book;
-use mx_book::PlainBook;
+use mx_memory::PlainBook;
 use mx_office::Office;
 use std::alloc::{AllocError, Global};
 use std::process::Abort;

@@ -1,6 +1,7 @@
 //! The abstract purses of worked payments, for each choice of what becomes of the value that is under way.
 use super::random::{amount, name, open, seq, token};
-use mx_book::{Book, Caller, PlainBook};
+use mx_book::{Book, Caller};
+use mx_memory::PlainBook;
 use mx_office::{Command, Office, Reply};
 use mx_pay::{Name, PayDetails, Token};
 use mx_purse::Purse;

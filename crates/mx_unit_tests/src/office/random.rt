@@ -1,5 +1,6 @@
 //! Random commands, and what the books come to by a ledger of the test's own.
-use mx_book::{Caller, PlainBook, Totals};
+use mx_book::{Caller, Totals};
+use mx_memory::PlainBook;
 use mx_office::{Command, Office, Reply};
 use mx_pay::{Amount, Log, Name, PayDetails, Seq, Token};
 use mx_purse::Handled;

@@ -1,6 +1,7 @@
 //! Many payments in one run of the office, and a run of no commands.
 use super::random::{amount, name, open, seq, token};
-use mx_book::{Caller, PlainBook};
+use mx_book::Caller;
+use mx_memory::PlainBook;
 use mx_office::{Command, Office, Outcome, Reply};
 use mx_purse::Handled;
 use std::alloc::Global;

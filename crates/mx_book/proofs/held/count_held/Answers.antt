@@ -2,7 +2,7 @@ use Rattle.std.proofs.Common.{Option, length, filter_map, ◌++◌, ◌∙◌, a
 use borrow.Author.Tests.{tests}
 use Rattle.std.proofs.lemmas.Iterator.Consumers.{YieldsList-from_first, YieldsList-from_filter_map, YieldsList-at, count_from_yields_List}
 use Rattle.std.proofs.lemmas.Iterator.Search.{YieldsList-from_take_while}
-use Rattle.mx_book.specs.Blocks.{rows_in, first_of}
+use Rattle.mx_sorted.specs.Blocks.{rows_in, first_of}
 use Rattle.mx_book.specs.World.{Name}
 use Rattle.mx_book.proofs.held.count_held.Goals as goal
 

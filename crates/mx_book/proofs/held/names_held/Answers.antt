@@ -3,7 +3,7 @@ use borrow.Author.Tests.{tests}
 use Rattle.std.proofs.lemmas.Iterator.{items_from_collect}
 use Rattle.std.proofs.lemmas.Iterator.Consumers.{YieldsList-from_first, YieldsList-from_filter_map, YieldsList-at}
 use Rattle.std.proofs.lemmas.Iterator.Search.{YieldsList-from_take_while}
-use Rattle.mx_book.specs.Blocks.{rows_in}
+use Rattle.mx_sorted.specs.Blocks.{rows_in}
 use Rattle.mx_book.proofs.held.names_held.Goals as goal
 
 pub returns : goal.returns

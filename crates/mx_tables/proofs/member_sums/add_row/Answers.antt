@@ -1,7 +1,7 @@
 use Rattle.mx_tables.proofs.Common.{◌∙◌, name_cmp}
 use Rattle.std.proofs.Common.{sym}
 use Rattle.std.proofs.lemmas.Result.{on_ok_weaker}
-use Rattle.mx_book.specs.Slots.{map_of}
+use Rattle.mx_sorted.specs.Slots.{map_of}
 use Rattle.mx_tables.proofs.CallLemmas.{reads_to}
 use Rattle.mx_tables.proofs.CountedSums.{adds_to_one}
 use Rattle.mx_tables.proofs.member_sums.add_row.Goals as goal

@@ -1,7 +1,7 @@
 use Rattle.mx_tables.proofs.Common.{◌<◌, ◌≤◌, ◌∙◌, refl, length, rules, name_cmp}
 use Rattle.std.proofs.Common.{ap}
-use Rattle.mx_book.specs.Slots.{map_of}
-use Rattle.mx_book.specs.declared.totals.Scope.TheVariants.{Member}
+use Rattle.mx_sorted.specs.Slots.{map_of}
+use Rattle.mx_book.specs.declared.values.Scope.TheVariants.{Member}
 use Rattle.mx_tables.specs.Counted.{counted_row, sum_at}
 use Rattle.mx_tables.proofs.CallLemmas.{reads_fault, reads_none, reads_to, reads_then}
 use Rattle.mx_tables.proofs.CountedSums.{sum_at_first, sum_more, amounts_query, amounts_summed, sum_all_rows}

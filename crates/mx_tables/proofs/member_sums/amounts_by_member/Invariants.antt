@@ -1,7 +1,7 @@
 use Rattle.mx_tables.proofs.Common.{◌≡◌, take, name_cmp, Name, going}
 use Rattle.std.specs.Prelude.{sum_by}
-use Rattle.mx_book.specs.Slots.{map_of}
-use Rattle.mx_book.specs.declared.totals.Scope.TheVariants.{Member}
+use Rattle.mx_sorted.specs.Slots.{map_of}
+use Rattle.mx_book.specs.declared.values.Scope.TheVariants.{Member}
 use Rattle.mx_tables.specs.Counted.{counted_row, sum_at}
 use Rattle.mx_tables.specs.States.{Reads}
 use Rattle.mx_tables.proofs.member_sums.amounts_by_member.Given as goal

@@ -1,7 +1,7 @@
 use Rattle.std.proofs.Common.{refl}
 use Rattle.mx_book.specs.World.{opening}
 use Rattle.mx_book.specs.Spells.{Spells}
-use Rattle.mx_book.specs.Shelves.{rows_of}
+use Rattle.mx_memory.specs.Shelves.{rows_of}
 use Rattle.mx_book.proofs.StandLemmas.{low_sure}
 use Rattle.mx_tasks.proofs.RunLemmas.{opening_reachable}
 use Rattle.mx_tasks.proofs.runs.run_memory.Goals as goal

@@ -6,7 +6,7 @@ use Rattle.mx_pay.specs.Tokens.{is_token, IsToken}
 use Rattle.mx_book.specs.declared.edits.Edit.TheVariants.{NewMember, NewHolder}
 use Rattle.mx_book.specs.Edits.{edited, Suits, Fits}
 use Rattle.mx_book.specs.Rows.{Rows}
-use Rattle.mx_book.specs.Shelves.{rows_of}
+use Rattle.mx_memory.specs.Shelves.{rows_of}
 use Rattle.mx_book.specs.Spells.{Spells, one_world}
 use Rattle.mx_book.specs.World.{World, Name, Token, opening}
 use Rattle.mx_book.proofs.KeepLemmas.{member_stays, holder_stays}

@@ -1,5 +1,0 @@
-use Rattle.mx_book.proofs.DueLemmas.{tied_as, tied_new}
-use Rattle.mx_book.proofs.shelves.tables.Shelves.new.Goals as goal
-
-pub invariant_of-result : goal.invariant_of-result
-invariant_of-result c = record { tied = tied_as c.new-4.ensures c.new-3.ensures c.new-11.ensures c.new-12.ensures tied_new }

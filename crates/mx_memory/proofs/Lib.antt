@@ -1,0 +1,3 @@
+pub mod DueLemmas
+pub mod FitLemmas
+pub mod JoinLemmas

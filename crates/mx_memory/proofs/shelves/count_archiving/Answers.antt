@@ -1,0 +1,13 @@
+use Rattle.std.proofs.Common.{◌∙◌, rules}
+use borrow.Author.Tests.{tests}
+use Rattle.std.proofs.lemmas.Iterator.{YieldsList-from_slice}
+use Rattle.std.proofs.lemmas.Iterator.Consumers.{YieldsList-from_filter, count_from_yields_List}
+use Rattle.std.proofs.lemmas.List.Sums.{length-filter}
+use Rattle.mx_book.specs.RowEdits.{is_archiving}
+use Rattle.mx_memory.proofs.shelves.count_archiving.Goals as goal
+
+pub returns : goal.returns
+returns c =
+    count_from_yields_List c.filter.result _ c.count.ensures.ran
+    (YieldsList-from_filter _ is_archiving (YieldsList-from_slice c.args.edits.now (cc)) c.filter.ensures.closure (λ x r q k. search (rules, tests)))
+    ∙ length-filter is_archiving c.args.edits.now

@@ -1,0 +1,13 @@
+use Rattle.std.proofs.Common.{◌≡◌, ◌+◌, ◌-◌, ◌≤◌, ◌*◌, ◌^◌, ◌++◌, ℕ, List, length}
+use Rattle.std.specs.Prelude.{sum_by}
+use Rattle.mx_book.specs.declared.values.MemberRow.{MemberRow as Kept}
+use Rattle.mx_sorted.specs.Blocks.{rows_in}
+use Rattle.mx_memory.proofs.totals.float_in.Given as goal
+
+abbrev pub invariant-loop-row : goal.invariant-loop-row
+invariant-loop-row l =
+    let f : List ℕ × Kept → ℕ = λ e. e.1.float in
+    record {
+      sum : sum_by f (l.fn.rows.block.now ++ rows_in l.fn.rows.rest.now) ≡ l.sum + sum_by f (l.row-iterator.block.now ++ rows_in l.row-iterator.rest.now);
+      few : l.sum + length (l.row-iterator.block.now ++ rows_in l.row-iterator.rest.now) * (2 ^ 64 - 1) ≤ length (l.fn.rows.block.now ++ rows_in l.fn.rows.rest.now) * (2 ^ 64 - 1);
+    }

@@ -1,0 +1,4 @@
+pub mod PartLemmas
+pub mod PlaceLemmas
+pub mod BlockLemmas
+pub mod TableLemmas
