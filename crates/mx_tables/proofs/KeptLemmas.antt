@@ -17,7 +17,7 @@ use Rattle.mx_book.specs.declared.values.LineRow.{LineRow}
 use Rattle.mx_book.specs.declared.values.Redemption.{Redemption}
 use Rattle.mx_book.proofs.NameLemmas.{names_total, names_exact}
 use Rattle.mx_book.proofs.UnderLemmas.{pair_total, pair_exact}
-use Rattle.mx_memory.proofs.DueLemmas.{keys_total, keys_exact}
+use Rattle.mx_book.proofs.RowLemmas.{keys_total, keys_exact}
 use Rattle.mx_book.proofs.ResultLemmas.{results_total, results_exact}
 use Rattle.mx_tables.specs.Schema as schema
 use Rattle.mx_tables.specs.Schema.{Contents, member_cells, token_cells, holder_cells, purse_cells, message_cells, line_cells, result_cells, load_cells, redemption_cells, settled_cells, tokens_of, cells_of, rows_of, schema_of}

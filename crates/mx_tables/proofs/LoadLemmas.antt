@@ -26,7 +26,7 @@ use Rattle.mx_book.proofs.NameLemmas.{names_total}
 use Rattle.mx_book.proofs.MapLemmas.{find_below}
 use Rattle.mx_book.specs.Index.{is_met}
 use Rattle.mx_book.proofs.UnderLemmas.{get-remake}
-use Rattle.mx_memory.proofs.DueLemmas.{keys_total, keys_exact}
+use Rattle.mx_book.proofs.RowLemmas.{keys_total, keys_exact}
 use Rattle.mx_tables.specs.Counted.{owned_shown, is_owned, collected_where}
 use Rattle.mx_tables.proofs.MapLists.{any_mapped}
 use Rattle.std.proofs.lemmas.List.Folds.{list_any-append}
