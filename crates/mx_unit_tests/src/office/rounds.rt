@@ -4,7 +4,8 @@ use mx_book::Caller;
 use mx_memory::PlainBook;
 use mx_office::{Command, Office, Outcome, Reply};
 use mx_purse::Handled;
-use std::alloc::Global;
+use std::alloc::{AllocGlobal, Global};
+use std::process::Abort;
 use std::test::Fail;
 
 /// The starts of a payment of nothing from p1 to q1, which both have this next number.
@@ -79,15 +80,20 @@ fn paid(
     Ok((outcomes.len(), done))
 }
 
-/// What comes of a run of no commands and of one of 250 payments, in a new office.
-fn both(alloc: Global) -> Result<[(usize, usize); 2], Fail> {
-    let mut office = Office::new(PlainBook::new(alloc, token(b'1')?));
-    open(alloc, &mut office)?;
-    Ok([paid(alloc, &mut office, 0)?, paid(alloc, &mut office, 250)?])
+/// Asserts what comes of a run of no commands and of one of 250 payments, in a new office.
+fn assert_runs(
+    rt: &(impl Abort + AllocGlobal),
+    office: &mut Office<PlainBook>,
+) -> Result<(), Fail> {
+    open(rt.alloc(), office)?;
+    assert_eq!(rt; paid(rt.alloc(), office, 0)?, (0, 0));
+    assert_eq!(rt; paid(rt.alloc(), office, 250)?, (2000, 2000));
+    Ok(())
 }
 
 #[test]
 fn runs_of_no_command_and_of_two_thousand(rt: HostRuntime) -> Result<(), Fail> {
-    assert_eq!(rt; both(rt.alloc())?, [(0, 0), (2000, 2000)]);
-    Ok(())
+    let operator = token(b'1')?;
+    let mut office = Office::new(PlainBook::new(rt.alloc(), operator));
+    assert_runs(&rt, &mut office)
 }
