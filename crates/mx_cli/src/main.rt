@@ -4,12 +4,10 @@
 //! books come to, and `migrate` brings a file of the schema before to this one.
 #![tactic(auto)]
 
-ghost use Rattle.std.specs.Prelude.{◌≡◌};
-ghost use Rattle.std.specs.Process.{exit_status};
-
 use mx_args::{LineFault, Task, read_line};
 use mx_desk::Counted;
 use mx_files::perform::perform;
+use mx_tasks::exits::{fail, refuse};
 use mx_tasks::{Alarm, Alarmed, TaskFault};
 use std::alloc::{AllocError, Global};
 use std::io;
@@ -30,23 +28,6 @@ fn do_task(rt: &HostRuntime, task: &Task<'_>) -> Result<(), TaskFault> {
         return Err(TaskFault::Memory);
     };
     perform(rt, task, &mut reader, &mut Counted::new(buffer))
-}
-
-/// Prints a fault, and gives status 1.
-fn fail(rt: &HostRuntime, fault: TaskFault) -> ExitCode
-    ensures { exit_status result ≡ 1 }
-{
-    let text = fault.text();
-    let _ = eprintln!(rt; "fault: {text}");
-    ExitCode::from(1)
-}
-
-/// Prints why a command line is bad, and gives status 2.
-fn refuse(rt: &HostRuntime, text: &str) -> ExitCode
-    ensures { exit_status result ≡ 2 }
-{
-    let _ = eprint!(rt; "{text}");
-    ExitCode::from(2)
 }
 
 fn words_of(alloc: Global, args: &[String]) -> Result<Vec<&str>, AllocError> {

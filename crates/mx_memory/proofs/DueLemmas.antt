@@ -5,9 +5,8 @@ use Rattle.std.specs.Prelude.{option_map, filter, filter_map, sum_by}
 use Rattle.std.specs.List.{cons_option, prefix_len}
 use Rattle.std.proofs.lemmas.List.Sums.{sum_by-cons}
 use Rattle.std.specs.Ordering.{eq_by_cmp}
-use Rattle.std.specs.Cmp.{IsTotalOrder, eq_by_cmp_equiv}
+use Rattle.std.specs.Cmp.{eq_by_cmp_equiv}
 use Rattle.std.specs.FinMap as fmap
-use Rattle.std.specs.FinMap.{IsAntisymmetric}
 use Rattle.std.specs.FinSet.{FinSet}
 use Rattle.mx_pay.specs.Names.{name_cmp, is_name}
 use Rattle.mx_pay.proofs.TestLemmas.{is_equal}
@@ -25,9 +24,9 @@ use Rattle.mx_book.specs.World.{Name, is_of}
 use Rattle.mx_book.proofs.FoundLemmas.{still_some, each_inserted, none_found}
 use Rattle.mx_book.proofs.IndexLemmas.{keys_under, is_key, index_total, has-added, has-dropped}
 use Rattle.mx_book.proofs.SumLemmas.{total, total_is, total_entries}
-use Rattle.mx_book.proofs.NameLemmas.{names_total, names_exact, same_name, name_itself}
+use Rattle.mx_book.proofs.NameLemmas.{names_total, same_name, name_itself}
 use Rattle.mx_book.proofs.RowLemmas.{keys_total, keys_exact, NoStray-insert, NoStray-purse}
-use Rattle.mx_book.proofs.UnderLemmas.{pair_total, pair_exact, get-remake}
+use Rattle.mx_book.proofs.UnderLemmas.{get-remake}
 
 abbrev Held : Type 0
 Held = fmap.FinMap name_cmp PurseRow

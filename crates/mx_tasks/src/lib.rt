@@ -3,6 +3,7 @@
 
 pub mod alarm;
 pub mod connections;
+pub mod exits;
 pub mod fault;
 pub mod rolls;
 pub mod runs;
