@@ -25,7 +25,8 @@ pub struct PlainBook {
 impl PlainBook {
     /// A book that spells the World that has nothing but this token of the operator.
     pub fn new(alloc: Global, operator: Token) -> PlainBook
-        ensures { ⟦<PlainBook as Book>⟧.spells (⟦<PlainBook as Book>⟧.rows result) (opening operator) }
+        ensures { ⟦<PlainBook as Book>⟧.spells (⟦<PlainBook as Book>⟧.rows result)
+            (opening operator) }
     {
         // The reader says that the token has its bytes.
         let _bytes = operator.as_bytes();

@@ -106,7 +106,8 @@ impl Purses {
     #[inline]
     pub fn whole(&self, name: Name, row: &BareRow) -> Purse
         requires { option_map bare_row (map.get (map_of name_cmp self.now) name) ≡ Some row.now }
-        ensures { option_map (λ (x : Kept). x.purse) (map.get (map_of name_cmp self.now) name) ≡ Some result }
+        ensures { option_map (λ (x : Kept). x.purse) (map.get (map_of name_cmp self.now) name)
+            ≡ Some result }
     {
         match self.logs.get(name) {
             None => row.purse.with_log(Log::new()),
@@ -123,7 +124,8 @@ impl Purses {
 
     /// The names of a holder's purses, in order.
     pub fn names_of(&self, alloc: Global, holder: Name) -> Result<Vec<Name>, AllocError>
-        ensures { IfOk result (λ r. r.items ≡ map (λ (e : List ℕ × Kept). e.0) (purse_rows_of holder (map.entries (map_of name_cmp self.now)))) }
+        ensures { IfOk result (λ r. r.items ≡ map (λ (e : List ℕ × Kept). e.0)
+            (purse_rows_of holder (map.entries (map_of name_cmp self.now)))) }
     {
         names_held(alloc, &self.held, holder)
     }
@@ -159,8 +161,10 @@ impl Purses {
     /// Sets a purse that is there, and has this row.
     pub fn set(&mut self, name: Name, row: &BareRow, purse: &Purse)
         requires room { 0 < self.old.room }
-        requires there { option_map bare_row (map.get (map_of name_cmp self.old) name) ≡ Some row.now }
-        ensures map { IfSome (map.get (map_of name_cmp self.old) name) (λ x. map_of name_cmp self.new
+        requires there { option_map bare_row (map.get (map_of name_cmp self.old) name)
+            ≡ Some row.now }
+        ensures map { IfSome (map.get (map_of name_cmp self.old) name)
+            (λ x. map_of name_cmp self.new
             ≡ map.insert (map_of name_cmp self.old) name (record x { purse = purse.now })) }
         ensures room { self.old.room ≤ self.new.room + 1 }
     {
@@ -175,8 +179,10 @@ impl Purses {
     /// Gives a purse that is there, and has this row, another number for its next message.
     pub fn set_next(&mut self, name: Name, row: &BareRow, next_message: u64)
         requires room { 0 < self.old.room }
-        requires there { option_map bare_row (map.get (map_of name_cmp self.old) name) ≡ Some row.now }
-        ensures map { IfSome (map.get (map_of name_cmp self.old) name) (λ x. map_of name_cmp self.new
+        requires there { option_map bare_row (map.get (map_of name_cmp self.old) name)
+            ≡ Some row.now }
+        ensures map { IfSome (map.get (map_of name_cmp self.old) name)
+            (λ x. map_of name_cmp self.new
             ≡ map.insert (map_of name_cmp self.old) name (record x { next_message = next_message })) }
         ensures room { self.old.room ≤ self.new.room + 1 }
     {
@@ -190,7 +196,8 @@ impl Purses {
 
 /// Takes a purse, which had this row or none, from under its holder.
 fn release(held: &mut Held, before: Option<&BareRow>, name: Name)
-    ensures map { map_of (index_cmp name_cmp) held.new ≡ released (map_of (index_cmp name_cmp) held.old)
+    ensures map { map_of (index_cmp name_cmp) held.new
+        ≡ released (map_of (index_cmp name_cmp) held.old)
         (option_map (λ v. v.now.holder) before.entry) name }
     ensures room { held.old.room ≤ held.new.room }
 {

@@ -21,7 +21,8 @@ use mx_sorted::{Rows, Table};
 
 /// The member of a purse's holder.
 pub(crate) fn member_of(purses: &Purses, holders: &Table<Name, Name>, purse: Name) -> Option<Name>
-    ensures { result ≡ member_at (map_of name_cmp holders.now) (get (map_of name_cmp purses.now) purse) }
+    ensures { result ≡ member_at (map_of name_cmp holders.now)
+        (get (map_of name_cmp purses.now) purse) }
 {
     let row = purses.bare(purse)?;
     holders.get(row.holder).copied()
@@ -29,7 +30,8 @@ pub(crate) fn member_of(purses: &Purses, holders: &Table<Name, Name>, purse: Nam
 
 /// Whether a purse is of a holder of the member.
 pub(crate) fn is_of(purses: &Purses, holders: &Table<Name, Name>, member: Name, purse: Name) -> bool
-    ensures { result ≡ is_of member (member_at (map_of name_cmp holders.now) (get (map_of name_cmp purses.now) purse)) }
+    ensures { result ≡ is_of member (member_at (map_of name_cmp holders.now)
+        (get (map_of name_cmp purses.now) purse)) }
 {
     match member_of(purses, holders, purse) {
         None => false,
@@ -55,7 +57,9 @@ pub(crate) fn owe(
 /// The first redemption, by purse and reference, that is under the member.
 fn first_due(due: &Table<(Name, Option<(Name, Name)>), ()>, member: Name) -> Option<(Name, Name)>
     requires { contains_key (map_of due_cmp due.now) (member, None) ≡ false }
-    ensures { MatchOption result ((k : NameOf × NameOf) → contains_key (map_of due_cmp due.now) (member, Some k) ≡ false) (λ k. contains_key (map_of due_cmp due.now) (member, Some k) ≡ true) }
+    ensures { MatchOption result ((k : NameOf × NameOf)
+        → contains_key (map_of due_cmp due.now) (member, Some k) ≡ false)
+        (λ k. contains_key (map_of due_cmp due.now) (member, Some k) ≡ true) }
 {
     let row = due.rows_from((member, None)).next()?;
     if same_name(&member, &row.0.0) {
@@ -68,7 +72,13 @@ fn first_due(due: &Table<(Name, Option<(Name, Name)>), ()>, member: Name) -> Opt
 /// Marks a redemption as collected.
 fn collect_one(redemptions: &mut Table<(Name, Name), Redemption>, purse: Name, reference: Name)
     requires { 0 < redemptions.old.room }
-    ensures made { (k : NameOf × NameOf) → get (map_of (pair_cmp name_cmp name_cmp) redemptions.new) k ≡ option_map (λ (x : Kept). record x { collected = x.collected || eq_by_cmp (pair_cmp name_cmp name_cmp) k (purse, reference) }) (get (map_of (pair_cmp name_cmp name_cmp) redemptions.old) k) }
+    ensures made { (k : NameOf × NameOf) → get
+        (map_of (pair_cmp name_cmp name_cmp) redemptions.new) k
+        ≡ option_map (λ (x : Kept). record x {
+          collected = x.collected || eq_by_cmp
+              (pair_cmp name_cmp name_cmp) k (purse, reference);
+        })
+        (get (map_of (pair_cmp name_cmp name_cmp) redemptions.old) k) }
     ensures room { redemptions.old.room ≤ redemptions.new.room }
 {
     if let Some(row) = redemptions.get((purse, reference)) {
@@ -88,8 +98,16 @@ pub(crate) fn collect(
 )
     requires keys { contains_key (map_of due_cmp due.old) (member, None) ≡ false }
     requires room { 0 < redemptions.old.room }
-    ensures made { (k : NameOf × NameOf) → get (map_of (pair_cmp name_cmp name_cmp) redemptions.new) k ≡ option_map (λ (x : Kept). record x { collected = x.collected || contains_key (map_of due_cmp due.old) (member, Some k) }) (get (map_of (pair_cmp name_cmp name_cmp) redemptions.old) k) }
-    ensures gone { (n : NameOf) (k : Option (NameOf × NameOf)) → contains_key (map_of due_cmp due.new) (n, k) ≡ (contains_key (map_of due_cmp due.old) (n, k) && not (is_name n member)) }
+    ensures made { (k : NameOf × NameOf) → get
+        (map_of (pair_cmp name_cmp name_cmp) redemptions.new) k
+        ≡ option_map (λ (x : Kept). record x {
+          collected = x.collected || contains_key
+              (map_of due_cmp due.old) (member, Some k);
+        })
+        (get (map_of (pair_cmp name_cmp name_cmp) redemptions.old) k) }
+    ensures gone { (n : NameOf) (k : Option (NameOf × NameOf))
+        → contains_key (map_of due_cmp due.new) (n, k)
+        ≡ (contains_key (map_of due_cmp due.old) (n, k) && not (is_name n member)) }
     ensures due_room { due.old.room ≤ due.new.room }
     ensures room { redemptions.old.room ≤ redemptions.new.room }
 {
@@ -121,7 +139,9 @@ pub(crate) fn due_in(
     redemptions: &Table<(Name, Name), Redemption>,
     member: Name,
 ) -> u128
-    ensures { result ≡ sum_by (λ (e : (NameOf × Option (NameOf × NameOf)) × Unit {0}). amount_due (map_of (pair_cmp name_cmp name_cmp) redemptions.now) e.0.1) (first_of member (rows_left rows.entry)) }
+    ensures { result ≡ sum_by (λ (e : (NameOf × Option (NameOf × NameOf)) × Unit {0}). amount_due
+        (map_of (pair_cmp name_cmp name_cmp) redemptions.now) e.0.1)
+        (first_of member (rows_left rows.entry)) }
 {
     let mut sum = 0;
     for row in rows {

@@ -13,7 +13,8 @@ use mx_sorted::Table;
 
 /// Those of a log's entries that lie in the tray of a purse.
 pub(crate) fn laid(tray: &Table<(Name, PayDetails), ()>, purse: Name, log: &Log) -> Log
-    ensures { result ≡ retain_keys log.now (λ d. contains_key (map_of result_cmp tray.now) (purse, d)) }
+    ensures { result ≡ retain_keys log.now (λ d. contains_key (map_of result_cmp tray.now)
+        (purse, d)) }
 {
     let mut results = Log::new();
     for place in 0..log.len() {
@@ -34,8 +35,12 @@ pub(crate) fn archive(
     results: &Log,
 )
     requires { most_entries ≤ archive.old.room }
-    ensures tray { (k : NameOf × Details) → contains_key (map_of result_cmp tray.new) k ≡ (contains_key (map_of result_cmp tray.old) k && not (is_name purse k.0 && has_logged results.now k.1)) }
-    ensures archive { (k : NameOf × Details) → contains_key (map_of result_cmp archive.new) k ≡ (contains_key (map_of result_cmp archive.old) k || (is_name purse k.0 && has_logged results.now k.1)) }
+    ensures tray { (k : NameOf × Details) → contains_key (map_of result_cmp tray.new) k
+        ≡ (contains_key (map_of result_cmp tray.old) k && not
+        (is_name purse k.0 && has_logged results.now k.1)) }
+    ensures archive { (k : NameOf × Details) → contains_key (map_of result_cmp archive.new) k
+        ≡ (contains_key (map_of result_cmp archive.old) k ||
+        (is_name purse k.0 && has_logged results.now k.1)) }
     ensures tray_room { tray.old.room ≤ tray.new.room }
     ensures archive_room { archive.old.room ≤ archive.new.room + most_entries }
 {

@@ -324,7 +324,8 @@ fn archives(edit: &Edit) -> bool
 
 /// The names of these members, in order.
 fn member_names(alloc: Global, rows: Rows<'_, Name, MemberRow>) -> Result<Vec<Name>, AllocError>
-    ensures { IfOk result (λ r. r.items ≡ map (λ (e : List ℕ × KeptMember). e.0) (rows_left rows.entry)) }
+    ensures { IfOk result (λ r. r.items ≡ map (λ (e : List ℕ × KeptMember). e.0)
+        (rows_left rows.entry)) }
 {
     rows.map(|row| row.0).collect(alloc)
 }
@@ -342,7 +343,8 @@ fn read_messages(
     rows: Rows<'_, (Name, u64), Message>,
     purse: Name,
 ) -> Result<Vec<(u64, Message)>, AllocError>
-    ensures { IfOk result (λ r. r.items ≡ map (λ (e : (List ℕ × ℕ) × Kept). (e.0.1, e.1)) (first_of purse (rows_left rows.entry))) }
+    ensures { IfOk result (λ r. r.items ≡ map (λ (e : (List ℕ × ℕ) × Kept). (e.0.1, e.1))
+        (first_of purse (rows_left rows.entry))) }
 {
     rows.take_while(|row| same_name(&purse, &row.0.0))
         .map(|row| (row.0.1, row.1))
@@ -357,7 +359,9 @@ fn lines_above(
     after: u64,
     most: u64,
 ) -> Result<Vec<Line>, AllocError>
-    ensures { IfOk result (λ r. r.items ≡ map line_of_row (take most (filter (λ (e : (List ℕ × ℕ) × KeptLine). nat_lt after e.0.1) (first_of purse (rows_left rows.entry))))) }
+    ensures { IfOk result (λ r. r.items ≡ map line_of_row
+        (take most (filter (λ (e : (List ℕ × ℕ) × KeptLine). nat_lt after e.0.1)
+        (first_of purse (rows_left rows.entry))))) }
 {
     rows.take_while(|row| same_name(&purse, &row.0.0))
         .filter(|row| after < row.0.1)

@@ -50,7 +50,8 @@ pub(crate) fn float_in(rows: Rows<'_, Name, MemberRow>) -> u128
 
 /// Whether a purse counts.
 fn is_counted(purses: &Purses, holders: &Table<Name, Name>, scope: &Scope, purse: Name) -> bool
-    ensures { result ≡ is_counted (map_of name_cmp holders.now) scope.now (get (map_of name_cmp purses.now) purse) }
+    ensures { result ≡ is_counted (map_of name_cmp holders.now) scope.now
+        (get (map_of name_cmp purses.now) purse) }
 {
     match scope {
         Scope::Scheme => true,
@@ -65,7 +66,9 @@ pub(crate) fn issued_in(
     holders: &Table<Name, Name>,
     scope: &Scope,
 ) -> u128
-    ensures { result ≡ sum_by (λ (e : (List ℕ × List ℕ) × ℕ). counted_of (map_of name_cmp purses.now) (map_of name_cmp holders.now) scope.now (λ n. n) e.0 e.1) (rows_left rows.entry) }
+    ensures { result ≡ sum_by (λ (e : (List ℕ × List ℕ) × ℕ). counted_of
+        (map_of name_cmp purses.now) (map_of name_cmp holders.now) scope.now (λ n. n) e.0 e.1)
+        (rows_left rows.entry) }
 {
     let mut sum = 0;
     for row in rows {
@@ -83,7 +86,9 @@ pub(crate) fn redeemed_in(
     holders: &Table<Name, Name>,
     scope: &Scope,
 ) -> u128
-    ensures { result ≡ sum_by (λ (e : (List ℕ × List ℕ) × Kept). counted_of (map_of name_cmp purses.now) (map_of name_cmp holders.now) scope.now (λ x. x.amount) e.0 e.1) (rows_left rows.entry) }
+    ensures { result ≡ sum_by (λ (e : (List ℕ × List ℕ) × Kept). counted_of
+        (map_of name_cmp purses.now) (map_of name_cmp holders.now) scope.now
+        (λ x. x.amount) e.0 e.1) (rows_left rows.entry) }
 {
     let mut sum = 0;
     for row in rows {
@@ -101,7 +106,9 @@ pub(crate) fn uncollected_in(
     holders: &Table<Name, Name>,
     scope: &Scope,
 ) -> u128
-    ensures { result ≡ sum_by (λ (e : (List ℕ × List ℕ) × Kept). counted_of (map_of name_cmp purses.now) (map_of name_cmp holders.now) scope.now uncollected_amount e.0 e.1) (rows_left rows.entry) }
+    ensures { result ≡ sum_by (λ (e : (List ℕ × List ℕ) × Kept). counted_of
+        (map_of name_cmp purses.now)
+        (map_of name_cmp holders.now) scope.now uncollected_amount e.0 e.1) (rows_left rows.entry) }
 {
     let mut sum = 0;
     for row in rows {
@@ -147,7 +154,8 @@ pub(crate) fn balances_in(
 /// Whether the value of details has left the purse that pays: it waits for their acknowledgement, has them in its
 /// log, or they are archived for it.
 fn has_left(purses: &Purses, archive: &Table<(Name, PayDetails), ()>, details: &PayDetails) -> bool
-    ensures { result ≡ has_left (map_of name_cmp purses.now) (map_of result_cmp archive.now) details.now }
+    ensures { result ≡ has_left (map_of name_cmp purses.now)
+        (map_of result_cmp archive.now) details.now }
 {
     let payer = details.from();
     has_sent(purses, payer, details) || archive.get((payer, *details)).is_some()
@@ -165,7 +173,8 @@ fn has_sent(purses: &Purses, purse: Name, details: &PayDetails) -> bool
 
 /// The value that a purse of this status waits for, where it has left the other purse.
 fn awaited(status: Status, purses: &Purses, archive: &Table<(Name, PayDetails), ()>) -> u64
-    ensures value { result ≡ awaited (map_of name_cmp purses.now) (map_of result_cmp archive.now) status }
+    ensures value { result ≡ awaited (map_of name_cmp purses.now)
+        (map_of result_cmp archive.now) status }
     ensures limit { result ≤ most_amount }
 {
     match status {
@@ -186,7 +195,8 @@ pub(crate) fn transit_in(
     purses: &Purses,
     archive: &Table<(Name, PayDetails), ()>,
 ) -> u128
-    ensures { result ≡ sum_by (λ (e : List ℕ × KeptBare). awaited (map_of name_cmp purses.now) (map_of result_cmp archive.now) e.1.purse.status) (rows_left rows.entry) }
+    ensures { result ≡ sum_by (λ (e : List ℕ × KeptBare). awaited (map_of name_cmp purses.now)
+        (map_of result_cmp archive.now) e.1.purse.status) (rows_left rows.entry) }
 {
     let mut sum = 0;
     for row in rows {
@@ -226,7 +236,8 @@ fn lost_in_log(
     purse: Name,
     log: &Log,
 ) -> u128
-    ensures value { result ≡ lost_in_log (map_of name_cmp purses.now) (map_of result_cmp archive.now)
+    ensures value { result ≡ lost_in_log (map_of name_cmp purses.now)
+        (map_of result_cmp archive.now)
         (map_of details_cmp settled.now) purse log.now }
     ensures limit { result ≤ 2 ^ 48 }
 {
@@ -267,7 +278,8 @@ fn lost_in_archive(
     purse: Name,
     details: &PayDetails,
 ) -> u64
-    ensures value { result ≡ lost_in_archive (map_of name_cmp purses.now) (map_of result_cmp archive.now)
+    ensures value { result ≡ lost_in_archive (map_of name_cmp purses.now)
+        (map_of result_cmp archive.now)
         (map_of details_cmp settled.now) (purse, details.now) }
     ensures limit { result ≤ most_amount }
 {

@@ -18,7 +18,8 @@ impl Shelves {
     /// Adds a member with grants 0 and float 0, and the token of its clerk.
     pub(super) fn add_member(&mut self, member: Name, clerk: Token)
         requires { HasRoom 1 0 self.old }
-        ensures edited { rows_of self.new ≡ rewritten (rows_of self.old) (Edit.NewMember member clerk) }
+        ensures edited { rows_of self.new ≡ rewritten (rows_of self.old)
+            (Edit.NewMember member clerk) }
         ensures room { SpendsOne 0 self.old self.new }
     {
         let row = MemberRow {
@@ -33,7 +34,8 @@ impl Shelves {
     pub(super) fn add_holder(&mut self, holder: Name, member: Name, token: Token)
         requires fit { IsTrue (is_fit (rows_of self.old) (Edit.NewHolder holder member token)) }
         requires room { HasRoom 1 0 self.old }
-        ensures edited { rows_of self.new ≡ rewritten (rows_of self.old) (Edit.NewHolder holder member token) }
+        ensures edited { rows_of self.new ≡ rewritten (rows_of self.old)
+            (Edit.NewHolder holder member token) }
         ensures room { SpendsOne 0 self.old self.new }
     {
         self.holders.put(holder, member);
@@ -44,7 +46,8 @@ impl Shelves {
     pub(super) fn add_purse(&mut self, purse: Name, holder: Name)
         requires fit { IsTrue (is_fit (rows_of self.old) (Edit.NewPurse purse holder)) }
         requires room { HasRoom 1 0 self.old }
-        ensures edited { rows_of self.new ≡ rewritten (rows_of self.old) (Edit.NewPurse purse holder) }
+        ensures edited { rows_of self.new ≡ rewritten (rows_of self.old)
+            (Edit.NewPurse purse holder) }
         ensures room { SpendsOne 0 self.old self.new }
     {
         self.purses.put(purse, holder, &Purse::new(purse));
@@ -67,7 +70,8 @@ impl Shelves {
     pub(super) fn add_message(&mut self, purse: Name, message: Message)
         requires able { IsTrue (able (rows_of self.old) (Edit.AddMessage purse message)) }
         requires room { HasRoom 1 0 self.old }
-        ensures edited { rows_of self.new ≡ rewritten (rows_of self.old) (Edit.AddMessage purse message) }
+        ensures edited { rows_of self.new ≡ rewritten (rows_of self.old)
+            (Edit.AddMessage purse message) }
         ensures room { SpendsOne 0 self.old self.new }
     {
         if let Some(row) = self.purses.bare(purse) {
@@ -94,9 +98,11 @@ impl Shelves {
 
     /// Adds a redemption of a purse, which isn't collected.
     pub(super) fn add_redemption(&mut self, purse: Name, reference: Name, amount: Amount)
-        requires fit { IsTrue (is_fit (rows_of self.old) (Edit.AddRedemption purse reference amount)) }
+        requires fit { IsTrue (is_fit (rows_of self.old)
+            (Edit.AddRedemption purse reference amount)) }
         requires room { HasRoom 1 0 self.old }
-        ensures edited { rows_of self.new ≡ rewritten (rows_of self.old) (Edit.AddRedemption purse reference amount) }
+        ensures edited { rows_of self.new ≡ rewritten (rows_of self.old)
+            (Edit.AddRedemption purse reference amount) }
         ensures room { SpendsOne 0 self.old self.new }
     {
         let row = Redemption {
