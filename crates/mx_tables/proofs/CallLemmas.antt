@@ -8,7 +8,7 @@ use Rattle.sqlite.specs.declared.transaction.Transaction.{Transaction}
 use Rattle.sqlite.specs.Held.{Held}
 use Rattle.sqlite.specs.State.{HasCleanDisk}
 use Rattle.mx_book.specs.declared.contract.StoreFault.{StoreFault}
-use Rattle.mx_tables.specs.Owners.{OwnerIndex}
+use Rattle.mx_tables.specs.Known.{Knowledge}
 use Rattle.mx_tables.specs.States.{IsAwake, Brings, WritesWith, Reads, Steps, Runs, Writes, Finds}
 use Rattle.mx_tables.proofs.StateLemmas.{on_ok_anyway, on_ok_never, brings_same, brings_none, stays_same, stays_then, sure_before, within_none, within_then}
 use Rattle.mx_tables.proofs.WriteLemmas.{goes_as, goes_then}
@@ -91,11 +91,11 @@ module _ {S : Type 0} (g : Ghosts S) where
   }
 
   -- what a statement does to the rows
-  pub runs_to : {T : Type 0} (sql : List ℕ) (params : Row) {old new : Transaction S} {r : Result T StoreFault} {counts : ℕ → Type 0} {change : Rows → Rows} {index : OwnerIndex → OwnerIndex}
+  pub runs_to : {T : Type 0} (sql : List ℕ) (params : Row) {old new : Transaction S} {r : Result T StoreFault} {counts : ℕ → Type 0} {change : Rows → Rows} {learns : Knowledge → Knowledge}
       → Runs g sql params old new r counts
       → ((count : ℕ) → counts count → (state g old.conn.now).now.schema ≡ office_schema
-      → Executes sql params (state g old.conn.now) (state g new.conn.now) (Ok count) → Brings change index (state g old.conn.now) (state g new.conn.now))
-      → WritesWith g old new r change index
+      → Executes sql params (state g old.conn.now) (state g new.conn.now) (Ok count) → Brings change learns (state g old.conn.now) (state g new.conn.now))
+      → WritesWith g old new r change learns
   runs_to sql params h f = steps_to h (λ x it has. f it.0 it.1 has it.2)
 
   -- what a statement does that changed one row
@@ -113,15 +113,15 @@ module _ {S : Type 0} (g : Ghosts S) where
   finds_to (Err e) h f = steps_fault h
 
   -- a change as another that gives the same
-  pub writes_as : {T : Type 0} {old new : Transaction S} {r : Result T StoreFault} {one two : Rows → Rows} {index : OwnerIndex → OwnerIndex}
-      → WritesWith g old new r one index → ((rows : Rows) → Holds (state g old.conn.now).now rows → one rows ≡ two rows) → WritesWith g old new r two index
+  pub writes_as : {T : Type 0} {old new : Transaction S} {r : Result T StoreFault} {one two : Rows → Rows} {learns : Knowledge → Knowledge}
+      → WritesWith g old new r one learns → ((rows : Rows) → Holds (state g old.conn.now).now rows → one rows ≡ two rows) → WritesWith g old new r two learns
   writes_as {old = old} {new = new} {one = one} {two = two} h same =
       steps_to h (λ x went has. goes_as one two _ (state g old.conn.now) (state g new.conn.now) same (went has))
 
-  -- the same, where the index is another that is the same too
-  pub writes_with : {T : Type 0} {old new : Transaction S} {r : Result T StoreFault} {one two : Rows → Rows} {i j : OwnerIndex → OwnerIndex}
-      → WritesWith g old new r one i → ((rows : Rows) → one rows ≡ two rows) → ((held : OwnerIndex) → i held ≡ j held) → WritesWith g old new r two j
-  writes_with {old = old} {new = new} {r = r} {one = one} h rows owned = writes_as (subst (WritesWith g old new r one) (λ t held. owned held t) h) (λ r holds. rows r)
+  -- the same, where the learns is another that is the same too
+  pub writes_with : {T : Type 0} {old new : Transaction S} {r : Result T StoreFault} {one two : Rows → Rows} {i j : Knowledge → Knowledge}
+      → WritesWith g old new r one i → ((rows : Rows) → one rows ≡ two rows) → ((k : Knowledge) → i k ≡ j k) → WritesWith g old new r two j
+  writes_with {old = old} {new = new} {r = r} {one = one} h rows known = writes_as (subst (WritesWith g old new r one) (λ t k. known k t) h) (λ r holds. rows r)
 
   -- no change yet
   pub writes_none : (a : Transaction S) → Writes g a a going (λ rows. rows)
@@ -146,8 +146,8 @@ module _ {S : Type 0} (g : Ghosts S) where
       (brings_same _ _ (state g a.conn.now) (state g b.conn.now) (state g c.conn.now) (state g c.conn.now) seen.same refl went))
 
   -- a change after a change
-  pub writes_then : {T U : Type 0} {a b c : Transaction S} {x : T} {r : Result U StoreFault} {one two : Rows → Rows} {i j : OwnerIndex → OwnerIndex}
-      → WritesWith g a b (Ok x) one i → WritesWith g b c r two j → WritesWith g a c r (λ rows. two (one rows)) (λ held. j (i held))
+  pub writes_then : {T U : Type 0} {a b c : Transaction S} {x : T} {r : Result U StoreFault} {one two : Rows → Rows} {i j : Knowledge → Knowledge}
+      → WritesWith g a b (Ok x) one i → WritesWith g b c r two j → WritesWith g a c r (λ rows. two (one rows)) (λ k. j (i k))
   writes_then {a = a} {b = b} {c = c} {one = one} {two = two} {i = i} {j = j} first second =
       steps_to (steps_then first second) (λ y both has.
       let went = both.0 has in

@@ -26,10 +26,10 @@ use Rattle.mx_book.specs.declared.contract.StoreFault.{StoreFault}
 use Rattle.mx_book.specs.declared.contract.StoreFault.TheVariants.{Memory, Store}
 use Rattle.mx_book.specs.declared.values.PurseRow.{PurseRow}
 use Rattle.sqlite_sql.specs.Term.{eval_all}
-use Rattle.mx_tables.specs.Answers.{at_key, about_text, member_shown, text_shown, purse_shown, own_shown, next_shown}
+use Rattle.mx_tables.specs.Answers.{at_key, about_text, member_shown, text_shown, purse_shown, next_shown}
 use Rattle.mx_tables.specs.Holds.{Spells}
 use Rattle.mx_tables.specs.declared.asking.About.{About}
-use Rattle.mx_tables.specs.declared.asking.About.TheVariants.{Member, Holder, Purse, Own, Owner, Next}
+use Rattle.mx_tables.specs.declared.asking.About.TheVariants.{Member, Holder, Purse, Owner, Next}
 use Rattle.mx_tables.specs.States.{worry, Accepts, AcceptsText, AcceptsCommand, Blames, IsFaulted, Explains, IsExplained, Reads}
 use Rattle.mx_tables.proofs.Places.{Place, Belongs}
 use Rattle.mx_tables.proofs.StateLemmas.{sure, no_worry}
@@ -124,7 +124,6 @@ pub about_few : (a : About) (p : Name) (old new : State) (rows : List Row) (r : 
 about_few Member p old new rows r h shown = keyed_few kept.members p _ _ _ _ (selects Member) (Text p ∷ []) member_shown (λ id e. rw (same_text e.0 p) (and_true _ ∙ names_turned e.0 p)) (λ id e. refl) old new rows shown r h
 about_few Holder p old new rows r h shown = keyed_few kept.holders p _ _ _ _ (selects Holder) (Text p ∷ []) text_shown (λ id e. rw (same_text e.0 p) (and_true _ ∙ names_turned e.0 p)) (λ id e. refl) old new rows shown r h
 about_few Purse p old new rows r h shown = keyed_few kept.purses p _ _ _ _ (selects Purse) (Text p ∷ []) purse_shown (λ id e. rw (same_text e.0 p) (and_true _ ∙ names_turned e.0 p)) (λ id e. refl) old new rows shown r h
-about_few Own p old new rows r h shown = keyed_few kept.purses p _ _ _ _ (selects Own) (Text p ∷ []) own_shown (λ id e. rw (same_text e.0 p) (and_true _ ∙ names_turned e.0 p)) (λ id e. refl) old new rows shown r h
 about_few Owner p old new rows r h shown = keyed_few kept.purses p _ _ _ _ (selects Owner) (Text p ∷ []) (λ (x : PurseRow). text_shown x.holder) (λ id e. rw (same_text e.0 p) (and_true _ ∙ names_turned e.0 p)) (λ id e. refl) old new rows shown r h
 about_few Next p old new rows r h shown = keyed_few kept.purses p _ _ _ _ (selects Next) (Text p ∷ []) next_shown (λ id e. rw (same_text e.0 p) (and_true _ ∙ names_turned e.0 p)) (λ id e. refl) old new rows shown r h
 

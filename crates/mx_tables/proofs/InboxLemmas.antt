@@ -1,5 +1,5 @@
 -- The statements on inboxes.
-use Rattle.mx_tables.proofs.Common.{◌≡◌, ◌<◌, ℕ, None, length, List, [], ◌∷◌, refl, ℤ, pos, ◌+◌, true, Some, Option, codes, Ok, ◌∙◌, arith, AllByRecursion, length-map, Text, Int, number, office_schema, option_map, IsPermutation, Ordering, nat_cmp, is_eq, eq_by_cmp, Binary, Row, column, col, Database, Executes, name_cmp, is_name, Name, Rows, rewritten, PurseRow, Holds, Goes}
+use Rattle.mx_tables.proofs.Common.{inl, inr, ◌≡◌, ◌<◌, ℕ, None, length, List, [], ◌∷◌, refl, ℤ, pos, ◌+◌, true, Some, Option, codes, Ok, ◌∙◌, arith, AllByRecursion, length-map, Text, Int, number, office_schema, option_map, IsPermutation, Ordering, nat_cmp, is_eq, eq_by_cmp, Binary, Row, column, col, Database, Executes, name_cmp, is_name, Name, Rows, rewritten, PurseRow, Holds, Goes}
 use Rattle.std.proofs.Common.{map, ap, not, Err, Result, IfOk, sym, subst, Less}
 use Rattle.std.proofs.lemmas.List.Sorted.{length_permutation}
 use Rattle.mx_purse.specs.declared.message.Message.{Message}
@@ -25,16 +25,22 @@ use Rattle.mx_book.specs.Under.{pair_cmp}
 use Rattle.mx_book.proofs.NameLemmas.{same_name}
 use Rattle.mx_book.proofs.MapLemmas.{all_entries}
 use Rattle.mx_tables.proofs.Texts.{is_given, select_inbox, select_inbox_is, select_held_numbers, select_held_numbers_is, select_message, select_message_is, select_number, select_number_is, insert_message, insert_message_is, delete_message, delete_message_is}
-use Rattle.mx_tables.proofs.Statements.{passes}
+use Rattle.mx_tables.proofs.Statements.{passes, Wrote}
 use Rattle.mx_tables.proofs.StoredLemmas.{and_true, same_text, same_numbers, numbers_cmp, cast_int, cast_null}
 use Rattle.sqlite.specs.Listing.{understood}
 use Rattle.sqlite_tied.specs.Compute.{everything}
 use Rattle.sqlite_trees.specs.Tree.{Trees}
-use Rattle.mx_tables.specs.States.{Accepts}
+use Rattle.mx_tables.specs.States.{Accepts, Brings, SparesKnown}
 use Rattle.mx_tables.proofs.FaultLemmas.{IsWhole, select_accepted}
 use Rattle.mx_tables.proofs.ReadLemmas.{answers, answers_in_order, keyed}
 use Rattle.mx_tables.proofs.StateLemmas.{brings_same}
-use Rattle.mx_tables.proofs.WriteLemmas.{adds, drops, goes_as, goes_then}
+use Rattle.mx_tables.proofs.WriteLemmas.{adds_known, drops, goes_as, goes_then}
+use Rattle.mx_tables.proofs.KnownLemmas.{IsChanged, changed_is, at_most_put, at_most_beside, at_most_left}
+use Rattle.mx_tables.specs.Owners.{Owned}
+use Rattle.mx_tables.specs.Known.{Knowledge, IsKnown, Stands, AtMost, known_sent, known_after}
+use Rattle.sqlite_trees.specs.Tree.{put_row}
+use Rattle.sqlite_rules.specs.Edit.{without_all}
+use Rattle.sqlite_rules.specs.Calls.{ids_of}
 use Rattle.mx_tables.proofs.KeptLemmas as kept
 use Rattle.sqlite_trees.proofs.ListLemmas.{all-map, all-filter}
 
@@ -119,12 +125,22 @@ pub both_hold : {X E : Type 0} (r : Result X E) (P Q : X → Type 0) → IfOk r 
 both_hold (Ok x) P Q p q = (p, q)
 both_hold (Err e) P Q p q = tt
 
+-- what is known with fewer messages
+left_known : (old new : State) (ids : List ℤ) → Wrote office_schema kept.inbox_place.table old new (without_all (old.now.trees 10) ids) → SparesKnown old new
+left_known old new ids wrote k it =
+    let purses : new.now.trees 8 ≡ old.now.trees 8 = wrote.others.1.1.1.1.0 (λ e. cc) in
+    record {
+      owned = subst (λ rows. Owned rows k.owners) (sym purses) it.owned;
+      stand = λ q x at. subst (λ rows. Stands rows q x) (sym purses) (it.stand q x at);
+      bound = λ q n at. subst (λ rows. AtMost rows q n) (sym wrote.rows_are) (at_most_left ids (old.now.trees 10) q n (it.bound q n at));
+    }
+
 pub drops_message : (p : Name) (n : ℕ) (old new : State) (count : ℕ) → old.now.schema ≡ office_schema → Executes delete_message (Text p ∷ number n ∷ []) old new (Ok count)
     → Goes (λ r. record r { inbox = fmap.remove r.inbox (p, n) }) old new
 drops_message p n old new count has ran =
     goes_as _ _ _ old new (λ r h. ap (λ m. record r { inbox = m }) (remove_is r.inbox (p, n)))
     (drops kept.inbox delete_message _ _ delete_message_is (Text p ∷ number n ∷ []) (eq_by_cmp (pair_cmp name_cmp nat_cmp) (p, n))
-    (at_message p n) (λ id e. refl) refl old new count has ran)
+    (at_message p n) (λ id e. refl) (λ old new read wrote k it. left_known old new (ids_of read) wrote k it) old new count has ran)
 
 -- no message has a number above 10^15
 pub none_above : (r : Rows) (p : Name) (n : ℕ) → HaveNumbers r → most_number < n → fmap.get r.inbox (p, n) ≡ None
@@ -134,14 +150,31 @@ none_above r p n low above = by_message (fmap.get r.inbox (p, n)) refl
     by_message None e = refl
     by_message (Some m) e = absurd (let it = low (p, n) m e in omega (arith, it, above))
 
+-- what is known after a message more
+sent_known : (id : ℤ) (p : Name) (rest : Row) (old new : State) → Wrote office_schema kept.inbox_place.table old new (put_row (Int id ∷ Text p ∷ rest) (old.now.trees 10)) → (k : Knowledge) → IsKnown old.now.trees k → IsKnown new.now.trees (known_sent p k)
+sent_known id p rest old new wrote k it =
+    let purses : new.now.trees 8 ≡ old.now.trees 8 = wrote.others.1.1.1.1.0 (λ e. cc) in
+    record {
+      owned = subst (λ rows. Owned rows k.owners) (sym purses) it.owned;
+      stand = λ q x at. subst (λ rows. Stands rows q x) (sym purses) (it.stand q x at);
+      bound = λ q n at. subst (λ rows. AtMost rows q n) (sym wrote.rows_are) (bound q n (changed_is k.waiting p (λ n. n + 1) q n at));
+    }
+  where
+    bound : (q : Name) (n : ℕ) → IsChanged k.waiting p (λ n. n + 1) q n → AtMost (put_row (Int id ∷ Text p ∷ rest) (old.now.trees 10)) q n
+    bound q n (inl (m, same, at, is)) =
+        subst (AtMost (put_row (Int id ∷ Text p ∷ rest) (old.now.trees 10)) q) (sym is) (at_most_put (old.now.trees 10) (Int id ∷ Text p ∷ rest) q m (subst (λ n. AtMost (old.now.trees 10) n m) (sym same) (it.bound p m at)))
+    bound q n (inr (apart, at)) =
+        at_most_beside (old.now.trees 10) (Int id ∷ Text p ∷ rest) q n (and_true _ ∙ same_text p q ∙ names_turned p q ∙ apart) (it.bound q n at)
+
 pub adds_message : (p : Name) (n : ℕ) (m : Message) (old new : State) (count : ℕ) → old.now.schema ≡ office_schema
-    → Executes insert_message (Text p ∷ number n ∷ Text (message_word m) ∷ Text (message_details m) ∷ []) old new (Ok count) → Goes (λ r. record r { inbox = fmap.insert r.inbox (p, n) m }) old new
+    → Executes insert_message (Text p ∷ number n ∷ Text (message_word m) ∷ Text (message_details m) ∷ []) old new (Ok count) → Brings (λ r. record r { inbox = fmap.insert r.inbox (p, n) m }) (known_sent p) old new
 adds_message p n m =
-    adds kept.inbox insert_message _ _ insert_message_is (Text p ∷ number n ∷ Text (message_word m) ∷ Text (message_details m) ∷ []) ((p, n), m) (rw (cast_null, cast_int (pos n)) refl) refl
+    adds_known kept.inbox insert_message _ _ insert_message_is (Text p ∷ number n ∷ Text (message_word m) ∷ Text (message_details m) ∷ []) ((p, n), m) (rw (cast_null, cast_int (pos n)) refl) (known_sent p)
+    (λ old new id fresh wrote. sent_known id p _ old new wrote)
 
 -- a message under the next number of its purse, which rises
-pub delivers : (p : Name) (m : Message) (n : ℕ) (a b c d : State) → b.now ≡ a.now → Raises p n b c → Goes (λ r. record r { inbox = fmap.insert r.inbox (p, n) m }) c d
-    → Goes (λ r. rewritten r (AddMessage p m)) a d
+pub delivers : (p : Name) (m : Message) (n : ℕ) (a b c d : State) → b.now ≡ a.now → Raises p n b c → Brings (λ r. record r { inbox = fmap.insert r.inbox (p, n) m }) (known_sent p) c d
+    → Brings (λ r. rewritten r (AddMessage p m)) (λ k. known_after k (AddMessage p m)) a d
 delivers p m n a b c d same one two =
     goes_as _ _ _ a d (λ r holds. is r (fmap.get r.purses p) (one.was r (subst (λ (db : Database). Holds db r) (sym same) holds))) (goes_then _ _ _ _ a c d (brings_same _ _ a b c c same refl one.goes) two)
   where

@@ -12,6 +12,7 @@ pub mod ReadLemmas
 pub mod CallLemmas
 pub mod WriteLemmas
 pub mod OwnerLemmas
+pub mod KnownLemmas
 pub mod PurseLemmas
 pub mod MemberLemmas
 pub mod MadeLemmas
@@ -22,6 +23,7 @@ pub mod ResultLemmas
 pub mod SettledLemmas
 pub mod CountedSums
 pub mod LoadLemmas
+pub mod RecallLemmas
 pub mod ToldLemmas
 pub mod FaultLemmas
 pub mod MigrationLemmas

@@ -59,7 +59,7 @@ pub adds_line : (p : Name) (l : Line) (old new : State) (count : ℕ) → old.no
     → Goes (λ r. record r { lines = fmap.insert r.lines (p, l.number) (line_row l) }) old new
 adds_line p l =
     adds kept.lines insert_line _ _ insert_line_is (Text p ∷ number l.number ∷ Text (kind_text l.kind) ∷ number l.amount ∷ number l.balance ∷ Text (note_text l.note) ∷ []) ((p, l.number), line_row l)
-    (rw (cast_null, cast_int (pos l.number), cast_int (pos l.amount), cast_int (pos l.balance)) refl) refl
+    (rw (cast_null, cast_int (pos l.number), cast_int (pos l.amount), cast_int (pos l.balance)) refl) refl refl
 
 -- ---- the page of a purse
 

@@ -67,7 +67,7 @@ load_is p reference = keyed loads (p, reference) select_load _ _ _ select_load_i
 pub adds_load : (p reference : Name) (amount : ℕ) (old new : State) (count : ℕ) → old.now.schema ≡ office_schema → Executes insert_load (Text p ∷ Text reference ∷ number amount ∷ []) old new (Ok count)
     → Goes (λ r. record r { loads = fmap.insert r.loads (p, reference) amount }) old new
 adds_load p reference amount =
-    adds loads insert_load _ _ insert_load_is (Text p ∷ Text reference ∷ number amount ∷ []) ((p, reference), amount) (rw (cast_null, cast_int (pos amount)) refl) refl
+    adds loads insert_load _ _ insert_load_is (Text p ∷ Text reference ∷ number amount ∷ []) ((p, reference), amount) (rw (cast_null, cast_int (pos amount)) refl) refl refl
 
 -- ---- redemptions
 
@@ -101,7 +101,7 @@ pub adds_redemption : (p reference : Name) (amount : ℕ) (old new : State) (cou
     → Goes (λ r. record r { redemptions = fmap.insert r.redemptions (p, reference) (record { amount = amount; collected = false }) }) old new
 adds_redemption p reference amount =
     adds redemptions insert_redemption _ _ insert_redemption_is (Text p ∷ Text reference ∷ number amount ∷ []) ((p, reference), record { amount = amount; collected = false })
-    (rw (cast_null, cast_int (pos amount), cast_int (pos 0)) refl) refl
+    (rw (cast_null, cast_int (pos amount), cast_int (pos 0)) refl) refl refl
 
 -- ---- collecting
 
@@ -118,7 +118,7 @@ pub collects_purse : (p : Name) (old new : State) (count : ℕ) → old.now.sche
 collects_purse p old new count has ran =
     goes_as _ _ _ old new (λ r h. λ i. record r { redemptions = remake (λ k x. set_or_left (is_name k.0 p) x i) r.redemptions })
     (alters redemptions mark_purse _ _ mark_purse_is (Text p ∷ []) (λ e. is_name e.0.0 p) (λ k x. record x { collected = true }) (λ id e. rw (same_text e.0.0 p) (and_true _)) (λ id e. refl)
-    (λ id e. rw (cast_int id, cast_int (pos e.1.amount), cast_int (pos 1)) refl) old new count has ran (λ read picks fresh wrote. untouched _ old new _ refl wrote))
+    (λ id e. rw (cast_int id, cast_int (pos e.1.amount), cast_int (pos 1)) refl) old new count has ran (λ k. k) (λ read picks fresh wrote all. untouched _ old new _ refl refl wrote))
 
 -- ---- one after the other
 

@@ -56,20 +56,20 @@ names_read rows names keys read is =
 
 pub adds_member : (name : Name) (old new : State) (count : ℕ) → old.now.schema ≡ office_schema → Executes insert_member (Text name ∷ []) old new (Ok count)
     → Goes (λ r. record r { members = fmap.insert r.members name (record { granted = 0; float = 0 }) }) old new
-adds_member name = adds members insert_member _ _ insert_member_is (Text name ∷ []) (name, record { granted = 0; float = 0 }) (rw (cast_null, cast_int (pos 0)) refl) refl
+adds_member name = adds members insert_member _ _ insert_member_is (Text name ∷ []) (name, record { granted = 0; float = 0 }) (rw (cast_null, cast_int (pos 0)) refl) refl refl
 
 pub resets : (m : Name) (row : MemberRow) (old new : State) → old.now.schema ≡ office_schema → Executes update_member (Text m ∷ number row.granted ∷ number row.float ∷ []) old new (Ok 1)
     → Goes (λ r. record r { members = fmap.insert r.members m row }) old new
 resets m row old new has ran =
     alters_one members update_member _ _ update_member_is (Text m ∷ number row.granted ∷ number row.float ∷ []) m (λ _. true) (λ _. row) (λ id e. ap (λ b. b && true) (same_text e.0 m)) (λ id e. refl)
     (λ id e. rw (cast_int id, cast_int (pos row.granted), cast_int (pos row.float)) refl) old new has ran
-    (λ read picks fresh wrote. untouched _ old new _ refl wrote) _ (λ r v at. refl)
+    (λ k. k) (λ read picks fresh wrote all. untouched _ old new _ refl refl wrote) _ (λ r v at. refl)
 
 -- ---- holders
 
 pub adds_holder : (name member : Name) (old new : State) (count : ℕ) → old.now.schema ≡ office_schema → Executes insert_holder (Text name ∷ Text member ∷ []) old new (Ok count)
     → Goes (λ r. record r { holders = fmap.insert r.holders name member }) old new
-adds_holder name member = adds holders insert_holder _ _ insert_holder_is (Text name ∷ Text member ∷ []) (name, member) (rw cast_null refl) refl
+adds_holder name member = adds holders insert_holder _ _ insert_holder_is (Text name ∷ Text member ∷ []) (name, member) (rw cast_null refl) refl refl
 
 -- ---- tokens
 
@@ -119,5 +119,5 @@ adds_token t caller old new count one has h =
           let after = has_then 1 token_place.table refl old new _ _ c d wrote h.has refl (subst (Stores _) (sym (map-append token_cells (tokens_of c) (e ∷ []))) stores) tokens in
           let pushed = map_push token_cmp names_total names_exact c.tokens t caller (distinct token_rows new.now d after).1 in
           record { contents = d; has = after; rows = (λ i. record (rows_of c) { tokens = pushed i }) ∙ ap (λ (x : Rows). record x { tokens = fmap.insert x.tokens t caller }) h.rows };
-      owned = untouched token_place.table old new _ refl wrote;
+      known = untouched token_place.table old new _ refl refl wrote;
     }

@@ -34,7 +34,10 @@ use Rattle.sqlite.specs.Held.{Held}
 use Rattle.mx_book.specs.Index.{names_under}
 use Rattle.mx_book.specs.RowReads.{row_purses_of}
 use Rattle.mx_book.proofs.HeldLemmas.{held_names}
-use Rattle.mx_tables.specs.States.{worry, IsAwake, IsOurs, Stays, TellsOwners, Looks, Reads}
+use Rattle.mx_tables.specs.declared.known.Known.{Known}
+use Rattle.mx_tables.specs.Known.{IsKnown, known_of, newly_known}
+use Rattle.sqlite_trees.specs.Tree.{Trees}
+use Rattle.mx_tables.specs.States.{worry, IsAwake, IsOurs, Stays, Knows, Looks, Reads}
 use Rattle.mx_tables.specs.Owners.{OwnerIndex, IndexSlots, index_of, NumbersDiffer, HasOwner, is_owned_in, Owned, Lists}
 use Rattle.mx_tables.proofs.LoadLemmas.{any_named}
 use Rattle.mx_tables.proofs.Texts.{select_owners, select_owners_is}
@@ -93,25 +96,29 @@ told_more rows held it row id p h number name holder new = record { apart = apar
 module _ (tree : List Row) (held : OwnerIndex) (it : Owned tree held) (test : Row → Bool) (show form : Row → Row) (read : List Row) (same : IsPermutation (map show (filter test tree)) read)
     (first : (r : Row) → Has tree r → rowid (show r) ≡ rowid r) (forms : (r : Row) → Has tree r → AreAlike (form (show r)) r)
     (fresh : are_fresh (without_all tree (ids_of read)) (map form read) ≡ true) where
-  keyed : HaveIds tree
+  pub keyed : HaveIds tree
   keyed r h = let owner = all_has _ tree r it.named h in (owner.0, owner.3)
 
-  keeps : (r : Row) → Has tree r → rowid (form (show r)) ≡ rowid r
+  pub keeps : (r : Row) → Has tree r → rowid (form (show r)) ≡ rowid r
   keeps r h = ap rowid (forms r h)
 
-  abbrev after : List Row
+  abbrev pub after : List Row
   after = put_all (without_all tree (ids_of read)) (map form read)
 
-  abbrev row_after : Row → Row
+  abbrev pub row_after : Row → Row
   row_after = changed_row tree keyed it.apart test show first read same form keeps fresh
 
   like_after : (r : Row) → Has tree r → AreAlike (row_after r) r
   like_after r h = grind (arith, forms r h)
 
-  comes_from : (y : Row) → Has after y → (x : Row) × Has tree x × AreAlike y x × (y ≡ row_after x)
+  pub comes_from : (y : Row) → Has after y → (x : Row) × Has tree x × AreAlike y x × (y ≡ row_after x)
   comes_from y h =
       let x = has_mapped row_after tree y (to tree keyed it.apart test show first read same form keeps fresh y h) in
       (x.0, x.1, ap owner_shown x.2 ∙ like_after x.0 x.1, x.2)
+
+  -- each row is there after it, as it is then
+  pub goes_to : (r : Row) → Has tree r → Has after (row_after r) × AreAlike (row_after r) r
+  goes_to r h = (back tree keyed it.apart test show first read same form keeps fresh _ (mapped_has row_after tree r h), like_after r h)
 
   -- an index tells the same after it
   pub owned_changed : Owned after held
@@ -204,24 +211,32 @@ held_of db r held h it n (Some p) =
 
 -- ---- a read that goes by it
 
--- what an index tells that is kept or was made is so of the rows that were there
-pub looks_under : {S T : Type 0} (g : Ghosts S) (old new : Held S) (before : Option IndexSlots) (held : IndexSlots) (h : Name) {r : Result T StoreFault} {is : Rows → T → Type 0} → (IsOurs (state g old) → Stays (state g old) (state g new))
-    → (IsOurs (state g old) → TellsOwners (state g old) before → TellsOwners (state g new) (Some held)) → ((rows : Rows) → names_under (index_of held) h ≡ row_purses_of rows h → IfOk r (is rows))
-    → Looks g old new before (Some held) (IsAwake (state g new) → Reads g old new r is)
-looks_under g old new before held h {r = r} stays tells f = record {
+-- the purses that are known are those of the rows that were there
+pub looks_under : {S T : Type 0} (g : Ghosts S) (old new : Held S) (before : Option Known) (known : Known) (h : Name) {r : Result T StoreFault} {is : Rows → T → Type 0} → (IsOurs (state g old) → Stays (state g old) (state g new))
+    → (IsOurs (state g old) → Knows (state g old) before → Knows (state g new) (Some known)) → ((rows : Rows) → names_under (index_of known.held) h ≡ row_purses_of rows h → IfOk r (is rows))
+    → Looks g old new before (Some known) (IsAwake (state g new) → Reads g old new r is)
+looks_under g old new before known h {r = r} stays tells f = record {
   reads = λ ours was live. record {
     stays = stays;
     value = λ ours calm rows holds.
         let there : Holds (state g new).now rows = subst (λ (d : Database). Holds d rows) (sym ((stays ours).same calm)) holds in
-        f rows (held_names rows.purses (index_of held) (held_of (state g new).now rows (index_of held) there (tells ours was calm)) h);
+        f rows (held_names rows.purses (index_of known.held) (held_of (state g new).now rows (index_of known.held) there (tells ours was calm).owned) h);
     live = on_ok_anyway r live;
   };
-  index = tells;
+  known = tells;
 }
 
--- an index of what a pass shows tells of the rows that are there
-pub told_shown : (old new : State) (items : List Row) → IsOurs old → Stays old new → (worry new ≡ 0 → Shown select_owners [] old new items) → (r : Result IndexSlots StoreFault) → IfOk r (λ held. Lists items (index_of held))
-    → IfOk r (λ held. TellsOwners new (Some held))
-told_shown old new items ours stays shown (Err e) lists = tt
-told_shown old new items ours stays shown (Ok held) lists = λ calm.
-    subst (λ (d : Database). Owned (d.trees 8) (index_of held)) (sym (stays.same calm)) (owned_shown old new items (index_of held) (shown calm) (ours.schema (sure_before old new stays.later calm)) lists)
+-- nothing more is known than the purses of each holder
+pub only_owned : (db : Trees) (held : OwnerIndex) → Owned (db 8) held → IsKnown db (newly_known held)
+only_owned db held it = record {
+  owned = it;
+  stand = λ p x at. absurd (let none = sym at ∙ fmap.get-empty name_cmp p in cc);
+  bound = λ p n at. absurd (let none = sym at ∙ fmap.get-empty name_cmp p in cc);
+}
+
+-- what a pass shows tells of the rows that are there
+pub told_shown : (old new : State) (items : List Row) (held : IndexSlots) (known : Known) → IsOurs old → Stays old new → (worry new ≡ 0 → Shown select_owners [] old new items) → Lists items (index_of held) → known_of known ≡ newly_known (index_of held)
+    → Knows new (Some known)
+told_shown old new items held known ours stays shown lists is = λ calm.
+    let owned = owned_shown old new items (index_of held) (shown calm) (ours.schema (sure_before old new stays.later calm)) lists in
+    subst (IsKnown new.now.trees) (sym is) (subst (λ (d : Database). IsKnown d.trees (newly_known (index_of held))) (sym (stays.same calm)) (only_owned old.now.trees (index_of held) owned))

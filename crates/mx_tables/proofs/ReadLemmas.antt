@@ -5,7 +5,7 @@ use Rattle.std.proofs.lemmas.List.Sorted.{length_permutation, IsPermutation-sym,
 use Rattle.std.proofs.lemmas.Bool.{cases_Bool}
 use Rattle.std.specs.FinMap as fmap
 use Rattle.sqlite.proofs.Callers.{one_permutation, reads_as}
-use Rattle.mx_tables.specs.Answers.{at_key, one_or_none, about_text, shown_about, member_shown, text_shown, purse_shown, own_shown, next_shown}
+use Rattle.mx_tables.specs.Answers.{at_key, one_or_none, about_text, shown_about, member_shown, text_shown, purse_shown, next_shown}
 use Rattle.std.specs.FinMap as fmap
 use Rattle.std.specs.FinMap.Entries.{is_sorted, below_all}
 use Rattle.sqlite_value.specs.declared.keys.Key.{Key}
@@ -28,7 +28,7 @@ use Rattle.sqlite_tied.specs.Compute.{everything}
 use Rattle.sqlite.specs.Listing.{understood}
 use Rattle.mx_pay.proofs.SameLemmas.{names_turned}
 use Rattle.mx_tables.specs.declared.asking.About.{About}
-use Rattle.mx_tables.specs.declared.asking.About.TheVariants.{Member, Holder, Purse, Own, Owner, Next}
+use Rattle.mx_tables.specs.declared.asking.About.TheVariants.{Member, Holder, Purse, Owner, Next}
 use Rattle.mx_tables.specs.States.{IsQuery}
 use Rattle.mx_tables.proofs.StoredLemmas.{and_true, same_text}
 use Rattle.mx_tables.proofs.KeptLemmas as kept
@@ -157,11 +157,6 @@ asked Purse = (
   col 1 2 ∷ col 1 3 ∷ col 1 4 ∷ col 1 5 ∷ col 1 6 ∷ col 1 7 ∷ col 1 8 ∷ col 1 9 ∷ [],
   codes "holder" ∷ codes "balance" ∷ codes "next_number" ∷ codes "status" ∷ codes "details" ∷ codes "log" ∷ codes "line_count" ∷ codes "next_message" ∷ [],
 )
-asked Own = (
-  8,
-  col 1 2 ∷ col 1 3 ∷ col 1 4 ∷ col 1 5 ∷ col 1 6 ∷ col 1 7 ∷ col 1 8 ∷ [],
-  codes "holder" ∷ codes "balance" ∷ codes "next_number" ∷ codes "status" ∷ codes "details" ∷ codes "log" ∷ codes "line_count" ∷ [],
-)
 asked Owner = (8, col 1 2 ∷ [], codes "holder" ∷ [])
 asked Next = (8, col 1 9 ∷ [], codes "next_message" ∷ [])
 
@@ -178,6 +173,5 @@ module _ (p : Name) (old new : State) (rows : List Row) (r : Rows) (h : Holds ol
   about_is Member shown = keyed kept.members p _ _ _ _ (selects Member) (Text p ∷ []) member_shown (λ id e. rw (same_text e.0 p) (and_true _ ∙ names_turned e.0 p)) (λ id e. refl) old new rows shown r h found only
   about_is Holder shown = keyed kept.holders p _ _ _ _ (selects Holder) (Text p ∷ []) text_shown (λ id e. rw (same_text e.0 p) (and_true _ ∙ names_turned e.0 p)) (λ id e. refl) old new rows shown r h found only
   about_is Purse shown = keyed kept.purses p _ _ _ _ (selects Purse) (Text p ∷ []) purse_shown (λ id e. rw (same_text e.0 p) (and_true _ ∙ names_turned e.0 p)) (λ id e. refl) old new rows shown r h found only
-  about_is Own shown = keyed kept.purses p _ _ _ _ (selects Own) (Text p ∷ []) own_shown (λ id e. rw (same_text e.0 p) (and_true _ ∙ names_turned e.0 p)) (λ id e. refl) old new rows shown r h found only
   about_is Owner shown = keyed kept.purses p _ _ _ _ (selects Owner) (Text p ∷ []) (λ (x : PurseRow). text_shown x.holder) (λ id e. rw (same_text e.0 p) (and_true _ ∙ names_turned e.0 p)) (λ id e. refl) old new rows shown r h found only
   about_is Next shown = keyed kept.purses p _ _ _ _ (selects Next) (Text p ∷ []) next_shown (λ id e. rw (same_text e.0 p) (and_true _ ∙ names_turned e.0 p)) (λ id e. refl) old new rows shown r h found only

@@ -33,7 +33,7 @@ use Rattle.mx_book.proofs.NameLemmas.{same_name, name_itself}
 use Rattle.mx_book.proofs.MapLemmas.{AllEntries, all_entries}
 use Rattle.mx_book.proofs.LogLemmas.{same_members, has_kept, under_has}
 use Rattle.mx_book.proofs.ResultLemmas.{has-both, results_total, results_exact}
-use Rattle.mx_tables.specs.Owners.{Owned}
+use Rattle.mx_tables.specs.Known.{IsKnown}
 use Rattle.mx_tables.specs.States.{Sees}
 use Rattle.mx_tables.specs.Answers.{at_key}
 use Rattle.mx_tables.specs.Results.{Archives, details_shown, first_one, AreDetails, Shows, and_details}
@@ -95,25 +95,25 @@ select_archived_is = record { is = refl; query = record { plain = (refl, refl); 
 
 pub adds_tray : (p : Name) (d : Details) (old new : State) (count : ℕ) → old.now.schema ≡ office_schema → Executes insert_tray (Text p ∷ Text (entry_text d) ∷ []) old new (Ok count)
     → Goes (λ r. record r { tray = fmap.insert r.tray (p, d) tt }) old new
-adds_tray p d = adds kept.tray insert_tray _ _ insert_tray_is (Text p ∷ Text (entry_text d) ∷ []) ((p, d), tt) (rw cast_null refl) refl
+adds_tray p d = adds kept.tray insert_tray _ _ insert_tray_is (Text p ∷ Text (entry_text d) ∷ []) ((p, d), tt) (rw cast_null refl) refl refl
 
 pub archives_one : (p text : List ℕ) (old new : State) (count : ℕ) → old.now.schema ≡ office_schema → Executes insert_archive (Text p ∷ Text text ∷ []) old new (Ok count) → Archives p ((Text text ∷ []) ∷ []) old new
 archives_one p text old new count has ran =
     let wrote = (inserted office_schema 8 kept.archive_place.table refl (no_actions kept.archive_place.table) insert_archive (Text p ∷ Text text ∷ []) old new has insert_archive_is.plain count ran
     (lit Null ∷ col 0 0 ∷ col 0 1 ∷ []) 3 (Text p ∷ Text text ∷ []) insert_archive_is.is refl (rw cast_null refl)).0 in
-    record { schema = wrote.schema_is; goes = one; spares = untouched _ old new _ refl wrote }
+    record { schema = wrote.schema_is; goes = one; spares = untouched _ old new _ refl refl wrote }
   where
     one : (ds : List Details) → map details_shown ds ≡ (Text text ∷ []) ∷ [] → Goes (λ r. record r { archive = and_details p r.archive ds }) old new
     one (d ∷ []) from =
         let same : text ≡ entry_text d = cc in
-        adds kept.archive insert_archive _ _ insert_archive_is (Text p ∷ Text (entry_text d) ∷ []) ((p, d), tt) (rw cast_null refl) refl old new count has
+        adds kept.archive insert_archive _ _ insert_archive_is (Text p ∷ Text (entry_text d) ∷ []) ((p, d), tt) (rw cast_null refl) refl refl old new count has
         (subst (λ t. Executes insert_archive (Text p ∷ Text t ∷ []) old new (Ok count)) same ran)
     one ds from = absurd (let k = ap length from in omega (arith, k))
 
 pub drops_tray : (p : Name) (old new : State) (count : ℕ) → old.now.schema ≡ office_schema → Executes delete_tray (Text p ∷ []) old new (Ok count)
     → Goes (λ r. record r { tray = results_but p r.tray }) old new
 drops_tray p = drops kept.tray delete_tray _ _ delete_tray_is (Text p ∷ []) (λ (k : Name × Details). is_name p k.0)
-    (λ id e. rw (same_text e.0.0 p) (and_true _ ∙ names_turned e.0.0 p)) (λ id e. refl) refl
+    (λ id e. rw (same_text e.0.0 p) (and_true _ ∙ names_turned e.0.0 p)) (λ id e. refl) (λ old new read wrote. untouched _ old new _ refl refl wrote)
 
 -- ---- reads
 
@@ -274,7 +274,7 @@ archives p rows items first read put last is found moved emptied = record {
       let moves = moved.goes (map second of.0) (map-map details_shown second of.0 ∙ sym of.2 ∙ sym is) in
       let after = emptied.rows _ (moves.rows r (subst (λ (d : Database). Holds d r) (sym found.same) holds)) in
       subst (λ s. Holds last.now (record r { tray = results_but p r.tray; archive = s })) (archive_all p r.tray r.archive of.0 of.1) after;
-  owned = λ held tells. emptied.owned held (moved.spares held (subst (λ (d : Database). Owned (d.trees 8) held) (sym found.same) tells));
+  known = λ k so. emptied.known k (moved.spares k (subst (λ (d : Database). IsKnown d.trees k) (sym found.same) so));
 }
 
 archived_whole : IsWhole select_archived 2 (understood office_schema select_archived)

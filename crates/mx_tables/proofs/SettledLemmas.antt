@@ -43,7 +43,7 @@ select_settled_is = record { is = refl; query = record { plain = (refl, refl); s
 
 pub adds_settled : (d : Details) (old new : State) (count : ℕ) → old.now.schema ≡ office_schema → Executes insert_settled (Text (entry_text d) ∷ []) old new (Ok count)
     → Goes (λ r. rewritten r (AddSettled d)) old new
-adds_settled d = adds kept.settled insert_settled _ _ insert_settled_is (Text (entry_text d) ∷ []) (d, tt) (rw cast_null refl) refl
+adds_settled d = adds kept.settled insert_settled _ _ insert_settled_is (Text (entry_text d) ∷ []) (d, tt) (rw cast_null refl) refl refl
 
 abbrev Settled : Type 0
 Settled = Details × Unit {0}

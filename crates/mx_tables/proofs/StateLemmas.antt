@@ -22,8 +22,9 @@ use Rattle.sqlite.proofs.Callers.{begun_plain}
 use Rattle.sqlite.specs.Listing.{understood, listing_schema, if_select}
 use Rattle.sqlite.specs.State.{State, HasCleanDisk, IsUnchanged, IsRolledBack, Shows, Fails, FailsToQuery, FailsToShow, IsNotRun, Shown, ShowsRows, KeepsCommit, ExecutesInside, IsTooLate, Survives, CommitsShowing}
 use Rattle.mx_book.specs.declared.contract.StoreFault.{StoreFault}
-use Rattle.mx_tables.specs.Owners.{OwnerIndex, IndexSlots, index_of, Owned, IsKeptUp}
-use Rattle.mx_tables.specs.States.{worry, IsAwake, IsAt, IsOurs, IsText, IsSilent, ShowsNothing, StaysIdle, Stays, StaysAt, Within, Stops, Brings, Applies, Commits, TellsOwners}
+use Rattle.mx_tables.specs.declared.known.Known.{Known}
+use Rattle.mx_tables.specs.Known.{Knowledge, IsKnown, AreKnown, IsKeptUp, known_of}
+use Rattle.mx_tables.specs.States.{worry, IsAwake, IsAt, IsOurs, IsText, IsSilent, ShowsNothing, StaysIdle, Stays, StaysAt, Within, Stops, Brings, Applies, Commits, Knows}
 
 -- a statement that fails changes nothing, or its transaction is rolled back
 abbrev pub Quits : State → State → Type 0
@@ -105,10 +106,9 @@ quits_now : (old new : State) → Quits old new → IsTrue new.is_open → old.c
 quits_now old new (inl same) live steady = (same.0.now_is, same.0.committed_is ∙ steady)
 quits_now old new (inr undone) live steady = let it = undone.undone live in (it.0 ∙ steady, it.1 ∙ steady)
 
--- an index tells the same of a database that is the same
-pub index_kept : (old new : State) → worry old ≤ worry new → (worry new ≡ 0 → new.now ≡ old.now) → (held : Option IndexSlots) → TellsOwners old held → TellsOwners new held
-index_kept old new later same None tells = tt
-index_kept old new later same (Some held) tells = λ h. subst (λ (d : Database). Owned (d.trees 8) (index_of held)) (sym (same h)) (tells (sure_before old new later h))
+-- what is known is so of a database that is the same
+pub known_kept : (old new : State) → worry old ≤ worry new → (worry new ≡ 0 → new.now ≡ old.now) → (held : Option Known) → Knows old held → Knows new held
+known_kept old new later same known tells = λ h. subst (λ (d : Database). AreKnown d.trees known) (sym (same h)) (tells (sure_before old new later h))
 
 pub stays : {of : Schema} (old new : State) → IsAt of old → (old.in_transaction ≡ false → new.in_transaction ≡ false) → doubt old.is_clean ≤ doubt new.is_clean
     → (HasCleanDisk new → IsTrue new.is_open → IsTrue old.is_open) → (worry new ≡ 0 → old.now.schema ≡ of → Quits old new)
@@ -127,7 +127,7 @@ stays old new ours mode clean opened quits crash =
       later = later;
       same = λ h. (both h).0;
       stops = λ h db left. record { ours = ours; schema = left.schema; trees = crash (not_lied new h) db.trees left.trees };
-      index = index_kept old new later (λ h. (both h).0);
+      known = known_kept old new later (λ h. (both h).0);
     }
 
 -- what is idle and steady is so in its schema
@@ -147,7 +147,7 @@ rests_at {of} h = record {
 }
 
 pub stays_same : {of : Schema} (a : State) → IsAt of a → StaysAt of a a
-stays_same a ours = record { ours = ours; later = omega arith; same = λ h. refl; stops = λ h db left. left; index = λ held tells. tells }
+stays_same a ours = record { ours = ours; later = omega arith; same = λ h. refl; stops = λ h db left. left; known = λ held tells. tells }
 
 pub stays_then : {of : Schema} (a b c : State) → StaysAt of a b → StaysAt of b c → StaysAt of a c
 stays_then a b c one two = record {
@@ -155,7 +155,7 @@ stays_then a b c one two = record {
   later = omega (arith, one.later, two.later);
   same = λ h. two.same h ∙ one.same (sure_before b c two.later h);
   stops = λ h db left. one.stops (let e = two.later in omega arith) db (two.stops h db left);
-  index = λ held tells. two.index held (one.index held tells);
+  known = λ held tells. two.known held (one.known held tells);
 }
 
 -- ---- what a stop leaves
@@ -254,18 +254,18 @@ refused_keeps sql params old new e (inr late) = quits old new (inl late.5)
 -- ---- a transaction as a whole
 
 -- what a call that made all its changes, or none, leaves
-abbrev pub Changed : {S : Type 0} → Ghosts S → Held S → Held S → (Rows → Rows) → (OwnerIndex → OwnerIndex) → Type 0
-Changed g old new change index = (state g old).now.schema ≡ office_schema → Brings change index (state g old) (state g new)
+abbrev pub Changed : {S : Type 0} → Ghosts S → Held S → Held S → (Rows → Rows) → (Knowledge → Knowledge) → Type 0
+Changed g old new change learns = (state g old).now.schema ≡ office_schema → Brings change learns (state g old) (state g new)
 
-module _ {S X : Type 0} (g : Ghosts S) (old new : Held S) (change : Rows → Rows) (index : OwnerIndex → OwnerIndex) (ours : IsOurs (state g old)) where
-  was_sure : (r : Result X StoreFault) → Commits g old new r (Changed g old new change index) → worry (state g new) ≡ 0 → worry (state g old) ≡ 0
+module _ {S X : Type 0} (g : Ghosts S) (old new : Held S) (change : Rows → Rows) (learns : Knowledge → Knowledge) (ours : IsOurs (state g old)) where
+  was_sure : (r : Result X StoreFault) → Commits g old new r (Changed g old new change learns) → worry (state g new) ≡ 0 → worry (state g old) ≡ 0
   was_sure r it h = sure_before (state g old) (state g new) (worry_later (state g old) (state g new) it.clean it.opens) h
 
-  pub left_as_was : (r : Result X StoreFault) → Commits g old new r (Changed g old new change index) → worry (state g new) ≡ 0 → OnErr r ((state g new).now ≡ (state g old).now)
+  pub left_as_was : (r : Result X StoreFault) → Commits g old new r (Changed g old new change learns) → worry (state g new) ≡ 0 → OnErr r ((state g new).now ≡ (state g old).now)
   left_as_was (Ok x) it h = tt
   left_as_was (Err e) it h = (it.none (sure (state g new) h).1 (sure (state g new) h).0).0 ∙ ours.steady (was_sure (Err e) it h)
 
-  pub ours_after : (r : Result X StoreFault) → Commits g old new r (Changed g old new change index) → IsOurs (state g new)
+  pub ours_after : (r : Result X StoreFault) → Commits g old new r (Changed g old new change learns) → IsOurs (state g new)
   ours_after (Ok x) it = record {
     autocommit = it.ended;
     steady = λ h. (it.all (sure (state g new) h).1).1;
@@ -277,15 +277,18 @@ module _ {S X : Type 0} (g : Ghosts S) (old new : Held S) (change : Rows → Row
     schema = λ h. ap (λ (d : Database). d.schema) (left_as_was (Err e) it h) ∙ ours.schema (was_sure (Err e) it h);
   }
 
-  -- an index that was kept up
-  pub told_after : (r : Result X StoreFault) → Commits g old new r (Changed g old new change index) → (made : Bool) → made ≡ is_ok r → (before after : Option IndexSlots) → IsKeptUp made index before after
-      → TellsOwners (state g old) before → TellsOwners (state g new) after
-  told_after r it made is before None kept tells = tt
-  told_after (Err e) it made is before (Some held) kept tells = absurd (let e : true ≡ false = sym kept.0 ∙ is in cc)
-  told_after (Ok x) it made is before (Some held) kept tells = λ h.
+  -- what is known is kept up
+  pub told_after : (r : Result X StoreFault) → Commits g old new r (Changed g old new change learns) → (made : Bool) → made ≡ is_ok r → (before after : Option Known) → IsKeptUp made learns before after
+      → Knows (state g old) before → Knows (state g new) after
+  told_after r it made is before None kept tells = λ h. tt
+  told_after (Err e) it true is before (Some known) kept tells = absurd (cc)
+  told_after (Ok x) it false is before (Some known) kept tells = absurd (cc)
+  told_after (Err e) it false is before (Some known) kept tells = λ h.
+      subst (λ (d : Database). IsKnown d.trees (known_of known)) (sym (left_as_was (Err e) it h)) (subst (λ o. Knows (state g old) o) kept tells (was_sure (Err e) it h))
+  told_after (Ok x) it true is before (Some known) kept tells = λ h.
       let was = was_sure (Ok x) it h in
       let went = (it.all (sure (state g new) h).1).0 (ours.schema was) in
-      subst (Owned ((state g new).now.trees 8)) (sym kept.3) (went.owned _ (subst (TellsOwners (state g old)) kept.2 tells was))
+      subst (IsKnown (state g new).now.trees) (sym kept.2) (went.known _ (subst (λ o. Knows (state g old) o) kept.1 tells was))
 
 keeps_then : (a b c : State) → KeepsCommit a b → KeepsCommit b c → KeepsCommit a c
 keeps_then a b c one two = record { was_open = λ o. one.was_open (two.was_open o); committed = λ o. two.committed o ∙ one.committed (two.was_open o) }
@@ -319,9 +322,9 @@ within_none a x = record { clean = omega arith; kept = λ clean inside. record {
 -- ---- what a stop leaves of a transaction
 
 -- where its commit ran, also if that failed
-pub stops_commit : (change : Rows → Rows) (index : OwnerIndex → OwnerIndex) (old mid new : State) → Survives mid new (λ db. db ≡ mid.now.trees) → (HasCleanDisk mid → (db : Trees) → mid.may_leave db → old.may_leave db)
-    → (HasCleanDisk mid → IsTrue old.is_open) → (HasCleanDisk mid → old.now.schema ≡ office_schema → Brings change index old mid) → Stops change old new
-stops_commit change index old mid new survives less live goes clean db has left =
+pub stops_commit : (change : Rows → Rows) (learns : Knowledge → Knowledge) (old mid new : State) → Survives mid new (λ db. db ≡ mid.now.trees) → (HasCleanDisk mid → (db : Trees) → mid.may_leave db → old.may_leave db)
+    → (HasCleanDisk mid → IsTrue old.is_open) → (HasCleanDisk mid → old.now.schema ≡ office_schema → Brings change learns old mid) → Stops change old new
+stops_commit change learns old mid new survives less live goes clean db has left =
     let early : HasCleanDisk mid = (let e = survives.clean in omega arith) in
     elim (survives.crash clean db.trees left) [
       | inl was ↦ inl (less early db.trees was)
@@ -335,30 +338,30 @@ stops_commit change index old mid new survives less live goes clean db has left 
     ]
 
 -- a change of rows that were the same before, and leave the same
-pub brings_same : (change : Rows → Rows) (index : OwnerIndex → OwnerIndex) (a b c d : State) → b.now ≡ a.now → d.now ≡ c.now → Brings change index b c → Brings change index a d
-brings_same change index a b c d before after went = record {
+pub brings_same : (change : Rows → Rows) (learns : Knowledge → Knowledge) (a b c d : State) → b.now ≡ a.now → d.now ≡ c.now → Brings change learns b c → Brings change learns a d
+brings_same change learns a b c d before after went = record {
   schema = ap (λ (x : Database). x.schema) after ∙ went.schema;
   rows = λ r holds. subst (λ (x : Database). Holds x (change r)) (sym after) (went.rows r (subst (λ (x : Database). Holds x r) (sym before) holds));
-  owned = λ held tells. subst (λ (x : Database). Owned (x.trees 8) (index held)) (sym after) (went.owned held (subst (λ (x : Database). Owned (x.trees 8) held) (sym before) tells));
+  known = λ k so. subst (λ (x : Database). IsKnown x.trees (learns k)) (sym after) (went.known k (subst (λ (x : Database). IsKnown x.trees k) (sym before) so));
 }
 
 -- no change
-pub brings_none : (a : State) → a.now.schema ≡ office_schema → Brings (λ r. r) (λ held. held) a a
-brings_none a has = record { schema = has; rows = λ r holds. holds; owned = λ held tells. tells }
+pub brings_none : (a : State) → a.now.schema ≡ office_schema → Brings (λ r. r) (λ k. k) a a
+brings_none a has = record { schema = has; rows = λ r holds. holds; known = λ k so. so }
 
 abbrev pub begun : {S : Type 0} → Held S → Held S
 begun h = record h { in_transaction = true }
 
 -- a transaction whose changes were made and committed
-pub commits_made : {S T : Type 0} (g : Ghosts S) (old mid new : Held S) (change : Rows → Rows) (index : OwnerIndex → OwnerIndex) {x : T} → doubt (state g (begun old)).is_clean ≤ doubt (state g mid).is_clean → doubt (state g mid).is_clean ≤ doubt (state g new).is_clean
-    → (HasCleanDisk (state g mid) → Applies change index (state g (begun old)) (state g mid)) → (HasCleanDisk (state g new) → Shows (state g mid) (state g new) (state g mid).now (state g mid).now false) → new.in_transaction ≡ false
-    → Commits {E = StoreFault} g old new (Ok x) (Changed g old new change index)
-commits_made g old mid new change index one two made shown ended =
+pub commits_made : {S T : Type 0} (g : Ghosts S) (old mid new : Held S) (change : Rows → Rows) (learns : Knowledge → Knowledge) {x : T} → doubt (state g (begun old)).is_clean ≤ doubt (state g mid).is_clean → doubt (state g mid).is_clean ≤ doubt (state g new).is_clean
+    → (HasCleanDisk (state g mid) → Applies change learns (state g (begun old)) (state g mid)) → (HasCleanDisk (state g new) → Shows (state g mid) (state g new) (state g mid).now (state g mid).now false) → new.in_transaction ≡ false
+    → Commits {E = StoreFault} g old new (Ok x) (Changed g old new change learns)
+commits_made g old mid new change learns one two made shown ended =
     let early = λ (clean : HasCleanDisk (state g new)). let it : HasCleanDisk (state g mid) = omega (arith, two, clean) in it in
     record {
       all = λ clean.
           let shows = shown clean in (
-            λ has. brings_same change index _ _ _ _ refl shows.now_is ((made (early clean)).goes has),
+            λ has. brings_same change learns _ _ _ _ refl shows.now_is ((made (early clean)).goes has),
             shows.committed_is ∙ sym shows.now_is,
           );
       none = λ clean. tt;

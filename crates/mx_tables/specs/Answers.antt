@@ -20,9 +20,10 @@ use Rattle.sqlite.specs.State.{State as Connected}
 use Rattle.mx_book.specs.RowEdits.{on_purse}
 use Rattle.mx_book.specs.RowReads.{row_finds_place}
 use Rattle.mx_tables.specs.declared.asking.About.{About}
-use Rattle.mx_tables.specs.declared.asking.About.TheVariants.{Member, Holder, Purse, Own, Owner, Next}
+use Rattle.mx_tables.specs.declared.asking.About.TheVariants.{Member, Holder, Purse, Owner, Next}
 use Rattle.mx_tables.specs.Holds.{Holds}
-use Rattle.mx_tables.specs.States.{Goes}
+use Rattle.mx_tables.specs.Known.{known_raised}
+use Rattle.mx_tables.specs.States.{Brings}
 use Rattle.mx_tables.specs.Schema.{number, kind_text, owner_text}
 
 -- the entries at a key
@@ -63,10 +64,6 @@ HaveNumbers r = (k : Name × ℕ) (m : Message) → fmap.get r.inbox k ≡ Some 
 abbrev pub state_shown : State → Row
 state_shown p = number p.balance ∷ number p.next ∷ Text (status_word p.status) ∷ Text (status_details p.status) ∷ Text (code p.log) ∷ number p.lines ∷ []
 
--- what a row of a purse shows of its holder and of the purse
-abbrev pub own_shown : PurseRow → Row
-own_shown x = Text x.holder ∷ state_shown x.purse
-
 -- the columns of the purse in a row of a purse
 abbrev pub state_columns : Row → Row
 state_columns r = column r 1 ∷ column r 2 ∷ column r 3 ∷ column r 4 ∷ column r 5 ∷ column r 6 ∷ []
@@ -95,7 +92,7 @@ one_or_none (Some x) = x ∷ []
 
 -- the number of a purse's next message, which is this one, is raised by one
 pub record Raises (p : Name) (next : ℕ) (old new : Connected) : Type 0 where
-  pub goes : Goes (λ r. on_purse (fmap.get r.purses p) r (λ x. record r { purses = fmap.insert r.purses p (record x { next_message = next + 1 }) })) old new
+  pub goes : Brings (λ r. on_purse (fmap.get r.purses p) r (λ x. record r { purses = fmap.insert r.purses p (record x { next_message = next + 1 }) })) (known_raised p) old new
   pub was : (r : Rows) → Holds old.now r → option_map (λ (x : PurseRow). x.next_message) (fmap.get r.purses p) ≡ Some next
 
 -- the number that a message to a purse gets, where it finds a place
@@ -107,7 +104,6 @@ abbrev pub about_text : About → List ℕ
 about_text Member = codes "SELECT granted, unspent FROM member WHERE name = ?1"
 about_text Holder = codes "SELECT member FROM holder WHERE name = ?1"
 about_text Purse = codes "SELECT holder, balance, next_number, status, details, log, line_count, next_message FROM purse WHERE name = ?1"
-about_text Own = codes "SELECT holder, balance, next_number, status, details, log, line_count FROM purse WHERE name = ?1"
 about_text Owner = codes "SELECT holder FROM purse WHERE name = ?1"
 about_text Next = codes "SELECT next_message FROM purse WHERE name = ?1"
 
@@ -115,6 +111,5 @@ abbrev pub shown_about : About → Rows → Name → Option Row
 shown_about Member r p = option_map member_shown (fmap.get r.members p)
 shown_about Holder r p = option_map text_shown (fmap.get r.holders p)
 shown_about Purse r p = option_map purse_shown (fmap.get r.purses p)
-shown_about Own r p = option_map own_shown (fmap.get r.purses p)
 shown_about Owner r p = option_map (λ (x : PurseRow). text_shown x.holder) (fmap.get r.purses p)
 shown_about Next r p = option_map next_shown (fmap.get r.purses p)

@@ -1,6 +1,7 @@
 pub mod Holds
 pub mod Schema
 pub mod Owners
+pub mod Known
 pub mod States
 pub mod Steady
 pub mod Answers

@@ -34,6 +34,10 @@ NumbersDiffer rows = (a b : Row) → Has rows a → Has rows b → value_cmp (ro
 abbrev pub HasOwner : Row → Type 0
 HasOwner r = (id : ℤ) × (p : Name) × (h : Name) × (column r 0 ≡ Int id) × (column r 1 ≡ Text p) × (column r 2 ≡ Text h)
 
+-- each row has
+abbrev pub HaveOwners : List Row → Type 0
+HaveOwners = AllByRecursion HasOwner
+
 abbrev pub is_text : Name → Value → Bool
 is_text t Null = false
 is_text t (Int n) = false
@@ -48,18 +52,13 @@ is_owned_in h p r = is_text p (column r 1) && is_text h (column r 2)
 -- the index tells exactly the purses that these rows name, each under its holder
 pub record Owned (rows : List Row) (held : OwnerIndex) : Type 0 where
   pub apart : NumbersDiffer rows
-  pub named : AllByRecursion HasOwner rows
+  pub named : HaveOwners rows
   pub under : IsIndex name_cmp (λ h p. list_any (is_owned_in h p) rows) held
 
 -- rows that were read by rising numbers, and an index that tells the same as they
 pub record Lists (rows : List Row) (held : OwnerIndex) : Type 0 where
   pub rise : IsTable rows
   pub owned : Owned rows held
-
--- an index is kept where a change was made, and is the one before with that change
-abbrev pub IsKeptUp : Bool → (OwnerIndex → OwnerIndex) → Option IndexSlots → Option IndexSlots → Type 0
-IsKeptUp made change before None = Unit {0}
-IsKeptUp made change before (Some held) = IsTrue made × (was : IndexSlots) × (before ≡ Some was) × (index_of held ≡ change (index_of was))
 
 -- the index after an edit
 abbrev pub indexed : OwnerIndex → Edit → OwnerIndex

@@ -26,7 +26,8 @@ use Rattle.mx_book.specs.Rows.{Rows}
 use Rattle.mx_book.specs.declared.contract.StoreFault.{StoreFault}
 use Rattle.mx_book.specs.World.{World}
 use Rattle.mx_tables.specs.Holds.{Holds, Spells, SpellsOne}
-use Rattle.mx_tables.specs.Owners.{OwnerIndex, IndexSlots, index_of, Owned}
+use Rattle.mx_tables.specs.declared.known.Known.{Known}
+use Rattle.mx_tables.specs.Known.{Knowledge, IsKnown, AreKnown}
 
 -- 0 while the disk has returned what was written and the connection is open, 1 once a fault has shut it, 2 once the disk has lied
 abbrev pub worry_at : Bool → Bool → ℕ
@@ -66,10 +67,9 @@ pub record LeavesAt (of : Schema) (s : State) (db : Database) : Type 0 where
 abbrev pub Leaves : State → Database → Type 0
 Leaves = LeavesAt office_schema
 
--- without worry an index that is kept tells exactly the purses that are there
-abbrev pub TellsOwners : State → Option IndexSlots → Type 0
-TellsOwners s None = Unit {0}
-TellsOwners s (Some held) = worry s ≡ 0 → Owned (s.now.trees 8) (index_of held)
+-- without worry what is known is so of the rows
+abbrev pub Knows : State → Option Known → Type 0
+Knows s known = worry s ≡ 0 → AreKnown s.now.trees known
 
 -- A read: doubt doesn't fall, and without any in the end the database is as it was. While the disk didn't lie, a stop leaves what it could leave before.
 pub record StaysAt (of : Schema) (old new : State) : Type 0 where
@@ -77,7 +77,7 @@ pub record StaysAt (of : Schema) (old new : State) : Type 0 where
   pub later : worry old ≤ worry new
   pub same : worry new ≡ 0 → new.now ≡ old.now
   pub stops : worry new ≤ 1 → (db : Database) → LeavesAt of new db → LeavesAt of old db
-  pub index : (held : Option IndexSlots) → TellsOwners old held → TellsOwners new held
+  pub known : (k : Option Known) → Knows old k → Knows new k
 
 -- a read of the tables
 abbrev pub Stays : State → State → Type 0
@@ -106,24 +106,24 @@ ShowsNothing (Err e) = Unit {0}
 abbrev pub IsSilent : List ℕ → Type 0
 IsSilent sql = ShowsNothing (first sql)
 
--- the schema is that of the office, the rows of a book become those of the change, and so does an index of purses by holder
-pub record Brings (change : Rows → Rows) (index : OwnerIndex → OwnerIndex) (old new : State) : Type 0 where
+-- the schema is that of the office, the rows of a book become those of the change, and so does what is known of them
+pub record Brings (change : Rows → Rows) (learns : Knowledge → Knowledge) (old new : State) : Type 0 where
   pub schema : new.now.schema ≡ office_schema
   pub rows : (r : Rows) → Holds old.now r → Holds new.now (change r)
-  pub owned : (held : OwnerIndex) → Owned (old.now.trees 8) held → Owned (new.now.trees 8) (index held)
+  pub known : (k : Knowledge) → IsKnown old.now.trees k → IsKnown new.now.trees (learns k)
 
--- what an index tells stays so
-abbrev pub SparesOwners : State → State → Type 0
-SparesOwners old new = (held : OwnerIndex) → Owned (old.now.trees 8) held → Owned (new.now.trees 8) held
+-- what is known stays so
+abbrev pub SparesKnown : State → State → Type 0
+SparesKnown old new = (k : Knowledge) → IsKnown old.now.trees k → IsKnown new.now.trees k
 
--- no purse comes in
+-- nothing that is known changes
 abbrev pub Goes : (Rows → Rows) → State → State → Type 0
-Goes change = Brings change (λ held. held)
+Goes change = Brings change (λ k. k)
 
 -- the connection was open, and this change is made of the rows
-pub record Applies (change : Rows → Rows) (index : OwnerIndex → OwnerIndex) (old new : State) : Type 0 where
+pub record Applies (change : Rows → Rows) (learns : Knowledge → Knowledge) (old new : State) : Type 0 where
   pub live : IsTrue old.is_open
-  pub goes : old.now.schema ≡ office_schema → Brings change index old new
+  pub goes : old.now.schema ≡ office_schema → Brings change learns old new
 
 -- A stop leaves what it could leave before, or, of an open connection, the rows after the change.
 abbrev pub Stops : (Rows → Rows) → State → State → Type 0
@@ -150,10 +150,10 @@ pub record Tells {S T : Type 0} (g : Ghosts S) (old new : Held S) (result : Resu
   pub value : IsOurs (state g old) → (w : World) → worry (state g new) ≡ 0 → SpellsOne (state g old).now w → IfOk result (is w)
   pub live : OnOk result (IsAwake (state g new))
 
--- a read that goes by an index of purses by holder, or makes one
-pub record Looks {S : Type 0} (g : Ghosts S) (old new : Held S) (before after : Option IndexSlots) (read : Type 0) : Type 0 where
-  pub reads : IsOurs (state g old) → TellsOwners (state g old) before → read
-  pub index : IsOurs (state g old) → TellsOwners (state g old) before → TellsOwners (state g new) after
+-- a read that goes by what is known, or comes to know more
+pub record Looks {S : Type 0} (g : Ghosts S) (old new : Held S) (before after : Option Known) (read : Type 0) : Type 0 where
+  pub reads : IsOurs (state g old) → Knows (state g old) before → read
+  pub known : IsOurs (state g old) → Knows (state g old) before → Knows (state g new) after
 
 -- A step inside a transaction: the same connection is lent, and where it answers Ok this is so of what it gives.
 pub record Steps {S T E : Type 0} (g : Ghosts S) (old new : Transaction S) (result : Result T E) (does : T → Type 0) : Type 0 where
@@ -161,14 +161,14 @@ pub record Steps {S T E : Type 0} (g : Ghosts S) (old new : Transaction S) (resu
   pub within : Within (state g old.conn.now) (state g new.conn.now) result
   pub ok : HasCleanDisk (state g new.conn.now) → IsTrue old.conn.now.in_transaction → IfOk result does
 
--- a step that makes this change of the rows, and of an index of purses by holder
-abbrev pub WritesWith : {S T : Type 0} → Ghosts S → Transaction S → Transaction S → Result T StoreFault → (Rows → Rows) → (OwnerIndex → OwnerIndex) → Type 0
-WritesWith g old new result change index =
-    Steps g old new result (λ _. (state g old.conn.now).now.schema ≡ office_schema → Brings change index (state g old.conn.now) (state g new.conn.now))
+-- a step that makes this change of the rows, and of what is known of them
+abbrev pub WritesWith : {S T : Type 0} → Ghosts S → Transaction S → Transaction S → Result T StoreFault → (Rows → Rows) → (Knowledge → Knowledge) → Type 0
+WritesWith g old new result change learns =
+    Steps g old new result (λ _. (state g old.conn.now).now.schema ≡ office_schema → Brings change learns (state g old.conn.now) (state g new.conn.now))
 
--- a step that makes this change of the rows, by which no purse comes in
+-- a step that makes this change of the rows, by which nothing that is known changes
 abbrev pub Writes : {S T : Type 0} → Ghosts S → Transaction S → Transaction S → Result T StoreFault → (Rows → Rows) → Type 0
-Writes g old new result change = WritesWith g old new result change (λ held. held)
+Writes g old new result change = WritesWith g old new result change (λ k. k)
 
 -- a step that leaves the rows, and gives what is so of them
 abbrev pub Finds : {S T : Type 0} → Ghosts S → Transaction S → Transaction S → Result T StoreFault → (Rows → T → Type 0) → Type 0

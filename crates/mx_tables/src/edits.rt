@@ -3,7 +3,7 @@ ghost use Rattle.std.specs.Prelude.{◌≡◌, IsTrue, OnOk, false, fold};
 ghost use Rattle.sqlite.specs.Held.{state};
 ghost use Rattle.sqlite.specs.State.{HasCleanDisk, IsUnchanged};
 ghost use Rattle.mx_book.specs.RowEdits.{rewritten};
-ghost use Rattle.mx_tables.specs.Owners.{indexed};
+ghost use Rattle.mx_tables.specs.Known.{known_after};
 ghost use Rattle.mx_tables.specs.Schema.{office_schema};
 ghost use Rattle.mx_tables.specs.States.{Applies, Brings, Commits, Finds, Steps, Stops, Writes, WritesWith};
 
@@ -85,8 +85,9 @@ fn add_message<S: Alter>(
     purse: &Name,
     message: &Message,
 ) -> Result<(), StoreFault>
-    ensures { Writes S.Store tx.old tx.new result
-        (λ r. rewritten r (Edit.AddMessage purse.now message.now)) }
+    ensures { WritesWith S.Store tx.old tx.new result
+        (λ r. rewritten r (Edit.AddMessage purse.now message.now))
+        (λ k. known_after k (Edit.AddMessage purse.now message.now)) }
 {
     let number = number_for(tx, expected, purse)?;
     if number >= MOST_NUMBER {
@@ -104,7 +105,7 @@ fn edit_one<S: Alter>(
     edit: &Edit,
 ) -> Result<(), StoreFault>
     ensures { WritesWith S.Store tx.old tx.new result
-        (λ r. rewritten r edit.now) (λ held. indexed held edit.now) }
+        (λ r. rewritten r edit.now) (λ k. known_after k edit.now) }
 {
     match edit {
         Edit::NewMember { member, clerk } => add_member(tx, *member, *clerk),
@@ -151,7 +152,7 @@ fn edit_each<S: Alter>(
     edits: &[Edit],
 ) -> Result<(), StoreFault>
     ensures { WritesWith S.Store tx.old tx.new result
-        (λ r. fold rewritten r edits.now) (λ held. fold indexed held edits.now) }
+        (λ r. fold rewritten r edits.now) (λ k. fold known_after k edits.now) }
 {
     let mut expected = expected;
     for edit in edits {
@@ -179,7 +180,7 @@ fn edit_open<S: Alter>(
     edits: &[Edit],
 ) -> Result<(), StoreFault>
     ensures { Steps S.Store tx.old tx.new result (λ _. Applies
-        (λ r. fold rewritten r edits.now) (λ held. fold indexed held edits.now)
+        (λ r. fold rewritten r edits.now) (λ k. fold known_after k edits.now)
         (state S.Store tx.old.conn.now) (state S.Store tx.new.conn.now)) }
 {
     find_open(tx)?;
@@ -196,7 +197,7 @@ pub fn edit_all<S: Alter>(
 ) -> Result<(), StoreFault>
     requires { conn.old.in_transaction ≡ false }
     ensures commits { Commits S.Store conn.old conn.new result ((state S.Store conn.old).now.schema ≡ office_schema
-        → Brings (λ r. fold rewritten r edits.now) (λ held. fold indexed held edits.now)
+        → Brings (λ r. fold rewritten r edits.now) (λ k. fold known_after k edits.now)
         (state S.Store conn.old) (state S.Store conn.new)) }
     ensures lives { HasCleanDisk (state S.Store conn.new)
         → OnOk result (IsTrue (state S.Store conn.new).is_open) }

@@ -8,8 +8,8 @@ ghost use Rattle.mx_book.specs.Reads.{holder_of};
 use crate::asking::{About, ask_about, run};
 use crate::cells::name_in;
 use crate::given;
+use crate::known::Known;
 use crate::owners::count_purses;
-use mx_book::held::Held;
 use mx_book::{HolderRow, StoreFault};
 use mx_pay::Name;
 use mx_pay::names::same_name;
@@ -48,7 +48,7 @@ pub fn find_holder<S: Alter>(
 pub fn read_holder<S: Alter>(
     alloc: Global,
     conn: &mut Connection<S>,
-    kept: &mut Option<Held>,
+    kept: &mut Option<Known>,
     name: &Name,
 ) -> Result<Option<HolderRow>, StoreFault>
     ensures { Looks S.Store conn.old conn.new kept.old kept.new

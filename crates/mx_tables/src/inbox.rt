@@ -8,7 +8,9 @@ ghost use Rattle.mx_purse.specs.Messages.{IsMessage};
 ghost use Rattle.mx_purse.specs.Words.{message_word, message_details};
 ghost use Rattle.mx_book.specs.RowReads.{row_inbox_of};
 ghost use Rattle.mx_tables.specs.Answers.{first_three, message_row};
-ghost use Rattle.mx_tables.specs.States.{IsExplained, Reads, Tells, Writes};
+ghost use Rattle.sqlite.specs.Held.{state};
+ghost use Rattle.mx_tables.specs.Known.{AtMost, known_sent};
+ghost use Rattle.mx_tables.specs.States.{IsExplained, IsOurs, Reads, Tells, Writes, WritesWith, worry};
 ghost use Rattle.mx_book.specs.Reads.{inbox_of, message_of};
 
 use crate::asking::{ask, find_live, only, run_one};
@@ -76,6 +78,8 @@ pub fn count_messages<S: Alter>(conn: &mut Connection<S>, purse: &Name) -> Resul
     ensures reads { Reads S.Store conn.old conn.new result
         (λ r v. v ≡ length (row_inbox_of r purse.now)) }
     ensures why { IsExplained S.Store conn.old conn.new result }
+    ensures most { IsOurs (state S.Store conn.old) → worry (state S.Store conn.new) ≡ 0
+        → IfOk result (AtMost ((state S.Store conn.new).now.trees 10) purse.now) }
 {
     let rows = ask(
         conn,
@@ -138,8 +142,9 @@ pub fn insert_message<S: Alter>(
     message: &Message,
 ) -> Result<(), StoreFault>
     requires { number ≤ 10 ^ 15 }
-    ensures { Writes S.Store tx.old tx.new result
-        (λ r. record r { inbox = fmap.insert r.inbox (purse.now, number) message.now }) }
+    ensures { WritesWith S.Store tx.old tx.new result
+        (λ r. record r { inbox = fmap.insert r.inbox (purse.now, number) message.now })
+        (known_sent purse.now) }
 {
     let details = message_code(alloc, message)?;
     run_one(

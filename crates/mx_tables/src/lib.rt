@@ -10,6 +10,7 @@ mod edits;
 mod given;
 mod holders;
 mod inbox;
+mod known;
 mod lines;
 mod loads;
 mod making;

@@ -1,15 +1,16 @@
 //! The index of purses by holder, which is kept in memory.
-ghost use Rattle.std.specs.Prelude.{◌≡◌, IfOk, None, OnOk, Some, fold, length};
+ghost use Rattle.std.specs.Prelude.{◌≡◌, IfOk, None, OnOk, Some, length};
 ghost use Rattle.sqlite.specs.Held.{state};
 ghost use Rattle.mx_book.specs.Reads.{purses_of};
 ghost use Rattle.mx_book.specs.RowReads.{row_purses_of};
-ghost use Rattle.mx_tables.specs.Owners.{IsKeptUp, Lists, index_of, indexed};
-ghost use Rattle.mx_tables.specs.States.{IsAwake, IsOurs, Looks, Reads, Stays, Tells, TellsOwners};
+ghost use Rattle.mx_tables.specs.Owners.{Lists, index_of};
+ghost use Rattle.mx_tables.specs.States.{IsAwake, IsOurs, Looks, Reads, Stays, Tells, Knows};
 
 use crate::asking::{ask, find_live};
 use crate::cells::{integer_at, name_at};
+use crate::known::{Known, know};
+use mx_book::StoreFault;
 use mx_book::held::{Held, count_held, names_held};
-use mx_book::{Edit, StoreFault};
 use mx_pay::Name;
 use sqlite::{Alter, Connection, Row};
 use std::alloc::Global;
@@ -33,41 +34,60 @@ fn index_rows(alloc: Global, rows: &[Row]) -> Result<Held, StoreFault>
     Ok(held)
 }
 
-/// The index that is kept, or one that is made by a pass over the table of purses. None is kept then.
-fn take_index<S: Alter>(
+/// What is known, or the purses of each holder by a pass over the table of purses. None is kept then.
+fn take_known<S: Alter>(
     alloc: Global,
     conn: &mut Connection<S>,
-    kept: &mut Option<Held>,
-) -> Result<Held, StoreFault>
+    kept: &mut Option<Known>,
+) -> Result<Known, StoreFault>
     ensures stays { IsOurs (state S.Store conn.old)
         → Stays (state S.Store conn.old) (state S.Store conn.new) }
-    ensures tells { IsOurs (state S.Store conn.old) → TellsOwners (state S.Store conn.old) kept.old
-        → IfOk result (λ held. TellsOwners (state S.Store conn.new) (Some held)) }
+    ensures tells { IsOurs (state S.Store conn.old) → Knows (state S.Store conn.old) kept.old
+        → IfOk result (λ known. Knows (state S.Store conn.new) (Some known)) }
     ensures live { IsAwake (state S.Store conn.old)
         → OnOk result (IsAwake (state S.Store conn.new)) }
     ensures taken { kept.new ≡ None }
 {
-    if let Some(held) = kept.take() {
-        return Ok(held);
+    if let Some(known) = kept.take() {
+        return Ok(known);
     }
     let rows = ask(conn, "SELECT rowid, name, holder FROM purse", &[])?;
-    index_rows(alloc, &rows)
+    Ok(know(alloc, index_rows(alloc, &rows)?))
+}
+
+/// Makes the purses of each holder known, where nothing is known and that wasn't tried before. Where it fails, nothing is
+/// known.
+pub fn try_known<S: Alter>(
+    alloc: Global,
+    conn: &mut Connection<S>,
+    known: &mut Option<Known>,
+    tried: &mut bool,
+)
+    ensures stays { IsOurs (state S.Store conn.old)
+        → Stays (state S.Store conn.old) (state S.Store conn.new) }
+    ensures knows { IsOurs (state S.Store conn.old) → Knows (state S.Store conn.old) known.old
+        → Knows (state S.Store conn.new) known.new }
+{
+    if known.is_none() && !*tried {
+        *tried = true;
+        *known = take_known(alloc, conn, known).ok();
+    }
 }
 
 /// How many purses a holder has, by a connection that was found open.
 pub fn count_purses<S: Alter>(
     alloc: Global,
     conn: &mut Connection<S>,
-    kept: &mut Option<Held>,
+    kept: &mut Option<Known>,
     holder: &Name,
 ) -> Result<usize, StoreFault>
     ensures { Looks S.Store conn.old conn.new kept.old kept.new
         (IsAwake (state S.Store conn.old)
         → Reads S.Store conn.old conn.new result (λ r v. v ≡ length (row_purses_of r holder.now))) }
 {
-    let held = take_index(alloc, conn, kept)?;
-    let count = count_held(&held, *holder);
-    *kept = Some(held);
+    let known = take_known(alloc, conn, kept)?;
+    let count = count_held(&known.held, *holder);
+    *kept = Some(known);
     Ok(count)
 }
 
@@ -76,36 +96,18 @@ pub fn count_purses<S: Alter>(
 pub fn list_purses<S: Alter>(
     alloc: Global,
     conn: &mut Connection<S>,
-    kept: &mut Option<Held>,
+    kept: &mut Option<Known>,
     holder: &Name,
 ) -> Result<Vec<Name>, StoreFault>
     ensures { Looks S.Store conn.old conn.new kept.old kept.new
         (Tells S.Store conn.old conn.new result (λ w v. v.items ≡ purses_of w holder.now)) }
 {
     find_live(conn)?;
-    let held = take_index(alloc, conn, kept)?;
-    let names = names_held(alloc, &held, *holder);
-    *kept = Some(held);
+    let known = take_known(alloc, conn, kept)?;
+    let names = names_held(alloc, &known.held, *holder);
+    *kept = Some(known);
     match names {
         Ok(names) => Ok(names),
         Err(_) => Err(StoreFault::Memory),
     }
-}
-
-/// The index after these edits, where they were made. None where they weren't, where there was none, and for want of
-/// memory.
-pub fn keep_up(made: bool, kept: Option<Held>, edits: &[Edit]) -> Option<Held>
-    ensures { IsKeptUp made (λ held. fold indexed held edits.now) kept result }
-{
-    if !made {
-        return None;
-    }
-    let mut held = kept?;
-    for edit in edits {
-        if let Edit::NewPurse { purse, holder } = edit {
-            held.reserve(1).ok()?;
-            held.put((*holder, Some(*purse)), ());
-        }
-    }
-    Some(held)
 }

@@ -1,5 +1,6 @@
 //! Purses.
-ghost use Rattle.std.specs.Prelude.{◌≡◌, ◌<◌, ◌^◌, IfOk, is_some, option_map};
+ghost use Rattle.std.specs.Prelude.{◌≡◌, ◌<◌, ◌^◌, if◌then◌else◌, IfOk, None, Some, is_some, option_map};
+ghost use Rattle.mx_pay.specs.Names.{is_name};
 ghost use Rattle.std.specs.FinMap as fmap;
 ghost use Rattle.sqlite.specs.Held.{state};
 ghost use Rattle.mx_purse.specs.State.{IsPurse};
@@ -7,17 +8,19 @@ ghost use Rattle.mx_book.specs.RowEdits.{rewritten};
 ghost use Rattle.mx_book.specs.declared.edits.Edit.TheVariants.{NewPurse, SetPurse};
 ghost use Rattle.mx_book.specs.declared.values.PurseRow.{PurseRow};
 ghost use Rattle.mx_tables.specs.Answers.{ArePurses, Raises, place_of, purse_columns, purse_shown, state_columns, state_shown};
-ghost use Rattle.mx_tables.specs.Owners.{indexed};
+ghost use Rattle.mx_tables.specs.Known.{known_after};
 ghost use Rattle.mx_tables.specs.Schema.{office_schema};
-ghost use Rattle.mx_tables.specs.States.{Finds, IsExplained, Reads, Steps, Tells, Writes, WritesWith};
+ghost use Rattle.mx_tables.specs.States.{Finds, IsExplained, IsOurs, Knows, Looks, Reads, Steps, Tells, WritesWith};
 ghost use Rattle.mx_book.specs.Reads.{account_of, own_purse, has_purse};
 
-use crate::asking::{About, ask_about, ask_about_inside, run, run_one};
+use crate::asking::{About, ask_about, ask_about_inside, find_live, run, run_one};
 use crate::cells::{log_at, name_at, name_in, number_at, number_in, status_at};
 use crate::codes::{log_code, status_code};
 use crate::given;
 use crate::holders::{find_holder, is_of};
 use crate::inbox::count_messages;
+use crate::known::{Known, learn_purse, recall_place, recall_purse, remember_waiting};
+use crate::owners::try_known;
 use mx_book::{Account, MOST_MESSAGES, PurseRow, StoreFault};
 use mx_pay::names::same_name;
 use mx_pay::{MOST_NUMBER, Name, Seq};
@@ -34,7 +37,7 @@ pub fn insert_purse<S: Alter>(
 ) -> Result<(), StoreFault>
     ensures { WritesWith S.Store tx.old tx.new result
         (λ r. rewritten r (NewPurse name.now holder.now))
-        (λ held. indexed held (NewPurse name.now holder.now)) }
+        (λ k. known_after k (NewPurse name.now holder.now)) }
 {
     run(
         tx,
@@ -107,21 +110,70 @@ pub fn read_account<S: Alter>(
     }))
 }
 
-/// The purse of that name where it is the holder's, or None where it is another's or there is none.
-pub fn find_own<S: Alter>(
+/// The purse of a row where it is the holder's.
+fn own_in(holder: &Name, row: &PurseRow) -> Option<Purse>
+    ensures { result ≡ if is_name holder.now row.now.holder then Some row.now.purse else None }
+{
+    same_name(holder, &row.holder).then_some(row.purse)
+}
+
+/// The purse of that name where it is the holder's, or None where it is another's or there is none. It is known then.
+fn find_own<S: Alter>(
+    alloc: Global,
     conn: &mut Connection<S>,
+    known: &mut Option<Known>,
     holder: &Name,
     name: &Name,
 ) -> Result<Option<Purse>, StoreFault>
-    ensures { Tells S.Store conn.old conn.new result (λ w v. v ≡ own_purse w holder.now name.now) }
+    ensures { Looks S.Store conn.old conn.new known.old known.new
+        (Tells S.Store conn.old conn.new result (λ w v. v ≡ own_purse w holder.now name.now)) }
 {
-    let Some(row) = ask_about(conn, About::Own, name)? else {
+    let Some(row) = ask_about(conn, About::Purse, name)? else {
         return Ok(None);
     };
-    if !same_name(holder, &name_at(&row, 0)?) {
+    let owner = name_at(&row, 0)?;
+    if !same_name(holder, &owner) {
         return Ok(None);
     }
-    Ok(Some(state_in(name, &row)?))
+    let purse = state_in(name, &row)?;
+    *known = learn_purse(alloc, known.take(), owner, purse, number_at(&row, 7));
+    Ok(Some(purse))
+}
+
+/// The same, which is asked for only where it isn't known.
+fn own_known<S: Alter>(
+    alloc: Global,
+    conn: &mut Connection<S>,
+    known: &mut Option<Known>,
+    holder: &Name,
+    name: &Name,
+) -> Result<Option<Purse>, StoreFault>
+    ensures { Looks S.Store conn.old conn.new known.old known.new
+        (Tells S.Store conn.old conn.new result (λ w v. v ≡ own_purse w holder.now name.now)) }
+{
+    let own = match recall_purse(known, name) {
+        Some(row) => own_in(holder, row),
+        None => return find_own(alloc, conn, known, holder, name),
+    };
+    find_live(conn)?;
+    Ok(own)
+}
+
+/// The purse of that name where it is the holder's, or None where it is another's or there is none. The purses of each
+/// holder are made known first, where that wasn't tried.
+pub fn read_own<S: Alter>(
+    alloc: Global,
+    conn: &mut Connection<S>,
+    known: &mut Option<Known>,
+    tried: &mut bool,
+    holder: &Name,
+    name: &Name,
+) -> Result<Option<Purse>, StoreFault>
+    ensures { Looks S.Store conn.old conn.new known.old known.new
+        (Tells S.Store conn.old conn.new result (λ w v. v ≡ own_purse w holder.now name.now)) }
+{
+    try_known(alloc, conn, known, tried);
+    own_known(alloc, conn, known, holder, name)
 }
 
 /// The holder of a purse, or None where there is no such purse.
@@ -157,20 +209,79 @@ pub fn find_is_own<S: Alter>(
     Ok(is_of(holder, &find_owner(conn, name)?))
 }
 
-/// The number that a message to a purse gets, or None where it finds no place.
-pub fn find_place<S: Alter>(
+/// Whether there is a purse of that name, which is asked for only where it isn't known.
+pub fn read_has_purse<S: Alter>(
     conn: &mut Connection<S>,
+    known: &Option<Known>,
+    name: &Name,
+) -> Result<bool, StoreFault>
+    ensures { Looks S.Store conn.old conn.new known.now known.now
+        (Tells S.Store conn.old conn.new result (λ w b. b ≡ has_purse w name.now)) }
+{
+    let Some(_row) = recall_purse(known, name) else {
+        return find_has_purse(conn, name);
+    };
+    find_live(conn)?;
+    Ok(true)
+}
+
+/// Whether the purse of that name is there and is the holder's, which is asked for only where it isn't known.
+pub fn read_is_own<S: Alter>(
+    conn: &mut Connection<S>,
+    known: &Option<Known>,
+    holder: &Name,
+    name: &Name,
+) -> Result<bool, StoreFault>
+    ensures { Looks S.Store conn.old conn.new known.now known.now
+        (Tells S.Store conn.old conn.new result
+        (λ w b. b ≡ is_some (own_purse w holder.now name.now))) }
+{
+    let own = match recall_purse(known, name) {
+        Some(row) => same_name(holder, &row.holder),
+        None => return find_is_own(conn, holder, name),
+    };
+    find_live(conn)?;
+    Ok(own)
+}
+
+/// The number that a message to a purse gets, or None where it finds no place. How many messages it has is known then.
+pub fn find_place<S: Alter>(
+    alloc: Global,
+    conn: &mut Connection<S>,
+    known: &mut Option<Known>,
     name: &Name,
 ) -> Result<Option<u64>, StoreFault>
     ensures reads { Reads S.Store conn.old conn.new result
         (λ r v. v ≡ place_of r name.now) }
     ensures why { IsExplained S.Store conn.old conn.new result }
+    ensures knows { IsOurs (state S.Store conn.old) → Knows (state S.Store conn.old) known.old
+        → Knows (state S.Store conn.new) known.new }
 {
     let Some(next_message) = number_in(ask_about(conn, About::Next, name)?)? else {
         return Ok(None);
     };
-    let fits = count_messages(conn, name)? < MOST_MESSAGES && next_message < MOST_NUMBER;
+    let held = count_messages(conn, name)?;
+    *known = remember_waiting(alloc, known.take(), *name, held);
+    let fits = held < MOST_MESSAGES && next_message < MOST_NUMBER;
     Ok(fits.then_some(next_message))
+}
+
+/// The number that a message to a purse gets, or None where it finds no place, which is asked for only where it isn't
+/// known.
+pub fn read_place<S: Alter>(
+    alloc: Global,
+    conn: &mut Connection<S>,
+    known: &mut Option<Known>,
+    name: &Name,
+) -> Result<Option<u64>, StoreFault>
+    ensures { Looks S.Store conn.old conn.new known.old known.new
+        (Reads S.Store conn.old conn.new result (λ r v. v ≡ place_of r name.now)) }
+{
+    let Some(number) = recall_place(known, name) else {
+        return find_place(alloc, conn, known, name);
+    };
+    find_live(conn)?;
+    Ok(Some(number))
 }
 
 /// Sets the purse of that name, which is there.
@@ -179,7 +290,8 @@ pub fn set_purse<S: Alter>(
     alloc: Global,
     purse: &Purse,
 ) -> Result<(), StoreFault>
-    ensures { Writes S.Store tx.old tx.new result (λ r. rewritten r (SetPurse purse.now)) }
+    ensures { WritesWith S.Store tx.old tx.new result
+        (λ r. rewritten r (SetPurse purse.now)) (λ k. known_after k (SetPurse purse.now)) }
 {
     let details = status_code(alloc, &purse.status())?;
     let log = log_code(alloc, &purse.log())?;

@@ -14,19 +14,19 @@ ghost use Rattle.mx_tables.specs.Holds.{SpellsOne};
 use crate::edits::edit_all;
 use crate::holders::read_holder;
 use crate::inbox::{find_has_message, find_message, list_inbox};
+use crate::known::{Known, keep_up};
 use crate::lines::list_lines;
 use crate::loads::find_load;
 use crate::member_sums::sum_members;
 use crate::members::{find_member, list_members};
 use crate::opening::{OpenFault, OpenRefused, check_office, make_office};
-use crate::owners::{keep_up, list_purses};
-use crate::purses::{find_has_purse, find_is_own, find_own, find_place, read_account};
+use crate::owners::list_purses;
+use crate::purses::{read_account, read_has_purse, read_is_own, read_own, read_place};
 use crate::redemptions::find_redemption;
 use crate::results::{find_archived, list_tray};
 use crate::settled::find_settled;
 use crate::sums::{sum_member, sum_scheme, sum_uncollected};
 use crate::tokens::find_caller;
-use mx_book::held::Held;
 use mx_book::{
     Account, Book, Caller, Edit, HolderRow, Line, MemberRow, MemberTotals, Scope, StoreFault,
     Totals,
@@ -44,13 +44,15 @@ pub struct Tables<S: Alter> {
     conn: Connection<S>,
     // A purse to which a message was found to find a place since the last change, and the number that it gets.
     expected: Option<(Name, u64)>,
-    // The purses of each holder, from when they are first asked for until a change fails.
-    held: Option<Held>,
+    // What is known of the rows, from when the purses of a holder or a purse are first asked for.
+    known: Option<Known>,
+    // Whether it was tried to make the purses of each holder known.
+    tried: bool,
 }
 
 impl<S: Alter> Model for Tables<S> {
     ghost use Rattle.sqlite.specs.Held.{Held, held_code, state as state_of};
-    ghost use Rattle.mx_tables.specs.States.{IsOurs, TellsOwners};
+    ghost use Rattle.mx_tables.specs.States.{IsOurs, Knows};
 
     ghost Value = { Held S };
 
@@ -59,7 +61,7 @@ impl<S: Alter> Model for Tables<S> {
     ghost view = { λ t. t.conn };
 
     ghost invariant = { λ t. IsOurs (state_of S.Store t.conn)
-        × TellsOwners (state_of S.Store t.conn) t.held };
+        × Knows (state_of S.Store t.conn) t.known };
 }
 
 impl<S: Alter> Tables<S> {
@@ -96,7 +98,8 @@ impl<S: Alter> Tables<S> {
                 alloc,
                 conn: store,
                 expected: None,
-                held: None,
+                known: None,
+                tried: false,
             }),
             Err(fault) => Err(OpenRefused { fault, store }),
         }
@@ -137,7 +140,8 @@ impl<S: Alter> Tables<S> {
                 alloc,
                 conn: store,
                 expected: None,
-                held: None,
+                known: None,
+                tried: false,
             }),
             Err(fault) => Err(OpenRefused { fault, store }),
         }
@@ -179,14 +183,14 @@ impl<S: Alter> Book for Tables<S> {
 
     fn apply(&mut self, edits: &[Edit]) -> Result<(), StoreFault> {
         let expected = self.expected.take();
-        let held = self.held.take();
+        let known = self.known.take();
         let done = edit_all(self.alloc, &mut self.conn, expected, edits);
-        self.held = keep_up(done.is_ok(), held, edits);
+        self.known = keep_up(done.is_ok(), known, edits);
         done
     }
 
     fn holder(&mut self, alloc: Global, name: Name) -> Result<Option<HolderRow>, StoreFault> {
-        read_holder(alloc, &mut self.conn, &mut self.held, &name)
+        read_holder(alloc, &mut self.conn, &mut self.known, &name)
     }
 
     fn members(&mut self, alloc: Global) -> Result<Vec<Name>, StoreFault> {
@@ -198,7 +202,7 @@ impl<S: Alter> Book for Tables<S> {
     }
 
     fn has_purse(&mut self, _alloc: Global, name: Name) -> Result<bool, StoreFault> {
-        find_has_purse(&mut self.conn, &name)
+        read_has_purse(&mut self.conn, &self.known, &name)
     }
 
     fn own_purse(
@@ -207,15 +211,22 @@ impl<S: Alter> Book for Tables<S> {
         holder: Name,
         purse: Name,
     ) -> Result<Option<Purse>, StoreFault> {
-        find_own(&mut self.conn, &holder, &purse)
+        read_own(
+            self.alloc,
+            &mut self.conn,
+            &mut self.known,
+            &mut self.tried,
+            &holder,
+            &purse,
+        )
     }
 
     fn is_own(&mut self, _alloc: Global, holder: Name, purse: Name) -> Result<bool, StoreFault> {
-        find_is_own(&mut self.conn, &holder, &purse)
+        read_is_own(&mut self.conn, &self.known, &holder, &purse)
     }
 
     fn finds_place(&mut self, _alloc: Global, purse: Name) -> Result<bool, StoreFault> {
-        match find_place(&mut self.conn, &purse)? {
+        match read_place(self.alloc, &mut self.conn, &mut self.known, &purse)? {
             Some(number) => {
                 self.expected = Some((purse, number));
                 Ok(true)
@@ -225,7 +236,7 @@ impl<S: Alter> Book for Tables<S> {
     }
 
     fn purses_of(&mut self, alloc: Global, holder: Name) -> Result<Vec<Name>, StoreFault> {
-        list_purses(alloc, &mut self.conn, &mut self.held, &holder)
+        list_purses(alloc, &mut self.conn, &mut self.known, &holder)
     }
 
     fn inbox(&mut self, alloc: Global, purse: Name) -> Result<Vec<(u64, Message)>, StoreFault> {

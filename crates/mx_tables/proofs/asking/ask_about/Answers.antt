@@ -1,5 +1,7 @@
 use Rattle.mx_tables.proofs.Common.{IfOk-weaker, arith, state}
+use Rattle.std.proofs.Common.{subst}
 use Rattle.std.proofs.lemmas.Result.{IfErr-weaker}
+use Rattle.sqlite.specs.State.{Shown}
 use Rattle.mx_tables.proofs.ReadLemmas.{about_query, about_is}
 use Rattle.mx_tables.proofs.CallLemmas.{reads_to}
 use Rattle.mx_tables.proofs.CauseLemmas.{handed}
@@ -12,6 +14,10 @@ ask-requires g c = rw c.text.ensures (about_query c.args.about)
 pub returns-clause-reads : goal.returns-clause-reads
 returns-clause-reads g c = reads_to g.S.Store c.in_ok-ask.ensures.reads (λ r holds shown.
     IfOk-weaker c.only.result _ _ (λ row one. about_is c.args.name.now _ _ _ r holds row one c.args.about (rw (c.text.ensures, c.text-2.ensures, c.as_str.ensures.text) at shown)) c.only.ensures.one)
+
+pub returns-clause-shown : goal.returns-clause-shown
+returns-clause-shown g c calm =
+    IfOk-weaker c.only.result _ _ (λ row one. subst (Shown _ _ _ _) one (rw (c.text.ensures, c.text-2.ensures, c.as_str.ensures.text) at (c.in_ok-ask.ensures.shown calm))) c.only.ensures.one
 
 pub returns-in_err-ask-clause-why : goal.returns-in_err-ask-clause-why
 returns-in_err-ask-clause-why g c = record {

@@ -13,9 +13,9 @@ returns-in_err-purses g c =
     let found = c.in_ok-member.ensures.reads in
     record {
       reads = λ ours tells.
-          tells_fault g.S.Store (reads_then g.S.Store found (looks.reads (found.stays ours).ours ((found.stays ours).index _ tells) found.live))
+          tells_fault g.S.Store (reads_then g.S.Store found (looks.reads (found.stays ours).ours ((found.stays ours).known _ tells) found.live))
           c.from_residual-in_err-purses.ensures.0;
-      index = λ ours tells. looks.index (found.stays ours).ours ((found.stays ours).index _ tells);
+      known = λ ours tells. looks.known (found.stays ours).ours ((found.stays ours).known _ tells);
     }
 
 pub returns : goal.returns
@@ -23,15 +23,15 @@ returns g c =
     let looks = c.in_ok-purses.ensures in
     let found = c.in_ok-member.ensures.reads in
     record {
-      reads = λ ours tells. tell_holder g.S.Store _ (reads_to g.S.Store (reads_then g.S.Store found (looks.reads (found.stays ours).ours ((found.stays ours).index _ tells) found.live)) (λ rows holds both.
+      reads = λ ours tells. tell_holder g.S.Store _ (reads_to g.S.Store (reads_then g.S.Store found (looks.reads (found.stays ours).ours ((found.stays ours).known _ tells) found.live)) (λ rows holds both.
           let at : fmap.get rows.holders c.args.name.now ≡ Some c.in-Some.member = sym both.0 ∙ c.in-Some.is in
           let count = both.1 ∙ length-map (purse_rows_of c.args.name.now (fmap.entries rows.purses)) (λ (e : Name × PurseRow). e.0) in
           rw at (ap (λ n. let it : HolderRow = record { member = c.in-Some.member; purses = n } in Some it) count)));
-      index = λ ours tells. looks.index (found.stays ours).ours ((found.stays ours).index _ tells);
+      known = λ ours tells. looks.known (found.stays ours).ours ((found.stays ours).known _ tells);
     }
 
 pub returns-in_default : goal.returns-in_default
 returns-in_default g c = record {
   reads = λ ours tells. tell_holder g.S.Store _ (reads_to g.S.Store c.in_ok-member.ensures.reads (λ rows holds is. rw (sym is ∙ c.in_default.is) refl));
-  index = λ ours. (c.in_ok-member.ensures.reads.stays ours).index _;
+  known = λ ours. (c.in_ok-member.ensures.reads.stays ours).known _;
 }

@@ -5,5 +5,5 @@ use Rattle.mx_tables.proofs.owners.count_purses.Goals as goal
 
 pub returns : goal.returns
 returns g c =
-    let looks = looks_under g.S.Store _ _ c.args.kept.now c.in_ok-held.held c.args.holder.now c.in_ok-held.ensures.stays c.in_ok-held.ensures.tells (λ rows is. c.count_held-count.ensures ∙ ap length is) in
-    record { reads = λ ours was live. looks.reads ours was (c.in_ok-held.ensures.live live); index = looks.index }
+    let looks = looks_under g.S.Store _ _ c.args.kept.now c.in_ok-known.known c.args.holder.now c.in_ok-known.ensures.stays c.in_ok-known.ensures.tells (λ rows is. c.count_held-count.ensures ∙ ap length is) in
+    record { reads = λ ours was live. looks.reads ours was (c.in_ok-known.ensures.live live); known = looks.known }

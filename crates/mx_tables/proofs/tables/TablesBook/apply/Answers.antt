@@ -1,7 +1,7 @@
 use Rattle.mx_tables.proofs.Common.{◌≡◌, ◌≤◌, fold, inl, inr, arith, state, Rows, rewritten}
-use Rattle.mx_tables.specs.Owners.{OwnerIndex, indexed}
+use Rattle.mx_tables.specs.Known.{Knowledge, known_after}
 use Rattle.mx_tables.specs.Holds.{Spells}
-use Rattle.mx_tables.specs.States.{worry, Leaves, TellsOwners}
+use Rattle.mx_tables.specs.States.{worry, Leaves, Knows}
 use Rattle.mx_tables.proofs.KeptLemmas.{spelled_after, spelled_one}
 use Rattle.mx_tables.proofs.StateLemmas.{awake_by, told_after, worry_later, sure, sure_before, no_worry, not_lied, ours_after, left_as_was}
 use Rattle.std.proofs.lemmas.Result.{on_ok_weaker}
@@ -10,16 +10,16 @@ use Rattle.mx_tables.proofs.tables.TablesBook.apply.Goals as goal
 pub invariant_of-self : goal.invariant_of-self
 invariant_of-self g c =
     let change : Rows → Rows = λ r. fold rewritten r c.args.edits.now in
-    let index : OwnerIndex → OwnerIndex = λ held. fold indexed held c.args.edits.now in
+    let learns : Knowledge → Knowledge = λ k. fold known_after k c.args.edits.now in
     let commits = c.edit_all-done.ensures.commits in
-    let was : TellsOwners (state g.S.Store c.self.inside.conn) c.take-held.result = rw c.take-held.ensures.value c.self.invariant.1 in (
-      ours_after g.S.Store c.self.inside.conn c.edit_all-done.new.conn change index c.self.invariant.0 c.edit_all-done.result commits,
-      told_after g.S.Store c.self.inside.conn c.edit_all-done.new.conn change index c.self.invariant.0 c.edit_all-done.result commits c.is_ok.result c.is_ok.ensures.value c.take-held.result c.keep_up.result c.keep_up.ensures was,
+    let was : Knows (state g.S.Store c.self.inside.conn) c.take-known.result = rw c.take-known.ensures.value c.self.invariant.1 in (
+      ours_after g.S.Store c.self.inside.conn c.edit_all-done.new.conn change learns c.self.invariant.0 c.edit_all-done.result commits,
+      told_after g.S.Store c.self.inside.conn c.edit_all-done.new.conn change learns c.self.invariant.0 c.edit_all-done.result commits c.is_ok.result c.is_ok.ensures.value c.take-known.result c.keep_up.result c.keep_up.ensures was,
     )
 
 pub returns-clause-err : goal.returns-clause-err
 returns-clause-err g c h =
-    rw c.self.view_is at (left_as_was g.S.Store c.self.inside.conn c.edit_all-done.new.conn (λ r. fold rewritten r c.args.edits.now) (λ held. fold indexed held c.args.edits.now)
+    rw c.self.view_is at (left_as_was g.S.Store c.self.inside.conn c.edit_all-done.new.conn (λ r. fold rewritten r c.args.edits.now) (λ k. fold known_after k c.args.edits.now)
     c.self.invariant.0 c.edit_all-done.result c.edit_all-done.ensures.commits h)
 
 pub returns-clause-later : goal.returns-clause-later
