@@ -215,8 +215,9 @@ pub fn read_has_purse<S: Alter>(
     known: &Option<Known>,
     name: &Name,
 ) -> Result<bool, StoreFault>
-    ensures { Looks S.Store conn.old conn.new known.now known.now
+    ensures looks { Looks S.Store conn.old conn.new known.now known.now
         (Tells S.Store conn.old conn.new result (λ w b. b ≡ has_purse w name.now)) }
+    ensures why { IsExplained S.Store conn.old conn.new result }
 {
     let Some(_row) = recall_purse(known, name) else {
         return find_has_purse(conn, name);
@@ -232,9 +233,10 @@ pub fn read_is_own<S: Alter>(
     holder: &Name,
     name: &Name,
 ) -> Result<bool, StoreFault>
-    ensures { Looks S.Store conn.old conn.new known.now known.now
+    ensures looks { Looks S.Store conn.old conn.new known.now known.now
         (Tells S.Store conn.old conn.new result
         (λ w b. b ≡ is_some (own_purse w holder.now name.now))) }
+    ensures why { IsExplained S.Store conn.old conn.new result }
 {
     let own = match recall_purse(known, name) {
         Some(row) => same_name(holder, &row.holder),
@@ -274,8 +276,9 @@ pub fn read_place<S: Alter>(
     known: &mut Option<Known>,
     name: &Name,
 ) -> Result<Option<u64>, StoreFault>
-    ensures { Looks S.Store conn.old conn.new known.old known.new
+    ensures looks { Looks S.Store conn.old conn.new known.old known.new
         (Reads S.Store conn.old conn.new result (λ r v. v ≡ place_of r name.now)) }
+    ensures why { IsExplained S.Store conn.old conn.new result }
 {
     let Some(number) = recall_place(known, name) else {
         return find_place(alloc, conn, known, name);

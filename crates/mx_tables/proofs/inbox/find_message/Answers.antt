@@ -31,5 +31,5 @@ returns-in_ok-message_at-in-Some g c = tell_message g.S.Store _ _ (reads_to g.S.
     ap Some (message_back one.0 read.field-0 c.in-Some.row (valid (c.args.purse.now, c.args.number) one.0 one.1) read.ensures.valid one.2 read.ensures.shown.0 read.ensures.shown.1) ∙ sym one.1))
 
 pub returns-then-number-gt-MOST_NUMBER : goal.returns-then-number-gt-MOST_NUMBER
-returns-then-number-gt-MOST_NUMBER g c = tell_message g.S.Store _ _ (reads_to g.S.Store c.in_ok-find_live.ensures (λ r holds is valid low.
+returns-then-number-gt-MOST_NUMBER g c = tell_message g.S.Store _ _ (reads_to g.S.Store c.in_ok-find_live.ensures.reads (λ r holds is valid low.
     sym (none_above r c.args.purse.now c.args.number low (omega (arith, c.if-number-gt-MOST_NUMBER.true)))))
