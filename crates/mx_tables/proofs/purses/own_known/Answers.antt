@@ -14,5 +14,5 @@ pub returns : goal.returns
 returns g c =
     let looks = looks_known g.S.Store c.args.known.now c.in_ok-find_live.ensures.reads (λ rows holds known purses.
     let at : fmap.get rows.purses c.args.name.now ≡ Some c.in-Some.row.now = recalled _ rows holds c.args.known.now known c.args.name.now c.in-Some.row.now c.in-Some.ensures purses in
-    grind (arith, at, c.own_in-own.ensures)) in
+    grind (arith, at, c.own_in.ensures)) in
     record { reads = λ ours was. tell_own g.S.Store _ _ (looks.reads ours was); known = looks.known }

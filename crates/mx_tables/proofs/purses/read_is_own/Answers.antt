@@ -13,14 +13,14 @@ returns-in_err-find_live-clause-looks g c = record {
   known = λ ours. (c.in_err-find_live.ensures.reads.stays ours).known _;
 }
 
-pub returns-in-None-clause-looks : goal.returns-in-None-clause-looks
-returns-in-None-clause-looks g c = looks_read g.S.Store c.args.known.now c.find_is_own.ensures.tells
+pub returns-in_default-clause-looks : goal.returns-in_default-clause-looks
+returns-in_default-clause-looks g c = looks_read g.S.Store c.args.known.now c.find_is_own.ensures.tells
 
 pub returns-clause-looks : goal.returns-clause-looks
 returns-clause-looks g c =
     let looks = looks_known g.S.Store c.args.known.now c.in_ok-find_live.ensures.reads (λ rows holds known.
     let at = recalled_holder _ rows holds c.args.known.now known c.args.name.now c.in-Some.row.now c.in-Some.ensures in
-    c.same_name-own.ensures.value ∙ ap (is_of c.args.holder.now) (sym at) ∙ sym (own_found rows c.args.holder.now c.args.name.now)) in
+    c.same_name.ensures.value ∙ ap (is_of c.args.holder.now) (sym at) ∙ sym (own_found rows c.args.holder.now c.args.name.now)) in
     record { reads = λ ours was. tell_is_own g.S.Store _ _ (looks.reads ours was); known = looks.known }
 
 pub returns-in_err-find_live-clause-why : goal.returns-in_err-find_live-clause-why
