@@ -1,11 +1,13 @@
 -- Why a read fails.
-use Rattle.mx_tables.proofs.Common.{◌≡◌, inl, inr, ℕ, List, Ok, Option, Some, None, refl, ◌∙◌, Row, office_schema}
+use Rattle.mx_tables.proofs.Common.{[], arith, codes, length, ◌≤◌, ◌≡◌, inl, inr, ℕ, List, Ok, Option, Some, None, refl, ◌∙◌, Row, office_schema}
 use Rattle.std.proofs.Common.{◌⊎◌, Err, Result, IsTrue, sym, ap, subst, append-nil}
 use Rattle.std.specs.Prelude.{IsSome, IfErr, IsErrAnd}
 use Rattle.sqlite_trees.specs.declared.error.StoreError.{StoreError}
 use Rattle.sqlite_trees.specs.declared.error.StoreError.TheVariants.{OutOfMemory, Io, Corrupt, Full, Broken, Unstorable}
 use Rattle.sqlite_trees.specs.Tree.{Trees}
 use Rattle.sqlite_resolve.specs.declared.compiled.Compiled.{Compiled}
+use Rattle.sqlite_resolve.specs.declared.error.CompileError.{CompileError}
+use Rattle.sqlite_tied.specs.Compute.{everything}
 use Rattle.sqlite.specs.declared.error.Error.{Error}
 use Rattle.sqlite.specs.Effect.{RefusesToRead}
 use Rattle.sqlite.specs.Clock.{timed}
@@ -70,6 +72,39 @@ module _ (sql : List ℕ) (params : Row) (old new : State) (e : Error) (text : I
     unfolding FailsToQuery
     query_told (inl h) = not_run_told h
     query_told (inr h) = shown_told h.0 h.1.is h.1.now h.2
+
+-- ---- a COMMIT that is prepared
+
+abbrev commit : List ℕ
+commit = codes "COMMIT"
+
+-- the text is one statement, which takes nothing and reads no clock
+abbrev IsBare : List ℕ → Result Compiled CompileError → Type 0
+IsBare sql (Ok c) = (length sql ≤ c.tail) × (0 ≡ length c.names) × IsPlain (Ok c)
+IsBare sql (Err e) = ⊥
+
+commit_bare : IsBare commit (understood office_schema commit)
+unfolding understood everything
+commit_bare = (omega arith, refl, (refl, refl))
+
+module _ (old new : State) (e : Error) (has : old.now.schema ≡ office_schema) where
+  commit_known : {r : Result Compiled CompileError} → understood old.now.schema commit ≡ r → IsBare commit r
+  commit_known is = subst (IsBare commit) (ap (λ s. understood s commit) (sym has) ∙ is) commit_bare
+
+  commit_stands : IsNoStatement old commit [] e → ⊥
+  commit_stands (inl h) = commit_known h.1
+  commit_stands (inr h) =
+      let bare = commit_known h.1 in
+      elim h.2 [
+        | inl part ↦ part.0 bare.0
+        | inr (inl count) ↦ count.0 bare.1
+        | inr (inr clock) ↦ clock.0 bare.2.1
+      ]
+
+  pub prepare_told : IsTrue old.is_open → IsNotRun old new commit [] e → Blames old new (fault_told e)
+  unfolding IsNotRun
+  prepare_told live (inl h) = absurd (commit_stands h.0)
+  prepare_told live (inr h) = rw h.1 (caused old new live h.0 h.2)
 
 -- what a statement says of faults
 pub explained : {known blamed : Type 0} {Commits : Trees → Type 0} (old new : State) → Survives old new Commits → (HasCleanDisk new → worry old ≡ 0 → known → blamed) → Explains old new known blamed

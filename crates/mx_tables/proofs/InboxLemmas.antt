@@ -1,6 +1,6 @@
 -- The statements on inboxes.
-use Rattle.mx_tables.proofs.Common.{inl, inr, ◌≡◌, ◌<◌, ℕ, None, length, List, [], ◌∷◌, refl, ℤ, pos, ◌+◌, true, Some, Option, codes, Ok, ◌∙◌, arith, AllByRecursion, length-map, Text, Int, number, office_schema, option_map, IsPermutation, Ordering, nat_cmp, is_eq, eq_by_cmp, Binary, Row, column, col, Database, Executes, name_cmp, is_name, Name, Rows, rewritten, PurseRow, Holds, Goes}
-use Rattle.std.proofs.Common.{map, ap, not, Err, Result, IfOk, sym, subst, Less}
+use Rattle.mx_tables.proofs.Common.{false, inl, inr, ◌≡◌, ◌<◌, ℕ, None, length, List, [], ◌∷◌, refl, ℤ, pos, ◌+◌, true, Some, Option, codes, Ok, ◌∙◌, arith, AllByRecursion, length-map, Text, Int, number, office_schema, option_map, IsPermutation, Ordering, nat_cmp, is_eq, eq_by_cmp, Binary, Row, column, col, Database, Executes, name_cmp, is_name, Name, Rows, rewritten, PurseRow, Holds, Goes}
+use Rattle.std.proofs.Common.{is_some, filter, map, ap, not, Err, Result, IfOk, sym, subst, Less}
 use Rattle.std.proofs.lemmas.List.Sorted.{length_permutation}
 use Rattle.mx_purse.specs.declared.message.Message.{Message}
 use Rattle.mx_purse.specs.Messages.{IsMessage}
@@ -19,7 +19,7 @@ use Rattle.sqlite.specs.State.{State, Shown}
 use Rattle.mx_pay.specs.Limits.{most_number}
 use Rattle.mx_pay.proofs.SameLemmas.{names_turned}
 use Rattle.mx_book.specs.RowEdits.{on_purse}
-use Rattle.mx_book.specs.declared.edits.Edit.TheVariants.{AddMessage}
+use Rattle.mx_book.specs.declared.edits.Edit.TheVariants.{AddMessage, DropMessage}
 use Rattle.mx_book.specs.RowReads.{row_inbox_of, of_name}
 use Rattle.mx_book.specs.Under.{pair_cmp}
 use Rattle.mx_book.proofs.NameLemmas.{same_name}
@@ -30,16 +30,16 @@ use Rattle.mx_tables.proofs.StoredLemmas.{and_true, same_text, same_numbers, num
 use Rattle.sqlite.specs.Listing.{understood}
 use Rattle.sqlite_tied.specs.Compute.{everything}
 use Rattle.sqlite_trees.specs.Tree.{Trees}
-use Rattle.mx_tables.specs.States.{Accepts, Brings, SparesKnown}
+use Rattle.mx_tables.specs.States.{Accepts, Brings}
 use Rattle.mx_tables.proofs.FaultLemmas.{IsWhole, select_accepted}
 use Rattle.mx_tables.proofs.ReadLemmas.{answers, answers_in_order, keyed}
 use Rattle.mx_tables.proofs.StateLemmas.{brings_same}
 use Rattle.mx_tables.proofs.WriteLemmas.{adds_known, drops, goes_as, goes_then}
-use Rattle.mx_tables.proofs.KnownLemmas.{IsChanged, changed_is, at_most_put, at_most_beside, at_most_left}
+use Rattle.mx_tables.proofs.KnownLemmas.{IsChanged, changed_is, at_most_put, at_most_beside, at_most_left, numbered_put, numbered_left, lies_put, lies_left}
 use Rattle.mx_tables.specs.Owners.{Owned}
-use Rattle.mx_tables.specs.Known.{Knowledge, IsKnown, Stands, AtMost, known_sent, known_after}
+use Rattle.mx_tables.specs.Known.{Knowledge, AreNumbered, IsKnown, Lies, Stands, AtMost, is_message_at, known_sent, known_after}
 use Rattle.sqlite_trees.specs.Tree.{put_row}
-use Rattle.sqlite_rules.specs.Edit.{without_all}
+use Rattle.sqlite_rules.specs.Edit.{is_taken, without_all}
 use Rattle.sqlite_rules.specs.Calls.{ids_of}
 use Rattle.mx_tables.proofs.KeptLemmas as kept
 use Rattle.sqlite_trees.proofs.ListLemmas.{all-map, all-filter}
@@ -89,7 +89,7 @@ inbox_read p r valid rows ms read mine is =
     (sym read ∙ ap (map first_three) is ∙ map-map first_three message_row (row_inbox_of r p))
 
 -- the test on both columns of the key
-at_message : (p : Name) (n : ℕ) (id : ℤ) (e : (Name × ℕ) × Message) → passes (is_given 1 0 ∷ is_given 2 1 ∷ []) (Text p ∷ number n ∷ []) (Int id ∷ message_cells e) ≡ eq_by_cmp (pair_cmp name_cmp nat_cmp) (p, n) e.0
+pub at_message : (p : Name) (n : ℕ) (id : ℤ) (e : (Name × ℕ) × Message) → passes (is_given 1 0 ∷ is_given 2 1 ∷ []) (Text p ∷ number n ∷ []) (Int id ∷ message_cells e) ≡ eq_by_cmp (pair_cmp name_cmp nat_cmp) (p, n) e.0
 at_message p n id e =
     grind (arith, same_text e.0.0 p, same_numbers e.0.1 n, names_turned e.0.0 p, (eq_by_cmp_equiv nat_cmp_total).symm e.0.1 n, tied_then (name_cmp p e.0.0) (nat_cmp n e.0.1))
 
@@ -126,21 +126,27 @@ both_hold (Ok x) P Q p q = (p, q)
 both_hold (Err e) P Q p q = tt
 
 -- what is known with fewer messages
-left_known : (old new : State) (ids : List ℤ) → Wrote office_schema kept.inbox_place.table old new (without_all (old.now.trees 10) ids) → SparesKnown old new
-left_known old new ids wrote k it =
+left_known : (p : Name) (n : ℕ) (old new : State) (read : List Row) → IsPermutation (map (λ r. column r 0 ∷ []) (filter (is_message_at (p, n)) (old.now.trees 10))) read → Wrote office_schema kept.inbox_place.table old new (without_all (old.now.trees 10) (ids_of read))
+    → (k : Knowledge) → IsKnown old.now.trees k → IsKnown new.now.trees (known_after k (DropMessage p n))
+left_known p n old new read got wrote k it =
     let purses : new.now.trees 8 ≡ old.now.trees 8 = wrote.others.1.1.1.1.0 (λ e. cc) in
     record {
       owned = subst (λ rows. Owned rows k.owners) (sym purses) it.owned;
       stand = λ q x at. subst (λ rows. Stands rows q x) (sym purses) (it.stand q x at);
-      bound = λ q n at. subst (λ rows. AtMost rows q n) (sym wrote.rows_are) (at_most_left ids (old.now.trees 10) q n (it.bound q n at));
+      bound = λ q n at. subst (λ rows. AtMost rows q n) (sym wrote.rows_are) (at_most_left (ids_of read) (old.now.trees 10) q n (it.bound q n at));
+      numbered = subst AreNumbered (sym wrote.rows_are) (numbered_left (ids_of read) (old.now.trees 10) it.numbered);
+      lies = λ q at.
+          let had = sym (ap (λ (o : Option (Unit {0})). is_some o) (fmap.get-remove kept.pairs_key.total k.seen (p, n) q)) ∙ at in
+          let other : eq_by_cmp (pair_cmp name_cmp nat_cmp) q (p, n) ≡ false = grind (arith, had) in
+          subst (λ rows. Lies rows q) (sym wrote.rows_are) (lies_left (old.now.trees 10) q (p, n) read it.numbered got other (it.lies q (grind (arith, had, other))));
     }
 
 pub drops_message : (p : Name) (n : ℕ) (old new : State) (count : ℕ) → old.now.schema ≡ office_schema → Executes delete_message (Text p ∷ number n ∷ []) old new (Ok count)
-    → Goes (λ r. record r { inbox = fmap.remove r.inbox (p, n) }) old new
+    → Brings (λ r. record r { inbox = fmap.remove r.inbox (p, n) }) (λ k. known_after k (DropMessage p n)) old new
 drops_message p n old new count has ran =
     goes_as _ _ _ old new (λ r h. ap (λ m. record r { inbox = m }) (remove_is r.inbox (p, n)))
     (drops kept.inbox delete_message _ _ delete_message_is (Text p ∷ number n ∷ []) (eq_by_cmp (pair_cmp name_cmp nat_cmp) (p, n))
-    (at_message p n) (λ id e. refl) (λ old new read wrote k it. left_known old new (ids_of read) wrote k it) old new count has ran)
+    (at_message p n) (λ id e. refl) _ (λ old new read got wrote k it. left_known p n old new read got wrote k it) old new count has ran)
 
 -- no message has a number above 10^15
 pub none_above : (r : Rows) (p : Name) (n : ℕ) → HaveNumbers r → most_number < n → fmap.get r.inbox (p, n) ≡ None
@@ -151,13 +157,15 @@ none_above r p n low above = by_message (fmap.get r.inbox (p, n)) refl
     by_message (Some m) e = absurd (let it = low (p, n) m e in omega (arith, it, above))
 
 -- what is known after a message more
-sent_known : (id : ℤ) (p : Name) (rest : Row) (old new : State) → Wrote office_schema kept.inbox_place.table old new (put_row (Int id ∷ Text p ∷ rest) (old.now.trees 10)) → (k : Knowledge) → IsKnown old.now.trees k → IsKnown new.now.trees (known_sent p k)
-sent_known id p rest old new wrote k it =
+sent_known : (id : ℤ) (p : Name) (rest : Row) (old new : State) → is_taken (old.now.trees 10) (Int id ∷ Text p ∷ rest) ≡ false → Wrote office_schema kept.inbox_place.table old new (put_row (Int id ∷ Text p ∷ rest) (old.now.trees 10)) → (k : Knowledge) → IsKnown old.now.trees k → IsKnown new.now.trees (known_sent p k)
+sent_known id p rest old new fresh wrote k it =
     let purses : new.now.trees 8 ≡ old.now.trees 8 = wrote.others.1.1.1.1.0 (λ e. cc) in
     record {
       owned = subst (λ rows. Owned rows k.owners) (sym purses) it.owned;
       stand = λ q x at. subst (λ rows. Stands rows q x) (sym purses) (it.stand q x at);
       bound = λ q n at. subst (λ rows. AtMost rows q n) (sym wrote.rows_are) (bound q n (changed_is k.waiting p (λ n. n + 1) q n at));
+      numbered = subst AreNumbered (sym wrote.rows_are) (numbered_put (old.now.trees 10) id (Text p ∷ rest) fresh it.numbered);
+      lies = λ q at. subst (λ rows. Lies rows q) (sym wrote.rows_are) (lies_put (old.now.trees 10) _ q fresh (it.lies q at));
     }
   where
     bound : (q : Name) (n : ℕ) → IsChanged k.waiting p (λ n. n + 1) q n → AtMost (put_row (Int id ∷ Text p ∷ rest) (old.now.trees 10)) q n
@@ -170,7 +178,7 @@ pub adds_message : (p : Name) (n : ℕ) (m : Message) (old new : State) (count :
     → Executes insert_message (Text p ∷ number n ∷ Text (message_word m) ∷ Text (message_details m) ∷ []) old new (Ok count) → Brings (λ r. record r { inbox = fmap.insert r.inbox (p, n) m }) (known_sent p) old new
 adds_message p n m =
     adds_known kept.inbox insert_message _ _ insert_message_is (Text p ∷ number n ∷ Text (message_word m) ∷ Text (message_details m) ∷ []) ((p, n), m) (rw (cast_null, cast_int (pos n)) refl) (known_sent p)
-    (λ old new id fresh wrote. sent_known id p _ old new wrote)
+    (λ old new id fresh wrote. sent_known id p _ old new fresh wrote)
 
 -- a message under the next number of its purse, which rises
 pub delivers : (p : Name) (m : Message) (n : ℕ) (a b c d : State) → b.now ≡ a.now → Raises p n b c → Brings (λ r. record r { inbox = fmap.insert r.inbox (p, n) m }) (known_sent p) c d

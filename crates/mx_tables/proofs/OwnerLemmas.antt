@@ -1,6 +1,6 @@
 -- What an index of purses by holder tells, after the statements on purses.
 use Rattle.mx_tables.proofs.Common.{◌≡◌, ℤ, Bool, true, false, ◌&&◌, List, [], ◌∷◌, filter, Option, Some, None, refl, ◌∙◌, inl, inr, is_eq, arith, ◌<◌, ◌+◌, ℕ, length, take, codes, Ok, AllByRecursion, IsPermutation, ◌++◌, Int, Text, Row, column, name_cmp, is_name, Name, Rows, PurseRow, Database, col, office_schema, Holds, state}
-use Rattle.std.proofs.Common.{◌||◌, map, sym, ap, ap₂, subst, Equal, Less, ◌≤ℤ◌, ◌<ℤ◌, get_or, Result, Err, IfOk}
+use Rattle.std.proofs.Common.{is_some, ◌||◌, map, sym, ap, ap₂, subst, Equal, Less, ◌≤ℤ◌, ◌<ℤ◌, get_or, Result, Err, IfOk}
 use Rattle.std.specs.List.{list_any}
 use Rattle.std.specs.Cmp.{both_ways}
 use Rattle.std.specs.FinMap as fmap
@@ -35,12 +35,14 @@ use Rattle.mx_book.specs.Index.{names_under}
 use Rattle.mx_book.specs.RowReads.{row_purses_of}
 use Rattle.mx_book.proofs.HeldLemmas.{held_names}
 use Rattle.mx_tables.specs.declared.known.Known.{Known}
-use Rattle.mx_tables.specs.Known.{IsKnown, known_of, newly_known}
+use Rattle.mx_tables.specs.Known.{AreNumbered, IsKnown, known_of, newly_known}
+use Rattle.mx_book.specs.Under.{pair_cmp}
+use Rattle.std.specs.Ordering.{nat_cmp}
 use Rattle.sqlite_trees.specs.Tree.{Trees}
 use Rattle.mx_tables.specs.States.{worry, IsAwake, IsOurs, Stays, Knows, Looks, Reads}
-use Rattle.mx_tables.specs.Owners.{OwnerIndex, IndexSlots, index_of, NumbersDiffer, HasOwner, is_owned_in, Owned, Lists}
+use Rattle.mx_tables.specs.Owners.{OwnerIndex, IndexSlots, index_of, NumbersDiffer, HasOwner, is_owned_in, Owned, Lists, Rises}
 use Rattle.mx_tables.proofs.LoadLemmas.{any_named}
-use Rattle.mx_tables.proofs.Texts.{select_owners, select_owners_is}
+use Rattle.mx_tables.proofs.Texts.{select_numbers, select_numbers_is, select_owners, select_owners_is}
 use Rattle.mx_tables.proofs.Statements.{picked}
 use Rattle.mx_tables.proofs.Places.{stored, in_map}
 use Rattle.mx_tables.proofs.KeptLemmas.{purse_place, purses}
@@ -179,6 +181,37 @@ lists_next all held at row last id p h within is number name holder low it =
       all-append _ rows (row ∷ []) (all_weaker _ _ (λ r below. let e = below.2 in (below.0, below.1, grind (arith, ints, nat_tests))) rows it.1) ((id, number, omega (arith, ints)), tt),
     )
 
+-- rows that rise, and one more with the next number
+pub rises_next : (all : List Row) (at : ℕ) (row : Row) (last id : ℤ) → at < length all → row ≡ get_or all at row → column row 0 ≡ Int id → last <ℤ id → IsTable (take at all) × AreUpTo last (take at all) → IsTable (take (at + 1) all) × AreUpTo id (take (at + 1) all)
+rises_next all at row last id within is number low it =
+    let rows = take at all in
+    let more : rows ++ row ∷ [] ≡ take (at + 1) all = ap (λ r. take at all ++ r ∷ []) is ∙ sym (take_more all at row within) in
+    let lower = all_weaker _ (λ r. value_cmp (rowid r) (rowid row) ≡ Less) (λ r below. let e = below.2 in ap₂ value_cmp below.1 number ∙ below_is below.0 id (grind (arith, ints, nat_tests))) rows it.1 in
+    subst (λ all. IsTable all × AreUpTo id all) more (
+      ascending-append _ rows (row ∷ []) it.0 (tt, tt) (all_weaker _ _ (λ r less. (less, tt)) rows lower),
+      all-append _ rows (row ∷ []) (all_weaker _ _ (λ r below. let e = below.2 in (below.0, below.1, grind (arith, ints, nat_tests))) rows it.1) ((id, number, omega (arith, ints)), tt),
+    )
+
+pub rises_all : (last : ℤ) (rows : List Row) → IsTable rows × AreUpTo last rows → Rises rows
+rises_all last rows it = record { rise = it.0; have = all_weaker _ _ (λ r below. (below.0, below.1)) rows it.1 }
+
+-- rows of which a pass shows numbers that rise are numbered
+pub numbered_shown : (old new : State) (rows : List Row) → Shown select_numbers [] old new rows → old.now.schema ≡ office_schema → Rises rows → AreNumbered (old.now.trees 10)
+numbered_shown old new rows shown has it =
+    let tree = old.now.trees 10 in
+    let show = λ (r : Row). column r 0 ∷ [] in
+    let read = reads_as select_numbers [] old new office_schema has _ select_numbers_is.is select_numbers_is.query.plain select_numbers_is.unlisted rows shown in
+    let got : IsPermutation (map show tree) rows = subst (λ all. IsPermutation (map show all) rows) (filter_everything tree) (picked 10 [] (col 1 0 ∷ []) [] (codes "rowid" ∷ []) old.now [] rows read) in
+    let from = pull_back show (map show tree) rows got tree refl in
+    let rise : IsTable from.0 = ascending_from_map _ show from.0 (subst IsTable from.2 it.rise) in
+    let there = λ (r : Row) (h : Has tree r). permuted tree from.0 from.1 r h in
+    record {
+      apart = λ a b i j. tied_same from.0 a b rise (there a i) (there b j);
+      have = λ r h.
+          let seen = all_has _ rows (show r) it.have (permuted _ rows got (show r) (mapped_has show tree r h)) in
+          (seen.0, seen.1);
+    }
+
 -- what the pass shows is what the table has
 pub owned_shown : (old new : State) (rows : List Row) (held : OwnerIndex) → Shown select_owners [] old new rows → old.now.schema ≡ office_schema → Lists rows held → Owned (old.now.trees 8) held
 owned_shown old new rows held shown has it =
@@ -227,16 +260,18 @@ looks_under g old new before known h {r = r} stays tells f = record {
 }
 
 -- nothing more is known than the purses of each holder
-pub only_owned : (db : Trees) (held : OwnerIndex) → Owned (db 8) held → IsKnown db (newly_known held)
-only_owned db held it = record {
+pub only_owned : (db : Trees) (held : OwnerIndex) → Owned (db 8) held → AreNumbered (db 10) → IsKnown db (newly_known held)
+only_owned db held it numbered = record {
   owned = it;
   stand = λ p x at. absurd (let none = sym at ∙ fmap.get-empty name_cmp p in cc);
   bound = λ p n at. absurd (let none = sym at ∙ fmap.get-empty name_cmp p in cc);
+  numbered = numbered;
+  lies = λ q at. absurd (let none = sym at ∙ ap (λ (o : Option (Unit {0})). is_some o) (fmap.get-empty (pair_cmp name_cmp nat_cmp) q) in cc);
 }
 
 -- what a pass shows tells of the rows that are there
-pub told_shown : (old new : State) (items : List Row) (held : IndexSlots) (known : Known) → IsOurs old → Stays old new → (worry new ≡ 0 → Shown select_owners [] old new items) → Lists items (index_of held) → known_of known ≡ newly_known (index_of held)
+pub told_shown : (old new : State) (items : List Row) (held : IndexSlots) (known : Known) → IsOurs old → Stays old new → (worry new ≡ 0 → Shown select_owners [] old new items) → Lists items (index_of held) → known_of known ≡ newly_known (index_of held) → (worry old ≡ 0 → AreNumbered (old.now.trees 10))
     → Knows new (Some known)
-told_shown old new items held known ours stays shown lists is = λ calm.
+told_shown old new items held known ours stays shown lists is numbered = λ calm.
     let owned = owned_shown old new items (index_of held) (shown calm) (ours.schema (sure_before old new stays.later calm)) lists in
-    subst (IsKnown new.now.trees) (sym is) (subst (λ (d : Database). IsKnown d.trees (newly_known (index_of held))) (sym (stays.same calm)) (only_owned old.now.trees (index_of held) owned))
+    subst (IsKnown new.now.trees) (sym is) (subst (λ (d : Database). IsKnown d.trees (newly_known (index_of held))) (sym (stays.same calm)) (only_owned old.now.trees (index_of held) owned (numbered (sure_before old new stays.later calm))))

@@ -23,7 +23,7 @@ use Rattle.mx_book.specs.RowReads.{row_own_purse, row_finds_place, row_inbox_of,
 use Rattle.mx_purse.specs.declared.message.Message.{Message}
 use Rattle.mx_tables.specs.Schema.{purse_cells}
 use Rattle.mx_tables.specs.Owners.{HasOwner, Owned}
-use Rattle.mx_tables.specs.Known.{Knowledge, IsKnown, Stands, AtMost, purse_columns_of, known_after, known_raised, changed_at}
+use Rattle.mx_tables.specs.Known.{Knowledge, IsKnown, Stands, AtMost, AreNumbered, Lies, purse_columns_of, known_after, known_raised, changed_at}
 use Rattle.mx_tables.specs.States.{Brings}
 use Rattle.mx_tables.proofs.OwnerLemmas.{AreAlike, owned_put, owned_changed}
 use Rattle.mx_tables.proofs.KnownLemmas.{IsChanged, changed_is, stands_changed, stands_put}
@@ -63,6 +63,8 @@ new_known id p h rest old new fresh wrote k it = record {
       let other : is_name q p ≡ false = grind (arith, had) in
       subst (λ rows. Stands rows q x) (sym wrote.rows_are) (stands_put (old.now.trees 8) id p (Text h ∷ rest) q x fresh other (it.stand q x (grind (arith, had, other))));
   bound = λ q n at. subst (λ rows. AtMost rows q n) (sym (wrote.others.1.1.1.1.1.0 (λ e. cc))) (it.bound q n at);
+  numbered = subst AreNumbered (sym (wrote.others.1.1.1.1.1.0 (λ e. cc))) it.numbered;
+  lies = λ q at. subst (λ rows. Lies rows q) (sym (wrote.others.1.1.1.1.1.0 (λ e. cc))) (it.lies q at);
 }
 
 pub adds_purse : (p h : Name) (old new : State) (count : ℕ) → old.now.schema ≡ office_schema → Executes insert_purse (Text p ∷ Text h ∷ []) old new (Ok count)
@@ -101,6 +103,8 @@ module _ (others : List Term) (test : Row → Bool) (params : Row) (old new : St
     owned = subst (λ rows. Owned rows k.owners) (sym wrote.rows_are) (owned_changed (old.now.trees 8) k.owners it.owned test shown form read picks first forms fresh);
     stand = λ q y at. subst (λ rows. Stands rows q y) (sym wrote.rows_are) (stands q y (changed_is k.purses p f q y at));
     bound = λ q n at. subst (λ rows. AtMost rows q n) (sym (wrote.others.1.1.1.1.1.0 (λ e. cc))) (it.bound q n at);
+    numbered = subst AreNumbered (sym (wrote.others.1.1.1.1.1.0 (λ e. cc))) it.numbered;
+    lies = λ q at. subst (λ rows. Lies rows q) (sym (wrote.others.1.1.1.1.1.0 (λ e. cc))) (it.lies q at);
   }
     where
       first : (r : Row) → Has (old.now.trees 8) r → rowid (shown r) ≡ rowid r

@@ -1,6 +1,6 @@
 -- What is known is so of the rows of a book, and what a query shows is known.
-use Rattle.mx_tables.proofs.Common.{codes, col, ◌≡◌, ◌≤◌, ◌<◌, ℕ, ℤ, Bool, true, false, List, [], ◌∷◌, filter, length, Ok, Option, Some, None, refl, ◌∙◌, inl, inr, arith, ◌&&◌, eq_by_cmp, length-map, IfOk-weaker, IsPermutation, option_map, Ordering, Int, Text, Row, column, name_cmp, is_name, Name, Rows, PurseRow, Database, office_schema, number, Holds, state}
-use Rattle.std.proofs.Common.{map, drop, sym, ap, subst, Result, IfOk}
+use Rattle.mx_tables.proofs.Common.{codes, col, nat_cmp, ◌≡◌, ◌≤◌, ◌<◌, ℕ, ℤ, Bool, true, false, List, [], ◌∷◌, filter, length, Ok, Option, Some, None, refl, ◌∙◌, inl, inr, arith, ◌&&◌, eq_by_cmp, length-map, IfOk-weaker, IsPermutation, option_map, Ordering, Int, Text, Row, column, name_cmp, is_name, Name, Rows, PurseRow, Database, office_schema, number, Holds, state}
+use Rattle.std.proofs.Common.{is_some, map, drop, sym, ap, subst, Result, IfOk}
 use Rattle.std.specs.Cmp.{IsTotalOrder}
 use Rattle.std.specs.FinMap as fmap
 use Rattle.std.specs.FinMap.{IsAntisymmetric}
@@ -39,9 +39,11 @@ use Rattle.mx_tables.specs.Owners.{HasOwner, HaveOwners}
 use Rattle.mx_tables.specs.Answers.{ArePurses, about_text, purse_shown, purse_columns, state_shown, state_columns, place_of}
 use Rattle.mx_tables.specs.declared.asking.About.TheVariants.{Purse}
 use Rattle.mx_tables.specs.declared.known.Known.{Known}
-use Rattle.mx_tables.specs.Known.{Stands, AtMost, AreKnown, IsKnown, IsPlace, Recalls, is_under, purse_columns_of}
+use Rattle.mx_tables.specs.Known.{Stands, AtMost, AreKnown, IsKnown, IsPlace, Lies, Recalls, Saw, is_message_at, is_under, purse_columns_of}
 use Rattle.mx_tables.specs.States.{IsOurs, Knows, Looks, Reads, Stays, Tells}
-use Rattle.mx_tables.proofs.Texts.{is_given, select_held_numbers, select_held_numbers_is}
+use Rattle.mx_tables.proofs.Texts.{is_given, select_held_numbers, select_held_numbers_is, select_message, select_message_is}
+use Rattle.mx_tables.proofs.InboxLemmas.{at_message}
+use Rattle.mx_book.specs.Under.{pair_cmp}
 use Rattle.mx_tables.proofs.Statements.{env, passes, picked, shown_rows}
 use Rattle.mx_tables.proofs.StateLemmas.{on_ok_anyway, stays_then, sure_before}
 use Rattle.mx_tables.proofs.StoredLemmas.{and_true, same_text, permuted}
@@ -105,6 +107,22 @@ at_most_as db r h p n most =
     let size = length_permutation _ _ (IsPermutation-filter named _ _ (in_map inbox db r h)) in
     let shown = length-map {B = ℕ × Message} (of_name p (fmap.entries r.inbox)) (λ (e : (Name × ℕ) × Message). (e.0.1, e.1)) in
     omega (arith, most, alike, one, two, size, shown)
+
+-- a message that lies there is there
+lies_as : (db : Database) (r : Rows) → Holds db r → (p : Name) (n : ℕ) → Lies (db.trees 10) (p, n) → is_some (fmap.get r.inbox (p, n)) ≡ true
+lies_as db r h p n it =
+    let c = h.contents in
+    let es = inbox_place.list.get c in
+    let e = had_among inbox_place.cells (db.trees 10) es (stored inbox.kept db c h.has).have it.row it.there in
+    let same : (p, n) ≡ e.1.0 = inbox.kept.key.exact (p, n) e.1.0 (is_equal _ (sym (at_message p n e.0 e.1) ∙ sym (ap (is_message_at (p, n)) e.3) ∙ it.under)) in
+    let found = found_there (pair_cmp name_cmp nat_cmp) inbox.kept.key.total inbox.kept.key.exact es e.1 (distinct inbox.kept db c h.has) e.2 in
+    let at = ap (λ m. fmap.get m e.1.0) (sym (ap inbox_place.map.get h.rows) ∙ inbox.is c) ∙ fmap.get-from_entries inbox.kept.key.total es e.1.0 ∙ found in
+    ap (λ k. is_some (fmap.get r.inbox k)) same ∙ ap is_some at
+
+-- a message that was seen is there
+pub seen_known : (db : Database) (r : Rows) → Holds db r → (k : Option Known) → AreKnown db.trees k → (p : Name) (n : ℕ) → Saw k (p, n) → is_some (fmap.get r.inbox (p, n)) ≡ true
+seen_known db r h None known p n it = absurd it
+seen_known db r h (Some k) known p n it = lies_as db r h p n (known.lies (p, n) it)
 
 -- a place that is known is the place
 pub place_known : (db : Database) (r : Rows) → Holds db r → (k : Option Known) → AreKnown db.trees k → (p : Name) (n : ℕ) → IsPlace k p n → place_of r p ≡ Some n
@@ -173,6 +191,17 @@ purse_learnt p old new row shown has holder purse owner cells is valid next read
     ∙ ap (λ v. v ∷ column row 1 ∷ column row 2 ∷ column row 3 ∷ column row 4 ∷ column row 5 ∷ column row 6 ∷ number n ∷ []) owner
     ∙ ap (λ s. Text holder ∷ column s 0 ∷ column s 1 ∷ column s 2 ∷ column s 3 ∷ column s 4 ∷ column s 5 ∷ number n ∷ []) cells in
     subst (λ q. Stands (old.now.trees 8) q x) (sym is) (stands_found p old new row shown has named x columns is valid)) read
+
+-- a message of a purse
+pub lies_found : (p : Name) (n : ℕ) (old new : State) (row : Row) → Shown select_message (Text p ∷ number n ∷ []) old new (row ∷ []) → old.now.schema ≡ office_schema → Lies (old.now.trees 10) (p, n)
+lies_found p n old new row shown has =
+    let tree = old.now.trees 10 in
+    let params = Text p ∷ number n ∷ [] in
+    let read = reads_as select_message params old new office_schema has _ select_message_is.is select_message_is.query.plain select_message_is.unlisted (row ∷ []) shown in
+    let got = picked 10 (is_given 1 0 ∷ is_given 2 1 ∷ []) (col 1 3 ∷ col 1 4 ∷ []) [] (codes "kind" ∷ codes "details" ∷ []) old.now params (row ∷ []) read in
+    let from = has_mapped _ _ row (permuted _ _ (IsPermutation-sym _ _ got) row (inl refl)) in
+    let was = has_filtered _ tree from.0 from.1 in
+    record { row = from.0; there = was.0; under = was.1 }
 
 -- the messages of a purse
 pub at_most_found : (p : Name) (old new : State) (rows : List Row) → Shown select_held_numbers (Text p ∷ []) old new rows → old.now.schema ≡ office_schema → AtMost (old.now.trees 10) p (length rows)

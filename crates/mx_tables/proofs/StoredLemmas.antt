@@ -131,17 +131,17 @@ without_all_table : (ids : List ℤ) (rows : List Row) → IsTable rows → IsTa
 without_all_table [] rows up = up
 without_all_table (id ∷ ids) rows up = without_all_table ids (without_rowid id rows) (ascending-filter _ _ rows up)
 
-abbrev Lacks : List ℤ → Row → Type 0
+abbrev pub Lacks : List ℤ → Row → Type 0
 Lacks ids x = (id : ℤ) → Has ids id → has_rowid id x ≡ false
 
-left_from : (ids : List ℤ) (rows : List Row) (x : Row) → Has (without_all rows ids) x → Has rows x × Lacks ids x
+pub left_from : (ids : List ℤ) (rows : List Row) (x : Row) → Has (without_all rows ids) x → Has rows x × Lacks ids x
 left_from [] rows x h = (h, λ id none. absurd none)
 left_from (id ∷ ids) rows x h =
     let r = left_from ids (without_rowid id rows) x h in
     let was = has_filtered (λ y. not (has_rowid id y)) rows x r.0 in
     (was.0, λ other k. elim k [ inl e ↦ rw e (not-true _ was.1) | inr more ↦ r.1 other more ])
 
-left_has : (ids : List ℤ) (rows : List Row) (x : Row) → Has rows x → Lacks ids x → Has (without_all rows ids) x
+pub left_has : (ids : List ℤ) (rows : List Row) (x : Row) → Has rows x → Lacks ids x → Has (without_all rows ids) x
 left_has [] rows x h lacks = h
 left_has (id ∷ ids) rows x h lacks = left_has ids (without_rowid id rows) x (has_kept (λ y. not (has_rowid id y)) rows x h (ap not (lacks id (inl refl)))) (λ other k. lacks other (inr k))
 
@@ -186,7 +186,7 @@ module _ (tree : List Row) (keyed : HaveIds tree) (apart : NumbersDiffer tree) (
       let other : test r ≡ true → has_rowid id.0 r ≡ false = λ passes. lacks id.0 (taken r (has_kept test tree r h passes) id.0 id.1) in
       grind (arith, tie, other)
 
-  lacks_it : (r : Row) → Has tree r → test r ≡ false → Lacks (ids_of read) r
+  pub lacks_it : (r : Row) → Has tree r → test r ≡ false → Lacks (ids_of read) r
   lacks_it r h fails id there =
       let n = row_of_id id there in
       let was = has_filtered test tree n.0 n.1 in

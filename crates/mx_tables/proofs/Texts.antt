@@ -97,6 +97,13 @@ pub select_owners_is : IsSelect select_owners 8 [] (col 1 0 ∷ col 1 1 ∷ col 
 unfolding understood everything
 select_owners_is = record { is = refl; query = record { plain = (refl, refl); silent = λ _ _. refl }; unlisted = refl }
 
+abbrev pub select_numbers : List ℕ
+select_numbers = codes "SELECT rowid FROM inbox"
+
+pub select_numbers_is : IsSelect select_numbers 10 [] (col 1 0 ∷ []) [] (codes "rowid" ∷ [])
+unfolding understood everything
+select_numbers_is = record { is = refl; query = record { plain = (refl, refl); silent = λ _ _. refl }; unlisted = refl }
+
 abbrev pub select_members : List ℕ
 select_members = codes "SELECT name FROM member ORDER BY name"
 

@@ -29,7 +29,7 @@ use Rattle.mx_book.proofs.UnderLemmas.{get-remake}
 use Rattle.mx_tables.specs.Schema.{Contents, cells_of, rows_of, AreTokens}
 use Rattle.mx_tables.specs.Holds.{HasContents, Stores, AllStore}
 use Rattle.mx_tables.specs.Owners.{Owned}
-use Rattle.mx_tables.specs.Known.{Knowledge, IsKnown, Stands, AtMost}
+use Rattle.mx_tables.specs.Known.{Knowledge, IsKnown, Stands, AtMost, AreNumbered, Lies}
 use Rattle.mx_tables.specs.States.{Brings, SparesKnown}
 use Rattle.mx_tables.proofs.Texts.{IsInsert, IsUpdate, IsDelete}
 use Rattle.mx_tables.proofs.Statements.{Wrote, IsQuiet, inserted, updated, deleted, picked, shown_rows, env, passes}
@@ -100,6 +100,8 @@ known_of_rows old new k purses inbox it = record {
   owned = subst (λ rows. Owned rows k.owners) (sym purses) it.owned;
   stand = λ p x at. subst (λ rows. Stands rows p x) (sym purses) (it.stand p x at);
   bound = λ p n at. subst (λ rows. AtMost rows p n) (sym inbox) (it.bound p n at);
+  numbered = subst AreNumbered (sym inbox) it.numbered;
+  lies = λ q at. subst (λ rows. Lies rows q) (sym inbox) (it.lies q at);
 }
 
 -- a write to a table of neither purses nor messages leaves what is known
@@ -243,11 +245,12 @@ module _ {K V : Type 0} {R : K → K → Ordering} {t : Place R V} (b : Belongs 
   pub drops : (sql : List ℕ) (terms project : List Term) → IsDelete sql (suc t.at) t.table.tree terms project → (params : Row) (p : K → Bool)
       → ((id : ℤ) (e : K × V) → passes terms params (Int id ∷ t.cells e) ≡ p e.0)
       → ((id : ℤ) (e : K × V) → rowid (eval_all project (env params (Int id ∷ t.cells e))) ≡ Int id)
-      → ((old new : State) (read : List Row) → Wrote office_schema t.table old new (without_all (old.now.trees t.table.tree) (ids_of read)) → SparesKnown old new)
-      → (old new : State) (count : ℕ) → old.now.schema ≡ office_schema → Executes sql params old new (Ok count) → Goes (λ r. t.map.put (fmap.retain_keys (t.map.get r) (λ k. not (p k))) r) old new
-  drops sql terms project text params p tests first known old new count has ran =
+      → (learns : Knowledge → Knowledge) → ((old new : State) (read : List Row) → IsPermutation (map (λ r. eval_all project (env params r)) (filter (passes terms params) (old.now.trees t.table.tree))) read
+      → Wrote office_schema t.table old new (without_all (old.now.trees t.table.tree) (ids_of read)) → (k : Knowledge) → IsKnown old.now.trees k → IsKnown new.now.trees (learns k))
+      → (old new : State) (count : ℕ) → old.now.schema ≡ office_schema → Executes sql params old new (Ok count) → Brings (λ r. t.map.put (fmap.retain_keys (t.map.get r) (λ k. not (p k))) r) learns old new
+  drops sql terms project text params p tests first learns known old new count has ran =
       let it = deleted office_schema (suc t.at) t.table b.kept.found (no_actions t.table) sql params old new has text.plain count ran _ text.is in
       let got = picked t.table.tree terms project [] [] (record old.now { schema = office_schema }) params it.0 it.1 in
-      goes (λ k. k) old new _ (λ es. filter (λ (e : K × V). not (p e.0)) es) (λ m. fmap.retain_keys m (λ k. not (p k))) it.2
+      goes learns old new _ (λ es. filter (λ (e : K × V). not (p e.0)) es) (λ m. fmap.retain_keys m (λ k. not (p k))) it.2
       (λ c holds. stores_left t.cells (old.now.trees t.table.tree) (t.list.get c) (stored b.kept old.now c holds) (passes terms params) (λ e. p e.0) tests (λ r. eval_all project (env params r)) first it.0 got)
-      (λ es apart. map_left b.kept.key.total b.kept.key.exact p es) (known old new it.0 it.2)
+      (λ es apart. map_left b.kept.key.total b.kept.key.exact p es) (known old new it.0 got it.2)

@@ -55,6 +55,11 @@ pub record Owned (rows : List Row) (held : OwnerIndex) : Type 0 where
   pub named : HaveOwners rows
   pub under : IsIndex name_cmp (λ h p. list_any (is_owned_in h p) rows) held
 
+-- rows that were read by rising numbers
+pub record Rises (rows : List Row) : Type 0 where
+  pub rise : IsTable rows
+  pub have : AllByRecursion (λ r. (id : ℤ) × (rowid r ≡ Int id)) rows
+
 -- rows that were read by rising numbers, and an index that tells the same as they
 pub record Lists (rows : List Row) (held : OwnerIndex) : Type 0 where
   pub rise : IsTable rows

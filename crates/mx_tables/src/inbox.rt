@@ -9,14 +9,16 @@ ghost use Rattle.mx_purse.specs.Words.{message_word, message_details};
 ghost use Rattle.mx_book.specs.RowReads.{row_inbox_of};
 ghost use Rattle.mx_tables.specs.Answers.{first_three, message_row};
 ghost use Rattle.sqlite.specs.Held.{state};
-ghost use Rattle.mx_tables.specs.Known.{AtMost, known_sent};
-ghost use Rattle.mx_tables.specs.States.{IsExplained, IsOurs, Reads, Tells, Writes, WritesWith, worry};
+ghost use Rattle.mx_tables.specs.Known.{AtMost, known_after, known_sent};
+ghost use Rattle.mx_book.specs.declared.edits.Edit.TheVariants.{DropMessage};
+ghost use Rattle.mx_tables.specs.States.{IsExplained, IsOurs, Looks, Reads, Tells, WritesWith, worry};
 ghost use Rattle.mx_book.specs.Reads.{inbox_of, message_of};
 
 use crate::asking::{ask, find_live, only, run_one};
 use crate::cells::{number_at, text_at};
 use crate::codes::message_code;
 use crate::given;
+use crate::known::{Known, recall_seen, remember_seen};
 use mx_book::StoreFault;
 use mx_pay::{MOST_NUMBER, Name};
 use mx_purse::Message;
@@ -89,13 +91,16 @@ pub fn count_messages<S: Alter>(conn: &mut Connection<S>, purse: &Name) -> Resul
     Ok(rows.len())
 }
 
-/// The message of that number in the inbox of a purse, or None where there is none.
+/// The message of that number in the inbox of a purse, or None where there is none. That it is there is known then.
 pub fn find_message<S: Alter>(
+    alloc: Global,
     conn: &mut Connection<S>,
+    known: &mut Option<Known>,
     purse: &Name,
     number: u64,
 ) -> Result<Option<Message>, StoreFault>
-    ensures { Tells S.Store conn.old conn.new result (λ w v. v ≡ message_of w purse.now number) }
+    ensures { Looks S.Store conn.old conn.new known.old known.new
+        (Tells S.Store conn.old conn.new result (λ w v. v ≡ message_of w purse.now number)) }
 {
     if number > MOST_NUMBER {
         find_live(conn)?;
@@ -106,10 +111,12 @@ pub fn find_message<S: Alter>(
         "SELECT kind, details FROM inbox WHERE purse = ?1 AND number = ?2",
         &[given::text(purse.as_str()), given::number(number)],
     )?;
-    match only(rows)? {
-        Some(row) => Ok(Some(message_at(&row, 0, 1)?)),
-        None => Ok(None),
-    }
+    let Some(row) = only(rows)? else {
+        return Ok(None);
+    };
+    let message = message_at(&row, 0, 1)?;
+    *known = remember_seen(alloc, known.take(), *purse, number);
+    Ok(Some(message))
 }
 
 /// Whether a message of that number lies in the inbox of a purse.
@@ -131,6 +138,24 @@ pub fn find_has_message<S: Alter>(
         &[given::text(purse.as_str()), given::number(number)],
     )?;
     Ok(only(rows)?.is_some())
+}
+
+/// Whether a message of that number lies in the inbox of a purse, which is asked for only where it isn't known.
+pub fn read_has_message<S: Alter>(
+    conn: &mut Connection<S>,
+    known: &Option<Known>,
+    purse: &Name,
+    number: u64,
+) -> Result<bool, StoreFault>
+    ensures { Looks S.Store conn.old conn.new known.now known.now
+        (Tells S.Store conn.old conn.new result
+        (λ w b. b ≡ is_some (message_of w purse.now number))) }
+{
+    let Some(()) = recall_seen(known, purse, number) else {
+        return find_has_message(conn, purse, number);
+    };
+    find_live(conn)?;
+    Ok(true)
 }
 
 /// Puts a message into an inbox under a number that isn't there.
@@ -165,8 +190,9 @@ pub fn drop_message<S: Alter>(
     purse: &Name,
     number: u64,
 ) -> Result<(), StoreFault>
-    ensures { Writes S.Store tx.old tx.new result
-        (λ r. record r { inbox = fmap.remove r.inbox (purse.now, number) }) }
+    ensures { WritesWith S.Store tx.old tx.new result
+        (λ r. record r { inbox = fmap.remove r.inbox (purse.now, number) })
+        (λ k. known_after k (DropMessage purse.now number)) }
 {
     if number > MOST_NUMBER {
         return Err(StoreFault::Store);

@@ -1,7 +1,7 @@
 //! What a book knows of its rows without asking for them.
 ghost use Rattle.std.specs.Prelude.{◌≡◌, IfOk, IfSome, fold};
 ghost use Rattle.mx_book.specs.declared.edits.Edit.TheVariants.{NewPurse, SetPurse};
-ghost use Rattle.mx_tables.specs.Known.{AreKnown, AtMost, Bounds, IsKeptUp, IsKnown, IsPlace, Recalls, Stands, known_after, known_of, known_raised, known_sent, newly_known};
+ghost use Rattle.mx_tables.specs.Known.{AreKnown, AtMost, Bounds, IsKeptUp, IsKnown, IsPlace, Lies, Recalls, Saw, Stands, known_after, known_of, known_raised, known_sent, newly_known};
 ghost use Rattle.mx_tables.specs.Owners.{HaveOwners, index_of};
 ghost use Rattle.sqlite_trees.specs.Tree.{Trees};
 
@@ -24,6 +24,8 @@ pub struct Known {
     pub purses: Table<Name, PurseRow>,
     /// How many messages lie in the inbox of a purse at most.
     pub waiting: Table<Name, usize>,
+    /// The keys of messages that were seen in inboxes.
+    pub seen: Table<(Name, u64), ()>,
     /// How many more are remembered before all of them are forgotten.
     pub left: u32,
 }
@@ -36,6 +38,7 @@ pub fn know(alloc: Global, held: Held) -> Known
         held,
         purses: Table::new(alloc),
         waiting: Table::new(alloc),
+        seen: Table::new(alloc),
         left: MOST_REMEMBERED,
     }
 }
@@ -106,6 +109,23 @@ pub fn learn_purse(
         next_message,
     };
     remember_purse(alloc, known, purse.name(), row)
+}
+
+/// The same, and that a message of this number lies in the inbox of a purse. None without memory for it.
+pub fn remember_seen(alloc: Global, known: Option<Known>, purse: Name, number: u64) -> Option<Known>
+    ensures { (db : Trees) → AreKnown db known → Lies (db 10) (purse, number) → AreKnown db result }
+{
+    let mut known = with_room(alloc, known?);
+    known.seen.reserve(1).ok()?;
+    known.seen.put((purse, number), ());
+    Some(known)
+}
+
+/// Whether it is known that a message of this number lies in the inbox of a purse.
+pub fn recall_seen(known: &Option<Known>, purse: &Name, number: u64) -> Option<()>
+    ensures { IfSome result (λ _. Saw known.now (purse.now, number)) }
+{
+    known.as_ref()?.seen.get((*purse, number)).copied()
 }
 
 /// A purse as it stands, where that is known.
@@ -206,6 +226,10 @@ fn keep_edit(known: &mut Known, edit: &Edit) -> Option<()>
         Edit::AddMessage { purse, .. } => {
             keep_raised(known, *purse)?;
             keep_sent(known, *purse)
+        }
+        Edit::DropMessage { purse, number } => {
+            known.seen.remove((*purse, *number));
+            Some(())
         }
         _ => Some(()),
     }

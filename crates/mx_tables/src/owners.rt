@@ -3,8 +3,9 @@ ghost use Rattle.std.specs.Prelude.{◌≡◌, IfOk, None, OnOk, Some, length};
 ghost use Rattle.sqlite.specs.Held.{state};
 ghost use Rattle.mx_book.specs.Reads.{purses_of};
 ghost use Rattle.mx_book.specs.RowReads.{row_purses_of};
-ghost use Rattle.mx_tables.specs.Owners.{Lists, index_of};
-ghost use Rattle.mx_tables.specs.States.{IsAwake, IsOurs, Looks, Reads, Stays, Tells, Knows};
+ghost use Rattle.mx_tables.specs.Known.{AreNumbered};
+ghost use Rattle.mx_tables.specs.Owners.{Lists, Rises, index_of};
+ghost use Rattle.mx_tables.specs.States.{IsAwake, IsOurs, Looks, Reads, Stays, Tells, Knows, worry};
 
 use crate::asking::{ask, find_live};
 use crate::cells::{integer_at, name_at};
@@ -34,6 +35,33 @@ fn index_rows(alloc: Global, rows: &[Row]) -> Result<Held, StoreFault>
     Ok(held)
 }
 
+/// Finds that the numbers of these rows rise, by which it is known that no two rows have one. Store where they don't.
+fn check_numbers(rows: &[Row]) -> Result<(), StoreFault>
+    ensures { OnOk result (Rises rows.now) }
+{
+    let mut last = i128::MIN;
+    for row in rows {
+        let number = integer_at(row, 0)? as i128;
+        if number <= last {
+            return Err(StoreFault::Store);
+        }
+        last = number;
+    }
+    Ok(())
+}
+
+/// Finds that no two messages have one row number.
+fn check_inbox<S: Alter>(conn: &mut Connection<S>) -> Result<(), StoreFault>
+    ensures stays { IsOurs (state S.Store conn.old)
+        → Stays (state S.Store conn.old) (state S.Store conn.new) }
+    ensures numbered { IsOurs (state S.Store conn.old) → worry (state S.Store conn.new) ≡ 0
+        → OnOk result (AreNumbered ((state S.Store conn.new).now.trees 10)) }
+    ensures live { OnOk result (IsAwake (state S.Store conn.new)) }
+{
+    let rows = ask(conn, "SELECT rowid FROM inbox", &[])?;
+    check_numbers(&rows)
+}
+
 /// What is known, or the purses of each holder by a pass over the table of purses. None is kept then.
 fn take_known<S: Alter>(
     alloc: Global,
@@ -51,6 +79,7 @@ fn take_known<S: Alter>(
     if let Some(known) = kept.take() {
         return Ok(known);
     }
+    check_inbox(conn)?;
     let rows = ask(conn, "SELECT rowid, name, holder FROM purse", &[])?;
     Ok(know(alloc, index_rows(alloc, &rows)?))
 }

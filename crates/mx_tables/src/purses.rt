@@ -151,12 +151,11 @@ fn own_known<S: Alter>(
     ensures { Looks S.Store conn.old conn.new known.old known.new
         (Tells S.Store conn.old conn.new result (λ w v. v ≡ own_purse w holder.now name.now)) }
 {
-    let own = match recall_purse(known, name) {
-        Some(row) => own_in(holder, row),
-        None => return find_own(alloc, conn, known, holder, name),
+    let Some(row) = recall_purse(known, name) else {
+        return find_own(alloc, conn, known, holder, name);
     };
     find_live(conn)?;
-    Ok(own)
+    Ok(own_in(holder, row))
 }
 
 /// The purse of that name where it is the holder's, or None where it is another's or there is none. The purses of each
@@ -215,8 +214,9 @@ pub fn read_has_purse<S: Alter>(
     known: &Option<Known>,
     name: &Name,
 ) -> Result<bool, StoreFault>
-    ensures { Looks S.Store conn.old conn.new known.now known.now
+    ensures looks { Looks S.Store conn.old conn.new known.now known.now
         (Tells S.Store conn.old conn.new result (λ w b. b ≡ has_purse w name.now)) }
+    ensures why { IsExplained S.Store conn.old conn.new result }
 {
     let Some(_row) = recall_purse(known, name) else {
         return find_has_purse(conn, name);
@@ -232,16 +232,16 @@ pub fn read_is_own<S: Alter>(
     holder: &Name,
     name: &Name,
 ) -> Result<bool, StoreFault>
-    ensures { Looks S.Store conn.old conn.new known.now known.now
+    ensures looks { Looks S.Store conn.old conn.new known.now known.now
         (Tells S.Store conn.old conn.new result
         (λ w b. b ≡ is_some (own_purse w holder.now name.now))) }
+    ensures why { IsExplained S.Store conn.old conn.new result }
 {
-    let own = match recall_purse(known, name) {
-        Some(row) => same_name(holder, &row.holder),
-        None => return find_is_own(conn, holder, name),
+    let Some(row) = recall_purse(known, name) else {
+        return find_is_own(conn, holder, name);
     };
     find_live(conn)?;
-    Ok(own)
+    Ok(same_name(holder, &row.holder))
 }
 
 /// The number that a message to a purse gets, or None where it finds no place. How many messages it has is known then.
@@ -274,8 +274,9 @@ pub fn read_place<S: Alter>(
     known: &mut Option<Known>,
     name: &Name,
 ) -> Result<Option<u64>, StoreFault>
-    ensures { Looks S.Store conn.old conn.new known.old known.new
+    ensures looks { Looks S.Store conn.old conn.new known.old known.new
         (Reads S.Store conn.old conn.new result (λ r v. v ≡ place_of r name.now)) }
+    ensures why { IsExplained S.Store conn.old conn.new result }
 {
     let Some(number) = recall_place(known, name) else {
         return find_place(alloc, conn, known, name);

@@ -13,7 +13,7 @@ ghost use Rattle.mx_tables.specs.Holds.{SpellsOne};
 
 use crate::edits::edit_all;
 use crate::holders::read_holder;
-use crate::inbox::{find_has_message, find_message, list_inbox};
+use crate::inbox::{find_message, list_inbox, read_has_message};
 use crate::known::{Known, keep_up};
 use crate::lines::list_lines;
 use crate::loads::find_load;
@@ -249,7 +249,7 @@ impl<S: Alter> Book for Tables<S> {
         purse: Name,
         number: u64,
     ) -> Result<Option<Message>, StoreFault> {
-        find_message(&mut self.conn, &purse, number)
+        find_message(self.alloc, &mut self.conn, &mut self.known, &purse, number)
     }
 
     fn has_message(
@@ -258,7 +258,7 @@ impl<S: Alter> Book for Tables<S> {
         purse: Name,
         number: u64,
     ) -> Result<bool, StoreFault> {
-        find_has_message(&mut self.conn, &purse, number)
+        read_has_message(&mut self.conn, &self.known, &purse, number)
     }
 
     fn lines(

@@ -24,5 +24,5 @@ returns g c = tell_has_message g.S.Store _ _ (reads_to g.S.Store c.in_ok-rows.en
     grind (arith, it, c.is_some.ensures)))
 
 pub returns-then-number-gt-MOST_NUMBER : goal.returns-then-number-gt-MOST_NUMBER
-returns-then-number-gt-MOST_NUMBER g c = tell_has_message g.S.Store _ _ (reads_to g.S.Store c.in_ok-find_live.ensures (λ r holds is low.
+returns-then-number-gt-MOST_NUMBER g c = tell_has_message g.S.Store _ _ (reads_to g.S.Store c.in_ok-find_live.ensures.reads (λ r holds is low.
     sym (ap is_some (none_above r c.args.purse.now c.args.number low (omega (arith, c.if-number-gt-MOST_NUMBER.true))))))

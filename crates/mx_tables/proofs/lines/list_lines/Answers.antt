@@ -25,7 +25,7 @@ both_ways : (k m : ℕ) → k ≤ m → m ≤ k → k ≡ m
 both_ways k m up down = omega arith
 
 pub returns-then-after-gt-MOST_KEPT : goal.returns-then-after-gt-MOST_KEPT
-returns-then-after-gt-MOST_KEPT g c = tell_lines g.S.Store _ _ _ (reads_to g.S.Store c.in_ok-find_live.ensures (λ rows holds is valid.
+returns-then-after-gt-MOST_KEPT g c = tell_lines g.S.Store _ _ _ (reads_to g.S.Store c.in_ok-find_live.ensures.reads (λ rows holds is valid.
     c.new-lines.ensures.items ∙ sym (no_page c.args.purse.now c.args.after c.args.most rows valid (omega (arith, c.if-after-gt-MOST_KEPT.true)))))
 
 pub returns-in-Err : goal.returns-in-Err

@@ -8,9 +8,9 @@ use Rattle.mx_tables.proofs.tables.TablesBook.finds_place.Goals as goal
 pub returns-in-Some-clause-value : goal.returns-in-Some-clause-value
 returns-in-Some-clause-value g c w sure h =
     let holds : Holds (state g.S.Store c.self.inside.conn).now h.spelled.rows = rw c.self.view_is h.spelled.holds in
-    ap is_some (sym c.in-Some.is ∙ (c.in_ok-number.ensures.reads c.self.invariant.0 c.self.invariant.1).value c.self.invariant.0 sure h.spelled.rows holds) ∙ place_some h.spelled.rows c.args.purse ∙ place_at h.spelled.rows w c.args.purse h.spelled.spells
+    ap is_some (sym c.in-Some.is ∙ (c.in_ok-number.ensures.looks.reads c.self.invariant.0 c.self.invariant.1).value c.self.invariant.0 sure h.spelled.rows holds) ∙ place_some h.spelled.rows c.args.purse ∙ place_at h.spelled.rows w c.args.purse h.spelled.spells
 
 pub returns-in-None-clause-value : goal.returns-in-None-clause-value
 returns-in-None-clause-value g c w sure h =
     let holds : Holds (state g.S.Store c.self.inside.conn).now h.spelled.rows = rw c.self.view_is h.spelled.holds in
-    ap is_some (sym c.in-None.is ∙ (c.in_ok-number.ensures.reads c.self.invariant.0 c.self.invariant.1).value c.self.invariant.0 sure h.spelled.rows holds) ∙ place_some h.spelled.rows c.args.purse ∙ place_at h.spelled.rows w c.args.purse h.spelled.spells
+    ap is_some (sym c.in-None.is ∙ (c.in_ok-number.ensures.looks.reads c.self.invariant.0 c.self.invariant.1).value c.self.invariant.0 sure h.spelled.rows holds) ∙ place_some h.spelled.rows c.args.purse ∙ place_at h.spelled.rows w c.args.purse h.spelled.spells
