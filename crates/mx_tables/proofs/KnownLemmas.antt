@@ -1,6 +1,6 @@
 -- What is known of the rows, after the statements on purses and messages.
 use Rattle.mx_tables.proofs.Common.{Binary, Null, eq_by_cmp, is_eq, nat_cmp, number, pos, ◌≡◌, ℤ, Bool, true, false, List, [], ◌∷◌, filter, Option, Some, None, refl, ◌∙◌, inl, inr, arith, ◌+◌, ◌≤◌, ℕ, length, IsPermutation, Int, Text, Row, column, name_cmp, is_name, Name, PurseRow}
-use Rattle.std.proofs.Common.{◌⊎◌, cond, map, sym, ap, ap₂, subst, if◌then◌else◌, not, Equal}
+use Rattle.std.proofs.Common.{◌⊎◌, map, sym, ap, ap₂, subst, if◌then◌else◌, not, Equal}
 use Rattle.std.specs.Cmp.{first_so, second_so}
 use Rattle.std.specs.FinMap.{nat_cmp-IsAntisymmetric}
 use Rattle.std.specs.Ordering.{ordering_reverse}

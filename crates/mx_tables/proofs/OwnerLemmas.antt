@@ -1,6 +1,6 @@
 -- What an index of purses by holder tells, after the statements on purses.
-use Rattle.mx_tables.proofs.Common.{◌≡◌, ℤ, Bool, true, false, ◌&&◌, List, [], ◌∷◌, filter, Option, Some, None, refl, ◌∙◌, inl, inr, is_eq, arith, ◌<◌, ◌+◌, ℕ, length, take, codes, Ok, AllByRecursion, IsPermutation, ◌++◌, Int, Text, Row, column, name_cmp, is_name, Name, Rows, PurseRow, Database, col, office_schema, Holds, state}
-use Rattle.std.proofs.Common.{is_some, ◌||◌, map, sym, ap, ap₂, subst, Equal, Less, ◌≤ℤ◌, ◌<ℤ◌, get_or, Result, Err, IfOk}
+use Rattle.mx_tables.proofs.Common.{◌≡◌, ℤ, Bool, true, false, ◌&&◌, List, [], ◌∷◌, filter, Option, Some, None, refl, ◌∙◌, inl, inr, is_eq, arith, ◌<◌, ◌+◌, ℕ, length, take, codes, AllByRecursion, IsPermutation, ◌++◌, Int, Text, Row, column, name_cmp, is_name, Name, Rows, PurseRow, Database, col, office_schema, Holds, state}
+use Rattle.std.proofs.Common.{is_some, ◌||◌, map, sym, ap, ap₂, subst, Equal, Less, ◌≤ℤ◌, ◌<ℤ◌, get_or, Result, IfOk}
 use Rattle.std.specs.List.{list_any}
 use Rattle.std.specs.Cmp.{both_ways}
 use Rattle.std.specs.FinMap as fmap

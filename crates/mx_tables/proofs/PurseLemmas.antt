@@ -1,5 +1,5 @@
 -- The statements on purses, and what they show.
-use Rattle.mx_tables.proofs.Common.{Binary, ◌≡◌, ℕ, ◌+◌, ℤ, pos, Bool, true, false, inl, inr, is_eq, length, List, [], ◌∷◌, codes, Ok, Option, Some, None, refl, filter, ◌∙◌, arith, ◌&&◌, option_map, length-map, eq_by_cmp, nat_cmp, Null, Int, Text, Row, column, Term, col, Executes, name_cmp, is_name, Name, rewritten, Rows, PurseRow, office_schema, number, Holds, Goes, IsPermutation}
+use Rattle.mx_tables.proofs.Common.{Binary, ◌≡◌, ℕ, ◌+◌, ℤ, pos, Bool, true, false, inl, inr, is_eq, length, List, [], ◌∷◌, codes, Ok, Option, Some, None, refl, filter, ◌∙◌, arith, ◌&&◌, option_map, length-map, eq_by_cmp, nat_cmp, Null, Int, Text, Row, column, Term, col, Executes, name_cmp, is_name, Name, rewritten, Rows, PurseRow, office_schema, number, Holds, IsPermutation}
 use Rattle.std.proofs.Common.{is_some, map, drop, sym, subst, ap, ap₂, if◌then◌else◌}
 use Rattle.std.specs.Prelude.{nat_lt}
 use Rattle.mx_pay.specs.Limits.{most_number}

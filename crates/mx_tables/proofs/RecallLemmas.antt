@@ -1,5 +1,5 @@
 -- What is known is so of the rows of a book, and what a query shows is known.
-use Rattle.mx_tables.proofs.Common.{codes, col, nat_cmp, ◌≡◌, ◌≤◌, ◌<◌, ℕ, ℤ, Bool, true, false, List, [], ◌∷◌, filter, length, Ok, Option, Some, None, refl, ◌∙◌, inl, inr, arith, ◌&&◌, eq_by_cmp, length-map, IfOk-weaker, IsPermutation, option_map, Ordering, Int, Text, Row, column, name_cmp, is_name, Name, Rows, PurseRow, Database, office_schema, number, Holds, state}
+use Rattle.mx_tables.proofs.Common.{codes, col, nat_cmp, ◌≡◌, ◌≤◌, ◌<◌, ℕ, ℤ, Bool, true, List, [], ◌∷◌, filter, length, Ok, Option, Some, None, refl, ◌∙◌, inl, inr, arith, eq_by_cmp, length-map, IfOk-weaker, option_map, Ordering, Int, Text, Row, column, name_cmp, is_name, Name, Rows, PurseRow, Database, office_schema, number, Holds, state}
 use Rattle.std.proofs.Common.{is_some, map, drop, sym, ap, subst, Result, IfOk}
 use Rattle.std.specs.Cmp.{IsTotalOrder}
 use Rattle.std.specs.FinMap as fmap
@@ -9,7 +9,6 @@ use Rattle.std.proofs.lemmas.Bool.Decides.{nat_tests}
 use Rattle.std.proofs.lemmas.Cmp.{tied_itself}
 use Rattle.std.proofs.lemmas.List.Sorted.{length_permutation, IsPermutation-sym}
 use Rattle.sqlite_keyed.proofs.ListLemmas.{IsPermutation-filter}
-use Rattle.sqlite_trees.specs.Tree.{Trees}
 use Rattle.sqlite_trees.specs.declared.store.Store.{Ghosts}
 use Rattle.sqlite_sql.specs.Term.{eval_all}
 use Rattle.sqlite_sql.specs.Ops.{binary, is_true}
@@ -21,7 +20,7 @@ use Rattle.sqlite_rules.proofs.ListLemmas.{all_has, has_filtered, has_kept}
 use Rattle.sqlite_rules.proofs.ProbeLemmas.{has_mapped, mapped_has}
 use Rattle.sqlite.specs.Held.{Held}
 use Rattle.sqlite.specs.State.{State, Shown}
-use Rattle.sqlite.proofs.Callers.{one_permutation, reads_as}
+use Rattle.sqlite.proofs.Callers.{reads_as}
 use Rattle.mx_pay.specs.Limits.{most_number}
 use Rattle.mx_pay.proofs.TestLemmas.{is_equal}
 use Rattle.mx_pay.proofs.SameLemmas.{names_turned, names_alike}
@@ -30,17 +29,17 @@ use Rattle.mx_purse.specs.State.{IsPurse}
 use Rattle.mx_purse.specs.declared.message.Message.{Message}
 use Rattle.mx_book.specs.Limits.{most_messages}
 use Rattle.mx_book.specs.World.{World}
-use Rattle.mx_book.specs.RowReads.{row_own_purse, row_inbox_of, row_finds_place, of_name}
+use Rattle.mx_book.specs.RowReads.{row_inbox_of, of_name}
 use Rattle.mx_book.specs.declared.contract.StoreFault.{StoreFault}
 use Rattle.mx_book.proofs.NameLemmas.{same_name}
-use Rattle.mx_tables.specs.Schema.{purse_cells, message_cells}
+use Rattle.mx_tables.specs.Schema.{purse_cells}
 use Rattle.mx_tables.specs.Holds.{HaveCells, SpellsOne}
 use Rattle.mx_tables.specs.Owners.{HasOwner, HaveOwners}
 use Rattle.mx_tables.specs.Answers.{ArePurses, about_text, purse_shown, purse_columns, state_shown, state_columns, place_of}
 use Rattle.mx_tables.specs.declared.asking.About.TheVariants.{Purse}
 use Rattle.mx_tables.specs.declared.known.Known.{Known}
-use Rattle.mx_tables.specs.Known.{Stands, AtMost, AreKnown, IsKnown, IsPlace, Lies, Recalls, Saw, is_message_at, is_under, purse_columns_of}
-use Rattle.mx_tables.specs.States.{IsOurs, Knows, Looks, Reads, Stays, Tells}
+use Rattle.mx_tables.specs.Known.{Stands, AtMost, AreKnown, IsPlace, Lies, Recalls, Saw, is_message_at, is_under, purse_columns_of}
+use Rattle.mx_tables.specs.States.{IsOurs, Looks, Reads, Stays, Tells}
 use Rattle.mx_tables.proofs.Texts.{is_given, select_held_numbers, select_held_numbers_is, select_message, select_message_is}
 use Rattle.mx_tables.proofs.InboxLemmas.{at_message}
 use Rattle.mx_book.specs.Under.{pair_cmp}

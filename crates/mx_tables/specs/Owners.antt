@@ -1,5 +1,5 @@
 -- What an index of purses by holder tells of the table of purses, whatever its rows hold beside a name and a holder.
-use Rattle.std.specs.Prelude.{◌≡◌, IsTrue, ℤ, List, Bool, false, ◌&&◌, Option, Some, None}
+use Rattle.std.specs.Prelude.{◌≡◌, ℤ, List, Bool, false, ◌&&◌, Option, Some}
 use Rattle.std.specs.List.{AllByRecursion, list_any}
 use Rattle.std.specs.FinMap as fmap
 use Rattle.std.specs.FinSet.{FinSet}

@@ -1,5 +1,5 @@
 -- What the tables keep true of their connection, and what a call does to it.
-use Rattle.std.specs.Prelude.{◌≡◌, ℕ, ◌≤◌, ◌⊎◌, Bool, false, if◌then◌else◌, List, length, Result, Ok, Err, None, IfOk, IfErr, OnOk, OnErr, IsTrue, IsSome, Option, Some}
+use Rattle.std.specs.Prelude.{◌≡◌, ℕ, ◌≤◌, ◌⊎◌, Bool, false, if◌then◌else◌, List, length, Result, Ok, Err, None, IfOk, IfErr, OnOk, OnErr, IsTrue, IsSome, Option}
 use Rattle.sqlite_trees.specs.Tree.{Trees}
 use Rattle.sqlite_trees.specs.View.{doubt}
 use Rattle.sqlite_schema.specs.declared.schema.Schema.{Schema}

@@ -1,6 +1,3 @@
-use Rattle.mx_tables.proofs.Common.{◌∙◌}
-use Rattle.std.proofs.Common.{ap}
-use Rattle.mx_tables.specs.Known.{known_sent}
 use Rattle.mx_tables.proofs.known.keep_edit.Goals as goal
 
 pub returns-in-NewPurse : goal.returns-in-NewPurse

@@ -1,4 +1,4 @@
-use Rattle.mx_tables.proofs.Common.{◌≡◌, ◌<◌, true, refl, arith}
+use Rattle.mx_tables.proofs.Common.{◌<◌, refl, arith}
 use Rattle.std.proofs.lemmas.Bool.Decides.{nat_tests}
 use Rattle.mx_pay.specs.Limits.{most_number}
 use Rattle.mx_book.specs.Limits.{most_messages}

@@ -1,12 +1,11 @@
-use Rattle.mx_tables.proofs.Common.{◌≡◌, ◌<◌, ◌≤◌, length, rules, take, ◌∙◌}
-use Rattle.std.proofs.Common.{◌<ℤ◌, to_z, of_z, w64, subst, sym}
+use Rattle.mx_tables.proofs.Common.{◌≡◌, ◌<◌, ◌≤◌, length, rules}
+use Rattle.std.proofs.Common.{◌<ℤ◌, to_z, of_z, w64, subst}
 use mir.Syntax.{w128}
 use Rattle.std.proofs.lemmas.Int.{ints}
 use Rattle.std.proofs.lemmas.Bool.Decides.{nat_tests}
 use Rattle.std.proofs.lemmas.List.{take_all}
-use Rattle.sqlite_trees.specs.Tree.{IsTable}
 use Rattle.mx_tables.specs.Owners.{Rises}
-use Rattle.mx_tables.proofs.OwnerLemmas.{AreUpTo, rises_all, rises_next}
+use Rattle.mx_tables.proofs.OwnerLemmas.{rises_all, rises_next}
 use Rattle.mx_tables.proofs.owners.check_numbers.Goals as goal
 
 pub loop-row-init : goal.loop-row-init

@@ -1,9 +1,7 @@
-use Rattle.mx_tables.proofs.Common.{state, Database}
-use Rattle.std.proofs.Common.{subst, sym}
-use Rattle.mx_tables.specs.Known.{AreNumbered}
+use Rattle.mx_tables.proofs.Common.{state}
 use Rattle.mx_tables.proofs.Texts.{select_owners_is}
 use Rattle.mx_tables.proofs.OwnerLemmas.{told_shown}
-use Rattle.mx_tables.proofs.StateLemmas.{stays_then, sure_before}
+use Rattle.mx_tables.proofs.StateLemmas.{stays_then}
 use Rattle.mx_tables.proofs.owners.take_known.Goals as goal
 
 pub ask-requires : goal.ask-requires

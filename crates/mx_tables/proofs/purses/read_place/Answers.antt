@@ -1,5 +1,4 @@
-use Rattle.mx_tables.proofs.Common.{◌∙◌}
-use Rattle.std.proofs.Common.{ap, sym}
+use Rattle.std.proofs.Common.{sym}
 use Rattle.mx_tables.proofs.CallLemmas.{reads_fault}
 use Rattle.mx_tables.proofs.FaultLemmas.{why_handed, why_ok}
 use Rattle.mx_tables.proofs.RecallLemmas.{looks_known, place_known}
