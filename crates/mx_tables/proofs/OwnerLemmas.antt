@@ -199,9 +199,9 @@ rises_all last rows it = record { rise = it.0; have = all_weaker _ _ (λ r below
 pub numbered_shown : (old new : State) (rows : List Row) → Shown select_numbers [] old new rows → old.now.schema ≡ office_schema → Rises rows → AreNumbered (old.now.trees 10)
 numbered_shown old new rows shown has it =
     let tree = old.now.trees 10 in
-    let show = λ (r : Row). column r 0 ∷ [] in
+    let show = λ (r : Row). column r 0 ∷ column r 3 ∷ [] in
     let read = reads_as select_numbers [] old new office_schema has _ select_numbers_is.is select_numbers_is.query.plain select_numbers_is.unlisted rows shown in
-    let got : IsPermutation (map show tree) rows = subst (λ all. IsPermutation (map show all) rows) (filter_everything tree) (picked 10 [] (col 1 0 ∷ []) [] (codes "rowid" ∷ []) old.now [] rows read) in
+    let got : IsPermutation (map show tree) rows = subst (λ all. IsPermutation (map show all) rows) (filter_everything tree) (picked 10 [] (col 1 0 ∷ col 1 3 ∷ []) [] (codes "rowid" ∷ codes "kind" ∷ []) old.now [] rows read) in
     let from = pull_back show (map show tree) rows got tree refl in
     let rise : IsTable from.0 = ascending_from_map _ show from.0 (subst IsTable from.2 it.rise) in
     let there = λ (r : Row) (h : Has tree r). permuted tree from.0 from.1 r h in

@@ -98,9 +98,9 @@ unfolding understood everything
 select_owners_is = record { is = refl; query = record { plain = (refl, refl); silent = λ _ _. refl }; unlisted = refl }
 
 abbrev pub select_numbers : List ℕ
-select_numbers = codes "SELECT rowid FROM inbox"
+select_numbers = codes "SELECT rowid, kind FROM inbox"
 
-pub select_numbers_is : IsSelect select_numbers 10 [] (col 1 0 ∷ []) [] (codes "rowid" ∷ [])
+pub select_numbers_is : IsSelect select_numbers 10 [] (col 1 0 ∷ col 1 3 ∷ []) [] (codes "rowid" ∷ codes "kind" ∷ [])
 unfolding understood everything
 select_numbers_is = record { is = refl; query = record { plain = (refl, refl); silent = λ _ _. refl }; unlisted = refl }
 

@@ -50,7 +50,8 @@ fn check_numbers(rows: &[Row]) -> Result<(), StoreFault>
     Ok(())
 }
 
-/// Finds that no two messages have one row number.
+/// Finds that no two messages have one row number. The kinds are asked for too, since no index has them: an index would show the
+/// numbers in the order of its keys.
 fn check_inbox<S: Alter>(conn: &mut Connection<S>) -> Result<(), StoreFault>
     ensures stays { IsOurs (state S.Store conn.old)
         → Stays (state S.Store conn.old) (state S.Store conn.new) }
@@ -58,7 +59,7 @@ fn check_inbox<S: Alter>(conn: &mut Connection<S>) -> Result<(), StoreFault>
         → OnOk result (AreNumbered ((state S.Store conn.new).now.trees 10)) }
     ensures live { OnOk result (IsAwake (state S.Store conn.new)) }
 {
-    let rows = ask(conn, "SELECT rowid FROM inbox", &[])?;
+    let rows = ask(conn, "SELECT rowid, kind FROM inbox", &[])?;
     check_numbers(&rows)
 }
 
