@@ -166,6 +166,20 @@ fn with_change(alloc: Global, operator: Token, change: &str) -> Result<Tables<Me
     opened(alloc, store)
 }
 
+/// Two messages for p1, of which the later number came first.
+const CROSSED: &str =
+    "INSERT INTO inbox (purse, number, kind, details) VALUES ('p1', 1, 'req', ''), ('p1', 0, 'req', '')";
+
+/// Messages that came in another order than that of their keys keep no holder from its purses.
+#[test]
+fn purses_beside_messages_in_another_order(rt: HostRuntime) -> Result<(), Fail> {
+    let operator = Token::read("00000000000000000000000000000001").ok_or("no token")?;
+    let ann = Name::read("ann").ok_or("no name")?;
+    let mut book = with_change(rt.alloc(), operator, CROSSED)?;
+    assert_eq!(rt; book.purses_of(rt.alloc(), ann)?.len(), 1);
+    Ok(())
+}
+
 /// Why the sums of the scheme and those of its members can't be read of these rows after a change; None where they can.
 fn faults_after(
     alloc: Global,
