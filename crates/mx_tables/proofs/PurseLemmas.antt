@@ -157,9 +157,9 @@ raise_columns = col 1 3 ∷ col 1 4 ∷ col 1 5 ∷ col 1 6 ∷ col 1 7 ∷ col 
 number_itself : (n : ℕ) → eq_by_cmp nat_cmp n n ≡ true
 number_itself n = ap is_eq (tied_itself nat_cmp_total n)
 
-one_of : {X : Type 0} (xs : List X) → length xs ≡ 1 → (x : X) × Has xs x
-one_of [] h = absurd (cc)
-one_of (x ∷ xs) h = (x, inl refl)
+has_one : {X : Type 0} (xs : List X) → length xs ≡ 1 → (x : X) × Has xs x
+has_one [] h = absurd (cc)
+has_one (x ∷ xs) h = (x, inl refl)
 
 -- an UPDATE of the number of one purse's next message, where it is n
 module _ (p : Name) (n : ℕ) (old new : State) (has : old.now.schema ≡ office_schema) (ran : Executes raise_next (Text p ∷ number (n + 1) ∷ number n ∷ []) old new (Ok 1)) where
@@ -207,7 +207,7 @@ module _ (p : Name) (n : ℕ) (old new : State) (has : old.now.schema ≡ office
   is_raised : (tree read : List Row) → ((r : Row) → Has tree r → HasOwner r) → IsPermutation (map (λ r. eval_all (with_owner raise_columns) (env given r)) (filter (passes (is_given 1 0 ∷ is_given 9 2 ∷ []) given) tree)) read → length read ≡ 1
       → (x : PurseRow) → Stands tree p x → x.next_message ≡ n
   is_raised tree read owned picks one x s =
-      let there = one_of read one in
+      let there = has_one read one in
       let from = has_mapped _ _ there.0 (permuted read _ (IsPermutation-sym _ _ picks) there.0 there.1) in
       let was = has_filtered _ tree from.0 from.1 in
       let owner = owned from.0 was.0 in
