@@ -12,7 +12,7 @@ pub const MOST_PURSES: usize = 64;
 pub const MOST_LINES: u64 = 50;
 
 /// Who asks.
-#[derive(Clone, Copy, Debug)]
+#[derive(Clone, Copy)]
 pub enum Caller {
     /// The operator, who runs the scheme.
     Operator,
@@ -23,7 +23,7 @@ pub enum Caller {
 }
 
 /// What is kept of a member.
-#[derive(Clone, Copy, Debug)]
+#[derive(Clone, Copy)]
 pub struct MemberRow {
     /// The sum of all grants to the member, from 0 to 10^15.
     pub granted: u64,
@@ -32,7 +32,7 @@ pub struct MemberRow {
 }
 
 /// What a book gives of a holder.
-#[derive(Clone, Copy, Debug)]
+#[derive(Clone, Copy)]
 pub struct HolderRow {
     /// The member whose clerk added the holder.
     pub member: Name,
@@ -41,7 +41,7 @@ pub struct HolderRow {
 }
 
 /// What a book gives of a purse.
-#[derive(Clone, Copy, Debug)]
+#[derive(Clone, Copy)]
 pub struct Account {
     /// The holder of the purse.
     pub holder: Name,
@@ -56,7 +56,7 @@ pub struct Account {
 }
 
 /// What a line of a statement tells of.
-#[derive(Clone, Copy, Debug)]
+#[derive(Clone, Copy)]
 pub enum LineKind {
     /// The purse was loaded.
     Loaded,
@@ -73,7 +73,7 @@ pub enum LineKind {
 }
 
 /// What a line of a statement refers to.
-#[derive(Clone, Copy, Debug)]
+#[derive(Clone, Copy)]
 pub enum Note {
     /// The reference of a load or a redemption.
     Reference(Name),
@@ -82,7 +82,7 @@ pub enum Note {
 }
 
 /// One line of the statement of a purse.
-#[derive(Clone, Copy, Debug)]
+#[derive(Clone, Copy)]
 pub struct Line {
     /// The number of the line. The lines of a purse are numbered from 1, without gaps.
     pub number: u64,
@@ -97,7 +97,7 @@ pub struct Line {
 }
 
 /// What is kept of a purse in a row of its own.
-#[derive(Clone, Copy, Debug)]
+#[derive(Clone, Copy)]
 pub struct PurseRow {
     /// The holder of the purse.
     pub holder: Name,
@@ -108,7 +108,7 @@ pub struct PurseRow {
 }
 
 /// A line but for its number, under which it is kept.
-#[derive(Clone, Copy, Debug)]
+#[derive(Clone, Copy)]
 pub struct LineRow {
     /// What the line tells of.
     pub kind: LineKind,
@@ -121,7 +121,7 @@ pub struct LineRow {
 }
 
 /// What is kept of a redemption.
-#[derive(Clone, Copy, Debug)]
+#[derive(Clone, Copy)]
 pub struct Redemption {
     /// How much was redeemed, from 0 to 10^12.
     pub amount: Amount,
@@ -130,7 +130,7 @@ pub struct Redemption {
 }
 
 /// What the books come to for one member. Each sum is exact.
-#[derive(Clone, Copy, Debug)]
+#[derive(Clone, Copy)]
 pub struct MemberTotals {
     /// The sum of all grants to the member.
     pub granted: u128,
@@ -147,7 +147,7 @@ pub struct MemberTotals {
 }
 
 /// What the books come to for the whole scheme. Each sum is exact.
-#[derive(Clone, Copy, Debug)]
+#[derive(Clone, Copy)]
 pub struct Totals {
     /// The sum of all grants.
     pub granted: u128,

@@ -8,7 +8,7 @@ use crate::head::Reason;
 use httparse::spans::HeaderSpan;
 
 /// The values of the fields of one name.
-#[derive(Clone, Copy, Debug)]
+#[derive(Clone, Copy)]
 pub enum Only<'a> {
     Absent,
     One(&'a [u8]),

@@ -1,7 +1,7 @@
 //! What comes first in a text.
 
 /// Why the input ends a run early.
-#[derive(Clone, Copy, Debug, PartialEq, Eq)]
+#[derive(Clone, Copy)]
 pub enum Reason {
     /// What comes is no head, or none of at most 8,192 bytes and 64 fields.
     BadHead,
@@ -16,14 +16,14 @@ pub enum Reason {
 }
 
 /// A fault that ends a run, and whether its response is a head alone, since the request's method is HEAD.
-#[derive(Clone, Copy, Debug, PartialEq, Eq)]
+#[derive(Clone, Copy)]
 pub struct Stop {
     pub is_head: bool,
     pub reason: Reason,
 }
 
 /// A whole request: parts of the bytes that it was read from.
-#[derive(Clone, Copy, Debug)]
+#[derive(Clone, Copy)]
 pub struct Received<'a> {
     pub method: &'a [u8],
     pub path: &'a [u8],
@@ -33,7 +33,7 @@ pub struct Received<'a> {
 }
 
 /// What comes first in the bytes so far.
-#[derive(Clone, Copy, Debug)]
+#[derive(Clone, Copy)]
 pub enum Found<'a> {
     /// More bytes may change it. If none come it is that fault, or nothing where there are no bytes.
     Open(Option<Stop>),

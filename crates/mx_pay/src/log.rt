@@ -15,7 +15,7 @@ pub const MOST_ENTRIES: usize = 16;
 
 /// An exception log: at most 16 payment details, all different, kept in order. A contract sees it as the set
 /// of these details.
-#[derive(Clone, Copy, Debug)]
+#[derive(Clone, Copy)]
 pub struct Log {
     entries: [Option<PayDetails>; MOST_ENTRIES],
 }

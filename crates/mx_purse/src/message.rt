@@ -3,7 +3,7 @@ use mx_pay::{Log, PayDetails};
 
 /// A message to a purse: one that another purse sends, with the details of the payment that it belongs to, or the
 /// operator's leave to clear the log.
-#[derive(Clone, Copy, Debug)]
+#[derive(Clone, Copy)]
 pub enum Message {
     /// The purse that is to be paid requests the value of these details.
     Req(PayDetails),
@@ -16,7 +16,7 @@ pub enum Message {
 }
 
 /// Which message a purse accepted, with the details of the payment that it belongs to.
-#[derive(Clone, Copy, Debug)]
+#[derive(Clone, Copy)]
 pub enum Handled {
     /// The request for the value of these details: the purse has paid it.
     Req(PayDetails),

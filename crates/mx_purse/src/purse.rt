@@ -14,7 +14,7 @@ use std::marker::Model;
 /// A purse: its name, its balance, its next sequence number, its status with the details of the payment
 /// under way, its exception log and how many statement lines it has. A contract sees it as the record of
 /// these parts. Every purse meets the conditions of `IsPurse`.
-#[derive(Clone, Copy, Debug)]
+#[derive(Clone, Copy)]
 pub struct Purse {
     name: Name,
     balance: u64,

@@ -15,7 +15,7 @@ pub enum StartRefusal {
 }
 
 /// Why a purse refuses a load, in the order in which the guards are looked at.
-#[derive(Clone, Copy, Debug, PartialEq, Eq)]
+#[derive(Clone, Copy)]
 pub enum LoadRefusal {
     /// The purse has 10^15 statement lines or more.
     Worn,
@@ -24,7 +24,7 @@ pub enum LoadRefusal {
 }
 
 /// Why a purse refuses a redemption, in the order in which the guards are looked at.
-#[derive(Clone, Copy, Debug, PartialEq, Eq)]
+#[derive(Clone, Copy)]
 pub enum RedeemRefusal {
     /// The amount is above the balance.
     NotEnough,
@@ -33,7 +33,7 @@ pub enum RedeemRefusal {
 }
 
 /// Why a purse refuses a credit, in the order in which the guards are looked at.
-#[derive(Clone, Copy, Debug, PartialEq, Eq)]
+#[derive(Clone, Copy)]
 pub enum CreditRefusal {
     /// The purse has 10^15 statement lines or more.
     Worn,

@@ -2,7 +2,7 @@
 use mx_pay::PayDetails;
 
 /// Where a purse stands in a payment, and the details of that payment. At rest it keeps no details.
-#[derive(Clone, Copy, Debug)]
+#[derive(Clone, Copy)]
 pub enum Status {
     /// At rest, in every case but that of `EaTo`: it is new, its payment was acknowledged, or it aborted.
     EaFrom,

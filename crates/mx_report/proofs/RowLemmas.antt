@@ -1,11 +1,10 @@
 -- What comes of a row, by what it is in a World.
-use Rattle.std.proofs.Common.{◌≡◌, true, false, Option, Some, None, refl, ◌∙◌, ap, option_map, IsSome}
-use Rattle.std.specs.Prelude.{option_and_then}
+use Rattle.std.proofs.Common.{◌≡◌, Bool, true, false, Option, Some, None, refl, ◌∙◌, ap, option_map}
+use Rattle.std.specs.Prelude.{if◌then◌else◌, is_some}
 use Rattle.std.specs.FinMap as fmap
-use Rattle.mx_book.specs.declared.values.Account.{Account}
 use Rattle.mx_book.specs.declared.values.Caller.{Caller}
-use Rattle.mx_book.specs.Conditions.{IsWorld}
-use Rattle.mx_book.specs.Reads.{account_of, account_with}
+use Rattle.mx_pay.specs.Names.{is_name}
+use Rattle.mx_book.specs.Reads.{from_row, own_purse}
 use Rattle.mx_book.specs.World.{World, Row, Name}
 use Rattle.mx_office.specs.declared.values.Refusal.TheVariants.{NoSuchHolder}
 use Rattle.mx_office.specs.declared.values.Reply.{Reply}
@@ -15,22 +14,20 @@ use Rattle.mx_report.specs.declared.roll_rows.RollRow.{RollRow}
 use Rattle.mx_report.specs.declared.rolls.RollReason.TheVariants as reason
 use Rattle.mx_report.specs.declared.rolls.RowOutcome.{RowOutcome}
 use Rattle.mx_report.specs.declared.rolls.RowOutcome.TheVariants.{Same, Refused}
-use Rattle.mx_report.specs.Roll.{is_same, asker, command_of}
+use Rattle.mx_report.specs.Roll.{is_holders, is_same, asker, command_of}
 use Rattle.mx_report.specs.Import.{IsRowImported, outcome_of, row_imported}
 
--- the holder of a purse that a book gives is the one in its row
+-- a purse is a holder's where its row says so
+named_case : (b : Bool) (r : Row) → is_some (if b then Some r.holding.purse else None) ≡ b
+named_case true r = refl
+named_case false r = refl
 
-account_case : (r : Row) (m : Option Name) → IsSome m → option_map (λ (a : Account). a.holder) (option_map (account_with r) m) ≡ Some r.holder
-account_case r (Some m) there = refl
-account_case r None there = cc
+own_case : (h : Name) (o : Option Row) → is_some (from_row None (λ (r : Row). if is_name h r.holder then Some r.holding.purse else None) o) ≡ is_holders h (option_map (λ (r : Row). r.holder) o)
+own_case h None = refl
+own_case h (Some r) = named_case (is_name h r.holder) r
 
-holder_case : (w : World) (p : Name) (o : Option Row) → fmap.get w.rows p ≡ o → IsWorld w
-    → option_map (λ (a : Account). a.holder) (option_and_then (λ (r : Row). option_map (account_with r) (fmap.get w.holders r.holder)) o) ≡ option_map (λ (r : Row). r.holder) o
-holder_case w p None at is = refl
-holder_case w p (Some r) at is = account_case r _ (is.purses.each p r at).holder
-
-pub purse_holder : (w : World) (p : Name) → IsWorld w → option_map (λ (a : Account). a.holder) (account_of w p) ≡ option_map (λ (r : Row). r.holder) (fmap.get w.rows p)
-purse_holder w p is = holder_case w p (fmap.get w.rows p) refl is
+pub own_is_holders : (w : World) (h p : Name) → is_some (own_purse w h p) ≡ is_holders h (option_map (λ (r : Row). r.holder) (fmap.get w.rows p))
+own_is_holders w h p = own_case h (fmap.get w.rows p)
 
 -- a row that is same
 pub row_same : (Stands : World → Type 0) (w : World) (row : RollRow) → is_same w row ≡ true → Stands w → IsRowImported Stands w (Some row) Same

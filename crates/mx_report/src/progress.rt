@@ -7,7 +7,7 @@ pub trait Progress {
 }
 
 /// Nobody.
-#[derive(Clone, Copy, Debug)]
+#[derive(Clone, Copy)]
 pub struct Nobody;
 
 impl Progress for Nobody {

@@ -13,7 +13,7 @@ use mx_pay::Name;
 use std::alloc::{AllocError, Global};
 
 /// What the books come to, for each member and for the whole scheme.
-#[derive(Drop, Debug)]
+#[derive(Drop)]
 pub struct Report {
     /// The members in order, each with its sums.
     pub members: Vec<(Name, MemberTotals)>,

@@ -8,7 +8,7 @@ use mx_office::Command;
 use mx_pay::{Name, Token};
 
 /// A row of a roll.
-#[derive(Clone, Copy, Debug)]
+#[derive(Clone, Copy)]
 pub(crate) enum RollRow {
     /// A member.
     Member {

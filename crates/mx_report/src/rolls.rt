@@ -1,21 +1,22 @@
 //! Rolls: members, holders and purses that come as a list, and may come twice.
-ghost use Rattle.std.specs.Prelude.{◌≡◌, ◌≢◌, ◌≤◌, ◌<◌, ◌+◌, ◌^◌, ◌-◌, ◌∷◌, ◌⊎◌, [], ℕ, List, Some, None, option_map, IfOk, IfErr, OnOk, OnErr};
+ghost use Rattle.std.specs.Prelude.{◌≡◌, ◌≢◌, ◌≤◌, ◌<◌, ◌+◌, ◌^◌, ◌-◌, ◌∷◌, ◌⊎◌, [], ℕ, List, Some, None, option_map, IfOk, IfErr, Ok, Err, OnOk, OnErr};
 ghost use Rattle.std.specs.Vec.{vec_len, vec_capacity};
 ghost use Rattle.csv.specs.Reading.{error_kind};
-ghost use Rattle.csv.specs.Records.{fields_of};
+ghost use Rattle.csv.specs.declared.error.Error.{Error};
+ghost use Rattle.csv.specs.Records.{Row, fields_of};
 ghost use Rattle.mx_book.specs.declared.contract.StoreFault.TheVariants as fault;
 ghost use Rattle.mx_book.specs.Keeps.{Keeps, Gives};
 ghost use Rattle.mx_book.specs.World.{World, is_of};
 ghost use Rattle.mx_office.specs.Reachable.{IsReachable, StandsBalanced};
 ghost use Rattle.mx_report.specs.declared.rolls.RollFaultKind.TheVariants.{NotRoll, Memory, Store};
-ghost use Rattle.mx_report.specs.Roll.{Fields, asker, is_clerk, is_holder, is_holders, is_same, roll_header};
+ghost use Rattle.mx_report.specs.Roll.{Fields, asker, is_clerk, is_holder, is_same, roll_header};
 ghost use Rattle.mx_report.specs.Import.{IsRowImported, IsRecordImported, IsBroken, IsImported, HasNoHeader, IsNoRoll, IsRoll, outcome_of, no_rows, rows_counted, tallied, tally_of};
 ghost use Rattle.mx_report.specs.Reading.{HasGiven, book_fault, record_fault};
 
 use crate::progress::{Nobody, Progress};
 use crate::roll_rows::{RollRow, is_roll_header, row_of};
 use csv::{ByteRecord, ByteRecordsIntoIter, Error, ErrorKind, ReaderBuilder};
-use mx_book::values::{Account, Caller, HolderRow};
+use mx_book::values::{Caller, HolderRow};
 use mx_book::{Book, StoreFault};
 use mx_office::{Office, Refusal, Reply};
 use mx_pay::Name;
@@ -23,7 +24,7 @@ use mx_pay::names::same_name;
 use std::alloc::Global;
 
 /// Why a row of a roll is refused.
-#[derive(Clone, Copy, Debug, PartialEq, Eq)]
+#[derive(Clone, Copy)]
 pub enum RollReason {
     /// The row is of no form that a roll's rows have.
     BadRow,
@@ -32,7 +33,7 @@ pub enum RollReason {
 }
 
 /// A row that was refused.
-#[derive(Clone, Copy, Debug)]
+#[derive(Clone, Copy)]
 pub struct RefusedRow {
     /// The number of the row, counted from 1 after the header.
     pub number: u64,
@@ -41,7 +42,7 @@ pub struct RefusedRow {
 }
 
 /// What came of the rows of a roll.
-#[derive(Drop, Debug)]
+#[derive(Drop)]
 pub struct RollReport {
     /// How many rows were added.
     pub added: u64,
@@ -52,7 +53,7 @@ pub struct RollReport {
 }
 
 /// Why the import of a roll ended before the roll did.
-#[derive(Clone, Copy, Debug, PartialEq, Eq)]
+#[derive(Clone, Copy)]
 pub enum RollFaultKind {
     /// The first record isn't `kind,name,of,token`, or there is none, or a record has another number of fields.
     NotRoll,
@@ -63,7 +64,7 @@ pub enum RollFaultKind {
 }
 
 /// An import that ended before its roll did.
-#[derive(Clone, Copy, Debug)]
+#[derive(Clone, Copy)]
 pub struct RollFault {
     /// Why it ended.
     pub kind: RollFaultKind,
@@ -72,7 +73,7 @@ pub struct RollFault {
 }
 
 /// What came of a row.
-#[derive(Clone, Copy, Debug)]
+#[derive(Clone, Copy)]
 pub(crate) enum RowOutcome {
     /// What it says was added.
     Added,
@@ -169,16 +170,6 @@ fn is_of(member: &Name, holder: &Option<HolderRow>) -> bool
     }
 }
 
-/// Whether a purse is there, and is that holder's.
-fn is_holders(holder: &Name, purse: &Option<Account>) -> bool
-    ensures { result ≡ is_holders holder.now (option_map (λ p. p.holder) purse.now) }
-{
-    match purse {
-        Some(account) => same_name(holder, &account.holder),
-        None => false,
-    }
-}
-
 /// Whether what a row says stands already.
 #[tactic(auto, unfolding(crate::specs::Roll::is_same))]
 fn is_same<B: Book>(book: &mut B, alloc: Global, row: &RollRow) -> Result<bool, StoreFault>
@@ -201,10 +192,7 @@ fn is_same<B: Book>(book: &mut B, alloc: Global, row: &RollRow) -> Result<bool, 
             let who = book.who(alloc, token)?;
             Ok(is_of(member, &kept) && is_holder(holder, &who))
         }
-        RollRow::Purse { purse, holder } => {
-            let kept = book.purse(alloc, *purse)?;
-            Ok(is_holders(holder, &kept))
-        }
+        RollRow::Purse { purse, holder } => book.is_own(alloc, *holder, *purse),
     }
 }
 
@@ -303,6 +291,48 @@ fn take_header(records: &mut ByteRecordsIntoIter<&[u8]>) -> Result<(), RollFault
     }
 }
 
+/// The records of a roll behind its header.
+fn records_of(alloc: Global, bytes: &[u8]) -> Result<ByteRecordsIntoIter<&[u8]>, RollFaultKind>
+    ensures ok { IfOk result (HasGiven bytes.now (roll_header ∷ []) (Some 4)) }
+    ensures err { IfErr result (λ kind. (kind ≢ Store) × (kind ≡ NotRoll → HasNoHeader bytes.now 0)) }
+{
+    let reader = ReaderBuilder::new()
+        .has_headers(false)
+        .from_reader(alloc, bytes);
+    let mut records = reader.into_byte_records();
+    take_header(&mut records)?;
+    Ok(records)
+}
+
+/// Imports what comes next in a roll, and counts it, where it is a record.
+fn import_next<B: Book>(
+    office: &mut Office<B>,
+    alloc: Global,
+    next: Result<ByteRecord, Error>,
+    report: &mut RollReport,
+) -> Result<(), RollFaultKind>
+    requires few { rows_counted (tally_of report.old) < 2 ^ 64 - 1 }
+    ensures later { B.doubt office.old.book ≤ B.doubt office.new.book }
+    ensures taken { OnOk result ((r : Row) × (next ≡ Ok r)) }
+    ensures ok { (w : World) → B.doubt office.new.book ≡ 0 → B.spells (B.rows office.old.book) w
+        → OnOk result (IfOk next (λ r. IsRecordImported (B.spells (B.rows office.new.book)) w
+        (fields_of r) (tally_of report.old) (tally_of report.new))) }
+    ensures counted { OnOk result (rows_counted (tally_of report.new) ≡ rows_counted (tally_of report.old) + 1) }
+    ensures err { B.doubt office.new.book ≡ 0 → OnErr result (B.rows office.new.book ≡ B.rows office.old.book) }
+    ensures uncounted { OnErr result (tally_of report.new ≡ tally_of report.old) }
+    ensures not_roll { IfErr result (λ kind. kind ≡ NotRoll
+        → (error : Error) × (next ≡ Err error) × (record_fault (error_kind error) ≡ NotRoll)) }
+    ensures store { IfErr result (λ kind. kind ≡ Store → B.fails fault.Store) }
+{
+    match next {
+        Ok(record) => match import_record(office, alloc, &record, report) {
+            Ok(()) => Ok(()),
+            Err(fault) => Err(book_fault(fault)),
+        },
+        Err(error) => Err(record_fault(error)),
+    }
+}
+
 /// Imports a roll: members, holders and purses in comma-separated values, with the header `kind,name,of,token`. The bytes
 /// EF BB BF before it are dropped. A row that stands already changes nothing and is counted as same; each other row is one
 /// command, by the operator for a member, and for a holder or a purse by the clerk of its member. A row that is refused, or
@@ -342,29 +372,15 @@ pub fn import_roll_telling<B: Book, P: Progress>(
     ensures store { IfErr result (λ f. f.kind ≡ Store → B.fails fault.Store) }
     ensures reachable { (w : World) → B.doubt office.new.book ≡ 0 → B.spells (B.rows office.old.book) w → IsReachable w → StandsBalanced (B.spells (B.rows office.new.book)) }
 {
-    let reader = ReaderBuilder::new()
-        .has_headers(false)
-        .from_reader(alloc, bytes);
-    let mut records = reader.into_byte_records();
-    if let Err(kind) = take_header(&mut records) {
-        return Err(RollFault { kind, done: 0 });
-    }
+    let records = match records_of(alloc, bytes) {
+        Ok(records) => records,
+        Err(kind) => return Err(RollFault { kind, done: 0 }),
+    };
     let mut report = RollReport::new(alloc);
     for record in records {
-        let record = match record {
-            Ok(record) => record,
-            Err(error) => {
-                return Err(RollFault {
-                    kind: record_fault(error),
-                    done: report.rows(),
-                });
-            }
-        };
-        if let Err(fault) = import_record(office, alloc, &record, &mut report) {
-            return Err(RollFault {
-                kind: book_fault(fault),
-                done: report.rows(),
-            });
+        if let Err(kind) = import_next(office, alloc, record, &mut report) {
+            let done = report.rows();
+            return Err(RollFault { kind, done });
         }
         progress.done(report.rows());
     }

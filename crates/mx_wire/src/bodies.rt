@@ -17,7 +17,7 @@ use mx_pay::{Amount, Log, Name, PayDetails, Seq, Token, read_code, read_details}
 use std::alloc::Global;
 
 /// Why a request gives no command.
-#[derive(Clone, Copy, Debug, PartialEq, Eq)]
+#[derive(Clone, Copy)]
 pub enum WireFault {
     /// The method and the path have no route.
     NoRoute,

@@ -15,7 +15,7 @@ use std::alloc::{AllocError, Global};
 use std::marker::Model;
 
 /// A response that is always the same bytes, and takes no memory.
-#[derive(Clone, Copy, Debug, PartialEq, Eq)]
+#[derive(Clone, Copy)]
 pub enum Fixed {
     /// 400: what came is no head, or none within the limits.
     BadHead,
@@ -179,7 +179,7 @@ pub fn unavailable_text() -> &'static [u8]
 }
 
 /// A response that was made for one reply, with the end of its head known. A contract sees it as the two parts.
-#[derive(Debug, Drop)]
+#[derive(Drop)]
 pub struct Written {
     text: String,
     head_len: usize,
@@ -211,7 +211,7 @@ impl Written {
 }
 
 /// The response to a reply.
-#[derive(Debug, Drop)]
+#[derive(Drop)]
 pub enum Response {
     /// One that is always the same.
     Always(Fixed),

@@ -71,7 +71,7 @@ pub enum Route {
 }
 
 /// The patterns of the paths.
-#[derive(Clone, Copy, Debug, Drop)]
+#[derive(Clone, Copy, Drop)]
 pub enum Pattern {
     Members,
     Grant,

@@ -9,7 +9,7 @@ use crate::status::Status;
 use mx_pay::{Log, Name, Seq};
 
 /// The parts of a purse but its log, which is large and mostly empty.
-#[derive(Clone, Copy, Debug)]
+#[derive(Clone, Copy)]
 pub struct BarePurse {
     /// The name of the purse.
     pub name: Name,
