@@ -26,7 +26,7 @@ use Rattle.mx_wire.specs.declared.routes.Pattern.TheVariants as pattern
 use Rattle.mx_wire.specs.declared.routes.Route.{Route}
 use Rattle.mx_wire.specs.declared.routes.Route.TheVariants as route
 use Rattle.mx_wire.specs.Routes.{name_of, taken, after, is_get, is_post, got, posted, asked, table_rows, route_of}
-use Rattle.mx_wire.specs.Bodies.{text_at, name_at, token_at, at_most, number_at, amount_at, seq_at, log_of_code, log_at, details_at, bare, bare_or, of_two, of_three, said_by_holder, said, value_of, command_of}
+use Rattle.mx_wire.specs.Bodies.{text_at, name_at, token_at, at_most, number_at, amount_at, seq_at, log_of_code, log_at, details_at, bare, bare_or, of_two, of_three, said, value_of, command_of}
 
 -- ---- what holds of what is found
 
@@ -192,15 +192,6 @@ bare_is (route.Statement p after) h = h
 bare_is route.Reconcile h = tt
 bare_is r h = tt
 
-by_holder_is : (r : Route) (d : Data) → HasValues r → IfSome (said_by_holder r d) IsCommand
-by_holder_is (route.StartFrom p) d h = three IsNamed IsAmount IsNumber (command.StartFrom p) _ _ _ (name_at_is (codes "peer") d) (amount_at_is (codes "value") d) (seq_at_is (codes "seq") d) (λ x y z q r s. (h, q, r, s))
-by_holder_is (route.StartTo p) d h = three IsNamed IsAmount IsNumber (command.StartTo p) _ _ _ (name_at_is (codes "peer") d) (amount_at_is (codes "value") d) (seq_at_is (codes "seq") d) (λ x y z q r s. (h, q, r, s))
-by_holder_is (route.Handle p) d h = made IsNumber IsCommand (command.Handle p) _ (seq_at_is (codes "number") d) (λ x q. (h, q))
-by_holder_is (route.Discard p) d h = made IsNumber IsCommand (command.Discard p) _ (seq_at_is (codes "number") d) (λ x q. (h, q))
-by_holder_is (route.ReadLog p) d h = made IsAny IsCommand (command.ReadLog p) _ (any_is (number_at (codes "place") d)) (λ x q. h)
-by_holder_is (route.Redeem p) d h = two IsAmount IsNamed (command.Redeem p) _ _ (amount_at_is (codes "amount") d) (name_at_is (codes "ref") d) (λ x y q r. (h, q, r))
-by_holder_is r d h = tt
-
 said_is : (r : Route) (d : Data) → HasValues r → IfSome (said r d) IsCommand
 said_is route.NewMember d h = two IsNamed IsToken command.NewMember _ _ (name_at_is (codes "member") d) (token_at_is (codes "token") d) (λ x y p q. (p, q))
 said_is (route.Grant m) d h = made IsAmount IsCommand (command.Grant m) _ (amount_at_is (codes "amount") d) (λ x p. (h, p))
@@ -209,7 +200,13 @@ said_is route.Settle d h = made IsDetails IsCommand command.Settle _ (details_at
 said_is route.NewHolder d h = two IsNamed IsToken command.NewHolder _ _ (name_at_is (codes "holder") d) (token_at_is (codes "token") d) (λ x y p q. (p, q))
 said_is route.NewPurse d h = two IsNamed IsNamed command.NewPurse _ _ (name_at_is (codes "purse") d) (name_at_is (codes "holder") d) (λ x y p q. (p, q))
 said_is (route.Load p) d h = two IsAmount IsNamed (command.Load p) _ _ (amount_at_is (codes "amount") d) (name_at_is (codes "ref") d) (λ x y q r. (h, q, r))
-said_is r d h = by_holder_is r d h
+said_is (route.StartFrom p) d h = three IsNamed IsAmount IsNumber (command.StartFrom p) _ _ _ (name_at_is (codes "peer") d) (amount_at_is (codes "value") d) (seq_at_is (codes "seq") d) (λ x y z q r s. (h, q, r, s))
+said_is (route.StartTo p) d h = three IsNamed IsAmount IsNumber (command.StartTo p) _ _ _ (name_at_is (codes "peer") d) (amount_at_is (codes "value") d) (seq_at_is (codes "seq") d) (λ x y z q r s. (h, q, r, s))
+said_is (route.Handle p) d h = made IsNumber IsCommand (command.Handle p) _ (seq_at_is (codes "number") d) (λ x q. (h, q))
+said_is (route.Discard p) d h = made IsNumber IsCommand (command.Discard p) _ (seq_at_is (codes "number") d) (λ x q. (h, q))
+said_is (route.ReadLog p) d h = made IsAny IsCommand (command.ReadLog p) _ (any_is (number_at (codes "place") d)) (λ x q. h)
+said_is (route.Redeem p) d h = two IsAmount IsNamed (command.Redeem p) _ _ (amount_at_is (codes "amount") d) (name_at_is (codes "ref") d) (λ x y q r. (h, q, r))
+said_is r d h = tt
 
 or_is : (o p : Option Command) → IfSome o IsCommand → IfSome p IsCommand → IfSome (bare_or o p) IsCommand
 or_is None p h k = k

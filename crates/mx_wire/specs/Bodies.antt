@@ -72,16 +72,6 @@ of_two a b make = option_and_then (λ x. option_map (make x) b) a
 abbrev pub of_three : {A B C : Type 0} → Option A → Option B → Option C → (A → B → C → Command) → Option Command
 of_three a b c make = option_and_then (λ x. of_two b c (make x)) a
 
--- the command that a holder's route and a JSON value say
-abbrev pub said_by_holder : Route → Data → Option Command
-said_by_holder (route.StartFrom p) d = of_three (name_at (codes "peer") d) (amount_at (codes "value") d) (seq_at (codes "seq") d) (command.StartFrom p)
-said_by_holder (route.StartTo p) d = of_three (name_at (codes "peer") d) (amount_at (codes "value") d) (seq_at (codes "seq") d) (command.StartTo p)
-said_by_holder (route.Handle p) d = option_map (command.Handle p) (seq_at (codes "number") d)
-said_by_holder (route.Discard p) d = option_map (command.Discard p) (seq_at (codes "number") d)
-said_by_holder (route.ReadLog p) d = option_map (command.ReadLog p) (number_at (codes "place") d)
-said_by_holder (route.Redeem p) d = of_two (amount_at (codes "amount") d) (name_at (codes "ref") d) (command.Redeem p)
-said_by_holder _ d = None
-
 -- the command that a route and a JSON value say
 abbrev pub said : Route → Data → Option Command
 said route.NewMember d = of_two (name_at (codes "member") d) (token_at (codes "token") d) command.NewMember
@@ -91,7 +81,13 @@ said route.Settle d = option_map command.Settle (details_at (codes "details") d)
 said route.NewHolder d = of_two (name_at (codes "holder") d) (token_at (codes "token") d) command.NewHolder
 said route.NewPurse d = of_two (name_at (codes "purse") d) (name_at (codes "holder") d) command.NewPurse
 said (route.Load p) d = of_two (amount_at (codes "amount") d) (name_at (codes "ref") d) (command.Load p)
-said r d = said_by_holder r d
+said (route.StartFrom p) d = of_three (name_at (codes "peer") d) (amount_at (codes "value") d) (seq_at (codes "seq") d) (command.StartFrom p)
+said (route.StartTo p) d = of_three (name_at (codes "peer") d) (amount_at (codes "value") d) (seq_at (codes "seq") d) (command.StartTo p)
+said (route.Handle p) d = option_map (command.Handle p) (seq_at (codes "number") d)
+said (route.Discard p) d = option_map (command.Discard p) (seq_at (codes "number") d)
+said (route.ReadLog p) d = option_map (command.ReadLog p) (number_at (codes "place") d)
+said (route.Redeem p) d = of_two (amount_at (codes "amount") d) (name_at (codes "ref") d) (command.Redeem p)
+said r d = None
 
 -- the JSON value of a body, which has to be UTF-8
 abbrev pub value_of : List ℕ → Option Data

@@ -6,7 +6,7 @@ ghost use Rattle.mx_pay.specs.Details.{Details, IsDetails};
 ghost use Rattle.mx_pay.specs.Log.{Entries, IsLogValue};
 ghost use Rattle.mx_pay.specs.Reading.{entry_of};
 ghost use Rattle.mx_wire.specs.Routes.{route_of};
-ghost use Rattle.mx_wire.specs.Bodies.{name_at, token_at, amount_at, seq_at, log_of_code, log_at, details_at, of_two, of_three, bare, said, said_by_holder, value_of, has_body, command_of, request_command};
+ghost use Rattle.mx_wire.specs.Bodies.{name_at, token_at, amount_at, seq_at, log_of_code, log_at, details_at, of_two, of_three, bare, said, value_of, has_body, command_of, request_command};
 ghost use Rattle.mx_wire.specs.Trees.{data_of, IsData};
 
 use crate::routes::{Route, Routes};
@@ -208,7 +208,7 @@ fn start_at(value: &Value<'_>) -> Option<(Name, Amount, Seq)>
 #[inline(never)]
 fn start_from(purse: Name, value: &Value<'_>, command: &mut Command) -> Option<()>
     requires { IsData value.now }
-    ensures { option_map (λ _. command.new) result ≡ said_by_holder (Route.StartFrom purse) (data_of value.now) }
+    ensures { option_map (λ _. command.new) result ≡ said (Route.StartFrom purse) (data_of value.now) }
 {
     let (peer, value, seq) = start_at(value)?;
     *command = Command::StartFrom {
@@ -224,7 +224,7 @@ fn start_from(purse: Name, value: &Value<'_>, command: &mut Command) -> Option<(
 #[inline(never)]
 fn start_to(purse: Name, value: &Value<'_>, command: &mut Command) -> Option<()>
     requires { IsData value.now }
-    ensures { option_map (λ _. command.new) result ≡ said_by_holder (Route.StartTo purse) (data_of value.now) }
+    ensures { option_map (λ _. command.new) result ≡ said (Route.StartTo purse) (data_of value.now) }
 {
     let (peer, value, seq) = start_at(value)?;
     *command = Command::StartTo {
@@ -240,7 +240,7 @@ fn start_to(purse: Name, value: &Value<'_>, command: &mut Command) -> Option<()>
 #[inline(never)]
 fn handle(purse: Name, value: &Value<'_>, command: &mut Command) -> Option<()>
     requires { IsData value.now }
-    ensures { option_map (λ _. command.new) result ≡ said_by_holder (Route.Handle purse) (data_of value.now) }
+    ensures { option_map (λ _. command.new) result ≡ said (Route.Handle purse) (data_of value.now) }
 {
     let number = seq_at(value, "number")?;
     *command = Command::Handle { purse, number };
@@ -251,7 +251,7 @@ fn handle(purse: Name, value: &Value<'_>, command: &mut Command) -> Option<()>
 #[inline(never)]
 fn discard(purse: Name, value: &Value<'_>, command: &mut Command) -> Option<()>
     requires { IsData value.now }
-    ensures { option_map (λ _. command.new) result ≡ said_by_holder (Route.Discard purse) (data_of value.now) }
+    ensures { option_map (λ _. command.new) result ≡ said (Route.Discard purse) (data_of value.now) }
 {
     let number = seq_at(value, "number")?;
     *command = Command::Discard { purse, number };
@@ -262,7 +262,7 @@ fn discard(purse: Name, value: &Value<'_>, command: &mut Command) -> Option<()>
 #[inline(never)]
 fn read_log(purse: Name, value: &Value<'_>, command: &mut Command) -> Option<()>
     requires { IsData value.now }
-    ensures { option_map (λ _. command.new) result ≡ said_by_holder (Route.ReadLog purse) (data_of value.now) }
+    ensures { option_map (λ _. command.new) result ≡ said (Route.ReadLog purse) (data_of value.now) }
 {
     let place = number_at(value, "place")?;
     *command = Command::ReadLog { purse, place };
@@ -273,7 +273,7 @@ fn read_log(purse: Name, value: &Value<'_>, command: &mut Command) -> Option<()>
 #[inline(never)]
 fn redeem(purse: Name, value: &Value<'_>, command: &mut Command) -> Option<()>
     requires { IsData value.now }
-    ensures { option_map (λ _. command.new) result ≡ said_by_holder (Route.Redeem purse) (data_of value.now) }
+    ensures { option_map (λ _. command.new) result ≡ said (Route.Redeem purse) (data_of value.now) }
 {
     let (amount, reference) = money_at(value)?;
     *command = Command::Redeem {
@@ -284,82 +284,100 @@ fn redeem(purse: Name, value: &Value<'_>, command: &mut Command) -> Option<()>
     Some(())
 }
 
-/// The command that a holder's route and a JSON value say, written over another; None where they say none, and where the
-/// route is another.
-fn said_by_holder(route: &Route, value: &Value<'_>, command: &mut Command) -> Option<()>
+/// The new member that a JSON value says, written over a command.
+#[inline(never)]
+fn new_member(value: &Value<'_>, command: &mut Command) -> Option<()>
     requires { IsData value.now }
-    ensures { option_map (λ _. command.new) result ≡ said_by_holder route.now (data_of value.now) }
+    ensures { option_map (λ _. command.new) result ≡ said Route.NewMember (data_of value.now) }
 {
-    match *route {
-        Route::StartFrom(purse) => start_from(purse, value, command)?,
-        Route::StartTo(purse) => start_to(purse, value, command)?,
-        Route::Handle(purse) => handle(purse, value, command)?,
-        Route::Discard(purse) => discard(purse, value, command)?,
-        Route::ReadLog(purse) => read_log(purse, value, command)?,
-        Route::Redeem(purse) => redeem(purse, value, command)?,
-        _ => return None,
-    }
+    let member = name_at(value, "member")?;
+    let token = token_at(value, "token")?;
+    *command = Command::NewMember { member, token };
     Some(())
 }
 
-/// The command that any route and a JSON value say, written over another, as `said` has it.
+/// The grant to a member that a JSON value says, written over a command.
 #[inline(never)]
-fn said_by_any(route: &Route, value: &Value<'_>, command: &mut Command) -> Option<()>
+fn grant(member: Name, value: &Value<'_>, command: &mut Command) -> Option<()>
     requires { IsData value.now }
-    ensures { option_map (λ _. command.new) result ≡ said route.now (data_of value.now) }
+    ensures { option_map (λ _. command.new) result ≡ said (Route.Grant member) (data_of value.now) }
 {
-    match *route {
-        Route::NewMember => {
-            let member = name_at(value, "member")?;
-            let token = token_at(value, "token")?;
-            *command = Command::NewMember { member, token }
-        }
-        Route::Grant(member) => {
-            let amount = amount_at(value, "amount")?;
-            *command = Command::Grant { member, amount }
-        }
-        Route::Clear(purse) => clear(purse, value, command)?,
-        Route::Settle => {
-            let details = details_at(value, "details")?;
-            *command = Command::Settle { details }
-        }
-        Route::NewHolder => {
-            let holder = name_at(value, "holder")?;
-            let token = token_at(value, "token")?;
-            *command = Command::NewHolder { holder, token }
-        }
-        Route::NewPurse => {
-            let purse = name_at(value, "purse")?;
-            let holder = name_at(value, "holder")?;
-            *command = Command::NewPurse { purse, holder }
-        }
-        Route::Load(purse) => {
-            let (amount, reference) = money_at(value)?;
-            *command = Command::Load {
-                purse,
-                amount,
-                reference,
-            }
-        }
-        _ => said_by_holder(route, value, command)?,
-    }
+    let amount = amount_at(value, "amount")?;
+    *command = Command::Grant { member, amount };
+    Some(())
+}
+
+/// The settlement that a JSON value says, written over a command.
+#[inline(never)]
+fn settle(value: &Value<'_>, command: &mut Command) -> Option<()>
+    requires { IsData value.now }
+    ensures { option_map (λ _. command.new) result ≡ said Route.Settle (data_of value.now) }
+{
+    let details = details_at(value, "details")?;
+    *command = Command::Settle { details };
+    Some(())
+}
+
+/// The new holder that a JSON value says, written over a command.
+#[inline(never)]
+fn new_holder(value: &Value<'_>, command: &mut Command) -> Option<()>
+    requires { IsData value.now }
+    ensures { option_map (λ _. command.new) result ≡ said Route.NewHolder (data_of value.now) }
+{
+    let holder = name_at(value, "holder")?;
+    let token = token_at(value, "token")?;
+    *command = Command::NewHolder { holder, token };
+    Some(())
+}
+
+/// The new purse that a JSON value says, written over a command.
+#[inline(never)]
+fn new_purse(value: &Value<'_>, command: &mut Command) -> Option<()>
+    requires { IsData value.now }
+    ensures { option_map (λ _. command.new) result ≡ said Route.NewPurse (data_of value.now) }
+{
+    let purse = name_at(value, "purse")?;
+    let holder = name_at(value, "holder")?;
+    *command = Command::NewPurse { purse, holder };
+    Some(())
+}
+
+/// The load of a purse that a JSON value says, written over a command.
+#[inline(never)]
+fn load(purse: Name, value: &Value<'_>, command: &mut Command) -> Option<()>
+    requires { IsData value.now }
+    ensures { option_map (λ _. command.new) result ≡ said (Route.Load purse) (data_of value.now) }
+{
+    let (amount, reference) = money_at(value)?;
+    *command = Command::Load {
+        purse,
+        amount,
+        reference,
+    };
     Some(())
 }
 
 /// The command that a route and a JSON value say, written over another; None where they say none, and where the route
-/// needs no body. What a holder says apart, since all the commands that a function makes are cleared where it begins.
+/// needs no body. Each command is made by a function of its own, since all that a function makes are cleared where it begins.
 fn said(route: &Route, value: &Value<'_>, command: &mut Command) -> Option<()>
     requires { IsData value.now }
     ensures { option_map (λ _. command.new) result ≡ said route.now (data_of value.now) }
 {
     match *route {
-        Route::StartFrom(_)
-        | Route::StartTo(_)
-        | Route::Handle(_)
-        | Route::Discard(_)
-        | Route::ReadLog(_)
-        | Route::Redeem(_) => said_by_holder(route, value, command),
-        _ => said_by_any(route, value, command),
+        Route::NewMember => new_member(value, command),
+        Route::Grant(member) => grant(member, value, command),
+        Route::Clear(purse) => clear(purse, value, command),
+        Route::Settle => settle(value, command),
+        Route::NewHolder => new_holder(value, command),
+        Route::NewPurse => new_purse(value, command),
+        Route::Load(purse) => load(purse, value, command),
+        Route::StartFrom(purse) => start_from(purse, value, command),
+        Route::StartTo(purse) => start_to(purse, value, command),
+        Route::Handle(purse) => handle(purse, value, command),
+        Route::Discard(purse) => discard(purse, value, command),
+        Route::ReadLog(purse) => read_log(purse, value, command),
+        Route::Redeem(purse) => redeem(purse, value, command),
+        _ => None,
     }
 }
 
