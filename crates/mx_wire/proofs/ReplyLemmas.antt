@@ -26,11 +26,11 @@ pub parts-joined : (text head body : List ℕ) (n : ℕ) → text ≡ head ++ bo
 parts-joined text head body n whole size = rw (whole, size, take-append_seam head body, drop-append_seam head body) refl
 
 -- a text to which a message was added, piece by piece
-pub message_added : (t a b c d e f g kind number : List ℕ) (n : ℕ) (m : Message) → kind ≡ message_word m → number ≡ decimal n
-    → a ≡ t ++ codes "{\"details\":\"" → b ≡ a ++ message_details m → c ≡ b ++ codes "\",\"kind\":\"" → d ≡ c ++ kind → e ≡ d ++ codes "\",\"number\":" → f ≡ e ++ number → g ≡ f ++ codes "}"
-    → g ≡ t ++ message_text (n, m)
-message_added t a b c d e f g kind number n m is_kind is_number p q r s k l o =
-    rw (o, l, k, s, r, q, p, is_kind, is_number) (simp append_assoc)
+pub message_added : (t a b c d e f kind : List ℕ) (n : ℕ) (m : Message) → kind ≡ message_word m
+    → a ≡ t ++ codes "{\"details\":\"" → b ≡ a ++ message_details m → c ≡ b ++ codes "\",\"kind\":\"" → d ≡ c ++ kind
+    → e ≡ d ++ codes "\",\"number\":" ++ decimal n → f ≡ e ++ codes "}"
+    → f ≡ t ++ message_text (n, m)
+message_added t a b c d e f kind n m is_kind p q r s k l = rw (l, k, s, r, q, p, is_kind) (simp append_assoc)
 
 -- the head of a response 200, piece by piece
 pub head_added : (t a b c number : List ℕ) (n : ℕ) → number ≡ decimal n → t ≡ []

@@ -327,8 +327,7 @@ fn push_quoted(text: &mut String, name: &Name) -> Result<(), AllocError>
 {
     text.push_str("\"")?;
     text.push_str(name.as_str())?;
-    text.push_str("\"")?;
-    Ok(())
+    text.push_str("\"")
 }
 
 /// Writes names in quotes at the end, each behind a comma.
@@ -381,13 +380,11 @@ fn push_message(
 ) -> Result<(), AllocError>
     ensures { IfOk result (λ _. string_bytes text.new ≡ string_bytes text.old ++ message_text (number, message.now)) }
 {
-    let mut buffer = itoa::Buffer::new();
     text.push_str("{\"details\":\"")?;
     push_details(alloc, text, message)?;
     text.push_str("\",\"kind\":\"")?;
     text.push_str(message_word(message))?;
-    text.push_str("\",\"number\":")?;
-    text.push_str(buffer.format(number))?;
+    push_number(text, "\",\"number\":", number)?;
     text.push_str("}")?;
     Ok(())
 }
