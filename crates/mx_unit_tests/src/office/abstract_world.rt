@@ -232,17 +232,23 @@ fn assert_abstract(
     }
 }
 
+/// Asks what a row asks.
+fn ask_row(alloc: Global, office: &mut Office<PlainBook>, row: &Row) -> Result<(), Fail> {
+    let holder = Caller::Holder(name(PURSES[row.0 % 3].1)?);
+    let command = command_of(purse_at(row.0)?, row.1)?;
+    match office.answer(alloc, holder, &command) {
+        Ok(Reply::Refused(_)) | Err(_) => Err("refused")?,
+        Ok(_) => Ok(()),
+    }
+}
+
 /// Asks what a row asks, and asserts what the row says.
 fn assert_row(
     rt: &(impl Abort + AllocGlobal),
     office: &mut Office<PlainBook>,
     row: &Row,
 ) -> Result<(), Fail> {
-    let holder = Caller::Holder(name(PURSES[row.0 % 3].1)?);
-    let command = command_of(purse_at(row.0)?, row.1)?;
-    if let Ok(Reply::Refused(_)) | Err(_) = office.answer(rt.alloc(), holder, &command) {
-        Err("refused")?;
-    }
+    ask_row(rt.alloc(), office, row)?;
     let purses = purses_of(rt.alloc(), office)?;
     let payments = payments_of(rt.alloc(), purses.as_slice())?;
     assert_abstract(rt, &payments, purses.as_slice(), false, &row.2);

@@ -154,46 +154,49 @@ fn refusals_of_what_does_not_fit(rt: HostRuntime) -> Result<(), Fail> {
     )
 }
 
+/// The responses that no reply of the office is, with their statuses and bodies.
+const OF_THE_DESK: [(Fixed, &str, &str); 8] = [
+    (
+        Fixed::BadHead,
+        "400 Bad Request",
+        "{\"error\":\"bad head\"}",
+    ),
+    (
+        Fixed::TransferCoding,
+        "501 Not Implemented",
+        "{\"error\":\"transfer coding\"}",
+    ),
+    (
+        Fixed::BadLength,
+        "400 Bad Request",
+        "{\"error\":\"bad content length\"}",
+    ),
+    (
+        Fixed::TooLarge,
+        "413 Content Too Large",
+        "{\"error\":\"body too large\"}",
+    ),
+    (
+        Fixed::BodyCut,
+        "400 Bad Request",
+        "{\"error\":\"body cut\"}",
+    ),
+    (Fixed::NoRoute, "404 Not Found", "{\"error\":\"no route\"}"),
+    (
+        Fixed::TokenUnknown,
+        "403 Forbidden",
+        "{\"error\":\"token not known\"}",
+    ),
+    (
+        Fixed::BadBody,
+        "400 Bad Request",
+        "{\"error\":\"bad body\"}",
+    ),
+];
+
 #[test]
 fn responses_of_the_desk(rt: HostRuntime) -> Result<(), Fail> {
-    for (fixed, status, body) in [
-        (
-            Fixed::BadHead,
-            "400 Bad Request",
-            "{\"error\":\"bad head\"}",
-        ),
-        (
-            Fixed::TransferCoding,
-            "501 Not Implemented",
-            "{\"error\":\"transfer coding\"}",
-        ),
-        (
-            Fixed::BadLength,
-            "400 Bad Request",
-            "{\"error\":\"bad content length\"}",
-        ),
-        (
-            Fixed::TooLarge,
-            "413 Content Too Large",
-            "{\"error\":\"body too large\"}",
-        ),
-        (
-            Fixed::BodyCut,
-            "400 Bad Request",
-            "{\"error\":\"body cut\"}",
-        ),
-        (Fixed::NoRoute, "404 Not Found", "{\"error\":\"no route\"}"),
-        (
-            Fixed::TokenUnknown,
-            "403 Forbidden",
-            "{\"error\":\"token not known\"}",
-        ),
-        (
-            Fixed::BadBody,
-            "400 Bad Request",
-            "{\"error\":\"bad body\"}",
-        ),
-    ] {
+    for (fixed, status, body) in OF_THE_DESK {
         assert_bytes(
             &rt,
             fixed_text(fixed, true),

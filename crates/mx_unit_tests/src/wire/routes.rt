@@ -4,12 +4,7 @@ use std::process::Abort;
 use std::test::Fail;
 
 /// Asserts that the request of each line of a text, a method and a path, has a route of this class, or that none has one.
-fn assert_class(
-    rt: &(impl Abort + AllocGlobal),
-    class: Option<Class>,
-    requests: &str,
-) -> Result<(), Fail> {
-    let routes = Routes::new(rt.alloc())?;
+fn assert_class_of(rt: &impl Abort, routes: &Routes, class: Option<Class>, requests: &str) {
     for request in requests.lines().filter(|line| !line.is_empty()) {
         let (method, path) = request.split_once(' ').unwrap_or((request, ""));
         assert_eq!(rt;
@@ -18,6 +13,15 @@ fn assert_class(
             "{request}"
         );
     }
+}
+
+/// The same of new routes.
+fn assert_class(
+    rt: &(impl Abort + AllocGlobal),
+    class: Option<Class>,
+    requests: &str,
+) -> Result<(), Fail> {
+    assert_class_of(rt, &Routes::new(rt.alloc())?, class, requests);
     Ok(())
 }
 
