@@ -4,7 +4,24 @@ mod abstract_world;
 mod random;
 mod rounds;
 
-use mx_office::Refusal;
+use mx_memory::PlainBook;
+use mx_office::{Office, Refusal};
+use random::token;
+use std::alloc::AllocGlobal;
+use std::test::Fail;
+
+/// Lends a new office to a test. A test that made one itself would be proved slowly, since it would drop it at each of its
+/// ends.
+fn with_office<H, F>(rt: &H, test: F) -> Result<(), Fail>
+where
+    H: AllocGlobal,
+    F: FnOnce(&H, &mut Office<PlainBook>) -> Result<(), Fail>,
+    requires { F.IsAlwaysCallable test }
+{
+    let operator = token(b'1')?;
+    let mut office = Office::new(PlainBook::new(rt.alloc(), operator));
+    test(rt, &mut office)
+}
 
 /// Refusals, and the words of each in a line.
 const REFUSALS: [Refusal; 20] = [

@@ -1,5 +1,6 @@
 //! Examples of each rule, worked out by hand: what no contract says.
 use mx_pay::{Amount, Log, Name, PayDetails, Seq, Token, code_text, read_code};
+use std::process::Abort;
 use std::test::Fail;
 
 /// The name that is spelled `text`, which has to be one.
@@ -115,6 +116,14 @@ fn other_texts_are_no_tokens(rt: HostRuntime) {
     assert!(rt; Token::read_bytes(&[0xFF; 32]).is_none());
 }
 
+/// Asserts that a text is the code text of a log with so many entries.
+fn assert_code_text(rt: &(impl Abort + AllocGlobal), text: &str, len: usize) -> Result<(), Fail> {
+    let log = read_code(text).ok_or("no code text")?;
+    assert_eq!(rt; log.len(), len, "{text}");
+    assert_eq!(rt; code_text(rt.alloc(), &log)?.as_str(), text);
+    Ok(())
+}
+
 #[test]
 fn a_code_text_is_read_as_its_log(rt: HostRuntime) -> Result<(), Fail> {
     for (text, len) in [
@@ -123,9 +132,7 @@ fn a_code_text_is_read_as_its_log(rt: HostRuntime) -> Result<(), Fail> {
         ("a,b,1000000000000,1000000000000000,1000000000000000", 1),
         ("a,b,2,0,0;a,b,10,0,0;a-1,b,0,0,0;a1,b,0,0,0", 4),
     ] {
-        let log = read_code(text).ok_or("no code text")?;
-        assert_eq!(rt; log.len(), len, "{text}");
-        assert_eq!(rt; code_text(rt.alloc(), &log)?.as_str(), text);
+        assert_code_text(&rt, text, len)?;
     }
     let log = read_code("a,b,60,3,4").ok_or("no code text")?;
     assert_eq!(rt; log.at(0), Some(details("b", 60, 3, 4)?));

@@ -2,6 +2,7 @@
 //! purse to purse, and a purse that is worn.
 use mx_pay::{Amount, Log, Name, PayDetails, Seq, read_code};
 use mx_purse::{Handled, Message, Purse, StartRefusal, Status};
+use std::process::Abort;
 use std::test::Fail;
 
 /// The log whose code text is `text`, which has to be one.
@@ -168,21 +169,31 @@ fn figures(purse: &Purse) -> (u64, u64, usize, u64) {
     (balance, next, purse.log().len(), purse.lines())
 }
 
+/// Both purses start the payment.
+fn assert_started(rt: &impl Abort, p1: &mut Purse, q1: &mut Purse, sixty: PayDetails) {
+    let begun = p1.start_from(sixty.to(), sixty.value(), Seq::zero());
+    assert_eq!(rt; begun, Ok(sixty));
+    assert_eq!(rt; standing(p1), ("epr", Some(sixty)));
+    let begun = q1.start_to(sixty.from(), sixty.value(), Seq::zero());
+    assert_eq!(rt; begun, Ok(sixty));
+    assert_eq!(rt; standing(q1), ("epv", Some(sixty)));
+}
+
+/// The three messages of the payment are handled.
+fn assert_handled(rt: &impl Abort, p1: &mut Purse, q1: &mut Purse, sixty: PayDetails) {
+    assert_eq!(rt; taken(p1, Message::Req(sixty)), ("req", Some(sixty)));
+    assert_eq!(rt; standing(p1), ("epa", Some(sixty)));
+    assert_eq!(rt; taken(q1, Message::Val(sixty)), ("val", Some(sixty)));
+    assert_eq!(rt; taken(p1, Message::Ack(sixty)), ("ack", Some(sixty)));
+}
+
 #[test]
 fn payment_in_five_steps(rt: HostRuntime) -> Result<(), Fail> {
     let sixty = details("p1,q1,60,0,0")?;
     let mut p1 = made(100, 0, Status::EaFrom, Log::new(), 1)?.ok_or("no purse")?;
     let mut q1 = Purse::new(sixty.to());
-    let begun = p1.start_from(sixty.to(), sixty.value(), Seq::zero());
-    assert_eq!(rt; begun, Ok(sixty));
-    assert_eq!(rt; standing(&p1), ("epr", Some(sixty)));
-    let begun = q1.start_to(sixty.from(), sixty.value(), Seq::zero());
-    assert_eq!(rt; begun, Ok(sixty));
-    assert_eq!(rt; standing(&q1), ("epv", Some(sixty)));
-    assert_eq!(rt; taken(&mut p1, Message::Req(sixty)), ("req", Some(sixty)));
-    assert_eq!(rt; standing(&p1), ("epa", Some(sixty)));
-    assert_eq!(rt; taken(&mut q1, Message::Val(sixty)), ("val", Some(sixty)));
-    assert_eq!(rt; taken(&mut p1, Message::Ack(sixty)), ("ack", Some(sixty)));
+    assert_started(&rt, &mut p1, &mut q1, sixty);
+    assert_handled(&rt, &mut p1, &mut q1, sixty);
     assert_eq!(rt; figures(&p1), (40, 1, 0, 2));
     assert_eq!(rt; standing(&p1), ("eaFrom", None));
     assert_eq!(rt; figures(&q1), (60, 1, 0, 1));

@@ -1,9 +1,10 @@
 //! The abstract purses of worked payments, for each choice of what becomes of the value that is under way.
-use super::random::{amount, name, open, seq, token};
+use super::random::{amount, name, open, seq};
+use super::with_office;
 use mx_book::{Book, Caller};
 use mx_memory::PlainBook;
 use mx_office::{Command, Office, Reply};
-use mx_pay::{Name, PayDetails, Token};
+use mx_pay::{Name, PayDetails};
 use mx_purse::Purse;
 use std::alloc::Global;
 use std::process::Abort;
@@ -256,23 +257,27 @@ fn assert_row(
     Ok(())
 }
 
+/// Loads p1 with 100.
+fn load_p1(alloc: Global, office: &mut Office<PlainBook>) -> Result<(), Fail> {
+    let clerk = Caller::Clerk(name("m")?);
+    let load = Command::Load {
+        purse: purse_at(0)?,
+        amount: amount(100)?,
+        reference: name("a1")?,
+    };
+    match office.answer(alloc, clerk, &load) {
+        Ok(_) => Ok(()),
+        Err(_) => Err("not loaded")?,
+    }
+}
+
 /// Loads p1 with 100, and goes through the table, in an office in which nothing is.
 fn assert_table(
     rt: &(impl Abort + AllocGlobal),
     office: &mut Office<PlainBook>,
 ) -> Result<(), Fail> {
     open(rt.alloc(), office)?;
-    let load = Command::Load {
-        purse: purse_at(0)?,
-        amount: amount(100)?,
-        reference: name("a1")?,
-    };
-    if office
-        .answer(rt.alloc(), Caller::Clerk(name("m")?), &load)
-        .is_err()
-    {
-        Err("not loaded")?;
-    }
+    load_p1(rt.alloc(), office)?;
     for row in &TABLE {
         assert_row(rt, office, row)?;
     }
@@ -282,7 +287,5 @@ fn assert_table(
 /// A payment whose value is lost, and one that is under way: the abstract purses after each command, for each choice.
 #[test]
 fn abstract_purses_of_worked_payments(rt: HostRuntime) -> Result<(), Fail> {
-    let operator: Token = token(b'1')?;
-    let mut office = Office::new(PlainBook::new(rt.alloc(), operator));
-    assert_table(&rt, &mut office)
+    with_office(&rt, |rt, office| assert_table(rt, office))
 }

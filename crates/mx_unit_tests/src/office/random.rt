@@ -1,4 +1,5 @@
 //! Random commands, and what the books come to by a ledger of the test's own.
+use super::with_office;
 use mx_book::{Caller, Totals};
 use mx_memory::PlainBook;
 use mx_office::{Command, Office, Reply};
@@ -611,20 +612,21 @@ fn assert_sums(
     Ok(())
 }
 
-/// The same in a new office.
-fn assert_seed(rt: &(impl Abort + AllocGlobal), operator: Token, seed: u64) -> Result<(), Fail> {
-    let mut office = Office::new(PlainBook::new(rt.alloc(), operator));
-    let mut ledger = Ledger::new(rt.alloc());
-    assert_sums(rt, &mut office, &mut ledger, seed)
+/// The same beside a new ledger.
+fn assert_seed(
+    rt: &(impl Abort + AllocGlobal),
+    office: &mut Office<PlainBook>,
+    seed: u64,
+) -> Result<(), Fail> {
+    assert_sums(rt, office, &mut Ledger::new(rt.alloc()), seed)
 }
 
 /// Payments that are broken off anywhere, messages handled twice and late, logs read, archived and cleared, lost payments
 /// settled, loads, redemptions and collects.
 #[test]
 fn sums_of_two_thousand_random_commands(rt: HostRuntime) -> Result<(), Fail> {
-    let operator = token(b'1')?;
     for seed in 1..=4 {
-        assert_seed(&rt, operator, seed)?;
+        with_office(&rt, |rt, office| assert_seed(rt, office, seed))?;
     }
     Ok(())
 }

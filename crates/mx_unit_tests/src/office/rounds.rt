@@ -1,10 +1,11 @@
 //! Many payments in one run of the office, and a run of no commands.
-use super::random::{amount, name, open, seq, token};
+use super::random::{amount, name, open, seq};
+use super::with_office;
 use mx_book::Caller;
 use mx_memory::PlainBook;
 use mx_office::{Command, Office, Outcome, Reply};
 use mx_purse::Handled;
-use std::alloc::{AllocGlobal, Global};
+use std::alloc::Global;
 use std::process::Abort;
 use std::test::Fail;
 
@@ -93,7 +94,5 @@ fn assert_runs(
 
 #[test]
 fn runs_of_no_command_and_of_two_thousand(rt: HostRuntime) -> Result<(), Fail> {
-    let operator = token(b'1')?;
-    let mut office = Office::new(PlainBook::new(rt.alloc(), operator));
-    assert_runs(&rt, &mut office)
+    with_office(&rt, |rt, office| assert_runs(rt, office))
 }

@@ -8,6 +8,13 @@ use std::alloc::Global;
 use std::process::Abort;
 use std::test::Fail;
 
+/// The words of the command that a request, a method and a path, with this body says.
+fn words_of(alloc: Global, routes: &Routes, request: &str, body: &[u8]) -> Result<String, Fail> {
+    let (method, path) = request.split_once(' ').unwrap_or((request, ""));
+    let read = routes.read_command(alloc, method.as_bytes(), path.as_bytes(), body);
+    Ok(read_words(alloc, &read)?)
+}
+
 /// Asserts that a request, a method and a path, with this body says the command in words.
 fn assert_command(
     rt: &(impl Abort + AllocGlobal),
@@ -15,10 +22,7 @@ fn assert_command(
     body: &[u8],
     words: &str,
 ) -> Result<(), Fail> {
-    let routes = Routes::new(rt.alloc())?;
-    let (method, path) = request.split_once(' ').unwrap_or((request, ""));
-    let read = routes.read_command(rt.alloc(), method.as_bytes(), path.as_bytes(), body);
-    let text = read_words(rt.alloc(), &read)?;
+    let text = words_of(rt.alloc(), &Routes::new(rt.alloc())?, request, body)?;
     assert_eq!(rt; text.as_str(), words, "{request}");
     Ok(())
 }
