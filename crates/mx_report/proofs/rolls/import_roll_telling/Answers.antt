@@ -1,4 +1,4 @@
-use Rattle.std.proofs.Common.{rules, ◌≡◌, ◌≤◌, ◌<◌, ◌+◌, ◌^◌, ◌-◌, ◌∷◌, ◌++◌, [], Some, Ok, Err, inl, inr, refl, sym, ◌∙◌, arith}
+use Rattle.std.proofs.Common.{rules, ◌≡◌, ◌<◌, ◌∷◌, ◌++◌, [], Some, inr, refl, arith}
 use Rattle.csv.specs.Reading.{owned_rows_left}
 use Rattle.csv.specs.Records.{fields_of}
 use Rattle.mx_report.specs.Import.{import}
