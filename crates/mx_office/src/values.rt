@@ -152,7 +152,7 @@ pub enum Command {
 }
 
 /// Why a command is refused. Each command has its refusals in an order, and the first that applies is given.
-#[derive(Clone, Copy, Debug, PartialEq, Eq)]
+#[derive(Clone, Copy)]
 pub enum Refusal {
     /// The command is of another class than the caller's.
     NotForCaller,
@@ -227,7 +227,7 @@ impl Refusal {
 }
 
 /// Names in order. A contract sees the list of them.
-#[derive(Drop, Debug)]
+#[derive(Drop)]
 pub struct Names {
     list: Vec<Name>,
 }
@@ -260,7 +260,7 @@ impl Names {
 }
 
 /// Messages with their numbers, by number. A contract sees the list of them.
-#[derive(Drop, Debug)]
+#[derive(Drop)]
 pub struct Messages {
     list: Vec<(u64, Message)>,
 }
@@ -295,7 +295,7 @@ impl Messages {
 }
 
 /// Lines of a statement, by number. A contract sees the list of them.
-#[derive(Drop, Debug)]
+#[derive(Drop)]
 pub struct Lines {
     list: Vec<Line>,
 }
@@ -330,7 +330,7 @@ impl Lines {
 }
 
 /// The answer to a command.
-#[derive(Drop, Debug)]
+#[derive(Drop)]
 pub enum Reply {
     /// The command is refused, and nothing changed.
     Refused(Refusal),
@@ -398,7 +398,7 @@ impl Decided {
 }
 
 /// What came of one of several commands.
-#[derive(Drop, Debug)]
+#[derive(Drop)]
 pub enum Outcome {
     /// It was answered so.
     Reply(Reply),

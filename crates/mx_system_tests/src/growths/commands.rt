@@ -293,8 +293,8 @@ fn assert_run_of_three(
     let first = run_in_the_end(rt.alloc(), office, &commands)?;
     let second = run_in_the_end(rt.alloc(), office, &commands)?;
     assert_eq!(rt; (first.len(), second.len()), (3, 3));
-    for (first, second) in first.iter().zip(second.iter()) {
-        assert!(rt; is_added_once(first, second), "{first:?} {second:?}");
+    for (place, (first, second)) in first.iter().zip(second.iter()).enumerate() {
+        assert!(rt; is_added_once(first, second), "{place}");
     }
     Ok(())
 }
