@@ -9,7 +9,7 @@ use Rattle.sqlite.specs.Held.{Held}
 use Rattle.sqlite.specs.State.{HasCleanDisk}
 use Rattle.mx_book.specs.declared.contract.StoreFault.{StoreFault}
 use Rattle.mx_tables.specs.Known.{Knowledge}
-use Rattle.mx_tables.specs.States.{IsAwake, Brings, WritesWith, Reads, Steps, Runs, Writes, Finds}
+use Rattle.mx_tables.specs.States.{IsAwake, IsOurs, Stays, Brings, WritesWith, Reads, Steps, Runs, Writes, Finds}
 use Rattle.mx_tables.proofs.StateLemmas.{on_ok_anyway, on_ok_never, brings_same, brings_none, stays_same, stays_then, sure_before, within_none, within_then}
 use Rattle.mx_tables.proofs.WriteLemmas.{goes_as, goes_then}
 
@@ -30,6 +30,13 @@ module _ {S : Type 0} (g : Ghosts S) where
   pub reads_fault : {T U : Type 0} {old new : Held S} {q : Result T StoreFault} {r : Result U StoreFault} {is : Rows → T → Type 0} {other : Rows → U → Type 0}
       → Reads g old new q is → IsErr r → Reads g old new r other
   reads_fault {r = r} {other = other} h fault = record { stays = h.stays; value = λ ours calm rows holds. IfOk-from_err r (other rows) fault; live = on_ok_never r _ fault }
+
+  -- a fault after what leaves the rows, and a fault before any read
+  pub reads_stopped : {T : Type 0} {old new : Held S} {r : Result T StoreFault} {is : Rows → T → Type 0} → (IsOurs (state g old) → Stays (state g old) (state g new)) → IsErr r → Reads g old new r is
+  reads_stopped {r = r} {is = is} stays fault = record { stays = stays; value = λ ours calm rows holds. IfOk-from_err r (is rows) fault; live = on_ok_never r _ fault }
+
+  pub reads_never : {T : Type 0} {old : Held S} {r : Result T StoreFault} {is : Rows → T → Type 0} → IsErr r → Reads g old old r is
+  reads_never {old = old} = reads_stopped (stays_same (state g old))
 
   -- what follows from what a read gives
   pub reads_more : {T : Type 0} {old new : Held S} {r : Result T StoreFault} {is other : Rows → T → Type 0}

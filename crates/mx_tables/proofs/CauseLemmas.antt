@@ -1,6 +1,6 @@
 -- Why a read fails.
-use Rattle.mx_tables.proofs.Common.{[], arith, codes, length, ◌≤◌, ◌≡◌, inl, inr, ℕ, List, Ok, Option, Some, None, refl, ◌∙◌, Row, office_schema}
-use Rattle.std.proofs.Common.{◌⊎◌, Err, Result, IsTrue, sym, ap, subst, append-nil}
+use Rattle.mx_tables.proofs.Common.{[], codes, length, ◌≤◌, ◌≡◌, inl, inr, ℕ, List, Ok, Option, Some, None, refl, ◌∙◌, Row, office_schema}
+use Rattle.std.proofs.Common.{◌⊎◌, Err, Result, IsTrue, sym, ap, subst, append-nil, le_refl}
 use Rattle.std.specs.Prelude.{IsSome, IfErr, IsErrAnd}
 use Rattle.sqlite_trees.specs.declared.error.StoreError.{StoreError}
 use Rattle.sqlite_trees.specs.declared.error.StoreError.TheVariants.{OutOfMemory, Io, Corrupt, Full, Broken, Unstorable}
@@ -85,7 +85,7 @@ IsBare sql (Err e) = ⊥
 
 commit_bare : IsBare commit (understood office_schema commit)
 unfolding understood everything
-commit_bare = (omega arith, refl, (refl, refl))
+commit_bare = (le_refl _, refl, (refl, refl))
 
 module _ (old new : State) (e : Error) (has : old.now.schema ≡ office_schema) where
   commit_known : {r : Result Compiled CompileError} → understood old.now.schema commit ≡ r → IsBare commit r

@@ -1,6 +1,6 @@
 -- Why a read as a whole fails.
 use Rattle.mx_tables.proofs.Common.{◌≡◌, inl, inr, ℕ, ℤ, Int, ◌≤◌, List, [], ◌∷◌, length, true, false, Ok, Option, Some, None, refl, ◌∙◌, arith, is_eq, Row, column, number, Term, Text, IsPermutation, length-map, Ordering, eq_by_cmp, office_schema, state, Rows, Name, Database, Holds}
-use Rattle.std.proofs.Common.{Err, Result, T, Less, map, sym, ap, subst}
+use Rattle.std.proofs.Common.{Err, Result, T, Less, map, sym, ap, subst, le_refl}
 use Rattle.std.specs.Prelude.{IsSome, IfErr, IsErrAnd, IfSome, ◌<◌, is_ok, option_map}
 use Rattle.std.proofs.lemmas.Result.{IfErr-weaker}
 use Rattle.std.proofs.lemmas.Bool.{cases_Bool}
@@ -30,7 +30,7 @@ use Rattle.mx_tables.specs.Answers.{at_key, about_text, member_shown, text_shown
 use Rattle.mx_tables.specs.Holds.{Spells}
 use Rattle.mx_tables.specs.declared.asking.About.{About}
 use Rattle.mx_tables.specs.declared.asking.About.TheVariants.{Member, Holder, Purse, Owner, Next}
-use Rattle.mx_tables.specs.States.{worry, Accepts, AcceptsText, AcceptsCommand, Blames, IsFaulted, Explains, IsExplained, Reads}
+use Rattle.mx_tables.specs.States.{worry, Accepts, HasOneAtMost, AcceptsText, AcceptsCommand, Blames, IsFaulted, Explains, IsExplained, Reads}
 use Rattle.mx_tables.proofs.Places.{Place, Belongs}
 use Rattle.mx_tables.proofs.StateLemmas.{sure, no_worry}
 use Rattle.mx_tables.proofs.CauseLemmas.{handed}
@@ -101,14 +101,14 @@ select_accepted sql tree terms project order names text params db whole typed = 
 
 about_whole : (a : About) → IsWhole (about_text a) 1 (understood office_schema (about_text a))
 unfolding understood everything
-about_whole Member = (omega arith, refl)
-about_whole a = (omega arith, refl)
+about_whole Member = (le_refl _, refl)
+about_whole a = (le_refl _, refl)
 
 about_typed : (a : About) (p : Name) (db : Trees) → IsShown (λ (r : Row). r) (record { schema = office_schema; trees = db }) (alone (scan (asked a).0 (is_given 1 0 ∷ []) (asked a).1 [])) (Text p ∷ []) None → ⊥
 about_typed Member p db h = cc
 about_typed a p db h = cc
 
-pub about_accepted : (a : About) (p : Name) (db : Trees) → Accepts (about_text a) (Text p ∷ []) db
+about_accepted : (a : About) (p : Name) (db : Trees) → Accepts (about_text a) (Text p ∷ []) db
 about_accepted a p db = select_accepted (about_text a) _ _ _ [] _ (selects a) (Text p ∷ []) db (about_whole a) (about_typed a p db)
 
 -- a query at a key answers one row at most
@@ -120,12 +120,15 @@ keyed_few {R = R} {t = t} table q sql terms project names text params show tests
     few R table.kept.key.exact q (t.map.get r) (λ e. show e.1) rows (answers table sql terms project names text params (λ e. eq_by_cmp R q e.0) (λ e. show e.1) tests shows old new rows shown r h)
 
 -- no query about a name answers two rows
-pub about_few : (a : About) (p : Name) (old new : State) (rows : List Row) (r : Rows) → Holds old.now r → Shown (about_text a) (Text p ∷ []) old new rows → length rows ≤ 1
+about_few : (a : About) (p : Name) (old new : State) (rows : List Row) (r : Rows) → Holds old.now r → Shown (about_text a) (Text p ∷ []) old new rows → length rows ≤ 1
 about_few Member p old new rows r h shown = keyed_few kept.members p _ _ _ _ (selects Member) (Text p ∷ []) member_shown (λ id e. rw (same_text e.0 p) (and_true _ ∙ names_turned e.0 p)) (λ id e. refl) old new rows shown r h
 about_few Holder p old new rows r h shown = keyed_few kept.holders p _ _ _ _ (selects Holder) (Text p ∷ []) text_shown (λ id e. rw (same_text e.0 p) (and_true _ ∙ names_turned e.0 p)) (λ id e. refl) old new rows shown r h
 about_few Purse p old new rows r h shown = keyed_few kept.purses p _ _ _ _ (selects Purse) (Text p ∷ []) purse_shown (λ id e. rw (same_text e.0 p) (and_true _ ∙ names_turned e.0 p)) (λ id e. refl) old new rows shown r h
 about_few Owner p old new rows r h shown = keyed_few kept.purses p _ _ _ _ (selects Owner) (Text p ∷ []) (λ (x : PurseRow). text_shown x.holder) (λ id e. rw (same_text e.0 p) (and_true _ ∙ names_turned e.0 p)) (λ id e. refl) old new rows shown r h
 about_few Next p old new rows r h shown = keyed_few kept.purses p _ _ _ _ (selects Next) (Text p ∷ []) next_shown (λ id e. rw (same_text e.0 p) (and_true _ ∙ names_turned e.0 p)) (λ id e. refl) old new rows shown r h
+
+pub about_one : (a : About) (p : Name) (old new : State) (r : Rows) → Holds old.now r → HasOneAtMost (about_text a) (Text p ∷ []) old new
+about_one a p old new r h = record { schema = h.has.schema; accepts = about_accepted a p old.now.trees; few = λ rows shown. about_few a p old new rows r h shown }
 
 -- ---- one read after another
 
@@ -268,13 +271,10 @@ module _ {S : Type 0} (g : Ghosts S) where
     };
   }
 
-  -- a query whose text is accepted
-  pub why_asked : {U : Type 0} {old new : Held S} {sql : List ℕ} {params : Row} {x : Type 0} (r : Result U StoreFault)
-      → Explains (state g old) (state g new) (((state g old).now.schema ≡ office_schema) × Accepts sql params (state g old).now.trees) x
-      → Accepts sql params (state g old).now.trees → (x → IfErr r (Blames (state g old) (state g new))) → IsExplained g old new r
-  why_asked {old = old} {new = new} r one accepts f = record {
-    why = λ ours. explains_as (state g old) (state g new) one (λ clean calm it. ((it.1.holds.has.schema, accepts), f));
-  }
+  -- a query of which all is so that it is explained by
+  pub why_asked : {U : Type 0} {old new : Held S} {k x : Type 0} (r : Result U StoreFault) → Explains (state g old) (state g new) k x → ((w : World) → Spells (state g old).now w → k) → (x → IfErr r (Blames (state g old) (state g new)))
+      → IsExplained g old new r
+  why_asked {old = old} {new = new} r one known f = record { why = λ ours. explains_as (state g old) (state g new) one (λ clean calm it. (known it.0 it.1, f)) }
 
   -- what it showed is decoded
   pub why_shown : {U : Type 0} {old new : Held S} (rows : List Row) (sql : List ℕ) (params : Row) {k x : Type 0} {r : Result U StoreFault}

@@ -1,6 +1,6 @@
 -- The statements on inboxes.
 use Rattle.mx_tables.proofs.Common.{false, inl, inr, ◌≡◌, ◌<◌, ℕ, None, length, List, [], ◌∷◌, refl, ℤ, pos, ◌+◌, true, Some, Option, codes, Ok, ◌∙◌, arith, AllByRecursion, length-map, Text, Int, number, office_schema, option_map, IsPermutation, Ordering, nat_cmp, is_eq, eq_by_cmp, Binary, Row, column, col, Database, Executes, name_cmp, is_name, Name, Rows, rewritten, PurseRow, Holds}
-use Rattle.std.proofs.Common.{is_some, filter, map, ap, not, Err, Result, IfOk, sym, subst, Less}
+use Rattle.std.proofs.Common.{le_refl, is_some, filter, map, ap, not, Err, Result, IfOk, sym, subst, Less}
 use Rattle.std.proofs.lemmas.List.Sorted.{length_permutation}
 use Rattle.mx_purse.specs.declared.message.Message.{Message}
 use Rattle.mx_purse.specs.Messages.{IsMessage}
@@ -67,7 +67,7 @@ finds_inbox p old new rows shown r h =
 
 held_whole : IsWhole select_held_numbers 1 (understood office_schema select_held_numbers)
 unfolding understood everything
-held_whole = (omega arith, refl)
+held_whole = (le_refl _, refl)
 
 -- the database refuses no such query
 pub held_accepted : (p : Name) (db : Trees) → Accepts select_held_numbers (Text p ∷ []) db

@@ -1,7 +1,8 @@
 -- Lists of rows and the maps that they make.
-use Rattle.mx_tables.proofs.Common.{◌≡◌, Bool, true, List, [], ◌∷◌, ◌++◌, Some, None, refl, ◌∙◌, filter, arith, IsPermutation, Ordering, is_eq, eq_by_cmp, option_map}
-use Rattle.std.proofs.Common.{cond, ◌||◌, map, sym, ap, subst, not}
+use Rattle.mx_tables.proofs.Common.{◌≡◌, ◌<◌, ◌+◌, ℕ, length, take, Bool, true, List, [], ◌∷◌, ◌++◌, Some, None, refl, ◌∙◌, filter, arith, IsPermutation, Ordering, is_eq, eq_by_cmp, option_map}
+use Rattle.std.proofs.Common.{cond, ◌||◌, map, sym, ap, ap₂, subst, not, get_or}
 use Rattle.std.specs.List.{list_any}
+use Rattle.std.proofs.lemmas.List.{map_more, map-append}
 use Rattle.std.proofs.lemmas.List.Sorted.{IsPermutation-refl, IsPermutation-cons, IsPermutation-middle, IsPermutation-trans}
 use Rattle.std.specs.declared.cmp.Ordering.TheVariants.{Less, Equal, Greater}
 use Rattle.std.specs.Cmp.{IsTotalOrder, eq_by_cmp_equiv}
@@ -79,3 +80,15 @@ module _ {K V : Type 0} {R : K → K → Ordering} (o : IsTotalOrder R) (exact :
   map_left gone es = fmap.same_map o exact _ _ (λ q.
       let kept = fmap.get-retain_keys {R = R} (fmap.from_entries es) (λ k. not (gone k)) q (λ x tie. ap (λ k. not (gone k)) (sym (exact q x tie))) in
       grind (arith, fmap.get-from_entries o (filter (λ (e : K × V). not (gone e.0)) es) q, find_left gone q es, fmap.get-from_entries o es q, kept))
+
+-- ---- a list that is made from one row after another
+
+module _ {X Y : Type 0} (f : X → Y) (rows : List X) (at : ℕ) (row : X) (within : at < length rows) (is : row ≡ get_or rows at row) where
+  mapped_more : map f (take (at + 1) rows) ≡ map f (take at rows) ++ f row ∷ []
+  mapped_more = map_more f rows at row within ∙ ap (λ x. map f (take at rows) ++ f x ∷ []) (sym is)
+
+  pub grown : (ys : List Y) (y : Y) → ys ≡ map f (take at rows) → y ≡ f row → ys ++ y ∷ [] ≡ map f (take (at + 1) rows)
+  grown ys y before same = ap₂ (λ zs z. zs ++ z ∷ []) before same ∙ sym mapped_more
+
+  pub grown_alike : {Z : Type 0} (g : Z → Y) (zs : List Z) (z : Z) → map f (take at rows) ≡ map g zs → f row ≡ g z → map f (take (at + 1) rows) ≡ map g (zs ++ z ∷ [])
+  grown_alike g zs z before same = mapped_more ∙ ap₂ (λ ys y. ys ++ y ∷ []) before same ∙ sym (map-append g zs (z ∷ []))

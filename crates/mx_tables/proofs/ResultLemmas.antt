@@ -1,6 +1,6 @@
 -- The statements on the tray and the archive.
 use Rattle.mx_tables.proofs.Common.{◌≡◌, ℕ, pos, ◌+◌, ◌<◌, Bool, true, ◌&&◌, List, [], ◌∷◌, ◌++◌, filter, take, length, codes, Ok, refl, ◌∙◌, arith, Option, Some, is_eq, IsPermutation, eq_by_cmp, nat_cmp, Null, Int, Text, Row, column, col, Database, Executes, is_name, Name, Rows, rewritten, office_schema, number, Holds, Goes}
-use Rattle.std.proofs.Common.{if◌then◌else◌, ◌||◌, map, get_or, sym, ap, ap₂, subst, length-append, is_some}
+use Rattle.std.proofs.Common.{le_refl, if◌then◌else◌, ◌||◌, map, get_or, sym, ap, ap₂, subst, length-append, is_some}
 use Rattle.std.specs.List.{list_any}
 use Rattle.std.specs.FinMap as fmap
 use Rattle.std.specs.FinSet.{FinSet}
@@ -279,7 +279,7 @@ archives p rows items first read put last is found moved emptied = record {
 
 archived_whole : IsWhole select_archived 2 (understood office_schema select_archived)
 unfolding understood everything
-archived_whole = (omega arith, refl)
+archived_whole = (le_refl _, refl)
 
 -- the database refuses no such query
 pub archived_accepted : (p t : List ℕ) (db : Trees) → Accepts select_archived (Text p ∷ Text t ∷ []) db

@@ -1,6 +1,6 @@
 -- The statements on the settled details.
-use Rattle.mx_tables.proofs.Common.{arith, ◌≡◌, ℕ, pos, List, [], ◌∷◌, filter, codes, Ok, refl, ◌∙◌, IsPermutation, eq_by_cmp, nat_cmp, Null, Int, Text, Row, col, Executes, Rows, office_schema, number, Holds, Goes}
-use Rattle.std.proofs.Common.{map, subst}
+use Rattle.mx_tables.proofs.Common.{◌≡◌, ℕ, pos, List, [], ◌∷◌, filter, codes, Ok, refl, ◌∙◌, IsPermutation, eq_by_cmp, nat_cmp, Null, Int, Text, Row, col, Executes, Rows, office_schema, number, Holds, Goes}
+use Rattle.std.proofs.Common.{le_refl, map, subst}
 use Rattle.std.specs.Cmp.Lexicographic.{slice_cmp}
 use Rattle.std.specs.FinMap as fmap
 use Rattle.sqlite.specs.Listing.{understood}
@@ -65,7 +65,7 @@ finds_settled d valid old new rows shown r h each =
 
 settled_whole : IsWhole select_settled 1 (understood office_schema select_settled)
 unfolding understood everything
-settled_whole = (omega arith, refl)
+settled_whole = (le_refl _, refl)
 
 -- the database refuses no such query
 pub settled_accepted : (t : List ℕ) (db : Trees) → Accepts select_settled (Text t ∷ []) db

@@ -1,5 +1,5 @@
 -- What is read of the rows is so of the World that they spell.
-use Rattle.mx_tables.proofs.Common.{◌≡◌, ℕ, Bool, Option, ◌∙◌, IfOk-weaker, Name, Rows}
+use Rattle.mx_tables.proofs.Common.{◌≡◌, ℕ, Bool, Option, ◌∙◌, IfOk-weaker, Name, Rows, state}
 use Rattle.std.proofs.Common.{Result, is_some, ap}
 use Rattle.std.proofs.lemmas.Result.{IfOk-from_err}
 use Rattle.std.specs.Result.{IsErr}
@@ -28,7 +28,7 @@ use Rattle.mx_book.proofs.SpellLemmas as spell
 use Rattle.mx_tables.specs.Answers.{ArePurses, AreMessages, HaveNumbers}
 use Rattle.mx_tables.specs.Pages.{AreLines}
 use Rattle.mx_tables.specs.Results.{AreDetails, AreEntries}
-use Rattle.mx_tables.specs.States.{Reads, Tells}
+use Rattle.mx_tables.specs.States.{IsOurs, Stays, Reads, Tells}
 use Rattle.mx_tables.proofs.StateLemmas.{on_ok_never}
 use Rattle.mx_tables.proofs.SoundLemmas.{messages_valid, numbers_valid, purses_valid, lines_valid, entries_valid, tray_valid, tray_as}
 
@@ -42,10 +42,13 @@ module _ {S : Type 0} (g : Ghosts S) {old new : Held S} where
     live = h.live;
   }
 
-  -- a fault after a read
+  -- a fault after what leaves the rows, and after a read
+  pub tells_stopped : {U : Type 0} {r : Result U StoreFault} {says : World → U → Type 0} → (IsOurs (state g old) → Stays (state g old) (state g new)) → IsErr r → Tells g old new r says
+  tells_stopped {r = r} {says = says} stays fault = record { stays = stays; value = λ ours w calm one. IfOk-from_err r (says w) fault; live = on_ok_never r _ fault }
+
   pub tells_fault : {T U : Type 0} {q : Result T StoreFault} {r : Result U StoreFault} {is : Rows → T → Type 0} {says : World → U → Type 0}
       → Reads g old new q is → IsErr r → Tells g old new r says
-  tells_fault {r = r} {says = says} h fault = record { stays = h.stays; value = λ ours w calm one. IfOk-from_err r (says w) fault; live = on_ok_never r _ fault }
+  tells_fault h = tells_stopped h.stays
 
   -- ---- one value, or none
 

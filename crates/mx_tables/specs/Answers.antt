@@ -1,5 +1,5 @@
 -- What the statements that read answer from the typed rows.
-use Rattle.std.specs.Prelude.{ℕ, if◌then◌else◌, List, [], ◌∷◌, codes, filter, ◌≡◌, ◌≤◌, ◌+◌, Option, Some, None, option_map}
+use Rattle.std.specs.Prelude.{ℕ, false, if◌then◌else◌, List, [], ◌∷◌, codes, filter, ◌≡◌, ◌≤◌, ◌+◌, Option, Some, None, option_map}
 use Rattle.std.specs.Ordering.{eq_by_cmp}
 use Rattle.std.specs.declared.cmp.Ordering.{Ordering}
 use Rattle.sqlite_value.specs.Order.{Row, column}
@@ -12,6 +12,7 @@ use Rattle.mx_purse.specs.Messages.{IsMessage}
 use Rattle.mx_book.specs.World.{Name}
 use Rattle.mx_book.specs.Rows.{Rows}
 use Rattle.mx_pay.specs.Limits.{most_number}
+use Rattle.mx_pay.specs.Names.{is_name}
 use Rattle.mx_pay.specs.Codes.{code}
 use Rattle.mx_purse.specs.State.{State, IsPurse}
 use Rattle.mx_purse.specs.Words.{status_word, status_details, message_word, message_details}
@@ -67,6 +68,11 @@ state_shown p = number p.balance ∷ number p.next ∷ Text (status_word p.statu
 -- the columns of the purse in a row of a purse
 abbrev pub state_columns : Row → Row
 state_columns r = column r 1 ∷ column r 2 ∷ column r 3 ∷ column r 4 ∷ column r 5 ∷ column r 6 ∷ []
+
+-- the row shows the purse of this name, which is the holder's, or another holder
+abbrev pub ShowsOwn : Name → Name → Row → Option State → Type 0
+ShowsOwn h p row None = (owner : Name) × (column row 0 ≡ Text owner) × (is_name h owner ≡ false)
+ShowsOwn h p row (Some s) = (column row 0 ≡ Text h) × (state_columns row ≡ state_shown s) × IsPurse s × (s.name ≡ p)
 
 -- the columns of a row of a purse
 abbrev pub purse_columns : Row → Row

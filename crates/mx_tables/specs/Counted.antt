@@ -1,5 +1,5 @@
 -- What rows that were read add to sums, which purses they are of, and what the sums are.
-use Rattle.std.specs.Prelude.{ℕ, pos, negsuc, Bool, ◌&&◌, ◌||◌, List, [], ◌∷◌, codes, if◌then◌else◌, bytes_eq, unwrap_or, Option, Some, None}
+use Rattle.std.specs.Prelude.{◌≡◌, ℕ, pos, negsuc, Bool, ◌&&◌, ◌||◌, List, [], ◌∷◌, codes, if◌then◌else◌, bytes_eq, unwrap_or, Option, Some, None}
 use Rattle.std.specs.FinMap as fmap
 use Rattle.sqlite_value.specs.declared.value.Value.{Value}
 use Rattle.sqlite_value.specs.declared.value.Value.TheVariants.{Null, Int, Real, Text, Blob}
@@ -108,6 +108,13 @@ sums_at sums m = record {
   redeemed = sum_at (map_of name_cmp sums.redeemed) m;
   balances = sum_at (map_of name_cmp sums.balances) m;
 }
+
+-- nothing is summed yet
+pub record HasNoSums (sums : MemberSums) : Type 0 where
+  pub uncollected : map_of name_cmp sums.uncollected ≡ fmap.empty
+  pub issued : map_of name_cmp sums.issued ≡ fmap.empty
+  pub redeemed : map_of name_cmp sums.redeemed ≡ fmap.empty
+  pub balances : map_of name_cmp sums.balances ≡ fmap.empty
 
 -- a member, its grants and its float
 abbrev pub member_listed : Name × MemberRow → Row

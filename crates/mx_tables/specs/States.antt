@@ -20,7 +20,7 @@ use Rattle.sqlite_value.specs.Order.{Row}
 use Rattle.sqlite_trees.specs.declared.store.Store.{Ghosts}
 use Rattle.sqlite.specs.declared.transaction.Transaction.{Transaction}
 use Rattle.sqlite.specs.Held.{Held, state}
-use Rattle.sqlite.specs.State.{State, HasCleanDisk, HasCause, KeepsCommit, Executes}
+use Rattle.sqlite.specs.State.{State, HasCleanDisk, HasCause, KeepsCommit, Executes, Shown}
 use Rattle.mx_tables.specs.Schema.{office_schema}
 use Rattle.mx_book.specs.Rows.{Rows}
 use Rattle.mx_book.specs.declared.contract.StoreFault.{StoreFault}
@@ -213,6 +213,12 @@ AcceptsText sql params db (Err e) = ⊥
 pub record Accepts (sql : List ℕ) (params : Row) (db : Trees) : Type 0 where
   pub accepts : AcceptsText sql params db (understood office_schema sql)
   pub unlisted : reads_listing office_schema sql ≡ false
+
+-- the text is such a query, and shows one row at most
+pub record HasOneAtMost (sql : List ℕ) (params : Row) (old new : State) : Type 0 where
+  pub schema : old.now.schema ≡ office_schema
+  pub accepts : Accepts sql params old.now.trees
+  pub few : (rows : List Row) → Shown sql params old new rows → length rows ≤ 1
 
 -- the disk failed or refused in this call, and that was counted
 abbrev pub IsFaulted : State → State → Type 0

@@ -26,7 +26,10 @@ use std::alloc::Global;
 fn has_sent(purse: &Option<PurseRow>, details: &PayDetails) -> bool
     ensures { result ≡ has_sent purse.now details.now }
 {
-    purse.as_ref().is_some_and(|row| is_sent_by(row, details))
+    match purse {
+        Some(row) => is_sent_by(row, details),
+        None => false,
+    }
 }
 
 /// Whether details are in the log of a purse.
@@ -34,9 +37,10 @@ fn has_sent(purse: &Option<PurseRow>, details: &PayDetails) -> bool
 fn is_logged(purse: &Option<PurseRow>, details: &PayDetails) -> bool
     ensures { result ≡ has_logged (log_at purse.now) details.now }
 {
-    purse
-        .as_ref()
-        .is_some_and(|row| row.purse.log().has(details))
+    match purse {
+        Some(row) => row.purse.log().has(details),
+        None => false,
+    }
 }
 
 /// The value of details, where it has left the purse that pays: it waits for their acknowledgement, has them in its

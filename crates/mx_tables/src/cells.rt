@@ -34,7 +34,9 @@ pub fn name_at(row: &Row, at: usize) -> Result<Name, StoreFault>
     ensures there { (name : _) → is_name_text name ≡ true → column row.now at ≡ Text name
         → is_ok result ≡ true }
 {
-    let text = text_at(row, at).ok_or(StoreFault::Store)?;
+    let Some(text) = text_at(row, at) else {
+        return Err(StoreFault::Store);
+    };
     Name::read(text).ok_or(StoreFault::Store)
 }
 
@@ -46,7 +48,10 @@ pub fn name_in(row: Option<Row>) -> Result<Option<Name>, StoreFault>
         (λ r. (name : _) × (is_name_text name ≡ true) × (column r 0 ≡ Text name))
         → is_ok result ≡ true }
 {
-    row.map(|row| name_at(&row, 0)).transpose()
+    match row {
+        Some(row) => Ok(Some(name_at(&row, 0)?)),
+        None => Ok(None),
+    }
 }
 
 /// The integer in a column. Store where another value is there.
@@ -65,7 +70,10 @@ pub fn number_at(row: &Row, at: usize) -> Result<u64, StoreFault>
     ensures is { IfOk result (λ n. column row.now at ≡ Int (pos n)) }
     ensures there { (n : _) → column row.now at ≡ Int (pos n) → is_ok result ≡ true }
 {
-    u64::try_from(integer_at(row, at)?).map_err(|_| StoreFault::Store)
+    match u64::try_from(integer_at(row, at)?) {
+        Ok(number) => Ok(number),
+        Err(_) => Err(StoreFault::Store),
+    }
 }
 
 /// The number in the first column of a row, where there is a row.
@@ -75,7 +83,10 @@ pub fn number_in(row: Option<Row>) -> Result<Option<u64>, StoreFault>
     ensures there { IfSome row (λ r. (n : _) × (column r 0 ≡ Int (pos n)))
         → is_ok result ≡ true }
 {
-    row.map(|row| number_at(&row, 0)).transpose()
+    match row {
+        Some(row) => Ok(Some(number_at(&row, 0)?)),
+        None => Ok(None),
+    }
 }
 
 /// The money in a column: a balance, grants or a float, of at most 10^15. Store where another value is there.
@@ -104,7 +115,10 @@ pub fn amount_in(row: Option<Row>) -> Result<Option<Amount>, StoreFault>
     ensures { IfOk result
         (λ amount. option_map (λ r. column r 0) row ≡ option_map (λ n. Int (pos n)) amount) }
 {
-    row.map(|row| amount_at(&row, 0)).transpose()
+    match row {
+        Some(row) => Ok(Some(amount_at(&row, 0)?)),
+        None => Ok(None),
+    }
 }
 
 /// The log in a column. Store where another value is there.
@@ -112,7 +126,9 @@ pub fn log_at(row: &Row, at: usize) -> Result<Log, StoreFault>
     ensures shown { IfOk result (λ log. column row.now at ≡ Text (code log)) }
     ensures valid { IfOk result IsLogValue }
 {
-    let text = text_at(row, at).ok_or(StoreFault::Store)?;
+    let Some(text) = text_at(row, at) else {
+        return Err(StoreFault::Store);
+    };
     read_code(text).ok_or(StoreFault::Store)
 }
 
@@ -121,7 +137,9 @@ pub fn entry_at(row: &Row, at: usize) -> Result<PayDetails, StoreFault>
     ensures shown { IfOk result (λ d. column row.now at ≡ Text (entry_text d)) }
     ensures valid { IfOk result IsDetails }
 {
-    let text = text_at(row, at).ok_or(StoreFault::Store)?;
+    let Some(text) = text_at(row, at) else {
+        return Err(StoreFault::Store);
+    };
     read_details(text).ok_or(StoreFault::Store)
 }
 
@@ -133,7 +151,11 @@ pub fn status_at(row: &Row, at: usize) -> Result<Status, StoreFault>
         × (column row.now (at + 1) ≡ Text (status_details s))) }
     ensures valid { IfOk result (λ s. IfSome (details_of s) IsDetails) }
 {
-    let word = text_at(row, at).ok_or(StoreFault::Store)?;
-    let details = text_at(row, at + 1).ok_or(StoreFault::Store)?;
+    let Some(word) = text_at(row, at) else {
+        return Err(StoreFault::Store);
+    };
+    let Some(details) = text_at(row, at + 1) else {
+        return Err(StoreFault::Store);
+    };
     read_status(word, details).ok_or(StoreFault::Store)
 }

@@ -65,5 +65,8 @@ pub fn read_holder<S: Alter>(
 pub fn is_of(name: &Name, found: &Option<Name>) -> bool
     ensures { result ≡ is_of name.now found.now }
 {
-    found.as_ref().is_some_and(|found| same_name(name, found))
+    match found {
+        Some(found) => same_name(name, found),
+        None => false,
+    }
 }

@@ -14,7 +14,7 @@ ghost use Rattle.mx_book.specs.declared.edits.Edit.TheVariants.{DropMessage};
 ghost use Rattle.mx_tables.specs.States.{IsExplained, IsOurs, Looks, Reads, Tells, WritesWith, worry};
 ghost use Rattle.mx_book.specs.Reads.{inbox_of, message_of};
 
-use crate::asking::{ask, find_live, only, run_one};
+use crate::asking::{ask, ask_one, find_live, run_one};
 use crate::cells::{number_at, text_at};
 use crate::codes::message_code;
 use crate::given;
@@ -33,8 +33,12 @@ fn message_at(row: &Row, kind: usize, details: usize) -> Result<Message, StoreFa
         × (column row.now details ≡ Text (message_details m))) }
     ensures valid { IfOk result IsMessage }
 {
-    let word = text_at(row, kind).ok_or(StoreFault::Store)?;
-    let text = text_at(row, details).ok_or(StoreFault::Store)?;
+    let Some(word) = text_at(row, kind) else {
+        return Err(StoreFault::Store);
+    };
+    let Some(text) = text_at(row, details) else {
+        return Err(StoreFault::Store);
+    };
     read_message(word, text).ok_or(StoreFault::Store)
 }
 
@@ -54,7 +58,9 @@ fn messages_in(alloc: Global, rows: &[Row]) -> Result<Vec<(u64, Message)>, Store
     let mut messages = Vec::new(alloc);
     for row in rows {
         let message = message_in(row)?;
-        messages.push(message).map_err(|_| StoreFault::Memory)?;
+        if messages.push(message).is_err() {
+            return Err(StoreFault::Memory);
+        }
     }
     Ok(messages)
 }
@@ -106,16 +112,16 @@ pub fn find_message<S: Alter>(
         find_live(conn)?;
         return Ok(None);
     }
-    let rows = ask(
+    let row = ask_one(
         conn,
         "SELECT kind, details FROM inbox WHERE purse = ?1 AND number = ?2",
         &[given::text(purse.as_str()), given::number(number)],
     )?;
-    let Some(row) = only(rows)? else {
+    let Some(row) = row else {
         return Ok(None);
     };
     let message = message_at(&row, 0, 1)?;
-    *known = remember_seen(alloc, known.take(), *purse, number);
+    remember_seen(alloc, known, *purse, number);
     Ok(Some(message))
 }
 
@@ -132,12 +138,12 @@ pub fn find_has_message<S: Alter>(
         find_live(conn)?;
         return Ok(false);
     }
-    let rows = ask(
+    let row = ask_one(
         conn,
         "SELECT number FROM inbox WHERE purse = ?1 AND number = ?2",
         &[given::text(purse.as_str()), given::number(number)],
     )?;
-    Ok(only(rows)?.is_some())
+    Ok(row.is_some())
 }
 
 /// Whether a message of that number lies in the inbox of a purse, which is asked for only where it isn't known.

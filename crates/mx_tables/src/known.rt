@@ -43,82 +43,87 @@ pub fn know(alloc: Global, held: Held) -> Known
     }
 }
 
-/// The same with room for one thing more, or with nothing but the purses of each holder.
-fn with_room(alloc: Global, known: Known) -> Known
-    ensures { (db : Trees) → IsKnown db (known_of known) → IsKnown db (known_of result) }
+/// Makes room for one thing more: where there is none, all but the purses of each holder is forgotten.
+fn make_room(alloc: Global, known: &mut Known)
+    ensures { (db : Trees) → IsKnown db (known_of known.old) → IsKnown db (known_of known.new) }
 {
-    if known.left == 0 {
-        return know(alloc, known.held);
+    if known.left > 0 {
+        known.left -= 1;
+        return;
     }
-    Known {
-        left: known.left - 1,
-        ..known
-    }
+    known.purses = Table::new(alloc);
+    known.waiting = Table::new(alloc);
+    known.seen = Table::new(alloc);
+    known.left = MOST_REMEMBERED;
 }
 
-/// The same, and a purse as it stands. None without memory for it.
-pub fn remember_purse(
-    alloc: Global,
-    known: Option<Known>,
-    name: Name,
-    row: PurseRow,
-) -> Option<Known>
-    ensures { (db : Trees) → AreKnown db known → (HaveOwners (db 8) → Stands (db 8) name row)
-        → AreKnown db result }
+/// Remembers a purse as it stands, where anything is known and there is memory for it.
+pub fn remember_purse(alloc: Global, known: &mut Option<Known>, name: Name, row: PurseRow)
+    ensures { (db : Trees) → AreKnown db known.old → (HaveOwners (db 8) → Stands (db 8) name row)
+        → AreKnown db known.new }
 {
-    let mut known = with_room(alloc, known?);
-    known.purses.reserve(1).ok()?;
+    let Some(known) = known else {
+        return;
+    };
+    make_room(alloc, known);
+    if known.purses.reserve(1).is_err() {
+        return;
+    }
     known.purses.put(name, row);
-    Some(known)
 }
 
-/// The same, and how many messages lie in the inbox of a purse at most. None without memory for it.
-pub fn remember_waiting(
-    alloc: Global,
-    known: Option<Known>,
-    name: Name,
-    most: usize,
-) -> Option<Known>
-    ensures { (db : Trees) → AreKnown db known → AtMost (db 10) name most → AreKnown db result }
+/// Remembers how many messages lie in the inbox of a purse at most, where anything is known and there is memory for it.
+pub fn remember_waiting(alloc: Global, known: &mut Option<Known>, name: Name, most: usize)
+    ensures { (db : Trees) → AreKnown db known.old → AtMost (db 10) name most
+        → AreKnown db known.new }
 {
-    let mut known = with_room(alloc, known?);
-    known.waiting.reserve(1).ok()?;
+    let Some(known) = known else {
+        return;
+    };
+    make_room(alloc, known);
+    if known.waiting.reserve(1).is_err() {
+        return;
+    }
     known.waiting.put(name, most);
-    Some(known)
 }
 
-/// The same, and a purse as its row shows it, where the number of its next message is there.
+/// Remembers a purse as its row shows it, where the number of its next message is there.
 pub fn learn_purse(
     alloc: Global,
-    known: Option<Known>,
+    known: &mut Option<Known>,
     holder: Name,
     purse: Purse,
     next: Result<u64, StoreFault>,
-) -> Option<Known>
-    ensures { (db : Trees) → AreKnown db known
+)
+    ensures { (db : Trees) → AreKnown db known.old
         → IfOk next (λ n. HaveOwners (db 8) → Stands (db 8) purse.name
         (record { holder = holder; purse = purse; next_message = n }))
-        → AreKnown db result }
+        → AreKnown db known.new }
 {
     let Ok(next_message) = next else {
-        return known;
+        return;
     };
     let row = PurseRow {
         holder,
         purse,
         next_message,
     };
-    remember_purse(alloc, known, purse.name(), row)
+    remember_purse(alloc, known, purse.name(), row);
 }
 
-/// The same, and that a message of this number lies in the inbox of a purse. None without memory for it.
-pub fn remember_seen(alloc: Global, known: Option<Known>, purse: Name, number: u64) -> Option<Known>
-    ensures { (db : Trees) → AreKnown db known → Lies (db 10) (purse, number) → AreKnown db result }
+/// Remembers that a message of this number lies in the inbox of a purse, where anything is known and there is memory for it.
+pub fn remember_seen(alloc: Global, known: &mut Option<Known>, purse: Name, number: u64)
+    ensures { (db : Trees) → AreKnown db known.old → Lies (db 10) (purse, number)
+        → AreKnown db known.new }
 {
-    let mut known = with_room(alloc, known?);
-    known.seen.reserve(1).ok()?;
+    let Some(known) = known else {
+        return;
+    };
+    make_room(alloc, known);
+    if known.seen.reserve(1).is_err() {
+        return;
+    }
     known.seen.put((purse, number), ());
-    Some(known)
 }
 
 /// Whether it is known that a message of this number lies in the inbox of a purse.
@@ -156,7 +161,9 @@ fn keep_new(known: &mut Known, purse: Name, holder: Name) -> Option<()>
     ensures { IfSome result
         (λ _. known_of known.new ≡ known_after (known_of known.old) (NewPurse purse holder)) }
 {
-    known.held.reserve(1).ok()?;
+    if known.held.reserve(1).is_err() {
+        return None;
+    }
     known.held.put((holder, Some(purse)), ());
     known.purses.remove(purse);
     Some(())
@@ -171,7 +178,9 @@ fn keep_set(known: &mut Known, purse: &Purse) -> Option<()>
     let Some(row) = known.purses.get(name).copied() else {
         return Some(());
     };
-    known.purses.reserve(1).ok()?;
+    if known.purses.reserve(1).is_err() {
+        return None;
+    }
     known.purses.put(
         name,
         PurseRow {
@@ -191,7 +200,9 @@ fn keep_raised(known: &mut Known, purse: Name) -> Option<()>
         return Some(());
     };
     let next_message = row.next_message.checked_add(1)?;
-    known.purses.reserve(1).ok()?;
+    if known.purses.reserve(1).is_err() {
+        return None;
+    }
     known.purses.put(
         purse,
         PurseRow {
@@ -210,7 +221,9 @@ fn keep_sent(known: &mut Known, purse: Name) -> Option<()>
         return Some(());
     };
     let more = most.checked_add(1)?;
-    known.waiting.reserve(1).ok()?;
+    if known.waiting.reserve(1).is_err() {
+        return None;
+    }
     known.waiting.put(purse, more);
     Some(())
 }
@@ -235,6 +248,17 @@ fn keep_edit(known: &mut Known, edit: &Edit) -> Option<()>
     }
 }
 
+/// What is known after these edits.
+fn keep_edits(known: &mut Known, edits: &[Edit]) -> Option<()>
+    ensures { IfSome result
+        (λ _. known_of known.new ≡ fold known_after (known_of known.old) edits.now) }
+{
+    for edit in edits {
+        keep_edit(known, edit)?;
+    }
+    Some(())
+}
+
 /// What is known after these edits, where they were made, and before them where they weren't. None where nothing was
 /// known, and for want of memory.
 pub fn keep_up(made: bool, known: Option<Known>, edits: &[Edit]) -> Option<Known>
@@ -244,8 +268,6 @@ pub fn keep_up(made: bool, known: Option<Known>, edits: &[Edit]) -> Option<Known
         return known;
     }
     let mut known = known?;
-    for edit in edits {
-        keep_edit(&mut known, edit)?;
-    }
+    keep_edits(&mut known, edits)?;
     Some(known)
 }

@@ -25,9 +25,13 @@ use std::alloc::Global;
 fn text_of(alloc: Global, note: &Note) -> Result<String, StoreFault>
     ensures { IfOk result (λ text. string_bytes text ≡ words.note_text note.now) }
 {
-    let mut text = String::with_capacity(alloc, MOST_ENTRY_BYTES).map_err(|_| StoreFault::Memory)?;
-    push_note(&mut text, note).map_err(|_| StoreFault::Memory)?;
-    Ok(text)
+    let Ok(mut text) = String::with_capacity(alloc, MOST_ENTRY_BYTES) else {
+        return Err(StoreFault::Memory);
+    };
+    match push_note(&mut text, note) {
+        Ok(()) => Ok(text),
+        Err(_) => Err(StoreFault::Memory),
+    }
 }
 
 /// Adds a line of a purse. Store where its number or its balance is above 2^63 - 1.
@@ -62,7 +66,9 @@ pub fn insert_line<S: Alter>(
 fn kind_at(row: &Row, at: usize) -> Result<LineKind, StoreFault>
     ensures { IfOk result (λ kind. column row.now at ≡ Text (words.kind_text kind)) }
 {
-    let text = text_at(row, at).ok_or(StoreFault::Store)?;
+    let Some(text) = text_at(row, at) else {
+        return Err(StoreFault::Store);
+    };
     read_kind(text).ok_or(StoreFault::Store)
 }
 
@@ -71,7 +77,9 @@ fn note_at(row: &Row, at: usize) -> Result<Note, StoreFault>
     ensures shown { IfOk result (λ note. column row.now at ≡ Text (words.note_text note)) }
     ensures valid { IfOk result IsNote }
 {
-    let text = text_at(row, at).ok_or(StoreFault::Store)?;
+    let Some(text) = text_at(row, at) else {
+        return Err(StoreFault::Store);
+    };
     if let Some(reference) = Name::read(text) {
         return Ok(Note::Reference(reference));
     }

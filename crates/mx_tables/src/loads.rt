@@ -4,7 +4,7 @@ ghost use Rattle.std.specs.FinMap as fmap;
 ghost use Rattle.mx_tables.specs.States.{Writes, Tells};
 ghost use Rattle.mx_book.specs.Reads.{load_of};
 
-use crate::asking::{ask, only, run_one};
+use crate::asking::{ask_one, run_one};
 use crate::cells::amount_in;
 use crate::given;
 use mx_book::StoreFault;
@@ -41,10 +41,10 @@ pub fn find_load<S: Alter>(
     ensures { Tells S.Store conn.old conn.new result
         (λ w v. v ≡ load_of w purse.now reference.now) }
 {
-    let rows = ask(
+    let row = ask_one(
         conn,
         "SELECT amount FROM load WHERE purse = ?1 AND reference = ?2",
         &[given::text(purse.as_str()), given::text(reference.as_str())],
     )?;
-    amount_in(only(rows)?)
+    amount_in(row)
 }

@@ -4,7 +4,7 @@ ghost use Rattle.std.specs.FinMap as fmap;
 ghost use Rattle.mx_pay.specs.Names.{name_cmp};
 ghost use Rattle.mx_sorted.specs.Slots.{map_of};
 ghost use Rattle.mx_book.specs.declared.values.Scope.TheVariants.{Member};
-ghost use Rattle.mx_tables.specs.Counted.{amounts_of, counted_row, sum_at, totals_row};
+ghost use Rattle.mx_tables.specs.Counted.{HasNoSums, amounts_of, counted_row, row_sums, sum_at, sums_at, totals_row};
 ghost use Rattle.mx_tables.specs.States.{Reads, Tells};
 ghost use Rattle.mx_book.specs.Totals.{members_totals_of};
 
@@ -30,7 +30,9 @@ fn add_to(sums: &mut Table<Name, u128>, member: Name, more: u128) -> Result<(), 
         OnOk result (map_of name_cmp sums.new ≡ fmap.insert before member (sum_at before member + more)) }
 {
     let sum = plus(sum_at(sums, member), more)?;
-    sums.reserve(1).map_err(|_| StoreFault::Memory)?;
+    if sums.reserve(1).is_err() {
+        return Err(StoreFault::Memory);
+    }
     sums.put(member, sum);
     Ok(())
 }
@@ -56,22 +58,22 @@ fn add_row<S: Alter>(
     add_to(sums, owner, number as u128)
 }
 
-/// What amounts come to, for each member.
-fn amounts_by_member<S: Alter>(
-    alloc: Global,
+/// Adds up amounts, for each member, where nothing is summed yet.
+fn add_amounts<S: Alter>(
     conn: &mut Connection<S>,
+    sums: &mut Table<Name, u128>,
     amounts: Amounts,
-) -> Result<Table<Name, u128>, StoreFault>
+) -> Result<(), StoreFault>
+    requires { map_of name_cmp sums.old ≡ fmap.empty }
     ensures { Reads S.Store conn.old conn.new result
-        (λ r sums. (m : List _)
-        → sum_at (map_of name_cmp sums) m ≡ amounts_of r (Member m) amounts) }
+        (λ r _. (m : List _)
+        → sum_at (map_of name_cmp sums.new) m ≡ amounts_of r (Member m) amounts) }
 {
     let rows = ask(conn, amounts.text(), &[])?;
-    let mut sums = Table::new(alloc);
     for row in &rows {
-        add_row(conn, &mut sums, amounts, row)?;
+        add_row(conn, sums, amounts, row)?;
     }
-    Ok(sums)
+    Ok(())
 }
 
 /// The sums of the purses, for each member.
@@ -85,6 +87,30 @@ pub struct MemberSums {
     redeemed: Table<Name, u128>,
     /// The balances.
     balances: Table<Name, u128>,
+}
+
+/// No sums yet.
+fn no_sums(alloc: Global) -> MemberSums
+    ensures { HasNoSums result }
+{
+    MemberSums {
+        uncollected: Table::new(alloc),
+        issued: Table::new(alloc),
+        redeemed: Table::new(alloc),
+        balances: Table::new(alloc),
+    }
+}
+
+/// Adds up all amounts, for each member, where nothing is summed yet.
+fn add_all<S: Alter>(conn: &mut Connection<S>, sums: &mut MemberSums) -> Result<(), StoreFault>
+    requires { HasNoSums sums.old }
+    ensures { Reads S.Store conn.old conn.new result
+        (λ r _. (m : List _) → sums_at sums.new m ≡ row_sums r (Member m)) }
+{
+    add_amounts(conn, &mut sums.uncollected, Amounts::Uncollected)?;
+    add_amounts(conn, &mut sums.issued, Amounts::Issued)?;
+    add_amounts(conn, &mut sums.redeemed, Amounts::Redeemed)?;
+    add_amounts(conn, &mut sums.balances, Amounts::Balances)
 }
 
 /// The member of a row with what the books come to for it.
@@ -114,7 +140,9 @@ fn totals_in_rows(
     let mut totals = Vec::new(alloc);
     for row in rows {
         let total = totals_in(row, sums)?;
-        totals.push(total).map_err(|_| StoreFault::Memory)?;
+        if totals.push(total).is_err() {
+            return Err(StoreFault::Memory);
+        }
     }
     Ok(totals)
 }
@@ -131,11 +159,7 @@ pub fn sum_members<S: Alter>(
         "SELECT name, granted, unspent FROM member ORDER BY name",
         &[],
     )?;
-    let sums = MemberSums {
-        uncollected: amounts_by_member(alloc, conn, Amounts::Uncollected)?,
-        issued: amounts_by_member(alloc, conn, Amounts::Issued)?,
-        redeemed: amounts_by_member(alloc, conn, Amounts::Redeemed)?,
-        balances: amounts_by_member(alloc, conn, Amounts::Balances)?,
-    };
+    let mut sums = no_sums(alloc);
+    add_all(conn, &mut sums)?;
     totals_in_rows(alloc, &rows, &sums)
 }

@@ -65,7 +65,9 @@ pub fn names_in(alloc: Global, rows: &[Row]) -> Result<Vec<Name>, StoreFault>
     let mut names = Vec::new(alloc);
     for row in rows {
         let name = name_at(row, 0)?;
-        names.push(name).map_err(|_| StoreFault::Memory)?;
+        if names.push(name).is_err() {
+            return Err(StoreFault::Memory);
+        }
     }
     Ok(names)
 }

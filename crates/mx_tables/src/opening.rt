@@ -114,7 +114,9 @@ fn model_of(alloc: Global, version: Version) -> Result<Connection<MemStore>, Ope
     ensures schema { IfOk result (λ c. c.schema ≡ schema_of version) }
     ensures fault { IfErr result (λ fault. fault ≢ NotThisSchema) }
 {
-    let mut conn = Connection::open_in_memory(alloc).map_err(|_| OpenFault::Memory)?;
+    let Ok(mut conn) = Connection::open_in_memory(alloc) else {
+        return Err(OpenFault::Memory);
+    };
     let mut tx = conn.transaction();
     if let Err(error) = make_tables(&mut tx, version) {
         return Err(refused_create(true, error));
@@ -131,7 +133,10 @@ fn is_version(alloc: Global, schema: &Schema, version: Version) -> Result<bool, 
     ensures fault { IfErr result (λ fault. fault ≢ NotThisSchema) }
 {
     let model = model_of(alloc, version)?;
-    same_schema(alloc, schema, model.schema()).map_err(|_| OpenFault::Memory)
+    match same_schema(alloc, schema, model.schema()) {
+        Ok(same) => Ok(same),
+        Err(_) => Err(OpenFault::Memory),
+    }
 }
 
 /// The version whose schema this is. Another schema is Store where it has a table `meta`, and else NotThisSchema.

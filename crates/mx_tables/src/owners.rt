@@ -1,5 +1,5 @@
 //! The index of purses by holder, which is kept in memory.
-ghost use Rattle.std.specs.Prelude.{◌≡◌, IfOk, None, OnOk, Some, length};
+ghost use Rattle.std.specs.Prelude.{◌≡◌, IfOk, OnOk, length};
 ghost use Rattle.sqlite.specs.Held.{state};
 ghost use Rattle.mx_book.specs.Reads.{purses_of};
 ghost use Rattle.mx_book.specs.RowReads.{row_purses_of};
@@ -28,7 +28,9 @@ fn index_rows(alloc: Global, rows: &[Row]) -> Result<Held, StoreFault>
         if number <= last {
             return Err(StoreFault::Store);
         }
-        held.reserve(1).map_err(|_| StoreFault::Memory)?;
+        if held.reserve(1).is_err() {
+            return Err(StoreFault::Memory);
+        }
         held.put((name_at(row, 2)?, Some(name_at(row, 1)?)), ());
         last = number;
     }
@@ -63,26 +65,26 @@ fn check_inbox<S: Alter>(conn: &mut Connection<S>) -> Result<(), StoreFault>
     check_numbers(&rows)
 }
 
-/// What is known, or the purses of each holder by a pass over the table of purses. None is kept then.
-fn take_known<S: Alter>(
+/// Makes the purses of each holder known by a pass over the table of purses, where nothing is known.
+fn make_known<S: Alter>(
     alloc: Global,
     conn: &mut Connection<S>,
-    kept: &mut Option<Known>,
-) -> Result<Known, StoreFault>
+    known: &mut Option<Known>,
+) -> Result<(), StoreFault>
     ensures stays { IsOurs (state S.Store conn.old)
         → Stays (state S.Store conn.old) (state S.Store conn.new) }
-    ensures tells { IsOurs (state S.Store conn.old) → Knows (state S.Store conn.old) kept.old
-        → IfOk result (λ known. Knows (state S.Store conn.new) (Some known)) }
+    ensures knows { IsOurs (state S.Store conn.old) → Knows (state S.Store conn.old) known.old
+        → Knows (state S.Store conn.new) known.new }
     ensures live { IsAwake (state S.Store conn.old)
         → OnOk result (IsAwake (state S.Store conn.new)) }
-    ensures taken { kept.new ≡ None }
 {
-    if let Some(known) = kept.take() {
-        return Ok(known);
+    if known.is_some() {
+        return Ok(());
     }
     check_inbox(conn)?;
     let rows = ask(conn, "SELECT rowid, name, holder FROM purse", &[])?;
-    Ok(know(alloc, index_rows(alloc, &rows)?))
+    *known = Some(know(alloc, index_rows(alloc, &rows)?));
+    Ok(())
 }
 
 /// Makes the purses of each holder known, where nothing is known and that wasn't tried before. Where it fails, nothing is
@@ -100,7 +102,7 @@ pub fn try_known<S: Alter>(
 {
     if known.is_none() && !*tried {
         *tried = true;
-        *known = take_known(alloc, conn, known).ok();
+        let _ = make_known(alloc, conn, known);
     }
 }
 
@@ -108,17 +110,18 @@ pub fn try_known<S: Alter>(
 pub fn count_purses<S: Alter>(
     alloc: Global,
     conn: &mut Connection<S>,
-    kept: &mut Option<Known>,
+    known: &mut Option<Known>,
     holder: &Name,
 ) -> Result<usize, StoreFault>
-    ensures { Looks S.Store conn.old conn.new kept.old kept.new
+    ensures { Looks S.Store conn.old conn.new known.old known.new
         (IsAwake (state S.Store conn.old)
         → Reads S.Store conn.old conn.new result (λ r v. v ≡ length (row_purses_of r holder.now))) }
 {
-    let known = take_known(alloc, conn, kept)?;
-    let count = count_held(&known.held, *holder);
-    *kept = Some(known);
-    Ok(count)
+    make_known(alloc, conn, known)?;
+    match known {
+        Some(known) => Ok(count_held(&known.held, *holder)),
+        None => Err(StoreFault::Store),
+    }
 }
 
 /// The names of the purses of a holder, in order. The connection is found open first, since an index that is kept answers
@@ -126,17 +129,18 @@ pub fn count_purses<S: Alter>(
 pub fn list_purses<S: Alter>(
     alloc: Global,
     conn: &mut Connection<S>,
-    kept: &mut Option<Known>,
+    known: &mut Option<Known>,
     holder: &Name,
 ) -> Result<Vec<Name>, StoreFault>
-    ensures { Looks S.Store conn.old conn.new kept.old kept.new
+    ensures { Looks S.Store conn.old conn.new known.old known.new
         (Tells S.Store conn.old conn.new result (λ w v. v.items ≡ purses_of w holder.now)) }
 {
     find_live(conn)?;
-    let known = take_known(alloc, conn, kept)?;
-    let names = names_held(alloc, &known.held, *holder);
-    *kept = Some(known);
-    match names {
+    make_known(alloc, conn, known)?;
+    let Some(known) = known else {
+        return Err(StoreFault::Store);
+    };
+    match names_held(alloc, &known.held, *holder) {
         Ok(names) => Ok(names),
         Err(_) => Err(StoreFault::Memory),
     }

@@ -7,7 +7,7 @@ ghost use Rattle.mx_purse.specs.State.{IsPurse};
 ghost use Rattle.mx_book.specs.RowEdits.{rewritten};
 ghost use Rattle.mx_book.specs.declared.edits.Edit.TheVariants.{NewPurse, SetPurse};
 ghost use Rattle.mx_book.specs.declared.values.PurseRow.{PurseRow};
-ghost use Rattle.mx_tables.specs.Answers.{ArePurses, Raises, place_of, purse_columns, purse_shown, state_columns, state_shown};
+ghost use Rattle.mx_tables.specs.Answers.{ArePurses, Raises, ShowsOwn, place_of, purse_columns, purse_shown, state_columns, state_shown};
 ghost use Rattle.mx_tables.specs.Known.{known_after};
 ghost use Rattle.mx_tables.specs.Schema.{office_schema};
 ghost use Rattle.mx_tables.specs.States.{Finds, IsExplained, IsOurs, Knows, Looks, Reads, Steps, Tells, WritesWith};
@@ -117,6 +117,17 @@ fn own_in(holder: &Name, row: &PurseRow) -> Option<Purse>
     same_name(holder, &row.holder).then_some(row.purse)
 }
 
+/// The purse of that name that a row shows, where it is the holder's, or None where it is another's.
+fn own_shown(holder: &Name, name: &Name, row: &Row) -> Result<Option<Purse>, StoreFault>
+    ensures { IfOk result (ShowsOwn holder.now name.now row.now) }
+{
+    let owner = name_at(row, 0)?;
+    if !same_name(holder, &owner) {
+        return Ok(None);
+    }
+    Ok(Some(state_in(name, row)?))
+}
+
 /// The purse of that name where it is the holder's, or None where it is another's or there is none. It is known then.
 fn find_own<S: Alter>(
     alloc: Global,
@@ -131,12 +142,10 @@ fn find_own<S: Alter>(
     let Some(row) = ask_about(conn, About::Purse, name)? else {
         return Ok(None);
     };
-    let owner = name_at(&row, 0)?;
-    if !same_name(holder, &owner) {
+    let Some(purse) = own_shown(holder, name, &row)? else {
         return Ok(None);
-    }
-    let purse = state_in(name, &row)?;
-    *known = learn_purse(alloc, known.take(), owner, purse, number_at(&row, 7));
+    };
+    learn_purse(alloc, known, *holder, purse, number_at(&row, 7));
     Ok(Some(purse))
 }
 
@@ -261,7 +270,7 @@ pub fn find_place<S: Alter>(
         return Ok(None);
     };
     let held = count_messages(conn, name)?;
-    *known = remember_waiting(alloc, known.take(), *name, held);
+    remember_waiting(alloc, known, *name, held);
     let fits = held < MOST_MESSAGES && next_message < MOST_NUMBER;
     Ok(fits.then_some(next_message))
 }

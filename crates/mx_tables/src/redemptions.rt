@@ -4,7 +4,7 @@ ghost use Rattle.std.specs.FinMap as fmap;
 ghost use Rattle.mx_tables.specs.States.{Writes, Tells};
 ghost use Rattle.mx_book.specs.Reads.{redemption_of};
 
-use crate::asking::{ask, only, run_one};
+use crate::asking::{ask_one, run_one};
 use crate::cells::amount_in;
 use crate::given;
 use mx_book::StoreFault;
@@ -44,10 +44,10 @@ pub fn find_redemption<S: Alter>(
     ensures { Tells S.Store conn.old conn.new result
         (λ w v. v ≡ redemption_of w purse.now reference.now) }
 {
-    let rows = ask(
+    let row = ask_one(
         conn,
         "SELECT amount FROM redemption WHERE purse = ?1 AND reference = ?2",
         &[given::text(purse.as_str()), given::text(reference.as_str())],
     )?;
-    amount_in(only(rows)?)
+    amount_in(row)
 }

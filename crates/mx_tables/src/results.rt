@@ -10,7 +10,7 @@ ghost use Rattle.mx_tables.specs.Schema.{office_schema};
 ghost use Rattle.mx_tables.specs.States.{IsExplained, Reads, Steps, Tells, Writes};
 ghost use Rattle.mx_book.specs.Reads.{tray_of};
 
-use crate::asking::{ask, ask_inside, only, run};
+use crate::asking::{ask, ask_inside, ask_one, run};
 use crate::cells::{entry_at, text_at};
 use crate::codes::entry_code;
 use crate::given;
@@ -49,12 +49,12 @@ pub fn find_archived<S: Alter>(
     ensures why { IsExplained S.Store conn.old conn.new result }
 {
     let text = entry_code(alloc, details)?;
-    let rows = ask(
+    let row = ask_one(
         conn,
         "SELECT 1 FROM archive WHERE purse = ?1 AND details = ?2",
         &[given::text(purse.as_str()), given::text(&text)],
     )?;
-    Ok(only(rows)?.is_some())
+    Ok(row.is_some())
 }
 
 /// The log of what rows show.
@@ -94,7 +94,9 @@ fn archive_rows<S: Alter>(
         → Archives purse.now rows.now (state S.Store tx.old.conn.now) (state S.Store tx.new.conn.now)) }
 {
     for row in rows {
-        let text = text_at(row, 0).ok_or(StoreFault::Store)?;
+        let Some(text) = text_at(row, 0) else {
+            return Err(StoreFault::Store);
+        };
         run(
             tx,
             "INSERT INTO archive (purse, details) VALUES (?1, ?2)",

@@ -6,7 +6,7 @@ ghost use Rattle.mx_book.specs.RowReads.{row_is_settled};
 ghost use Rattle.mx_book.specs.declared.edits.Edit.TheVariants.{AddSettled};
 ghost use Rattle.mx_tables.specs.States.{IsExplained, Reads, Writes};
 
-use crate::asking::{ask, only, run};
+use crate::asking::{ask_one, run};
 use crate::codes::entry_code;
 use crate::given;
 use mx_book::StoreFault;
@@ -41,10 +41,10 @@ pub fn find_settled<S: Alter>(
     ensures why { IsExplained S.Store conn.old conn.new result }
 {
     let text = entry_code(alloc, details)?;
-    let rows = ask(
+    let row = ask_one(
         conn,
         "SELECT 1 FROM settled WHERE details = ?1",
         &[given::text(&text)],
     )?;
-    Ok(only(rows)?.is_some())
+    Ok(row.is_some())
 }

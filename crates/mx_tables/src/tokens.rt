@@ -12,7 +12,7 @@ ghost use Rattle.mx_tables.specs.Made.{Fresh};
 ghost use Rattle.mx_tables.specs.States.{Steps, Writes, Tells};
 ghost use Rattle.mx_book.specs.Reads.{who_of};
 
-use crate::asking::{ask, only, run};
+use crate::asking::{ask_one, run};
 use crate::cells::{name_at, text_at};
 use mx_book::{Caller, StoreFault};
 use mx_pay::Token;
@@ -24,10 +24,13 @@ fn caller_in(row: &Row) -> Result<Caller, StoreFault>
     ensures { IfOk result
         (λ c. (column row.now 0 ≡ Text (kind_text c)) × (column row.now 1 ≡ Text (owner_text c))) }
 {
-    match (text_at(row, 0), text_at(row, 1)) {
-        (Some("operator"), Some("")) => Ok(Caller::Operator),
-        (Some("clerk"), _) => Ok(Caller::Clerk(name_at(row, 1)?)),
-        (Some("holder"), _) => Ok(Caller::Holder(name_at(row, 1)?)),
+    match text_at(row, 0) {
+        Some("operator") => match text_at(row, 1) {
+            Some("") => Ok(Caller::Operator),
+            _ => Err(StoreFault::Store),
+        },
+        Some("clerk") => Ok(Caller::Clerk(name_at(row, 1)?)),
+        Some("holder") => Ok(Caller::Holder(name_at(row, 1)?)),
         _ => Err(StoreFault::Store),
     }
 }
@@ -39,12 +42,12 @@ pub fn find_caller<S: Alter>(
 ) -> Result<Option<Caller>, StoreFault>
     ensures { Tells S.Store conn.old conn.new result (λ w v. v ≡ who_of w token.now) }
 {
-    let rows = ask(
+    let row = ask_one(
         conn,
         "SELECT kind, name FROM token WHERE token = ?1",
         &[ValueRef::Text(&token.text()[..])],
     )?;
-    match only(rows)? {
+    match row {
         Some(row) => Ok(Some(caller_in(&row)?)),
         None => Ok(None),
     }

@@ -35,3 +35,6 @@ returns-in_default g c = record {
   reads = λ ours tells. tell_holder g.S.Store _ (reads_to g.S.Store c.in_ok-member.ensures.reads (λ rows holds is. rw (sym is ∙ c.in_default.is) refl));
   known = λ ours. (c.in_ok-member.ensures.reads.stays ours).known _;
 }
+
+pub returns-in_err-member : goal.returns-in_err-member
+returns-in_err-member g c = record { reads = λ ours tells. tells_fault g.S.Store c.in_err-member.ensures.reads c.from_residual.ensures.0; known = λ ours. (c.in_err-member.ensures.reads.stays ours).known _ }

@@ -33,7 +33,7 @@ returns-clause-most g c ours calm =
 
 pub returns-in_err-rows-clause-why : goal.returns-in_err-rows-clause-why
 returns-in_err-rows-clause-why g c = why_asked g.S.Store c.from_residual.result c.in_err-rows.ensures.why
-    (rw (c.text.ensures, c.as_str.ensures.text) (held_accepted _ _)) (handed c.from_residual.result c.in_err-rows.field-0.0 _ c.from_residual.ensures.1)
+    (λ w s. (s.holds.has.schema, rw (c.text.ensures, c.as_str.ensures.text) (held_accepted _ _))) (handed c.from_residual.result c.in_err-rows.field-0.0 _ c.from_residual.ensures.1)
 
 pub returns-clause-why : goal.returns-clause-why
 returns-clause-why g c = why_shown g.S.Store _ _ _ c.in_ok-rows.ensures.why c.in_ok-rows.ensures.shown (λ w s shown. tt)

@@ -3,7 +3,13 @@ use Rattle.mx_tables.specs.Known.{AreKnown, IsKnown, known_of}
 use Rattle.mx_tables.proofs.KnownLemmas.{knows_seen}
 use Rattle.mx_tables.proofs.known.remember_seen.Goals as goal
 
+pub returns-then-is_err : goal.returns-then-is_err
+returns-then-is_err c db known lies =
+    let was : IsKnown db (known_of c.in-Some.known) = subst (AreKnown db) c.in-Some.is known in
+    rw c.reserve.ensures.map (c.make_room.ensures db was)
+
 pub returns : goal.returns
 returns c db known lies =
-    let was : IsKnown db (known_of c.in_ok-known.field-0) = subst (AreKnown db) c.in_ok-known.was known in
-    rw (c.put.ensures.map, c.reserve.ensures.map) (knows_seen db (known_of c.with_room-known.result) (c.args.purse, c.args.number) (c.with_room-known.ensures db was) lies)
+    let was : IsKnown db (known_of c.in-Some.known) = subst (AreKnown db) c.in-Some.is known in
+    let kept = c.make_room.ensures db was in
+    rw (c.put.ensures.map, c.reserve.ensures.map) (knows_seen db (known_of c.make_room.new.known) (c.args.purse, c.args.number) kept lies)

@@ -10,7 +10,7 @@ use Rattle.mx_tables.specs.States.{worry, IsAwake, IsOurs, Stays}
 use Rattle.mx_tables.proofs.StateLemmas.{awake, begun_live, sure, sure_before, stays_then, begun_stays, refused_stays}
 use Rattle.mx_tables.proofs.CallLemmas.{reads_to}
 use Rattle.mx_tables.proofs.LineLemmas.{no_page, Noted, select_lines, select_lines_is, one_more, no_more, begins, ended, full_page, last_page}
-use Rattle.mx_tables.proofs.ToldLemmas.{tell_lines}
+use Rattle.mx_tables.proofs.ToldLemmas.{tell_lines, tells_fault}
 use Rattle.mx_tables.proofs.lines.list_lines.Goals as goal
 
 -- after one more row the rows of the tables still stay
@@ -133,3 +133,6 @@ returns g c = tell_lines g.S.Store _ _ _ (record {
       let same : c.rows.rows.conn.now ≡ c.conn-2-1.given.0 = sym (c.conn-2-1.given.1 (sym (c.rows.invariant.0 ∙ c.in-Ok.ensures.same_reference)) ∙ c.drop-rows-2.ensures) in
       subst (λ h. IsAwake (state g.S.Store h)) same c.rows.invariant.4;
 })
+
+pub returns-in_err-find_live : goal.returns-in_err-find_live
+returns-in_err-find_live g c = tells_fault g.S.Store c.in_err-find_live.ensures.reads c.from_residual.ensures.0

@@ -1,14 +1,49 @@
-use Rattle.mx_tables.proofs.Common.{◌∙◌}
+use Rattle.mx_tables.proofs.Common.{refl, state, ◌∙◌}
+use Rattle.mx_tables.proofs.StateLemmas.{stays_then}
 use Rattle.mx_tables.proofs.CallLemmas.{reads_more, reads_then}
 use Rattle.mx_tables.proofs.OwnerLemmas.{looks_under}
-use Rattle.mx_tables.proofs.ToldLemmas.{tell_held}
+use Rattle.mx_tables.proofs.ToldLemmas.{tell_held, tells_fault, tells_stopped}
 use Rattle.mx_tables.proofs.owners.list_purses.Goals as goal
+
+pub returns-in_err-find_live : goal.returns-in_err-find_live
+returns-in_err-find_live g c = record {
+  reads = λ ours was. tells_fault g.S.Store c.in_err-find_live.ensures.reads c.from_residual.ensures.0;
+  known = λ ours. (c.in_err-find_live.ensures.reads.stays ours).known _;
+}
+
+pub returns-in_err-make_known : goal.returns-in_err-make_known
+returns-in_err-make_known g c =
+    let found = c.in_ok-find_live.ensures.reads in
+    let made = c.in_err-make_known.ensures in
+    record {
+      reads = λ ours was. tells_stopped g.S.Store (λ ours. stays_then _ (state g.S.Store c.find_live.new.conn) _ (found.stays ours) (made.stays (found.stays ours).ours)) c.from_residual-in_err-make_known.ensures.0;
+      known = λ ours was. made.knows (found.stays ours).ours ((found.stays ours).known _ was);
+    }
+
+pub returns-in_default : goal.returns-in_default
+returns-in_default g c =
+    let found = c.in_ok-find_live.ensures.reads in
+    let made = c.in_ok-make_known.ensures in
+    record {
+      reads = λ ours was. tells_stopped g.S.Store (λ ours. stays_then _ (state g.S.Store c.find_live.new.conn) _ (found.stays ours) (made.stays (found.stays ours).ours)) refl;
+      known = λ ours was. made.knows (found.stays ours).ours ((found.stays ours).known _ was);
+    }
+
+pub returns-in-Err : goal.returns-in-Err
+returns-in-Err g c =
+    let found = c.in_ok-find_live.ensures.reads in
+    let made = c.in_ok-make_known.ensures in
+    record {
+      reads = λ ours was. tells_stopped g.S.Store (λ ours. stays_then _ (state g.S.Store c.find_live.new.conn) _ (found.stays ours) (made.stays (found.stays ours).ours)) refl;
+      known = λ ours was. (rw c.in-Some.is at made.knows) (found.stays ours).ours ((found.stays ours).known _ was);
+    }
 
 pub returns-in-Ok : goal.returns-in-Ok
 returns-in-Ok g c =
-    let looks = looks_under g.S.Store _ _ c.args.kept.now c.in_ok-known.known c.args.holder.now c.in_ok-known.ensures.stays c.in_ok-known.ensures.tells (λ rows is. c.in-Ok.ensures ∙ is) in
     let found = c.in_ok-find_live.ensures.reads in
+    let made = c.in_ok-make_known.ensures in
+    let looks = looks_under g.S.Store _ _ c.args.known.now c.in-Some.known c.args.holder.now made.stays (rw c.in-Some.is at made.knows) (λ rows is. c.in-Ok.ensures ∙ is) in
     record {
-      reads = λ ours was. tell_held g.S.Store _ (reads_more g.S.Store (reads_then g.S.Store found (looks.reads (found.stays ours).ours ((found.stays ours).known _ was) (c.in_ok-known.ensures.live found.live))) (λ rows holds v both. both.1));
+      reads = λ ours was. tell_held g.S.Store _ (reads_more g.S.Store (reads_then g.S.Store found (looks.reads (found.stays ours).ours ((found.stays ours).known _ was) (made.live found.live))) (λ rows holds v both. both.1));
       known = λ ours was. looks.known (found.stays ours).ours ((found.stays ours).known _ was);
     }

@@ -1,6 +1,6 @@
 use Rattle.mx_tables.proofs.Common.{arith}
 use Rattle.mx_tables.proofs.CallLemmas.{reads_fault, reads_to}
-use Rattle.mx_tables.proofs.FaultLemmas.{why_to, no_fault, owner_read}
+use Rattle.mx_tables.proofs.FaultLemmas.{why_handed, why_to, no_fault, owner_read}
 use Rattle.mx_tables.proofs.purses.find_owner.Goals as goal
 
 pub returns-in_err-ask_about-clause-reads : goal.returns-in_err-ask_about-clause-reads
@@ -12,3 +12,6 @@ returns-clause-reads g c = reads_to g.S.Store c.in_ok-ask_about.ensures.reads (Î
 pub returns-clause-why : goal.returns-clause-why
 returns-clause-why g c = why_to g.S.Store c.in_ok-ask_about.ensures.reads c.in_ok-ask_about.ensures.why (Î» w s is.
     no_fault c.name_in.result _ (c.name_in.ensures.there (owner_read s.rows w s.spells c.args.name.now _ is)))
+
+pub returns-in_err-ask_about-clause-why : goal.returns-in_err-ask_about-clause-why
+returns-in_err-ask_about-clause-why g c = why_handed g.S.Store c.from_residual.result c.from_residual.ensures.1 c.in_err-ask_about.ensures.why

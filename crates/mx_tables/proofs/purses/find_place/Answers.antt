@@ -47,7 +47,7 @@ returns-clause-knows g c ours was calm =
     let new = state g.S.Store c.count_messages.new.conn in
     let one = c.in_ok-ask_about.ensures.reads.stays ours in
     let two = c.in_ok-held.ensures.reads.stays one.ours in
-    let had = two.known _ (one.known _ (rw c.take.ensures.value was)) calm in
+    let had = two.known _ (one.known _ (was)) calm in
     c.remember_waiting.ensures new.now.trees had (c.in_ok-held.ensures.most one.ours calm)
 
 pub returns-in_err-ask_about-clause-knows : goal.returns-in_err-ask_about-clause-knows
@@ -61,3 +61,9 @@ returns-in_default-clause-knows g c ours = (c.in_ok-ask_about.ensures.reads.stay
 
 pub returns-in_err-held-clause-knows : goal.returns-in_err-held-clause-knows
 returns-in_err-held-clause-knows g c ours was = let one = c.in_ok-ask_about.ensures.reads.stays ours in (c.in_err-held.ensures.reads.stays one.ours).known _ (one.known _ was)
+
+pub returns-in_err-ask_about-clause-why : goal.returns-in_err-ask_about-clause-why
+returns-in_err-ask_about-clause-why g c = why_handed g.S.Store c.from_residual.result c.from_residual.ensures.1 c.in_err-ask_about.ensures.why
+
+pub returns-in_default-clause-why : goal.returns-in_default-clause-why
+returns-in_default-clause-why g c = why_ok g.S.Store _ c.in_ok-ask_about.ensures.why

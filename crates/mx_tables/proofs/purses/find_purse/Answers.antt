@@ -19,3 +19,6 @@ returns-in_ok-purse_in-in-Some g c = reads_to g.S.Store c.in_ok-row.ensures.read
     let read = c.in_ok-purse_in-in-Some in
     let kept = purses c.args.name.now one.0 one.1 in
     ap Some (purse_back one.0 read.field-0 c.in-Some.row kept.1 read.ensures.valid (kept.0 ∙ sym read.ensures.named) one.2 read.ensures.shown) ∙ sym one.1)
+
+pub returns-in_err-purse_in-in-Some : goal.returns-in_err-purse_in-in-Some
+returns-in_err-purse_in-in-Some g c = reads_fault g.S.Store c.in_ok-row.ensures.reads c.from_residual-in_err-purse_in-in-Some.ensures.0

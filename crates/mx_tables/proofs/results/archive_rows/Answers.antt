@@ -14,8 +14,8 @@ loop-row-preserved g c =
     let within : c.loop-row.row-index < length c.args.rows.now = search rules in
     steps_to g.S.Store (steps_then g.S.Store c.loop-row.invariant c.in_ok-run.ensures) (λ x both has.
     let before = both.0 has in
-    archives_more c.args.purse.now c.args.rows.now c.loop-row.row-index c.row-item.result c.in_ok-text.text.now _ _ _ within c.row-item.is (search rules) before
-    (archives_one c.args.purse.now c.in_ok-text.text.now _ _ both.1.0 before.schema (rw (c.text.ensures, c.as_str.ensures.text, c.text-in-loop-row.ensures) at both.1.2)))
+    archives_more c.args.purse.now c.args.rows.now c.loop-row.row-index c.row-item.result c.in-Some.text.now _ _ _ within c.row-item.is (search rules) before
+    (archives_one c.args.purse.now c.in-Some.text.now _ _ both.1.0 before.schema (rw (c.text.ensures, c.as_str.ensures.text, c.text-in-loop-row.ensures) at both.1.2)))
 
 pub returns : goal.returns
 returns g c =

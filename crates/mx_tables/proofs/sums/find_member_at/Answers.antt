@@ -1,6 +1,6 @@
 use Rattle.mx_tables.proofs.Common.{◌∙◌, refl}
 use Rattle.std.proofs.Common.{sym}
-use Rattle.mx_tables.proofs.CallLemmas.{reads_to, reads_more, reads_then}
+use Rattle.mx_tables.proofs.CallLemmas.{reads_to, reads_more, reads_then, reads_fault}
 use Rattle.mx_tables.proofs.PurseLemmas.{member_found, row_absent}
 use Rattle.mx_tables.proofs.sums.find_member_at.Goals as goal
 
@@ -10,3 +10,6 @@ returns-in-None g c = reads_to g.S.Store c.in_ok-find_owner.ensures.reads (λ ro
 pub returns-in-Some : goal.returns-in-Some
 returns-in-Some g c = reads_more g.S.Store (reads_then g.S.Store c.in_ok-find_owner.ensures.reads c.find_holder.ensures.reads) (λ rows holds v both.
     both.1 ∙ sym (member_found rows.holders _ c.in-Some.holder (sym c.in-Some.is ∙ both.0)))
+
+pub returns-in_err-find_owner : goal.returns-in_err-find_owner
+returns-in_err-find_owner g c = reads_fault g.S.Store c.in_err-find_owner.ensures.reads c.from_residual.ensures.0

@@ -9,3 +9,6 @@ returns-in-Logged g c live = reads_more g.S.Store (c.lose_row.ensures live) (λ 
 
 pub returns-in-Waiting : goal.returns-in-Waiting
 returns-in-Waiting g c live = reads_more g.S.Store (c.await_row.ensures live) (λ r holds n is purses entries. rw c.in-Waiting.is (is purses entries.archive))
+
+pub returns-in-Archived : goal.returns-in-Archived
+returns-in-Archived g c live = reads_more g.S.Store c.lose_result.ensures (λ rows holds n is purses entries. rw c.in-Archived.is (is purses entries))

@@ -47,3 +47,6 @@ returns g c =
       transit = all.0.0.1 purses entries k;
       lost = (c.in_ok-plus.ensures ∙ ap₂ ◌+◌ (all.0.1 purses entries) (all.1 purses entries)) k;
     }))
+
+pub returns-in_err-plus : goal.returns-in_err-plus
+returns-in_err-plus g c = tells_fault g.S.Store (reads_then g.S.Store (reads_then g.S.Store (reads_then g.S.Store (reads_then g.S.Store c.in_ok-granted.ensures c.in_ok-sums.ensures) c.in_ok-transit.ensures) c.in_ok-in_logs.ensures) c.in_ok-in_archive.ensures) c.from_residual-in_err-plus.ensures.0

@@ -12,28 +12,28 @@ use Rattle.mx_tables.proofs.ValueLemmas.{caller_back}
 use Rattle.mx_tables.proofs.ToldLemmas.{tell_caller, tells_fault}
 use Rattle.mx_tables.proofs.tokens.find_caller.Goals as goal
 
-pub ask-requires : goal.ask-requires
-ask-requires g c = select_token_is.query
-
-pub returns-in_err-rows : goal.returns-in_err-rows
-returns-in_err-rows g c = tells_fault g.S.Store c.in_err-rows.ensures.reads c.from_residual.ensures.0
+pub ask_one-requires : goal.ask_one-requires
+ask_one-requires g c = select_token_is.query
 
 pub returns-in_err-row : goal.returns-in_err-row
-returns-in_err-row g c = tells_fault g.S.Store c.in_ok-rows.ensures.reads c.from_residual-in_err-row.ensures.0
+returns-in_err-row g c = tells_fault g.S.Store c.in_err-row.ensures.reads c.from_residual.ensures.0
 
 pub returns-in-None : goal.returns-in-None
-returns-in-None g c = tell_caller g.S.Store _ (reads_to g.S.Store c.in_ok-rows.ensures.reads (λ rows holds shown.
+returns-in-None g c = tell_caller g.S.Store _ (reads_to g.S.Store c.in_ok-row.ensures.reads (λ rows holds shown.
     let t = c.args.token.now in
     let text = c.text.ensures in
     let found = finds_token t _ _ _ (rw text.value at shown) text.valid rows holds in
     sym (ap (cond (is_token t rows.operator) (Some Operator)) (fmap.get-entries rows.tokens t)
-    ∙ found_none token_cmp caller_shown t (book_tokens rows) _ found (c.in_ok-row.ensures.one ∙ ap one_or_none c.in-None.is))))
+    ∙ found_none token_cmp caller_shown t (book_tokens rows) _ found (ap one_or_none c.in-None.is))))
 
 pub returns-in_ok-caller_in-in-Some : goal.returns-in_ok-caller_in-in-Some
-returns-in_ok-caller_in-in-Some g c = tell_caller g.S.Store _ (reads_to g.S.Store c.in_ok-rows.ensures.reads (λ rows holds shown.
+returns-in_ok-caller_in-in-Some g c = tell_caller g.S.Store _ (reads_to g.S.Store c.in_ok-row.ensures.reads (λ rows holds shown.
     let t = c.args.token.now in
     let text = c.text.ensures in
     let found = finds_token t _ _ _ (rw text.value at shown) text.valid rows holds in
-    let one = found_one token_cmp caller_shown t (book_tokens rows) _ c.in-Some.row found (c.in_ok-row.ensures.one ∙ ap one_or_none c.in-Some.is) in
+    let one = found_one token_cmp caller_shown t (book_tokens rows) _ c.in-Some.row found (ap one_or_none c.in-Some.is) in
     let read = c.in_ok-caller_in-in-Some.ensures in
     ap Some (caller_back one.0 c.in_ok-caller_in-in-Some.field-0 c.in-Some.row one.2 read.0 read.1) ∙ sym one.1 ∙ sym (ap (cond (is_token t rows.operator) (Some Operator)) (fmap.get-entries rows.tokens t))))
+
+pub returns-in_err-caller_in-in-Some : goal.returns-in_err-caller_in-in-Some
+returns-in_err-caller_in-in-Some g c = tells_fault g.S.Store c.in_ok-row.ensures.reads c.from_residual-in_err-caller_in-in-Some.ensures.0

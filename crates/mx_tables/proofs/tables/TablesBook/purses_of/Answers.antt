@@ -2,3 +2,9 @@ use Rattle.mx_tables.proofs.tables.TablesBook.purses_of.Goals as goal
 
 pub returns-clause-value : goal.returns-clause-value
 returns-clause-value g c w sure h = (c.list_purses.ensures.reads c.self.invariant.0 c.self.invariant.1).value c.self.invariant.0 w sure (rw c.self.view_is h)
+
+pub returns-clause-answered : goal.returns-clause-answered
+returns-clause-answered g c = (c.list_purses.ensures.reads c.self.invariant.0 c.self.invariant.1).live
+
+pub invariant_of-self : goal.invariant_of-self
+invariant_of-self g c = (((c.list_purses.ensures.reads c.self.invariant.0 c.self.invariant.1).stays c.self.invariant.0).ours, c.list_purses.ensures.known c.self.invariant.0 c.self.invariant.1)

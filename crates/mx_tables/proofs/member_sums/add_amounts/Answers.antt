@@ -5,13 +5,13 @@ use Rattle.mx_book.specs.declared.values.Scope.TheVariants.{Member}
 use Rattle.mx_tables.specs.Counted.{counted_row, sum_at}
 use Rattle.mx_tables.proofs.CallLemmas.{reads_fault, reads_none, reads_to, reads_then}
 use Rattle.mx_tables.proofs.CountedSums.{sum_at_first, sum_more, amounts_query, amounts_summed, sum_all_rows}
-use Rattle.mx_tables.proofs.member_sums.amounts_by_member.Goals as goal
+use Rattle.mx_tables.proofs.member_sums.add_amounts.Goals as goal
 
 pub ask-requires : goal.ask-requires
 ask-requires g c = rw c.text.ensures (amounts_query c.args.amounts)
 
 pub loop-row-init : goal.loop-row-init
-loop-row-init g c = reads_none g.S.Store c.in_ok-rows.ensures.reads.live (λ rows holds m. ap (λ sums. sum_at sums m) c.new-sums.ensures ∙ sum_at_first m)
+loop-row-init g c = reads_none g.S.Store c.in_ok-rows.ensures.reads.live (λ rows holds m. ap (λ sums. sum_at sums m) c.requires ∙ sum_at_first m)
 
 pub loop-row-preserved : goal.loop-row-preserved
 loop-row-preserved g c =

@@ -4,7 +4,7 @@ use Rattle.mx_sorted.specs.Slots.{map_of}
 use Rattle.mx_book.specs.declared.values.Scope.TheVariants.{Member}
 use Rattle.mx_tables.specs.Counted.{counted_row, sum_at}
 use Rattle.mx_tables.specs.States.{Reads}
-use Rattle.mx_tables.proofs.member_sums.amounts_by_member.Given as goal
+use Rattle.mx_tables.proofs.member_sums.add_amounts.Given as goal
 
 -- the rows of the book are as they were, and the sum of each member is that of the rows so far
 abbrev pub invariant-loop-row : goal.invariant-loop-row
