@@ -1,5 +1,5 @@
 -- The command that is found is the one that clap's readers give.
-use Rattle.std.proofs.Common.{◌≡◌, ap, Some, Ok}
+use Rattle.std.proofs.Common.{ap, Ok}
 use Rattle.clap.specs.Words.{found_of, rows_of, subcommand_rows_of}
 use Rattle.mx_args.proofs.CommandLemmas.{found_named}
 use Rattle.mx_args.proofs.TaskLemmas.{found_once}
