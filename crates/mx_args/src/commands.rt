@@ -28,7 +28,7 @@ struct Argument {
     help: &'static str,
 }
 
-// A command of the program: its name, its name in usage texts, what help says of it, and its arguments.
+// A command of the program: its name, that in usage texts, what help says of it, and its arguments.
 #[derive(Clone, Copy)]
 struct Form {
     name: &'static str,
@@ -173,7 +173,7 @@ fn command_of<'a>(alloc: Global, form: &Form) -> Result<Command<'a>, AllocError>
     Ok(command)
 }
 
-// The program, which is called by its words alone. Its name stands before each command in usage texts.
+// The program, which is called by its words alone. Its name stands before each command in usage.
 fn program_command<'a>(alloc: Global) -> Result<Command<'a>, AllocError>
     ensures { IfOk result (λ c. app_of c ≡ program_app) }
 {

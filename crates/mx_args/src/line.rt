@@ -245,7 +245,8 @@ fn misfit_fault(alloc: Global, name: &str, misfit: Misfit) -> LineFault {
 // The task that clap's matches name.
 fn found_task<'a>(alloc: Global, matches: &ArgMatches<'a>) -> Result<Task<'a>, LineFault>
     ensures named { IfOk result (IsFoundBy (subcommand_rows_of matches.now)) }
-    ensures answered { (task : Task) → IsFoundBy (subcommand_rows_of matches.now) task → result ≡ Ok task }
+    ensures answered { (task : Task) → IsFoundBy (subcommand_rows_of matches.now) task
+        → result ≡ Ok task }
 {
     let Some((name, found)) = matches.subcommand() else {
         return Err(misfit_fault(alloc, "", Misfit::Missing));

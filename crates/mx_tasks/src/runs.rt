@@ -50,16 +50,19 @@ pub fn run_office<R: Read, W: Outlet, B: Book>(
     Ok(count)
 }
 
-/// Answers the requests of the input, as `run_office` does, over an office of this book, which is given up at the end.
+/// Answers the requests of the input, as `run_office` does, over an office of this book, which is given up at the
+/// end.
 fn run_over<R: Read, W: Outlet, B: Book + Drop>(
     alloc: Global,
     book: B,
     reader: &mut Counted<R>,
     writer: &mut Counted<W>,
 ) -> Result<u64, TaskFault>
-    ensures unbegun { result ≡ Err TaskFault.Memory → Untouched reader.old reader.new writer.old writer.new }
+    ensures unbegun { result ≡ Err TaskFault.Memory
+        → Untouched reader.old reader.new writer.old writer.new }
     ensures fault { IfErr result IsRunFault }
-    ensures runs { (w : World) → (B.doubt book ≡ 0 → B.spells (B.rows book) w) → (left : B) × (B.doubt left ≤ 1
+    ensures runs { (w : World) → (B.doubt book ≡ 0 → B.spells (B.rows book) w)
+        → (left : B) × (B.doubt left ≤ 1
         → Leads (λ ms now. TaskRuns B.fails
         (state [] (R.remaining reader.old.device) (W.contents writer.old.device) w) result ms
         (state [] (R.remaining reader.new.device) (W.contents writer.new.device) now))
