@@ -1,6 +1,7 @@
 -- What clap finds at the command of the program.
-use Rattle.std.proofs.Common.{◌≡◌, ◌∙◌, ◌||◌, List, [], Option, Some, None, true, false, refl, ap₂, subst, inl, inr, option_map, arith}
-use Rattle.clap.specs.Words.{AddsArg, App, HasKind, Kinds, Row, Rule, Text, app_of, is_simple, is_simple_and_free, kind_of, rule_of, subcommand_name_of, subcommand_rows_of, with_rule}
+use Rattle.std.proofs.Common.{◌≡◌, ◌∙◌, ◌+◌, ◌<◌, ◌≤◌, ℕ, List, [], Option, Some, None, true, false, refl, ap, sym, subst, inl, inr, length, get_or, drop, drop-cons, add-one, suc, option_map, arith}
+use Rattle.std.proofs.lemmas.List.{drop_all}
+use Rattle.clap.specs.Words.{AddsArg, AddsSubcommand, App, HasKind, Kinds, Row, Text, app_of, is_simple, is_simple_and_free, kind_of, rule_of, subcommand_name_of, subcommand_rows_of, with_rule, with_subcommand}
 use Rattle.clap.specs.declared.builder.arg.Arg.{Arg}
 use Rattle.clap.specs.declared.builder.command.Command.{Command}
 use Rattle.clap.specs.declared.Command.TheViews.{out-Command}
@@ -8,15 +9,36 @@ use Rattle.clap.specs.declared.ArgMatches.{ArgMatches}
 use Rattle.clap.specs.declared.Error.{Error}
 use Rattle.clap.specs.declared.error.ErrorKind.TheVariants.{OutOfMemory}
 use Rattle.clap.specs.declared.ArgMatches.TheViews.{out-ArgMatches}
+use Rattle.mx_args.specs.declared.commands.Argument.{Argument}
+use Rattle.mx_args.specs.declared.commands.Form.{Form}
+use Rattle.mx_args.specs.Forms.{app_with, app_with_forms, form_app, rule_from}
 use Rattle.mx_args.specs.Line.{line_app}
 
--- a command with these rules, none of which is global
-abbrev pub Has : App → Command → Type 0
-Has app c = (app_of c ≡ app) × ((out-Command c).has_globals ≡ false)
+-- one argument more
+pub argument_more : (arguments : List Argument) (i : ℕ) (d : Argument) {app : App} {old new : Command} {a : Arg} → i < length arguments
+    → app_with (app_of old) (drop i arguments) ≡ app → rule_of a ≡ rule_from (get_or arguments i d) → a.global ≡ false → AddsArg old a new
+    → app_with (app_of new) (drop (i + 1) arguments) ≡ app
+argument_more arguments i d {old = old} low before rule local adds =
+    rw add-one (ap (λ x. app_with x (drop (suc i) arguments)) (adds.shape local ∙ ap (with_rule (app_of old)) rule)
+    ∙ ap (app_with (app_of old)) (sym (drop-cons arguments i d low)) ∙ before)
 
--- with one rule more
-pub has_more : {app : App} {rule : Rule} {old new : Command} {a : Arg} → Has app old → rule_of a ≡ rule → a.global ≡ false → AddsArg old a new → Has (with_rule app rule) new
-has_more has rule local adds = (adds.shape local ∙ ap₂ with_rule has.0 rule, adds.globals ∙ ap₂ ◌||◌ has.1 local)
+-- all arguments
+pub arguments_done : (arguments : List Argument) (i : ℕ) (command : Command) {app : App} → length arguments ≤ i
+    → app_with (app_of command) (drop i arguments) ≡ app → app_of command ≡ app
+arguments_done arguments i command over has = ap (app_with (app_of command)) (sym (drop_all i arguments over)) ∙ has
+
+-- one command more
+pub form_more : (forms : List Form) (i : ℕ) (d : Form) {app : App} {old new sub : Command} → i < length forms
+    → app_with_forms (app_of old) (drop i forms) ≡ app → app_of sub ≡ form_app (get_or forms i d) → (out-Command sub).has_globals ≡ false
+    → AddsSubcommand old sub new → app_with_forms (app_of new) (drop (i + 1) forms) ≡ app
+form_more forms i d {old = old} low before form local adds =
+    rw add-one (ap (λ x. app_with_forms x (drop (suc i) forms)) (adds.shape local ∙ ap (λ (a : App). with_subcommand (app_of old) a.top) form)
+    ∙ ap (app_with_forms (app_of old)) (sym (drop-cons forms i d low)) ∙ before)
+
+-- all commands
+pub forms_done : (forms : List Form) (i : ℕ) (program : Command) {app : App} → length forms ≤ i
+    → app_with_forms (app_of program) (drop i forms) ≡ app → app_of program ≡ app
+forms_done forms i program over has = ap (app_with_forms (app_of program)) (sym (drop_all i forms over)) ∙ has
 
 -- clap's matches of the command are a function of the words
 pub line_is_simple : is_simple line_app ≡ true

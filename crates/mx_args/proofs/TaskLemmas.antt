@@ -4,13 +4,12 @@ use Rattle.std.specs.Prelude.{decimal}
 use Rattle.std.specs.Option.{option_and_then}
 use Rattle.std.proofs.lemmas.Bool.{le-leb}
 use Rattle.std.proofs.lemmas.Option.{cond_some}
-use Rattle.clap.specs.Words.{Row, Text, first_of, subcommand_of}
+use Rattle.clap.specs.Words.{Row, Text, first_of}
 use Rattle.mx_pay.specs.Limits.{most_number}
 use Rattle.mx_pay.specs.Reading.{limited, number_of, up_to}
 use Rattle.mx_pay.specs.Tokens.{token_of}
 use Rattle.mx_pay.proofs.EntryLemmas.{bind_some, number_again, number_takes}
-use Rattle.mx_args.specs.Line.{line_app}
-use Rattle.mx_args.specs.Named.{Given, HasPurse, HasValue, IsNamedBy, IsNumber, IsToken, Names, NamesNone}
+use Rattle.mx_args.specs.Named.{Given, HasPurse, HasValue, IsFoundBy, IsNumber, IsToken, Names, NamesNone}
 use Rattle.mx_args.specs.declared.task.Task.{Task}
 use Rattle.mx_args.specs.declared.task.Task.TheVariants.{RunMemory, RunFile, Init, Serve, Import, Report, Migrate}
 
@@ -122,20 +121,15 @@ names_once name rows (Import f r) (Report g p) h k = absurd (import_report (sym 
 names_once name rows (Report f p) (Import g r) h k = absurd (import_report (sym k.0 ∙ h.0))
 names_once name rows a b h k = cc
 
--- two tasks that a line names are one
-found_once : (found : Option (Text × List Row)) (name other : Text) (rows others : List Row) (a b : Task) → found ≡ Some (name, rows)
-    → found ≡ Some (other, others) → Names name rows a → Names other others b → a ≡ b
-found_once found name other rows others a b here there h k =
-    let both : ◌≡◌ {A = Option (Text × List Row)} (Some (name, rows)) (Some (other, others)) = sym here ∙ there in
-    let first : ◌≡◌ {A = Option Text} (Some name) (Some other) = ap (option_map (λ (p : Text × List Row). p.0)) both in
-    let second : ◌≡◌ {A = Option (List Row)} (Some rows) (Some others) = ap (option_map (λ (p : Text × List Row). p.1)) both in
-    let names : name ≡ other = cc in
-    let same : rows ≡ others = cc in
-    names_once other others a b (subst (λ (r : List Row). Names other r a) same (subst (λ (n : Text). Names n rows a) names h)) k
-
-pub line_once : (words : List Text) (a b : Task) → IsNamedBy words a → IsNamedBy words b → a ≡ b
-line_once words a b h k =
-    found_once (subcommand_of line_app words) h.1.0 k.1.0 h.1.1 k.1.1 a b h.1.2 k.1.2 h.1.3 k.1.3
+-- two tasks that the command which was found names are one
+pub found_once : (found : Option (Text × List Row)) (a b : Task) → IsFoundBy found a → IsFoundBy found b → a ≡ b
+found_once found a b h k =
+    let both : ◌≡◌ {A = Option (Text × List Row)} (Some (h.0, h.1)) (Some (k.0, k.1)) = sym h.2 ∙ k.2 in
+    let first : ◌≡◌ {A = Option Text} (Some h.0) (Some k.0) = ap (option_map (λ (p : Text × List Row). p.0)) both in
+    let second : ◌≡◌ {A = Option (List Row)} (Some h.1) (Some k.1) = ap (option_map (λ (p : Text × List Row). p.1)) both in
+    let names : h.0 ≡ k.0 = cc in
+    let same : h.1 ≡ k.1 = cc in
+    names_once k.0 k.1 a b (subst (λ (r : List Row). Names k.0 r a) same (subst (λ (n : Text). Names n h.1 a) names h.3)) k.3
 
 -- ---- no task
 

@@ -53,6 +53,11 @@ Names name rows (Migrate file) = (name ≡ codes "migrate") × Given rows (codes
 abbrev pub NamesNone : Text → List Row → Type 0
 NamesNone name rows = (task : Task) → ¬ Names name rows task
 
+-- the command that was found, with its rows, is this task
+abbrev pub IsFoundBy : Option (Text × List Row) → Task → Type 0
+IsFoundBy found task = (name : Text) × (rows : List Row) × (found ≡ Some (name, rows))
+    × Names name rows task
+
 -- clap finds no fault in the words, and its matches of them name this task
 abbrev pub IsNamedBy : List Text → Task → Type 0
 IsNamedBy words task = (fault_of line_app words ≡ [])

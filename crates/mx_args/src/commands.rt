@@ -1,170 +1,221 @@
 //! The commands of the program, as clap reads them.
-ghost use Rattle.std.specs.Prelude.{◌≡◌, IfOk, codes, false};
-ghost use Rattle.clap.specs.Words.{app_of, new_app, rule_of};
+ghost use Rattle.std.specs.Prelude.{◌≡◌, IfOk, false};
+ghost use Rattle.clap.specs.Words.{app_of, rule_of};
 ghost use Rattle.clap.specs.declared.Command.TheViews.{out-Command};
-ghost use Rattle.mx_args.specs.Line.{flag_rule, option_rule, word_rule};
-ghost use Rattle.mx_args.specs.Line.{import_app, init_app, line_app, migrate_app, report_app, run_app, serve_app};
+ghost use Rattle.mx_args.specs.Line.{line_app, program_app};
+ghost use Rattle.mx_args.specs.Forms.{app_with_forms, form_app, rule_from};
 
 use clap::{Arg, ArgAction, Command};
 use std::alloc::{AllocError, Global};
+
+// How an argument is written.
+#[derive(Clone, Copy)]
+enum Kind {
+    // A word that stands by itself.
+    Word,
+    // `--id VALUE`, with this name of the value in help.
+    Value(&'static str),
+    // `--id`.
+    Flag,
+}
+
+// An argument of a command.
+#[derive(Clone, Copy)]
+struct Argument {
+    id: &'static str,
+    kind: Kind,
+    required: bool,
+    help: &'static str,
+}
+
+// A command of the program: its name, that in usage texts, what help says of it, and its arguments.
+#[derive(Clone, Copy)]
+struct Form {
+    name: &'static str,
+    full_name: &'static str,
+    about: &'static str,
+    arguments: &'static [Argument],
+}
 
 // What FILE is.
 const BOOKS: &str = "The file of the books, a database of SQLite";
 
 // What the value of `--token` is.
-const TOKEN: &str = "The operator's token: 32 hexadecimal digits";
+const DIGITS: &str = "The operator's token: 32 hexadecimal digits";
 
-// A word that stands by itself.
-fn bare_word<'a>(alloc: Global, id: &'a str, required: bool, help: &'a str) -> Arg<'a>
-    ensures rule { rule_of result ≡ word_rule id.entry.now required }
+const FILE: Argument = Argument {
+    id: "FILE",
+    kind: Kind::Word,
+    required: true,
+    help: BOOKS,
+};
+
+const TOKEN: Argument = Argument {
+    id: "token",
+    kind: Kind::Value("HEX"),
+    required: true,
+    help: DIGITS,
+};
+
+// The commands in the order of help.
+static FORMS: [Form; 6] = [
+    Form {
+        name: "run",
+        full_name: "purse-office run",
+        about: "Answers the requests of standard input on standard output",
+        arguments: &[
+            Argument {
+                id: "FILE",
+                kind: Kind::Word,
+                required: false,
+                help: BOOKS,
+            },
+            Argument {
+                id: "memory",
+                kind: Kind::Flag,
+                required: false,
+                help: "Keeps the books in memory, until the input ends; takes --token",
+            },
+            Argument {
+                id: "token",
+                kind: Kind::Value("HEX"),
+                required: false,
+                help: DIGITS,
+            },
+        ],
+    },
+    Form {
+        name: "init",
+        full_name: "purse-office init",
+        about: "Makes new books in a file",
+        arguments: &[FILE, TOKEN],
+    },
+    Form {
+        name: "serve",
+        full_name: "purse-office serve",
+        about: "Answers requests on a port of 127.0.0.1, a connection each",
+        arguments: &[
+            FILE,
+            Argument {
+                id: "port",
+                kind: Kind::Value("N"),
+                required: true,
+                help: "The port, from 1 to 65535",
+            },
+            Argument {
+                id: "count",
+                kind: Kind::Value("K"),
+                required: true,
+                help: "How many connections are served, from 1 to 1000000",
+            },
+        ],
+    },
+    Form {
+        name: "import",
+        full_name: "purse-office import",
+        about: "Adds the members, holders and purses of a roll to the books",
+        arguments: &[
+            FILE,
+            Argument {
+                id: "ROLL",
+                kind: Kind::Word,
+                required: true,
+                help: "The file of the roll: comma-separated values",
+            },
+        ],
+    },
+    Form {
+        name: "report",
+        full_name: "purse-office report",
+        about: "Prints the reconciliation of the books, or the statement of a purse",
+        arguments: &[
+            FILE,
+            Argument {
+                id: "purse",
+                kind: Kind::Value("P"),
+                required: false,
+                help: "The purse whose statement is printed",
+            },
+        ],
+    },
+    Form {
+        name: "migrate",
+        full_name: "purse-office migrate",
+        about: "Brings a file of schema 1 to schema 2",
+        arguments: &[FILE],
+    },
+];
+
+// The argument, as clap takes it.
+fn arg_of<'a>(alloc: Global, argument: &Argument) -> Arg<'a>
+    ensures rule { rule_of result ≡ rule_from argument.now }
     ensures local { result.global ≡ false }
 {
-    Arg::new(alloc, id).required(required).help(help)
+    let arg = Arg::new(alloc, argument.id)
+        .required(argument.required)
+        .help(argument.help);
+    match argument.kind {
+        Kind::Word => arg,
+        Kind::Value(name) => arg.long(argument.id).value_name(name),
+        Kind::Flag => arg.long(argument.id).action(ArgAction::SetTrue),
+    }
 }
 
-// `--name VALUE`.
-fn option<'a>(
-    alloc: Global,
-    name: &'a str,
-    value: &'a str,
-    required: bool,
-    help: &'a str,
-) -> Arg<'a>
-    ensures rule { rule_of result ≡ option_rule name.entry.now required }
-    ensures local { result.global ≡ false }
-{
-    Arg::new(alloc, name)
-        .long(name)
-        .value_name(value)
-        .required(required)
-        .help(help)
-}
-
-// `--name`, which may be left out.
-fn flag<'a>(alloc: Global, name: &'a str, help: &'a str) -> Arg<'a>
-    ensures rule { rule_of result ≡ flag_rule name.entry.now }
-    ensures local { result.global ≡ false }
-{
-    Arg::new(alloc, name)
-        .long(name)
-        .action(ArgAction::SetTrue)
-        .help(help)
-}
-
-fn run_command<'a>(alloc: Global) -> Result<Command<'a>, AllocError>
-    ensures app { IfOk result (λ c. app_of c ≡ run_app) }
+// The command of this form.
+fn command_of<'a>(alloc: Global, form: &Form) -> Result<Command<'a>, AllocError>
+    ensures app { IfOk result (λ c. app_of c ≡ form_app form.now) }
     ensures local { IfOk result (λ c. (out-Command c).has_globals ≡ false) }
 {
-    Command::new(alloc, "run")
-        .about("Answers the requests of standard input on standard output")
-        .arg(bare_word(alloc, "FILE", false, BOOKS))?
-        .arg(flag(
-            alloc,
-            "memory",
-            "Keeps the books in memory, until the input ends; takes --token",
-        ))?
-        .arg(option(alloc, "token", "HEX", false, TOKEN))
+    let mut command = Command::new(alloc, form.name).about(form.about);
+    for argument in form.arguments {
+        command = command.arg(arg_of(alloc, argument))?;
+    }
+    Ok(command)
 }
 
-fn init_command<'a>(alloc: Global) -> Result<Command<'a>, AllocError>
-    ensures app { IfOk result (λ c. app_of c ≡ init_app) }
-    ensures local { IfOk result (λ c. (out-Command c).has_globals ≡ false) }
-{
-    Command::new(alloc, "init")
-        .about("Makes new books in a file")
-        .arg(bare_word(alloc, "FILE", true, BOOKS))?
-        .arg(option(alloc, "token", "HEX", true, TOKEN))
-}
-
-fn serve_command<'a>(alloc: Global) -> Result<Command<'a>, AllocError>
-    ensures app { IfOk result (λ c. app_of c ≡ serve_app) }
-    ensures local { IfOk result (λ c. (out-Command c).has_globals ≡ false) }
-{
-    Command::new(alloc, "serve")
-        .about("Answers requests on a port of 127.0.0.1, a connection each")
-        .arg(bare_word(alloc, "FILE", true, BOOKS))?
-        .arg(option(alloc, "port", "N", true, "The port, from 1 to 65535"))?
-        .arg(option(
-            alloc,
-            "count",
-            "K",
-            true,
-            "How many connections are served, from 1 to 1000000",
-        ))
-}
-
-fn import_command<'a>(alloc: Global) -> Result<Command<'a>, AllocError>
-    ensures app { IfOk result (λ c. app_of c ≡ import_app) }
-    ensures local { IfOk result (λ c. (out-Command c).has_globals ≡ false) }
-{
-    Command::new(alloc, "import")
-        .about("Adds the members, holders and purses of a roll to the books")
-        .arg(bare_word(alloc, "FILE", true, BOOKS))?
-        .arg(bare_word(
-            alloc,
-            "ROLL",
-            true,
-            "The file of the roll: comma-separated values",
-        ))
-}
-
-fn report_command<'a>(alloc: Global) -> Result<Command<'a>, AllocError>
-    ensures app { IfOk result (λ c. app_of c ≡ report_app) }
-    ensures local { IfOk result (λ c. (out-Command c).has_globals ≡ false) }
-{
-    Command::new(alloc, "report")
-        .about("Prints the reconciliation of the books, or the statement of a purse")
-        .arg(bare_word(alloc, "FILE", true, BOOKS))?
-        .arg(option(
-            alloc,
-            "purse",
-            "P",
-            false,
-            "The purse whose statement is printed",
-        ))
-}
-
-fn migrate_command<'a>(alloc: Global) -> Result<Command<'a>, AllocError>
-    ensures app { IfOk result (λ c. app_of c ≡ migrate_app) }
-    ensures local { IfOk result (λ c. (out-Command c).has_globals ≡ false) }
-{
-    Command::new(alloc, "migrate")
-        .about("Brings a file of schema 1 to schema 2")
-        .arg(bare_word(alloc, "FILE", true, BOOKS))
-}
-
-// The program's name stands before each command in usage texts.
+// The program, which is called by its words alone. Its name stands before each command in usage.
 fn program_command<'a>(alloc: Global) -> Result<Command<'a>, AllocError>
-    ensures { IfOk result (λ c. app_of c ≡ new_app (codes "purse-office")) }
+    ensures { IfOk result (λ c. app_of c ≡ program_app) }
 {
     Command::new(alloc, "purse-office")
         .about("The scheme office of an electronic purse")
+        .no_binary_name(true)
+        .subcommand_required(true)
         .bin_name("purse-office")
 }
 
+// The program with the commands of these forms.
+fn program_of<'a>(alloc: Global, forms: &[Form]) -> Result<Command<'a>, AllocError>
+    ensures { IfOk result (λ c. app_of c ≡ app_with_forms program_app forms.now) }
+{
+    let mut program = program_command(alloc)?;
+    for form in forms {
+        program = program.subcommand(command_of(alloc, form)?)?;
+    }
+    Ok(program)
+}
+
+/// The program with its commands.
 pub(crate) fn line_command<'a>(alloc: Global) -> Result<Command<'a>, AllocError>
     ensures { IfOk result (λ c. app_of c ≡ line_app) }
 {
-    program_command(alloc)?
-        .no_binary_name(true)
-        .subcommand_required(true)
-        .subcommand(run_command(alloc)?)?
-        .subcommand(init_command(alloc)?)?
-        .subcommand(serve_command(alloc)?)?
-        .subcommand(import_command(alloc)?)?
-        .subcommand(report_command(alloc)?)?
-        .subcommand(migrate_command(alloc)?)
+    program_of(alloc, &FORMS)
+}
+
+// The form of the command of this name.
+fn form_named(name: &str) -> Option<&'static Form> {
+    for form in &FORMS {
+        if form.name == name {
+            return Some(form);
+        }
+    }
+    None
 }
 
 /// The command of this name, by itself, for its usage; the program where it has no such command.
 pub(crate) fn command_named<'a>(alloc: Global, name: &str) -> Result<Command<'a>, AllocError> {
-    match name {
-        "run" => run_command(alloc)?.bin_name("purse-office run"),
-        "init" => init_command(alloc)?.bin_name("purse-office init"),
-        "serve" => serve_command(alloc)?.bin_name("purse-office serve"),
-        "import" => import_command(alloc)?.bin_name("purse-office import"),
-        "report" => report_command(alloc)?.bin_name("purse-office report"),
-        "migrate" => migrate_command(alloc)?.bin_name("purse-office migrate"),
-        _ => line_command(alloc),
+    match form_named(name) {
+        Some(form) => command_of(alloc, form)?.bin_name(form.full_name),
+        None => line_command(alloc),
     }
 }

@@ -2,9 +2,9 @@
 ghost use Rattle.std.specs.Prelude.{◌≡◌, ◌⊎◌, ℕ, List, Option, IfOk, IfSome, IsNone, OnErr, Ok, Err};
 ghost use Rattle.std.specs.Prelude.{codes, map, option_map};
 ghost use Rattle.std.specs.Option.{option_and_then};
-ghost use Rattle.clap.specs.Words.{first_of, found_of, kind_of, rows_of};
+ghost use Rattle.clap.specs.Words.{first_of, found_of, kind_of, rows_of, subcommand_rows_of};
 ghost use Rattle.mx_pay.specs.Tokens.{token_of};
-ghost use Rattle.mx_args.specs.Named.{HasPurse, HasValue, IsNamedBy, IsNumber, Names, NamesNone};
+ghost use Rattle.mx_args.specs.Named.{HasPurse, HasValue, IsFoundBy, IsNamedBy, IsNumber, Names, NamesNone};
 
 use crate::commands::{command_named, line_command};
 use crate::task::{LineFault, Task, Word};
@@ -229,11 +229,32 @@ fn line_fault(alloc: Global, error: clap::Error) -> LineFault
     }
 }
 
-// The text of a line that clap takes and that names no task, with the usage of its command.
-fn misfit_fault(alloc: Global, name: &str, misfit: Misfit) -> Result<LineFault, AllocError> {
-    let mut command = command_named(alloc, name)?;
-    let error = command.error(ErrorKind::ValueValidation, misfit.text())?;
-    Ok(line_fault(alloc, error))
+// clap's error for a line that clap takes and that names no task, with the usage of its command.
+fn misfit_error(alloc: Global, name: &str, misfit: Misfit) -> Result<clap::Error, AllocError> {
+    command_named(alloc, name)?.error(ErrorKind::ValueValidation, misfit.text())
+}
+
+// What such a line is answered with.
+fn misfit_fault(alloc: Global, name: &str, misfit: Misfit) -> LineFault {
+    match misfit_error(alloc, name, misfit) {
+        Ok(error) => line_fault(alloc, error),
+        Err(_) => LineFault::Memory,
+    }
+}
+
+// The task that clap's matches name.
+fn found_task<'a>(alloc: Global, matches: &ArgMatches<'a>) -> Result<Task<'a>, LineFault>
+    ensures named { IfOk result (IsFoundBy (subcommand_rows_of matches.now)) }
+    ensures answered { (task : Task) → IsFoundBy (subcommand_rows_of matches.now) task
+        → result ≡ Ok task }
+{
+    let Some((name, found)) = matches.subcommand() else {
+        return Err(misfit_fault(alloc, "", Misfit::Missing));
+    };
+    match task_of(name, found) {
+        Ok(task) => Ok(task),
+        Err(misfit) => Err(misfit_fault(alloc, name, misfit)),
+    }
 }
 
 /// Reads a command line: the words after the program's name. Answers the task that they name.
@@ -248,16 +269,8 @@ pub fn read_line<'a>(alloc: Global, words: &'a [&'a str]) -> Result<Task<'a>, Li
     ensures answered { (task : Task) → IsNamedBy (map (λ w. w.now) words.entry.now) task
         → (result ≡ Ok task) ⊎ (result ≡ Err LineFault.Memory) }
 {
-    let mut command = line_command(alloc)?;
-    let matches = match command.try_get_matches_from_mut(words) {
-        Ok(matches) => matches,
-        Err(error) => return Err(line_fault(alloc, error)),
-    };
-    let Some((name, found)) = matches.subcommand() else {
-        return Err(misfit_fault(alloc, "", Misfit::Missing)?);
-    };
-    match task_of(name, found) {
-        Ok(task) => Ok(task),
-        Err(misfit) => Err(misfit_fault(alloc, name, misfit)?),
+    match line_command(alloc)?.try_get_matches_from(words) {
+        Ok(matches) => found_task(alloc, &matches),
+        Err(error) => Err(line_fault(alloc, error)),
     }
 }

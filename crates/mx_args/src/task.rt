@@ -6,7 +6,7 @@ use std::alloc::AllocError;
 use std::marker::Model;
 
 /// A word of the command line that names a file. A contract sees it as its bytes.
-#[derive(Debug, Drop)]
+#[derive(Drop)]
 pub struct Word<'a> {
     text: &'a str,
 }
@@ -36,7 +36,7 @@ impl<'a> Word<'a> {
 }
 
 /// What the program is asked to do. It borrows the words of the command line.
-#[derive(Debug, Drop)]
+#[derive(Drop)]
 pub enum Task<'a> {
     /// `run --memory --token HEX`: requests from standard input, responses to standard output, over books
     /// in memory. The token is the operator's.

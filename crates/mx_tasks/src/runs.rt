@@ -50,6 +50,28 @@ pub fn run_office<R: Read, W: Outlet, B: Book>(
     Ok(count)
 }
 
+/// Answers the requests of the input, as `run_office` does, over an office of this book, which is given up at the
+/// end.
+fn run_over<R: Read, W: Outlet, B: Book + Drop>(
+    alloc: Global,
+    book: B,
+    reader: &mut Counted<R>,
+    writer: &mut Counted<W>,
+) -> Result<u64, TaskFault>
+    ensures unbegun { result ≡ Err TaskFault.Memory
+        → Untouched reader.old reader.new writer.old writer.new }
+    ensures fault { IfErr result IsRunFault }
+    ensures runs { (w : World) → (B.doubt book ≡ 0 → B.spells (B.rows book) w)
+        → (left : B) × (B.doubt left ≤ 1
+        → Leads (λ ms now. TaskRuns B.fails
+        (state [] (R.remaining reader.old.device) (W.contents writer.old.device) w) result ms
+        (state [] (R.remaining reader.new.device) (W.contents writer.new.device) now))
+        (λ ms. MovesTo B.doubt B.rows B.spells B.leaves book left w (attempts ms))) }
+{
+    let mut office = Office::new(book);
+    run_office(alloc, &mut office, reader, writer)
+}
+
 /// Answers the requests of the input over books in memory that are given up at the end, for the operator with that token,
 /// and says how many responses were written. A fault is `Memory` where there is none for the routes, and then nothing
 /// was read or written; or that of the desk: `Read` where a read failed, `Turns` where 1,000,000,000 reads didn't reach
@@ -76,6 +98,5 @@ pub fn run_memory<R: Read, W: Outlet>(
 {
     // The reader says that the token has its bytes.
     let _bytes = operator.as_bytes();
-    let mut office = Office::new(PlainBook::new(alloc, operator));
-    run_office(alloc, &mut office, reader, writer)
+    run_over(alloc, PlainBook::new(alloc, operator), reader, writer)
 }

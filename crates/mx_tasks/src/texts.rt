@@ -63,7 +63,7 @@ pub fn import_text(alloc: Global, report: &RollReport) -> Result<String, AllocEr
 }
 
 /// What is printed of the books.
-#[derive(Debug, Drop)]
+#[derive(Drop)]
 pub struct Reported {
     /// The text.
     pub text: Vec<u8>,

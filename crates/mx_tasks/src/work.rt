@@ -24,7 +24,7 @@ use std::io::Read;
 use std::net::TcpListener;
 
 /// What is done over the books in a file, once they are open.
-#[derive(Debug, Drop)]
+#[derive(Drop)]
 pub enum Work<'a> {
     /// The requests of the input are answered.
     Run,
@@ -43,7 +43,7 @@ pub enum Work<'a> {
 
 /// What comes of work: a text, which is printed once the file of the books is closed, and the fault with which the task ends
 /// then, if there is one.
-#[derive(Debug, Drop)]
+#[derive(Drop)]
 pub struct Done {
     /// The text.
     pub text: Vec<u8>,

@@ -1,7 +1,5 @@
 use Rattle.std.proofs.Common.{refl}
 use Rattle.mx_book.specs.World.{opening}
-use Rattle.mx_book.specs.Spells.{Spells}
-use Rattle.mx_memory.specs.Shelves.{rows_of}
 use Rattle.mx_book.proofs.StandLemmas.{low_sure}
 use Rattle.mx_tasks.proofs.RunLemmas.{opening_reachable}
 use Rattle.mx_tasks.proofs.runs.run_memory.Goals as goal
@@ -11,6 +9,5 @@ returns-clause-begins g c = opening_reachable c.args.operator c.as_bytes-bytes.e
 
 pub returns-clause-runs : goal.returns-clause-runs
 returns-clause-runs g c =
-    let spelled : Spells (rows_of c.new-office.result.book.shelves) (opening c.args.operator) = rw c.new-office.ensures c.new.ensures in
-    let led = c.run_office.ensures.runs (opening c.args.operator) (low_sure refl) (λ _. spelled) in
+    let led = (c.run_over.ensures.runs (opening c.args.operator) (λ _. c.new.ensures)).1 (low_sure refl) in
     (led.marked, led.end, led.holds)
