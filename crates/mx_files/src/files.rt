@@ -1,6 +1,6 @@
 //! The files of books.
 
-use crate::closing::{Making, Migrating, Working, do_and_close};
+use crate::closing::{make_and_close, migrate_and_close, work_and_close};
 use mx_desk::{Counted, Outlet};
 use mx_pay::Token;
 use mx_tables::Migrated;
@@ -176,11 +176,7 @@ fn put_books(
     place: &str,
     operator: Token,
 ) -> Result<(), TaskFault> {
-    let making = Making {
-        alloc: rt.alloc(),
-        operator,
-    };
-    do_and_close(making, open_new(rt, made)?)?;
+    make_and_close(rt.alloc(), open_new(rt, made)?, operator)?;
     if !is_there(rt, made, number) {
         return Err(TaskFault::File);
     }
@@ -244,14 +240,7 @@ pub fn over_file<R: Read, W: Outlet>(
     reader: &mut Counted<R>,
     writer: &mut Counted<W>,
 ) -> Result<Done, TaskFault> {
-    let store = open_found(rt, path)?;
-    let working = Working {
-        rt,
-        work,
-        reader,
-        writer,
-    };
-    do_and_close(working, store)
+    work_and_close(rt, open_found(rt, path)?, work, reader, writer)
 }
 
 /// Brings the books in a file that is there to the schema of this version.
@@ -262,6 +251,5 @@ pub fn over_file<R: Read, W: Outlet>(
 /// where its log belongs; `NotThisSchema` where it is empty or has no books of this version or the one before; `Store` where
 /// it has other tables, refuses a statement or can't be closed; `Memory`.
 pub fn migrate_file(rt: &HostRuntime, path: &str) -> Result<Migrated, TaskFault> {
-    let migrating = Migrating { alloc: rt.alloc() };
-    do_and_close(migrating, open_found(rt, path)?)
+    migrate_and_close(rt.alloc(), open_found(rt, path)?)
 }
