@@ -1,5 +1,6 @@
 //! Offices in which nothing is but the operator's token, over each kind of book.
 use crate::faulty::Faulty;
+use mx_book::Book;
 use mx_memory::PlainBook;
 use mx_office::Office;
 use mx_pay::Token;
@@ -13,8 +14,21 @@ fn operator() -> Result<Token, Fail> {
     Ok(Token::read("00000000000000000000000000000001").ok_or("no token")?)
 }
 
-/// What comes of an office over a book in memory. A test that made the office itself would be proved slowly, since it
-/// would drop it at each of its ends; so does each of these for all.
+/// What comes of an office over a book. What owns a book of any kind is proved quickly, and what owns one of these kinds
+/// slowly, since it drops it at each of its ends; so this owns them all.
+fn with<H, B, T, F>(rt: &H, book: B, ask: F) -> Result<T, Fail>
+where
+    H: AllocGlobal,
+    B: Book + Drop,
+    T: Drop,
+    F: FnOnce(&H, &mut Office<B>) -> Result<T, Fail>,
+    requires { F.IsAlwaysCallable ask }
+{
+    let mut office = Office::new(book);
+    ask(rt, &mut office)
+}
+
+/// The same of a book in memory.
 pub(super) fn with_book<H, T, F>(rt: &H, ask: F) -> Result<T, Fail>
 where
     H: AllocGlobal,
@@ -22,8 +36,7 @@ where
     F: FnOnce(&H, &mut Office<PlainBook>) -> Result<T, Fail>,
     requires { F.IsAlwaysCallable ask }
 {
-    let mut office = Office::new(PlainBook::new(rt.alloc(), operator()?));
-    ask(rt, &mut office)
+    with(rt, PlainBook::new(rt.alloc(), operator()?), ask)
 }
 
 /// The same of a book in memory that leaves out what it is told to, and nothing at first.
@@ -33,12 +46,12 @@ where
     F: FnOnce(&H, &mut Office<Faulty<PlainBook>>) -> Result<(), Fail>,
     requires { F.IsAlwaysCallable ask }
 {
-    let mut office = Office::new(Faulty {
+    let book = Faulty {
         book: PlainBook::new(rt.alloc(), operator()?),
         left: None,
         lines_asked: (u64::MAX, 0),
-    });
-    ask(rt, &mut office)
+    };
+    with(rt, book, ask)
 }
 
 /// New tables in memory, where there is memory for them.
@@ -59,8 +72,7 @@ where
         Some(book) => book,
         None => new_tables(rt.alloc(), operator).ok_or("not made")?,
     };
-    let mut office = Office::new(book);
-    ask(rt, &mut office)
+    with(rt, book, ask)
 }
 
 /// A store in memory in which nothing is.

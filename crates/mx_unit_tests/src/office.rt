@@ -4,23 +4,33 @@ mod abstract_world;
 mod random;
 mod rounds;
 
+use mx_book::Book;
 use mx_memory::PlainBook;
 use mx_office::{Office, Refusal};
 use random::token;
 use std::alloc::AllocGlobal;
 use std::test::Fail;
 
-/// Lends a new office to a test. A test that made one itself would be proved slowly, since it would drop it at each of its
-/// ends.
+/// Lends an office over a book to a test. What owns a book of any kind is proved quickly.
+fn with_book<H, B, F>(rt: &H, book: B, test: F) -> Result<(), Fail>
+where
+    H: AllocGlobal,
+    B: Book + Drop,
+    F: FnOnce(&H, &mut Office<B>) -> Result<(), Fail>,
+    requires { F.IsAlwaysCallable test }
+{
+    let mut office = Office::new(book);
+    test(rt, &mut office)
+}
+
+/// Lends a new office to a test.
 fn with_office<H, F>(rt: &H, test: F) -> Result<(), Fail>
 where
     H: AllocGlobal,
     F: FnOnce(&H, &mut Office<PlainBook>) -> Result<(), Fail>,
     requires { F.IsAlwaysCallable test }
 {
-    let operator = token(b'1')?;
-    let mut office = Office::new(PlainBook::new(rt.alloc(), operator));
-    test(rt, &mut office)
+    with_book(rt, PlainBook::new(rt.alloc(), token(b'1')?), test)
 }
 
 /// Refusals, and the words of each in a line.
