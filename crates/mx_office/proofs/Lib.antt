@@ -1,3 +1,4 @@
+pub mod CallLemmas
 pub mod OwnLemmas
 pub mod CaseLemmas
 pub mod DecideLemmas
