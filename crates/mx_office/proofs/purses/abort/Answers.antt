@@ -1,4 +1,7 @@
-use Rattle.std.proofs.Common.{rules, sym, ◌∙◌}
+use Rattle.std.proofs.Common.{sym, ◌∙◌, ap, is_some, None}
+use Rattle.mx_office.specs.Decides.{purse_edits}
+use Rattle.mx_office.specs.Step.{abort_line}
+use Rattle.mx_office.specs.declared.values.Reply.TheVariants.{Aborted}
 use Rattle.mx_office.proofs.CallLemmas.{so_far, tells_so, tells_fault}
 use Rattle.mx_office.proofs.CommandLemmas.{foreign_decides, abort_decides}
 use Rattle.mx_office.proofs.purses.abort.Goals as goal
@@ -14,4 +17,4 @@ returns-in_default g c =
 pub returns : goal.returns
 returns g c =
     let after = so_far g.B.Book c.in_ok-after.ensures.keeps c.in_ok-after.ensures.value in
-    tells_so g.B.Book after c.in_ok-after.ensures.answered (λ w spelled known. abort_decides w _ _ c.in-Some.after c.abort-logged.new.self _ (g.met.B.Book.sound _ w spelled) (sym known ∙ c.in-Some.is) (search rules) (search rules) (search rules))
+    tells_so g.B.Book after c.in_ok-after.ensures.answered (λ w spelled known. abort_decides w _ _ c.in-Some.after c.abort-logged.new.self _ (g.met.B.Book.sound _ w spelled) (sym known ∙ c.in-Some.is) c.abort-logged.ensures.new (c.make_purse.ensures.reply ∙ ap Aborted (c.is_some.ensures ∙ ap is_some c.abort-logged.ensures.logged)) (c.make_purse.ensures.edits ∙ ap (λ l. purse_edits c.abort-logged.new.self l None) (c.abort_line-line.ensures ∙ ap (abort_line c.abort-logged.new.self) c.abort-logged.ensures.logged)))

@@ -1,4 +1,7 @@
-use Rattle.std.proofs.Common.{rules, sym, ◌∙◌}
+use Rattle.std.proofs.Common.{sym, ◌∙◌, ap}
+use Rattle.mx_office.specs.Decides.{redeem_edits}
+use Rattle.mx_office.specs.Step.{abort_line}
+use Rattle.mx_office.specs.declared.values.Reply.TheVariants.{Refused}
 use Rattle.mx_office.proofs.CallLemmas.{keeps_then, so_far, so_more, tells_so, tells_fault}
 use Rattle.mx_office.proofs.CommandLemmas.{foreign_decides, redeem_repeated, redeem_refuses, redeem_made}
 use Rattle.mx_office.proofs.OwnLemmas.{not_some}
@@ -26,7 +29,7 @@ pub returns-in-Err : goal.returns-in-Err
 returns-in-Err g c =
     let after = so_far g.B.Book c.in_ok-after.ensures.keeps c.in_ok-after.ensures.value in
     let before = so_more g.B.Book after c.in_ok-before.ensures.keeps c.in_ok-before.ensures.value in
-    tells_so g.B.Book before c.in_ok-before.ensures.answered (λ w spelled known. ((λ valid. redeem_refuses w _ _ _ _ c.in-Some.after _ (g.met.B.Book.sound _ w spelled) (sym known.0 ∙ c.in-Some.is) c.in-Err.refusal (sym known.1 ∙ c.in_default-2.is) (sym c.in-Err.ensures.answer) (search rules) c.refuse-in-Err.ensures.edits), λ some. c.refuse-in-Err.ensures.edits))
+    tells_so g.B.Book before c.in_ok-before.ensures.answered (λ w spelled known. ((λ valid. redeem_refuses w _ _ _ _ c.in-Some.after _ (g.met.B.Book.sound _ w spelled) (sym known.0 ∙ c.in-Some.is) c.in-Err.refusal (sym known.1 ∙ c.in_default-2.is) (sym c.in-Err.ensures.answer) (c.refuse-in-Err.ensures.reply ∙ ap Refused c.redeem_refusal.ensures) c.refuse-in-Err.ensures.edits), λ some. c.refuse-in-Err.ensures.edits))
 
 pub returns-in-Ok : goal.returns-in-Ok
 returns-in-Ok g c =
@@ -34,6 +37,6 @@ returns-in-Ok g c =
     let before = so_more g.B.Book after c.in_ok-before.ensures.keeps c.in_ok-before.ensures.value in
     tells_so g.B.Book before c.in_ok-before.ensures.answered (λ w spelled known. (
       (λ valid. redeem_made w _ _ _ _ c.in-Some.after _ (g.met.B.Book.sound _ w spelled) (sym known.0 ∙ c.in-Some.is) c.abort-logged.new.self c.redeem.new.self
-          (sym known.1 ∙ c.in_default-2.is) valid.2 valid.1 (sym c.in-Ok.ensures.answer) c.in-Ok.ensures.new (search rules) c.make_redemption.ensures.reply (search rules)),
+          (sym known.1 ∙ c.in_default-2.is) valid.2 valid.1 (sym c.in-Ok.ensures.answer) c.in-Ok.ensures.new c.abort-logged.ensures.new c.make_redemption.ensures.reply (c.make_redemption.ensures.edits ∙ ap (λ l. redeem_edits c.redeem.new.self l c.args.amount c.args.reference) (c.abort_line-line.ensures ∙ ap (abort_line c.abort-logged.new.self) c.abort-logged.ensures.logged))),
       λ some. absurd (not_some _ (sym known.1 ∙ c.in_default-2.is) some),
     ))

@@ -3,6 +3,7 @@ use Rattle.mx_purse.specs.declared.message.Message.TheVariants.{Req}
 use Rattle.mx_purse.specs.declared.status.Status.TheVariants.{Epv}
 use Rattle.mx_purse.specs.Operations.{start_to_refusal, to_details}
 use Rattle.mx_office.specs.Step.{start_to}
+use Rattle.mx_office.specs.declared.values.Reply.TheVariants.{Refused}
 use Rattle.mx_office.proofs.CallLemmas.{keeps_then, so_far, so_more, tells_so, tells_fault}
 use Rattle.mx_office.proofs.CommandLemmas.{foreign_decides, start_refused, start_decides}
 use Rattle.mx_office.proofs.purses.start_to.Goals as goal
@@ -22,7 +23,7 @@ returns-in-Err g c =
     let d = to_details q c.args.peer c.args.value c.args.seq in
     let after = so_far g.B.Book c.in_ok-after.ensures.keeps c.in_ok-after.ensures.value in
     tells_so g.B.Book after c.in_ok-after.ensures.answered (λ w spelled known. start_refused w _ _ q (start_to c.args.peer c.args.value c.args.seq) (start_to_refusal q c.args.peer) (Epv d) d (λ x. Some (c.args.peer, Req x)) (λ a is. rw is refl) (λ h. (h, λ _. tt)) _ (g.met.B.Book.sound _ w spelled) (sym known ∙ c.in-Some.is)
-    c.in-Err.refusal (sym c.in-Err.ensures.answer) (search rules) c.refuse-in-Err.ensures.edits)
+    c.in-Err.refusal (sym c.in-Err.ensures.answer) (c.refuse-in-Err.ensures.reply ∙ ap Refused c.start_refusal.ensures) c.refuse-in-Err.ensures.edits)
 
 pub returns-in_err-request-in-Ok : goal.returns-in_err-request-in-Ok
 returns-in_err-request-in-Ok g c =
