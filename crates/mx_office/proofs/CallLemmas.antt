@@ -1,5 +1,5 @@
 -- Calls of the office one after another: what each of them tells gives what all do.
-use Rattle.std.proofs.Common.{◌≡◌, ℕ, ◌≤◌, refl, sym, ◌∙◌, subst, arith, Result, Ok, Err, IfOk, IfErr}
+use Rattle.std.proofs.Common.{◌≡◌, ℕ, refl, sym, ◌∙◌, subst, arith, Result, Ok, IfOk, IfErr}
 use Rattle.std.specs.Result.{IsErrAnd}
 use Rattle.std.proofs.lemmas.Result.{err_from_is_err_and, IfOk-weaker}
 use Rattle.mx_book.specs.Keeps.{Keeps}

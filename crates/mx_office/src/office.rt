@@ -244,7 +244,8 @@ fn decide_operator<B: Book>(
     command: &Command,
     decided: &mut Decided,
 ) -> Result<(), StoreFault>
-    ensures { TellsOf B.Book book.old book.new result Caller.Operator command.now decided.new }
+    ensures { TellsOf B.Book book.old book.new result
+        Caller.Operator command.now decided.new }
 {
     match *command {
         Command::NewMember { member, token } => new_member(book, alloc, member, token, decided),
@@ -268,7 +269,8 @@ fn decide_clerk<B: Book>(
     command: &Command,
     decided: &mut Decided,
 ) -> Result<(), StoreFault>
-    ensures { TellsOf B.Book book.old book.new result (Caller.Clerk member) command.now decided.new }
+    ensures { TellsOf B.Book book.old book.new result
+        (Caller.Clerk member) command.now decided.new }
 {
     match *command {
         Command::NewHolder { holder, token } => new_holder(
@@ -298,7 +300,8 @@ fn decide_holder<B: Book>(
     command: &Command,
     decided: &mut Decided,
 ) -> Result<(), StoreFault>
-    ensures { TellsOf B.Book book.old book.new result (Caller.Holder holder) command.now decided.new }
+    ensures { TellsOf B.Book book.old book.new result
+        (Caller.Holder holder) command.now decided.new }
 {
     match *command {
         Command::Purses => purses(book, alloc, holder, decided),

@@ -1,4 +1,4 @@
-use Rattle.std.proofs.Common.{rules, sym, ◌∙◌, refl}
+use Rattle.std.proofs.Common.{rules, sym, ◌∙◌}
 use Rattle.mx_office.proofs.CallLemmas.{keeps_then, so_far, so_more, tells_so, tells_fault}
 use Rattle.mx_office.proofs.ArchiveLemmas.{archive_refused, nothing_archived, archive_decides}
 use Rattle.mx_office.proofs.archive.archive.Goals as goal

@@ -1,4 +1,4 @@
-use Rattle.std.proofs.Common.{rules, sym, ◌∙◌, ap}
+use Rattle.std.proofs.Common.{rules, sym, ◌∙◌}
 use Rattle.mx_office.proofs.CallLemmas.{keeps_then, so_far, so_more, tells_so, tells_fault}
 use Rattle.mx_office.proofs.ArchiveLemmas.{no_clear, not_archived, clear_decides}
 use Rattle.mx_office.proofs.archive.clear.Goals as goal

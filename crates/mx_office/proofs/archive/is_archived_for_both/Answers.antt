@@ -1,5 +1,5 @@
-use Rattle.std.proofs.Common.{rules, sym, ◌∙◌, ap}
-use Rattle.mx_office.proofs.CallLemmas.{keeps_then, so_far, tells_so, tells_then, tells_fault}
+use Rattle.std.proofs.Common.{rules}
+use Rattle.mx_office.proofs.CallLemmas.{so_far, tells_so, tells_then, tells_fault}
 use Rattle.mx_office.proofs.archive.is_archived_for_both.Goals as goal
 
 pub returns-in_err-archived : goal.returns-in_err-archived

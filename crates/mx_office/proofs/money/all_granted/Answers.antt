@@ -1,4 +1,4 @@
-use Rattle.std.proofs.Common.{rules, inl, inr}
+use Rattle.std.proofs.Common.{inr}
 use Rattle.mx_office.proofs.CallLemmas.{keeps_then, so_more, tells_so, tells_fault}
 use Rattle.mx_office.proofs.GrantedLemmas.{granted_more, granted_all}
 use Rattle.mx_office.proofs.money.all_granted.Goals as goal

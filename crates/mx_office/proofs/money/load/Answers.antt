@@ -1,4 +1,4 @@
-use Rattle.std.proofs.Common.{rules, sym, ◌∙◌, ap}
+use Rattle.std.proofs.Common.{rules, sym, ◌∙◌}
 use Rattle.mx_office.proofs.CallLemmas.{keeps_then, so_far, so_more, tells_so, tells_fault}
 use Rattle.mx_office.proofs.OwnLemmas.{not_some}
 use Rattle.mx_office.proofs.MoneyLemmas.{load_told, foreign_load, memberless_load, load_repeated, load_small_float, load_refuses, load_made}

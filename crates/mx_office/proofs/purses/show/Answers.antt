@@ -1,4 +1,4 @@
-use Rattle.std.proofs.Common.{rules, refl, sym, ◌∙◌}
+use Rattle.std.proofs.Common.{refl, sym, ◌∙◌}
 use Rattle.mx_office.specs.declared.values.Reply.TheVariants.{Shown}
 use Rattle.mx_office.specs.Step.{show}
 use Rattle.mx_office.proofs.CallLemmas.{so_far, tells_so, tells_fault, err_never}

@@ -1,4 +1,4 @@
-use Rattle.std.proofs.Common.{rules, refl, sym, ◌∙◌, ap, None}
+use Rattle.std.proofs.Common.{refl, sym, ◌∙◌, ap, None}
 use Rattle.mx_purse.specs.declared.status.Status.TheVariants.{Epr}
 use Rattle.mx_purse.specs.Operations.{start_from_refusal, from_details}
 use Rattle.mx_office.specs.Step.{abort_line, start_from}
