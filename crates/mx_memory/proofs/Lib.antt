@@ -1,3 +1,4 @@
 pub mod DueLemmas
 pub mod FitLemmas
 pub mod JoinLemmas
+pub mod EditLemmas

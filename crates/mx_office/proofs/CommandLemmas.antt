@@ -1,5 +1,5 @@
 -- Each command of a holder on a purse: its decision is the step's.
-use Rattle.std.proofs.Common.{Bool, ◌≡◌, ℕ, ◌+◌, true, false, cond, List, [], ◌∷◌, ◌++◌, Option, Some, None, Ok, Err, refl, sym, ◌∙◌, ap, subst, arith, length, length-append, is_some, option_map, IsTrue, ◌≤◌}
+use Rattle.std.proofs.Common.{Bool, ◌≡◌, ℕ, ◌+◌, true, false, cond, List, [], ◌∷◌, ◌++◌, Option, Some, None, Ok, Err, refl, sym, ◌∙◌, ap, subst, arith, length, length-append, is_some, option_map, option_and_then, IsTrue, ◌≤◌}
 use Rattle.std.specs.Prelude.{◌==◌, ◌&&◌, nat_le}
 use Rattle.std.proofs.lemmas.Bool.{or_right}
 use Rattle.std.specs.FinMap as fmap
@@ -39,11 +39,11 @@ use Rattle.mx_book.proofs.PurseLemmas.{with_lines, line_edits, discard_leads, di
 use Rattle.mx_office.specs.declared.values.Decided.{Decided}
 use Rattle.mx_office.specs.declared.values.Reply.{Reply}
 use Rattle.mx_office.specs.declared.values.Reply.TheVariants as reply
-use Rattle.mx_office.specs.declared.values.Refusal.TheVariants.{NoSuchMessage, RefReused}
-use Rattle.mx_office.specs.Step.{Deed, tell, unless, on_found, in_place, refusal_of_start, refusal_of_redeem, abort_line, payment_line, message_line, money_line, listed, with_aborted, inbox, statement, discard, abort, handle, handle_message, redeem, on_own}
+use Rattle.mx_office.specs.declared.values.Refusal.TheVariants.{NoSuchMessage, NoSuchPurse, RefReused}
+use Rattle.mx_office.specs.Step.{Deed, tell, unless, on_found, in_place, refusal_of_start, refusal_of_redeem, abort_line, payment_line, message_line, money_line, listed, with_aborted, inbox, statement, discard, abort, handle, handle_message, redeem, on_own, holding_for}
 use Rattle.mx_office.specs.Decides.{Decides, placed, purse_edits, redeem_edits}
 use Rattle.mx_office.proofs.CaseLemmas.{by_cond}
-use Rattle.mx_office.proofs.DecideLemmas.{edits_decide, edit_decides}
+use Rattle.mx_office.proofs.DecideLemmas.{edits_decide, edit_decides, told_decides}
 use Rattle.mx_office.proofs.AccountLemmas.{IsOwn, IsSent, Follows, in_tray, is_own, own_there, own_told, numbered_after, is_next, changed_decides}
 use Rattle.mx_office.proofs.OwnLemmas.{absent}
 
@@ -67,6 +67,18 @@ statement_decides w h p after d is there reply_is =
     let found = value_found (own_purse w h p) there in
     let own = is_own w h p found.0 found.1 in
     own_told w h p found.0 own (statement after) (reply.Statement (page after most_lines own.row.holding.lines)) d is refl (reply_is ∙ ap (λ o. reply.Statement (page after most_lines (from_row [] (λ (x : Row). x.holding.lines) o))) own.at)
+
+-- a purse that isn't the holder's, or isn't there, is refused whatever is asked
+not_own_row : (h : Name) (r : Row) (b : Bool) → is_name h r.holder ≡ b → cond b (Some r.holding.purse) None ≡ None → holding_for h r ≡ None
+not_own_row h r true t e = absurd (cc)
+not_own_row h r false t e = rw t refl
+
+not_own : (h : Name) (o : Option Row) → from_row None (λ r. cond (is_name h r.holder) (Some r.holding.purse) None) o ≡ None → option_and_then (holding_for h) o ≡ None
+not_own h None e = refl
+not_own h (Some r) e = not_own_row h r (is_name h r.holder) refl e
+
+pub foreign_decides : (w : World) (h p : Name) (f : Holding → Deed Holding) (d : Decided) → IsWorld w → own_purse w h p ≡ None → d.reply ≡ reply.Refused NoSuchPurse → d.edits ≡ [] → Decides w (on_own w h p f) d
+foreign_decides w h p f d is none = told_decides w (on_own w h p f) (reply.Refused NoSuchPurse) d is (rw (not_own h (fmap.get w.rows p) none) refl)
 
 -- ---- messages
 

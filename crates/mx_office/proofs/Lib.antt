@@ -1,3 +1,5 @@
+pub mod CallLemmas
+pub mod DecisionLemmas
 pub mod OwnLemmas
 pub mod CaseLemmas
 pub mod DecideLemmas

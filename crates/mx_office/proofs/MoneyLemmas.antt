@@ -282,7 +282,21 @@ module _ (w : World) (p : Name) (account : Account) where
   account_row None at e = absurd (cc)
   account_row (Some r) at e = account_case r (fmap.get w.holders r.holder) at e
 
+-- a purse that has no account isn't there, since its holder would be
+no_account : (w : World) (p : Name) (o : Option Row) → IsWorld w → fmap.get w.rows p ≡ o → option_and_then (λ r. option_map (account_with r) (fmap.get w.holders r.holder)) o ≡ None → o ≡ None
+no_account w p None is at none = refl
+no_account w p (Some r) is at none = absurd (unheld (fmap.get w.holders r.holder) (is.purses.each p r at).holder none)
+  where
+    unheld : (h : Option Name) → IsSome h → option_map (account_with r) h ≡ None → ⊥
+    unheld None there e = absurd (cc)
+    unheld (Some m) there e = absurd (cc)
+
 module _ (w : World) (d : Details) (x : Decided) (is : IsWorld w) where
+  pub settles_no_purse : is_settled w d ≡ false → is_archived_for_both w d ≡ true → account_of w d.from ≡ None → x.reply ≡ reply.Refused refusal.NotLost → x.edits ≡ [] → Decides w (settle w d) x
+  unfolding settle_refusal
+  settles_no_purse fresh archived none =
+      refused_decides w (settle_refusal w d) _ refusal.NotLost x is (rw (fresh, archived, no_account w d.from (fmap.get w.rows d.from) is refl none) refl)
+
   pub settled_already : is_settled w d ≡ true → x.reply ≡ reply.Refused refusal.AlreadySettled → x.edits ≡ [] → Decides w (settle w d) x
   unfolding settle_refusal
   settled_already settled = refused_decides w (settle_refusal w d) _ refusal.AlreadySettled x is (rw settled refl)

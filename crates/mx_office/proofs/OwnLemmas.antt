@@ -1,5 +1,5 @@
 -- What is a holder's own, and what tests of options and of refusals tell.
-use Rattle.std.proofs.Common.{◌≡◌, Bool, true, false, not, cond, List, [], ◌∷◌, refl, ◌∙◌, ap, Option, Some, None, IsSome, is_some, is_none, option_and_then}
+use Rattle.std.proofs.Common.{◌≡◌, Bool, true, false, not, cond, List, [], ◌∷◌, refl, ◌∙◌, ap, Option, Some, None, IsSome, is_some, is_none, option_and_then, IsTrue}
 use Rattle.std.proofs.lemmas.Option.{cond_some, option_and_then_some}
 use Rattle.std.specs.Option.{option_map_or}
 use Rattle.std.specs.FinMap as fmap
@@ -14,6 +14,10 @@ use Rattle.mx_office.specs.Step.{first_refusal, change_member, holding_for, own_
 pub absent : {X : Type 0} (o : Option X) → is_some o ≡ false → o ≡ None
 absent None f = refl
 absent (Some x) f = cc
+
+pub not_some : {X : Type 0} (o : Option X) → o ≡ None → IsTrue (is_some o) → ⊥
+not_some None none some = absurd (cc)
+not_some (Some x) none some = absurd (cc)
 
 pub present : {X : Type 0} (o : Option X) → is_none o ≡ false → (x : X) × (o ≡ Some x)
 present None f = absurd (cc)

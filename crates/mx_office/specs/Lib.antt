@@ -1,3 +1,4 @@
+pub mod Calls
 pub mod Step
 pub mod Isolation
 pub mod Texts

@@ -4,7 +4,7 @@ ghost use Rattle.mx_pay.specs.Log.{log_len};
 ghost use Rattle.mx_book.specs.Keeps.{Keeps, Gives};
 ghost use Rattle.mx_book.specs.Stands.{IsWorking};
 ghost use Rattle.mx_book.specs.Reads.{finds_place, tray_of};
-ghost use Rattle.mx_book.specs.World.{World};
+ghost use Rattle.mx_office.specs.Calls.{Tells};
 ghost use Rattle.mx_office.specs.Commands.{IsCommand};
 ghost use Rattle.mx_office.specs.Decides.{Decides, settlement_edits};
 ghost use Rattle.mx_office.specs.Step.{archive, clear, is_archived_for_both, may_clear, settle};
@@ -26,12 +26,9 @@ pub(crate) fn archive<B: Book>(
     purse: Name,
     decided: &mut Decided,
 ) -> Result<(), StoreFault>
-    ensures keeps { Keeps B.doubt B.rows B.leaves book.old book.new }
-    ensures answered { OnOk result (IsWorking B.doubt book.new) }
-    ensures decides { (w : World) → B.doubt book.new ≡ 0 → B.spells (B.rows book.old) w → OnOk result (Decides w (archive w purse) decided.new) }
-    ensures idle { (w : World) → B.doubt book.new ≡ 0 → B.spells (B.rows book.old) w
-        → OnOk result (nat_lt 0 (log_len (tray_of w purse)) ≡ false → decided.new.edits ≡ []) }
-    ensures fault { IfErr result B.fails }
+    ensures { Tells B.Book B.fails book.old book.new result
+        (λ w _. Decides w (archive w purse) decided.new
+        × (nat_lt 0 (log_len (tray_of w purse)) ≡ false → decided.new.edits ≡ [])) }
 {
     if !book.has_purse(alloc, purse)? {
         refuse(decided, Refusal::NoSuchPurse);
@@ -82,12 +79,10 @@ pub(crate) fn clear<B: Book>(
     details: &Log,
     decided: &mut Decided,
 ) -> Result<(), StoreFault>
-    ensures keeps { Keeps B.doubt B.rows B.leaves book.old book.new }
-    ensures answered { OnOk result (IsWorking B.doubt book.new) }
-    ensures decides { (w : World) → IsCommand (Command.Clear purse details.now) → B.doubt book.new ≡ 0 → B.spells (B.rows book.old) w → OnOk result (Decides w (clear w purse details.now) decided.new) }
-    ensures idle { (w : World) → B.doubt book.new ≡ 0 → B.spells (B.rows book.old) w
-        → OnOk result (finds_place w purse ≡ false → decided.new.edits ≡ []) }
-    ensures fault { IfErr result B.fails }
+    ensures { Tells B.Book B.fails book.old book.new result
+        (λ w _. (IsCommand (Command.Clear purse details.now)
+        → Decides w (clear w purse details.now) decided.new)
+        × (finds_place w purse ≡ false → decided.new.edits ≡ [])) }
 {
     if !book.has_purse(alloc, purse)? {
         refuse(decided, Refusal::NoSuchPurse);
@@ -112,11 +107,8 @@ fn is_archived_for_both<B: Book>(
     alloc: Global,
     details: &PayDetails,
 ) -> Result<bool, StoreFault>
-    ensures keeps { Keeps B.doubt B.rows B.leaves book.old book.new }
-    ensures answered { OnOk result (IsWorking B.doubt book.new) }
-    ensures value { Gives B.doubt B.rows B.spells book.old book.new result
+    ensures { Tells B.Book B.fails book.old book.new result
         (λ w b. b ≡ is_archived_for_both w details.now) }
-    ensures fault { IfErr result B.fails }
 {
     if !book.archived(alloc, details.from(), details)? {
         return Ok(false);
@@ -147,11 +139,9 @@ pub(crate) fn settle<B: Book>(
     details: &PayDetails,
     decided: &mut Decided,
 ) -> Result<(), StoreFault>
-    ensures keeps { Keeps B.doubt B.rows B.leaves book.old book.new }
-    ensures answered { OnOk result (IsWorking B.doubt book.new) }
-    ensures decides { (w : World) → IsCommand (Command.Settle details.now) → B.doubt book.new ≡ 0
-        → B.spells (B.rows book.old) w → OnOk result (Decides w (settle w details.now) decided.new) }
-    ensures fault { IfErr result B.fails }
+    ensures { Tells B.Book B.fails book.old book.new result
+        (λ w _. IsCommand (Command.Settle details.now)
+        → Decides w (settle w details.now) decided.new) }
 {
     if book.settled(alloc, details)? {
         refuse(decided, Refusal::AlreadySettled);

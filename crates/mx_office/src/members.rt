@@ -1,8 +1,6 @@
 //! The commands of the operator and of clerks.
-ghost use Rattle.std.specs.Prelude.{◌≡◌, OnOk, IfErr};
-ghost use Rattle.mx_book.specs.Keeps.{Keeps, Gives};
-ghost use Rattle.mx_book.specs.Stands.{IsWorking};
-ghost use Rattle.mx_book.specs.World.{World};
+ghost use Rattle.std.specs.Prelude.{◌≡◌};
+ghost use Rattle.mx_office.specs.Calls.{Tells};
 ghost use Rattle.mx_office.specs.Commands.{IsCommand};
 ghost use Rattle.mx_office.specs.Decides.{Decides, purse_count};
 ghost use Rattle.mx_office.specs.Step.{new_member, new_holder, new_purse};
@@ -25,10 +23,9 @@ pub(crate) fn new_member<B: Book>(
     token: Token,
     decided: &mut Decided,
 ) -> Result<(), StoreFault>
-    ensures keeps { Keeps B.doubt B.rows B.leaves book.old book.new }
-    ensures answered { OnOk result (IsWorking B.doubt book.new) }
-    ensures decides { (w : World) → IsCommand (Command.NewMember member token) → B.doubt book.new ≡ 0 → B.spells (B.rows book.old) w → OnOk result (Decides w (new_member w member token) decided.new) }
-    ensures fault { IfErr result B.fails }
+    ensures { Tells B.Book B.fails book.old book.new result
+        (λ w _. IsCommand (Command.NewMember member token)
+        → Decides w (new_member w member token) decided.new) }
 {
     if book.member(alloc, member)?.is_some() {
         refuse(decided, Refusal::NameTaken);
@@ -55,10 +52,9 @@ pub(crate) fn new_holder<B: Book>(
     token: Token,
     decided: &mut Decided,
 ) -> Result<(), StoreFault>
-    ensures keeps { Keeps B.doubt B.rows B.leaves book.old book.new }
-    ensures answered { OnOk result (IsWorking B.doubt book.new) }
-    ensures decides { (w : World) → IsCommand (Command.NewHolder holder token) → B.doubt book.new ≡ 0 → B.spells (B.rows book.old) w → OnOk result (Decides w (new_holder w member holder token) decided.new) }
-    ensures fault { IfErr result B.fails }
+    ensures { Tells B.Book B.fails book.old book.new result
+        (λ w _. IsCommand (Command.NewHolder holder token)
+        → Decides w (new_holder w member holder token) decided.new) }
 {
     if book.member(alloc, member)?.is_none() {
         refuse(decided, Refusal::NoSuchMember);
@@ -88,11 +84,8 @@ fn purse_count<B: Book>(
     member: Name,
     holder: Name,
 ) -> Result<Option<usize>, StoreFault>
-    ensures keeps { Keeps B.doubt B.rows B.leaves book.old book.new }
-    ensures answered { OnOk result (IsWorking B.doubt book.new) }
-    ensures value { Gives B.doubt B.rows B.spells book.old book.new result
+    ensures { Tells B.Book B.fails book.old book.new result
         (λ w o. o ≡ purse_count w member holder) }
-    ensures fault { IfErr result B.fails }
 {
     match book.holder(alloc, holder)? {
         Some(row) if same_name(&member, &row.member) => Ok(Some(row.purses)),
@@ -109,10 +102,9 @@ pub(crate) fn new_purse<B: Book>(
     holder: Name,
     decided: &mut Decided,
 ) -> Result<(), StoreFault>
-    ensures keeps { Keeps B.doubt B.rows B.leaves book.old book.new }
-    ensures answered { OnOk result (IsWorking B.doubt book.new) }
-    ensures decides { (w : World) → IsCommand (Command.NewPurse purse holder) → B.doubt book.new ≡ 0 → B.spells (B.rows book.old) w → OnOk result (Decides w (new_purse w member purse holder) decided.new) }
-    ensures fault { IfErr result B.fails }
+    ensures { Tells B.Book B.fails book.old book.new result
+        (λ w _. IsCommand (Command.NewPurse purse holder)
+        → Decides w (new_purse w member purse holder) decided.new) }
 {
     let Some(held) = purse_count(book, alloc, member, holder)? else {
         refuse(decided, Refusal::NoSuchHolder);

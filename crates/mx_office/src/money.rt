@@ -2,10 +2,9 @@
 ghost use Rattle.std.specs.Prelude.{◌≡◌, ◌≤◌, ◌⊎◌, [], OnOk, IfErr, IsTrue, is_some};
 ghost use Rattle.mx_book.specs.declared.contract.StoreFault.TheVariants.{Memory};
 ghost use Rattle.mx_book.specs.Conditions.{all_granted};
-ghost use Rattle.mx_book.specs.Keeps.{Keeps, Gives};
-ghost use Rattle.mx_book.specs.Stands.{IsWorking};
 ghost use Rattle.mx_book.specs.Reads.{load_of, member_of};
 ghost use Rattle.mx_book.specs.World.{World};
+ghost use Rattle.mx_office.specs.Calls.{Tells};
 ghost use Rattle.mx_office.specs.Commands.{IsCommand};
 ghost use Rattle.mx_office.specs.Decides.{Decides, granted_to, load_edits, member_purse};
 ghost use Rattle.mx_office.specs.Faults.{FailsFor};
@@ -28,11 +27,8 @@ const MOST: u128 = MOST_NUMBER as u128;
 
 /// How much a member was granted; 0 where there is no such member.
 fn granted_of<B: Book>(book: &mut B, alloc: Global, member: Name) -> Result<u64, StoreFault>
-    ensures keeps { Keeps B.doubt B.rows B.leaves book.old book.new }
-    ensures answered { OnOk result (IsWorking B.doubt book.new) }
-    ensures value { Gives B.doubt B.rows B.spells book.old book.new result
+    ensures { Tells B.Book B.fails book.old book.new result
         (λ w n. n ≡ granted_to w member) }
-    ensures fault { IfErr result B.fails }
 {
     match book.member(alloc, member)? {
         Some(row) => Ok(row.granted),
@@ -42,11 +38,8 @@ fn granted_of<B: Book>(book: &mut B, alloc: Global, member: Name) -> Result<u64,
 
 /// The sum of all grants.
 fn all_granted<B: Book>(book: &mut B, alloc: Global) -> Result<u128, StoreFault>
-    ensures keeps { Keeps B.doubt B.rows B.leaves book.old book.new }
-    ensures answered { OnOk result (IsWorking B.doubt book.new) }
-    ensures value { Gives B.doubt B.rows B.spells book.old book.new result
+    ensures { Tells B.Book (λ e. (e ≡ Memory) ⊎ B.fails e) book.old book.new result
         (λ w n. n ≡ all_granted w) }
-    ensures fault { IfErr result (λ e. (e ≡ Memory) ⊎ B.fails e) }
 {
     let members = book.members(alloc)?;
     let mut sum: u128 = 0;
@@ -64,10 +57,8 @@ pub(crate) fn grant<B: Book>(
     amount: Amount,
     decided: &mut Decided,
 ) -> Result<(), StoreFault>
-    ensures keeps { Keeps B.doubt B.rows B.leaves book.old book.new }
-    ensures answered { OnOk result (IsWorking B.doubt book.new) }
-    ensures decides { (w : World) → B.doubt book.new ≡ 0 → B.spells (B.rows book.old) w → OnOk result (Decides w (grant w member amount) decided.new) }
-    ensures fault { IfErr result (λ e. (e ≡ Memory) ⊎ B.fails e) }
+    ensures tells { Tells B.Book (λ e. (e ≡ Memory) ⊎ B.fails e) book.old book.new result
+        (λ w _. Decides w (grant w member amount) decided.new) }
     ensures memory { (w : World) → B.doubt book.new ≡ 0 → B.spells (B.rows book.old) w
         → IfErr result (FailsFor B.fails (is_some (member_of w member))) }
 {
@@ -137,12 +128,10 @@ pub(crate) fn load<B: Book>(
     reference: Name,
     decided: &mut Decided,
 ) -> Result<(), StoreFault>
-    ensures keeps { Keeps B.doubt B.rows B.leaves book.old book.new }
-    ensures answered { OnOk result (IsWorking B.doubt book.new) }
-    ensures decides { (w : World) → IsCommand (Command.Load purse amount reference) → B.doubt book.new ≡ 0 → B.spells (B.rows book.old) w → OnOk result (Decides w (load_purse w member purse amount reference) decided.new) }
-    ensures idle { (w : World) → B.doubt book.new ≡ 0 → B.spells (B.rows book.old) w
-        → OnOk result (IsTrue (is_some (load_of w purse reference)) → decided.new.edits ≡ []) }
-    ensures fault { IfErr result B.fails }
+    ensures { Tells B.Book B.fails book.old book.new result
+        (λ w _. (IsCommand (Command.Load purse amount reference)
+        → Decides w (load_purse w member purse amount reference) decided.new)
+        × (IsTrue (is_some (load_of w purse reference)) → decided.new.edits ≡ [])) }
 {
     let Some(mut after) = member_purse(book, alloc, member, purse)? else {
         refuse(decided, Refusal::NoSuchPurse);
@@ -179,11 +168,8 @@ fn member_purse<B: Book>(
     member: Name,
     purse: Name,
 ) -> Result<Option<Purse>, StoreFault>
-    ensures keeps { Keeps B.doubt B.rows B.leaves book.old book.new }
-    ensures answered { OnOk result (IsWorking B.doubt book.new) }
-    ensures value { Gives B.doubt B.rows B.spells book.old book.new result
+    ensures { Tells B.Book B.fails book.old book.new result
         (λ w o. o ≡ member_purse w member purse) }
-    ensures fault { IfErr result B.fails }
 {
     match book.purse(alloc, purse)? {
         Some(account) if same_name(&member, &account.member) => Ok(Some(account.purse)),
@@ -198,10 +184,8 @@ pub(crate) fn collect<B: Book>(
     member: Name,
     decided: &mut Decided,
 ) -> Result<(), StoreFault>
-    ensures keeps { Keeps B.doubt B.rows B.leaves book.old book.new }
-    ensures answered { OnOk result (IsWorking B.doubt book.new) }
-    ensures decides { (w : World) → B.doubt book.new ≡ 0 → B.spells (B.rows book.old) w → OnOk result (Decides w (collect w member) decided.new) }
-    ensures fault { IfErr result B.fails }
+    ensures { Tells B.Book B.fails book.old book.new result
+        (λ w _. Decides w (collect w member) decided.new) }
 {
     let Some(row) = book.member(alloc, member)? else {
         refuse(decided, Refusal::NoSuchMember);
@@ -232,11 +216,9 @@ pub(crate) fn reconcile<B: Book>(
     alloc: Global,
     decided: &mut Decided,
 ) -> Result<(), StoreFault>
-    ensures keeps { Keeps B.doubt B.rows B.leaves book.old book.new }
-    ensures answered { OnOk result (IsWorking B.doubt book.new) }
-    ensures decides { (w : World) → B.doubt book.new ≡ 0 → B.spells (B.rows book.old) w → OnOk result (Decides w (reconcile w) decided.new) }
+    ensures tells { Tells B.Book B.fails book.old book.new result
+        (λ w _. Decides w (reconcile w) decided.new) }
     ensures edits { OnOk result (decided.new.edits ≡ []) }
-    ensures fault { IfErr result B.fails }
 {
     let totals = book.totals(alloc)?;
     tell(decided, Reply::Reconciled(totals));

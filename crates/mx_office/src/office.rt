@@ -10,7 +10,8 @@ ghost use Rattle.mx_book.specs.declared.contract.StoreFault.TheVariants.{Memory}
 ghost use Rattle.mx_office.specs.declared.values.Refusal.{Refusal};
 ghost use Rattle.mx_office.specs.declared.values.Reply.TheVariants.{Refused};
 ghost use Rattle.mx_office.specs.Abstract.{Refines};
-ghost use Rattle.mx_office.specs.Commands.{IsAsked, IsCommand};
+ghost use Rattle.mx_office.specs.Calls.{TellsOf};
+ghost use Rattle.mx_office.specs.Commands.{IsAsked};
 ghost use Rattle.mx_office.specs.Conservation.{IsNeverFullOutcome};
 ghost use Rattle.mx_office.specs.Decides.{Decides, IsForAnother};
 ghost use Rattle.mx_office.specs.Faults.{FailsFor, MayFail, MayNotDecide, is_read, lists, makes_edits};
@@ -243,15 +244,8 @@ fn decide_operator<B: Book>(
     command: &Command,
     decided: &mut Decided,
 ) -> Result<(), StoreFault>
-    ensures keeps { Keeps B.doubt B.rows B.leaves book.old book.new }
-    ensures answered { OnOk result (IsWorking B.doubt book.new ⊎ IsForAnother Caller.Operator command.now decided.new) }
-    ensures decides { (w : World) → IsCommand command.now → B.doubt book.new ≡ 0 → B.spells (B.rows book.old) w → OnOk result (Decides w (base w Caller.Operator command.now) decided.new) }
-    ensures reads { OnOk result (IsTrue (is_read command.now) → decided.new.edits ≡ []) }
-    ensures edits { (w : World) → B.doubt book.new ≡ 0 → B.spells (B.rows book.old) w
-        → OnOk result (makes_edits w command.now ≡ false → decided.new.edits ≡ []) }
-    ensures fault { IfErr result (MayNotDecide B.fails command.now) }
-    ensures memory { (w : World) → B.doubt book.new ≡ 0 → B.spells (B.rows book.old) w
-        → IfErr result (FailsFor B.fails (lists w Caller.Operator command.now)) }
+    ensures { TellsOf B.Book book.old book.new result
+        Caller.Operator command.now decided.new }
 {
     match *command {
         Command::NewMember { member, token } => new_member(book, alloc, member, token, decided),
@@ -275,15 +269,8 @@ fn decide_clerk<B: Book>(
     command: &Command,
     decided: &mut Decided,
 ) -> Result<(), StoreFault>
-    ensures keeps { Keeps B.doubt B.rows B.leaves book.old book.new }
-    ensures answered { OnOk result (IsWorking B.doubt book.new ⊎ IsForAnother (Caller.Clerk member) command.now decided.new) }
-    ensures decides { (w : World) → IsCommand command.now → B.doubt book.new ≡ 0 → B.spells (B.rows book.old) w → OnOk result (Decides w (base w (Caller.Clerk member) command.now) decided.new) }
-    ensures reads { OnOk result (IsTrue (is_read command.now) → decided.new.edits ≡ []) }
-    ensures edits { (w : World) → B.doubt book.new ≡ 0 → B.spells (B.rows book.old) w
-        → OnOk result (makes_edits w command.now ≡ false → decided.new.edits ≡ []) }
-    ensures fault { IfErr result (MayNotDecide B.fails command.now) }
-    ensures memory { (w : World) → B.doubt book.new ≡ 0 → B.spells (B.rows book.old) w
-        → IfErr result (FailsFor B.fails (lists w (Caller.Clerk member) command.now)) }
+    ensures { TellsOf B.Book book.old book.new result
+        (Caller.Clerk member) command.now decided.new }
 {
     match *command {
         Command::NewHolder { holder, token } => new_holder(
@@ -313,15 +300,8 @@ fn decide_holder<B: Book>(
     command: &Command,
     decided: &mut Decided,
 ) -> Result<(), StoreFault>
-    ensures keeps { Keeps B.doubt B.rows B.leaves book.old book.new }
-    ensures answered { OnOk result (IsWorking B.doubt book.new ⊎ IsForAnother (Caller.Holder holder) command.now decided.new) }
-    ensures decides { (w : World) → IsCommand command.now → B.doubt book.new ≡ 0 → B.spells (B.rows book.old) w → OnOk result (Decides w (base w (Caller.Holder holder) command.now) decided.new) }
-    ensures reads { OnOk result (IsTrue (is_read command.now) → decided.new.edits ≡ []) }
-    ensures edits { (w : World) → B.doubt book.new ≡ 0 → B.spells (B.rows book.old) w
-        → OnOk result (makes_edits w command.now ≡ false → decided.new.edits ≡ []) }
-    ensures fault { IfErr result (MayNotDecide B.fails command.now) }
-    ensures memory { (w : World) → B.doubt book.new ≡ 0 → B.spells (B.rows book.old) w
-        → IfErr result (FailsFor B.fails (lists w (Caller.Holder holder) command.now)) }
+    ensures { TellsOf B.Book book.old book.new result
+        (Caller.Holder holder) command.now decided.new }
 {
     match *command {
         Command::Purses => purses(book, alloc, holder, decided),

@@ -1,10 +1,10 @@
 //! The commands of holders.
 ghost use Rattle.std.specs.Prelude.{◌≡◌, ◌⊎◌, [], OnOk, IfErr, IsTrue, is_some, option_map};
 ghost use Rattle.mx_book.specs.declared.contract.StoreFault.TheVariants.{Memory};
-ghost use Rattle.mx_book.specs.Keeps.{Keeps, Gives};
 ghost use Rattle.mx_book.specs.Stands.{IsWorking};
 ghost use Rattle.mx_book.specs.World.{World};
 ghost use Rattle.mx_book.specs.Reads.{own_purse, purses_of, redemption_of};
+ghost use Rattle.mx_office.specs.Calls.{Tells};
 ghost use Rattle.mx_office.specs.Commands.{IsCommand};
 ghost use Rattle.mx_office.specs.Decides.{Decides, not_kept, placed};
 ghost use Rattle.mx_office.specs.Faults.{FailsFor};
@@ -29,11 +29,9 @@ pub(crate) fn placed<B: Book>(
     alloc: Global,
     sent: Outgoing,
 ) -> Result<Outgoing, StoreFault>
-    ensures keeps { Keeps B.doubt B.rows B.leaves book.old book.new }
-    ensures answered { IsWorking B.doubt book.old → OnOk result (IsWorking B.doubt book.new) }
-    ensures value { Gives B.doubt B.rows B.spells book.old book.new result
+    ensures { IsWorking B.doubt book.old
+        → Tells B.Book B.fails book.old book.new result
         (λ w s. carried s ≡ placed w (carried sent)) }
-    ensures fault { IfErr result B.fails }
 {
     let Some(peer) = peer_of(&sent) else {
         return Ok(Outgoing::Nothing);
@@ -53,11 +51,9 @@ pub(crate) fn purses<B: Book>(
     holder: Name,
     decided: &mut Decided,
 ) -> Result<(), StoreFault>
-    ensures keeps { Keeps B.doubt B.rows B.leaves book.old book.new }
-    ensures answered { OnOk result (IsWorking B.doubt book.new) }
-    ensures decides { (w : World) → B.doubt book.new ≡ 0 → B.spells (B.rows book.old) w → OnOk result (Decides w (tell w (Reply.Purses (purses_of w holder))) decided.new) }
+    ensures tells { Tells B.Book (λ e. (e ≡ Memory) ⊎ B.fails e) book.old book.new result
+        (λ w _. Decides w (tell w (Reply.Purses (purses_of w holder))) decided.new) }
     ensures edits { OnOk result (decided.new.edits ≡ []) }
-    ensures fault { IfErr result (λ e. (e ≡ Memory) ⊎ B.fails e) }
 {
     let names = book.purses_of(alloc, holder)?;
     tell(decided, Reply::Purses(Names::new(names)));
@@ -73,11 +69,9 @@ pub(crate) fn show<B: Book>(
     purse: Name,
     decided: &mut Decided,
 ) -> Result<(), StoreFault>
-    ensures keeps { Keeps B.doubt B.rows B.leaves book.old book.new }
-    ensures answered { OnOk result (IsWorking B.doubt book.new) }
-    ensures decides { (w : World) → B.doubt book.new ≡ 0 → B.spells (B.rows book.old) w → OnOk result (Decides w (on_own w holder purse show) decided.new) }
+    ensures tells { Tells B.Book B.fails book.old book.new result
+        (λ w _. Decides w (on_own w holder purse show) decided.new) }
     ensures edits { OnOk result (decided.new.edits ≡ []) }
-    ensures fault { IfErr result B.fails }
 {
     match book.own_purse(alloc, holder, purse)? {
         Some(purse) => {
@@ -100,11 +94,9 @@ pub(crate) fn inbox<B: Book>(
     purse: Name,
     decided: &mut Decided,
 ) -> Result<(), StoreFault>
-    ensures keeps { Keeps B.doubt B.rows B.leaves book.old book.new }
-    ensures answered { OnOk result (IsWorking B.doubt book.new) }
-    ensures decides { (w : World) → B.doubt book.new ≡ 0 → B.spells (B.rows book.old) w → OnOk result (Decides w (on_own w holder purse inbox) decided.new) }
+    ensures tells { Tells B.Book (λ e. (e ≡ Memory) ⊎ B.fails e) book.old book.new result
+        (λ w _. Decides w (on_own w holder purse inbox) decided.new) }
     ensures edits { OnOk result (decided.new.edits ≡ []) }
-    ensures fault { IfErr result (λ e. (e ≡ Memory) ⊎ B.fails e) }
     ensures memory { (w : World) → B.doubt book.new ≡ 0 → B.spells (B.rows book.old) w
         → IfErr result (FailsFor B.fails (is_some (own_purse w holder purse))) }
 {
@@ -127,11 +119,9 @@ pub(crate) fn statement<B: Book>(
     after: Seq,
     decided: &mut Decided,
 ) -> Result<(), StoreFault>
-    ensures keeps { Keeps B.doubt B.rows B.leaves book.old book.new }
-    ensures answered { OnOk result (IsWorking B.doubt book.new) }
-    ensures decides { (w : World) → B.doubt book.new ≡ 0 → B.spells (B.rows book.old) w → OnOk result (Decides w (on_own w holder purse (statement after)) decided.new) }
+    ensures tells { Tells B.Book (λ e. (e ≡ Memory) ⊎ B.fails e) book.old book.new result
+        (λ w _. Decides w (on_own w holder purse (statement after)) decided.new) }
     ensures edits { OnOk result (decided.new.edits ≡ []) }
-    ensures fault { IfErr result (λ e. (e ≡ Memory) ⊎ B.fails e) }
     ensures memory { (w : World) → B.doubt book.new ≡ 0 → B.spells (B.rows book.old) w
         → IfErr result (FailsFor B.fails (is_some (own_purse w holder purse))) }
 {
@@ -156,10 +146,8 @@ pub(crate) fn start_from<B: Book>(
     seq: Seq,
     decided: &mut Decided,
 ) -> Result<(), StoreFault>
-    ensures keeps { Keeps B.doubt B.rows B.leaves book.old book.new }
-    ensures answered { OnOk result (IsWorking B.doubt book.new) }
-    ensures decides { (w : World) → B.doubt book.new ≡ 0 → B.spells (B.rows book.old) w → OnOk result (Decides w (on_own w holder purse (start_from peer value seq)) decided.new) }
-    ensures fault { IfErr result B.fails }
+    ensures { Tells B.Book B.fails book.old book.new result
+        (λ w _. Decides w (on_own w holder purse (start_from peer value seq)) decided.new) }
 {
     let Some(mut after) = book.own_purse(alloc, holder, purse)? else {
         refuse(decided, Refusal::NoSuchPurse);
@@ -197,10 +185,8 @@ pub(crate) fn start_to<B: Book>(
     seq: Seq,
     decided: &mut Decided,
 ) -> Result<(), StoreFault>
-    ensures keeps { Keeps B.doubt B.rows B.leaves book.old book.new }
-    ensures answered { OnOk result (IsWorking B.doubt book.new) }
-    ensures decides { (w : World) → B.doubt book.new ≡ 0 → B.spells (B.rows book.old) w → OnOk result (Decides w (on_own w holder purse (start_to peer value seq)) decided.new) }
-    ensures fault { IfErr result B.fails }
+    ensures { Tells B.Book B.fails book.old book.new result
+        (λ w _. Decides w (on_own w holder purse (start_to peer value seq)) decided.new) }
 {
     let Some(mut after) = book.own_purse(alloc, holder, purse)? else {
         refuse(decided, Refusal::NoSuchPurse);
@@ -231,10 +217,8 @@ pub(crate) fn handle<B: Book>(
     number: Seq,
     decided: &mut Decided,
 ) -> Result<(), StoreFault>
-    ensures keeps { Keeps B.doubt B.rows B.leaves book.old book.new }
-    ensures answered { OnOk result (IsWorking B.doubt book.new) }
-    ensures decides { (w : World) → B.doubt book.new ≡ 0 → B.spells (B.rows book.old) w → OnOk result (Decides w (on_own w holder purse (handle number)) decided.new) }
-    ensures fault { IfErr result B.fails }
+    ensures { Tells B.Book B.fails book.old book.new result
+        (λ w _. Decides w (on_own w holder purse (handle number)) decided.new) }
 {
     let Some(mut after) = book.own_purse(alloc, holder, purse)? else {
         refuse(decided, Refusal::NoSuchPurse);
@@ -262,10 +246,8 @@ pub(crate) fn discard<B: Book>(
     number: Seq,
     decided: &mut Decided,
 ) -> Result<(), StoreFault>
-    ensures keeps { Keeps B.doubt B.rows B.leaves book.old book.new }
-    ensures answered { OnOk result (IsWorking B.doubt book.new) }
-    ensures decides { (w : World) → B.doubt book.new ≡ 0 → B.spells (B.rows book.old) w → OnOk result (Decides w (on_own w holder purse (discard number)) decided.new) }
-    ensures fault { IfErr result B.fails }
+    ensures { Tells B.Book B.fails book.old book.new result
+        (λ w _. Decides w (on_own w holder purse (discard number)) decided.new) }
 {
     if !book.is_own(alloc, holder, purse)? {
         refuse(decided, Refusal::NoSuchPurse);
@@ -293,10 +275,8 @@ pub(crate) fn abort<B: Book>(
     purse: Name,
     decided: &mut Decided,
 ) -> Result<(), StoreFault>
-    ensures keeps { Keeps B.doubt B.rows B.leaves book.old book.new }
-    ensures answered { OnOk result (IsWorking B.doubt book.new) }
-    ensures decides { (w : World) → B.doubt book.new ≡ 0 → B.spells (B.rows book.old) w → OnOk result (Decides w (on_own w holder purse abort) decided.new) }
-    ensures fault { IfErr result B.fails }
+    ensures { Tells B.Book B.fails book.old book.new result
+        (λ w _. Decides w (on_own w holder purse abort) decided.new) }
 {
     let Some(mut after) = book.own_purse(alloc, holder, purse)? else {
         refuse(decided, Refusal::NoSuchPurse);
@@ -319,11 +299,9 @@ fn not_kept<B: Book>(
     purse: Name,
     entry: Option<&PayDetails>,
 ) -> Result<Option<PayDetails>, StoreFault>
-    ensures keeps { Keeps B.doubt B.rows B.leaves book.old book.new }
-    ensures answered { IsWorking B.doubt book.old → OnOk result (IsWorking B.doubt book.new) }
-    ensures value { Gives B.doubt B.rows B.spells book.old book.new result
+    ensures { IsWorking B.doubt book.old
+        → Tells B.Book B.fails book.old book.new result
         (λ w o. o ≡ not_kept w purse (option_map (λ d. d.now) entry.entry)) }
-    ensures fault { IfErr result B.fails }
 {
     let Some(details) = entry else {
         return Ok(None);
@@ -348,10 +326,8 @@ pub(crate) fn read_log<B: Book>(
     place: u64,
     decided: &mut Decided,
 ) -> Result<(), StoreFault>
-    ensures keeps { Keeps B.doubt B.rows B.leaves book.old book.new }
-    ensures answered { OnOk result (IsWorking B.doubt book.new) }
-    ensures decides { (w : World) → B.doubt book.new ≡ 0 → B.spells (B.rows book.old) w → OnOk result (Decides w (on_own w holder purse (read_log place)) decided.new) }
-    ensures fault { IfErr result B.fails }
+    ensures { Tells B.Book B.fails book.old book.new result
+        (λ w _. Decides w (on_own w holder purse (read_log place)) decided.new) }
 {
     let Some(mut after) = book.own_purse(alloc, holder, purse)? else {
         refuse(decided, Refusal::NoSuchPurse);
@@ -376,12 +352,10 @@ pub(crate) fn redeem<B: Book>(
     reference: Name,
     decided: &mut Decided,
 ) -> Result<(), StoreFault>
-    ensures keeps { Keeps B.doubt B.rows B.leaves book.old book.new }
-    ensures answered { OnOk result (IsWorking B.doubt book.new) }
-    ensures decides { (w : World) → IsCommand (Command.Redeem purse amount reference) → B.doubt book.new ≡ 0 → B.spells (B.rows book.old) w → OnOk result (Decides w (on_own w holder purse (redeem amount reference)) decided.new) }
-    ensures idle { (w : World) → B.doubt book.new ≡ 0 → B.spells (B.rows book.old) w
-        → OnOk result (IsTrue (is_some (redemption_of w purse reference)) → decided.new.edits ≡ []) }
-    ensures fault { IfErr result B.fails }
+    ensures { Tells B.Book B.fails book.old book.new result
+        (λ w _. (IsCommand (Command.Redeem purse amount reference)
+        → Decides w (on_own w holder purse (redeem amount reference)) decided.new)
+        × (IsTrue (is_some (redemption_of w purse reference)) → decided.new.edits ≡ [])) }
 {
     let Some(mut after) = book.own_purse(alloc, holder, purse)? else {
         refuse(decided, Refusal::NoSuchPurse);

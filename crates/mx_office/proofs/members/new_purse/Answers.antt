@@ -1,27 +1,38 @@
-use Rattle.std.proofs.Common.{rules}
+use Rattle.std.proofs.Common.{rules, sym, ◌∙◌}
 use Rattle.mx_office.specs.declared.values.Refusal.TheVariants.{NoSuchHolder, NameTaken, TooManyPurses}
+use Rattle.mx_office.proofs.CallLemmas.{keeps_then, so_far, so_more, tells_so, tells_fault}
 use Rattle.mx_office.proofs.OwnLemmas.{first, next}
 use Rattle.mx_office.proofs.DecideLemmas.{refused_decides, no_holder, a_holder, many_held, new_purse_decides}
 use Rattle.mx_office.proofs.members.new_purse.Goals as goal
 
-pub returns-in_default-clause-decides : goal.returns-in_default-clause-decides
-returns-in_default-clause-decides g c = λ w valid honest spelled.
-    refused_decides w _ _ NoSuchHolder _ (g.met.B.Book.sound _ w spelled) (first _ _ _ (no_holder w _ _ (search rules))) (search rules) (search rules)
+pub returns-in_err-held : goal.returns-in_err-held
+returns-in_err-held g c = tells_fault g.B.Book _ c.in_err-held.ensures.keeps c.in_err-held.ensures.fault c.from_residual.ensures.1
 
-pub returns-then-branch-clause-decides : goal.returns-then-branch-clause-decides
-returns-then-branch-clause-decides g c = λ w valid honest spelled.
-    let h = g.met.B.Book.sound _ w spelled in
-    refused_decides w _ _ NameTaken _ h (next _ _ _ _ (a_holder w _ _ c.in-Some.held (search rules)) (first _ _ _ (search rules))) (search rules) (search rules)
+pub returns-in_default : goal.returns-in_default
+returns-in_default g c =
+    let held = so_far g.B.Book c.in_ok-held.ensures.keeps c.in_ok-held.ensures.value in
+    tells_so g.B.Book held c.in_ok-held.ensures.answered (λ w spelled known. λ valid. refused_decides w _ _ NoSuchHolder _ (g.met.B.Book.sound _ w spelled) (first _ _ _ (no_holder w _ _ (sym known ∙ c.in_default.is))) c.refuse.ensures.reply c.refuse.ensures.edits)
 
-pub returns-then-held-ge-MOST_PURSES-clause-decides :
-    goal.returns-then-held-ge-MOST_PURSES-clause-decides
-returns-then-held-ge-MOST_PURSES-clause-decides g c = λ w valid honest spelled.
-    let h = g.met.B.Book.sound _ w spelled in
-    refused_decides w _ _ TooManyPurses _ h
-    (next _ _ _ _ (a_holder w _ _ c.in-Some.held (search rules)) (next _ _ _ _ (search rules) (first _ _ _ (many_held w c.args.member _ c.in-Some.held _ (search rules) (search rules)))))
-    (search rules) (search rules)
+pub returns-in_err-has_purse : goal.returns-in_err-has_purse
+returns-in_err-has_purse g c =
+    tells_fault g.B.Book _ (keeps_then c.in_ok-held.ensures.keeps c.in_err-has_purse.ensures.keeps) c.in_err-has_purse.ensures.fault c.from_residual-in_err-has_purse.ensures.1
 
-pub returns-clause-decides : goal.returns-clause-decides
-returns-clause-decides g c = λ w valid honest spelled.
-    let h = g.met.B.Book.sound _ w spelled in
-    new_purse_decides w _ _ _ _ h (search rules) (a_holder w _ _ c.in-Some.held (search rules)) (search rules) (many_held w c.args.member _ c.in-Some.held _ (search rules) (search rules)) (search rules) (search rules)
+pub returns-then-branch : goal.returns-then-branch
+returns-then-branch g c =
+    let held = so_far g.B.Book c.in_ok-held.ensures.keeps c.in_ok-held.ensures.value in
+    let has_purse = so_more g.B.Book held c.in_ok-has_purse.ensures.keeps c.in_ok-has_purse.ensures.value in
+    tells_so g.B.Book has_purse c.in_ok-has_purse.ensures.answered (λ w spelled known. λ valid. refused_decides w _ _ NameTaken _ (g.met.B.Book.sound _ w spelled) (next _ _ _ _ (a_holder w _ _ c.in-Some.held (sym known.0 ∙ c.in-Some.is)) (first _ _ _ (sym known.1 ∙ c.if-branch.true))) c.refuse-then-branch.ensures.reply c.refuse-then-branch.ensures.edits)
+
+pub returns-then-held-ge-MOST_PURSES : goal.returns-then-held-ge-MOST_PURSES
+returns-then-held-ge-MOST_PURSES g c =
+    let held = so_far g.B.Book c.in_ok-held.ensures.keeps c.in_ok-held.ensures.value in
+    let has_purse = so_more g.B.Book held c.in_ok-has_purse.ensures.keeps c.in_ok-has_purse.ensures.value in
+    tells_so g.B.Book has_purse c.in_ok-has_purse.ensures.answered (λ w spelled known. λ valid. refused_decides w _ _ TooManyPurses _ (g.met.B.Book.sound _ w spelled)
+    (next _ _ _ _ (a_holder w _ _ c.in-Some.held (sym known.0 ∙ c.in-Some.is)) (next _ _ _ _ (sym known.1 ∙ c.if-branch.false) (first _ _ _ (many_held w c.args.member _ c.in-Some.held _ (sym known.0 ∙ c.in-Some.is) (search rules)))))
+    c.refuse-then-held-ge-MOST_PURSES.ensures.reply c.refuse-then-held-ge-MOST_PURSES.ensures.edits)
+
+pub returns : goal.returns
+returns g c =
+    let held = so_far g.B.Book c.in_ok-held.ensures.keeps c.in_ok-held.ensures.value in
+    let has_purse = so_more g.B.Book held c.in_ok-has_purse.ensures.keeps c.in_ok-has_purse.ensures.value in
+    tells_so g.B.Book has_purse c.in_ok-has_purse.ensures.answered (λ w spelled known. λ valid. new_purse_decides w _ _ _ _ (g.met.B.Book.sound _ w spelled) valid.0 (a_holder w _ _ c.in-Some.held (sym known.0 ∙ c.in-Some.is)) (sym known.1 ∙ c.if-branch.false) (many_held w c.args.member _ c.in-Some.held _ (sym known.0 ∙ c.in-Some.is) (search rules)) c.make.ensures.reply c.make.ensures.edits)

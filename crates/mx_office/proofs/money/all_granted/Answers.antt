@@ -1,18 +1,31 @@
-use Rattle.std.proofs.Common.{◌≡◌, rules}
+use Rattle.std.proofs.Common.{inr}
+use Rattle.mx_office.proofs.CallLemmas.{keeps_then, so_more, tells_so, tells_fault}
 use Rattle.mx_office.proofs.GrantedLemmas.{granted_more, granted_all}
 use Rattle.mx_office.proofs.money.all_granted.Goals as goal
 
-pub loop-member-preserved : goal.loop-member-preserved
-loop-member-preserved g c = record {
-  keeps = search rules;
-  working = c.in_ok-granted_of.ensures.answered;
-  items = search rules;
-  sum = λ w honest spelled.
-      let before : g.B.Book.doubt c.loop-member.book ≡ 0 = search rules in
-      granted_more w c.loop-member.member-index c.member-item.result _ c.loop-member.sum c.in_ok-granted_of.field-0 _ (g.met.B.Book.sound _ w spelled)
-      (c.loop-member.invariant.items w before spelled) c.loop-member-test.true c.member-item.is (c.loop-member.invariant.sum w before spelled) (search rules) c.saturating_add-sum.ensures;
-}
+pub returns-in_err-members : goal.returns-in_err-members
+returns-in_err-members g c = tells_fault g.B.Book _ c.in_err-members.ensures.keeps c.in_err-members.ensures.fault c.from_residual.ensures.1
 
-pub returns-clause-value : goal.returns-clause-value
-returns-clause-value g c = λ w honest spelled.
-    granted_all w c.loop-member.member-index _ c.loop-member.sum (c.loop-member.invariant.items w honest spelled) c.loop-member-test.false (c.loop-member.invariant.sum w honest spelled)
+pub returns-in_err-granted_of : goal.returns-in_err-granted_of
+returns-in_err-granted_of g c =
+    tells_fault g.B.Book _ (keeps_then c.loop-member.invariant.far.keeps c.in_err-granted_of.ensures.keeps) (inr c.in_err-granted_of.ensures.fault) c.from_residual-in_err-granted_of.ensures.1
+
+pub loop-member-preserved : goal.loop-member-preserved
+loop-member-preserved g c =
+    let more = so_more g.B.Book c.loop-member.invariant.far c.in_ok-granted_of.ensures.keeps c.in_ok-granted_of.ensures.value in
+    record {
+      far = record {
+        keeps = more.keeps;
+        value = λ w honest spelled.
+            let known = more.value w honest spelled in (
+              known.0.0,
+              granted_more w c.loop-member.member-index c.member-item.result _ c.loop-member.sum c.in_ok-granted_of.field-0 _ (g.met.B.Book.sound _ w spelled)
+                  known.0.0 c.loop-member-test.true c.member-item.is known.0.1 known.1 c.saturating_add-sum.ensures,
+            );
+      };
+      working = c.in_ok-granted_of.ensures.answered;
+    }
+
+pub returns : goal.returns
+returns g c =
+    tells_so g.B.Book c.loop-member.invariant.far c.loop-member.invariant.working (λ w spelled known. granted_all w c.loop-member.member-index _ c.loop-member.sum known.0 c.loop-member-test.false known.1)

@@ -1,19 +1,33 @@
-use Rattle.std.proofs.Common.{rules}
+use Rattle.std.proofs.Common.{rules, sym, ◌∙◌, ap, is_none}
 use Rattle.mx_office.specs.declared.values.Refusal.TheVariants.{NoSuchMember, FloatFull}
+use Rattle.mx_office.proofs.CallLemmas.{keeps_then, so_far, so_more, tells_so, tells_fault}
 use Rattle.mx_office.proofs.OwnLemmas.{first}
 use Rattle.mx_office.proofs.DecideLemmas.{refused_decides}
 use Rattle.mx_office.proofs.MoneyLemmas.{full_collect, collect_decides}
 use Rattle.mx_office.proofs.money.collect.Goals as goal
 
-pub returns-in_default-clause-decides : goal.returns-in_default-clause-decides
-returns-in_default-clause-decides g c = λ w honest spelled. refused_decides w _ _ NoSuchMember _ (g.met.B.Book.sound _ w spelled) (first _ _ _ (search rules)) (search rules) (search rules)
+pub returns-in_err-row : goal.returns-in_err-row
+returns-in_err-row g c = tells_fault g.B.Book _ c.in_err-row.ensures.keeps c.in_err-row.ensures.fault c.from_residual.ensures.1
 
-pub returns-then-float-gt-MOST-clause-decides : goal.returns-then-float-gt-MOST-clause-decides
-returns-then-float-gt-MOST-clause-decides g c = λ w honest spelled.
-    refused_decides w _ _ FloatFull _ (g.met.B.Book.sound _ w spelled)
-    (full_collect w _ c.in-Some.row c.in_ok-uncollected.uncollected c.saturating_add-float.result (search rules) (search rules) (search rules) c.if-float-gt-MOST.true)
-    (search rules) (search rules)
+pub returns-in_default : goal.returns-in_default
+returns-in_default g c =
+    let row = so_far g.B.Book c.in_ok-row.ensures.keeps c.in_ok-row.ensures.value in
+    tells_so g.B.Book row c.in_ok-row.ensures.answered (λ w spelled known. refused_decides w _ _ NoSuchMember _ (g.met.B.Book.sound _ w spelled) (first _ _ _ (ap is_none (sym known ∙ c.in_default.is))) c.refuse.ensures.reply c.refuse.ensures.edits)
 
-pub returns-clause-decides : goal.returns-clause-decides
-returns-clause-decides g c = λ w honest spelled.
-    collect_decides w _ c.in-Some.row c.in_ok-uncollected.uncollected c.saturating_add-float.result (search rules) (search rules) (search rules) _ (g.met.B.Book.sound _ w spelled) c.if-float-gt-MOST.false (search rules) (search rules)
+pub returns-in_err-uncollected : goal.returns-in_err-uncollected
+returns-in_err-uncollected g c =
+    tells_fault g.B.Book _ (keeps_then c.in_ok-row.ensures.keeps c.in_err-uncollected.ensures.keeps) c.in_err-uncollected.ensures.fault c.from_residual-in_err-uncollected.ensures.1
+
+pub returns-then-float-gt-MOST : goal.returns-then-float-gt-MOST
+returns-then-float-gt-MOST g c =
+    let row = so_far g.B.Book c.in_ok-row.ensures.keeps c.in_ok-row.ensures.value in
+    let uncollected = so_more g.B.Book row c.in_ok-uncollected.ensures.keeps c.in_ok-uncollected.ensures.value in
+    tells_so g.B.Book uncollected c.in_ok-uncollected.ensures.answered (λ w spelled known. refused_decides w _ _ FloatFull _ (g.met.B.Book.sound _ w spelled)
+    (full_collect w _ c.in-Some.row c.in_ok-uncollected.uncollected c.saturating_add-float.result (sym known.0 ∙ c.in-Some.is) known.1 c.saturating_add-float.ensures c.if-float-gt-MOST.true)
+    c.refuse-then-float-gt-MOST.ensures.reply c.refuse-then-float-gt-MOST.ensures.edits)
+
+pub returns : goal.returns
+returns g c =
+    let row = so_far g.B.Book c.in_ok-row.ensures.keeps c.in_ok-row.ensures.value in
+    let uncollected = so_more g.B.Book row c.in_ok-uncollected.ensures.keeps c.in_ok-uncollected.ensures.value in
+    tells_so g.B.Book uncollected c.in_ok-uncollected.ensures.answered (λ w spelled known. collect_decides w _ c.in-Some.row c.in_ok-uncollected.uncollected c.saturating_add-float.result (sym known.0 ∙ c.in-Some.is) known.1 c.saturating_add-float.ensures _ (g.met.B.Book.sound _ w spelled) c.if-float-gt-MOST.false c.make.ensures.reply (search rules))

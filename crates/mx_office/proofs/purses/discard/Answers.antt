@@ -1,9 +1,29 @@
-use Rattle.std.proofs.Common.{rules}
-use Rattle.mx_office.proofs.CommandLemmas.{no_message_decides, discard_decides}
+use Rattle.std.proofs.Common.{rules, sym, ◌∙◌}
+use Rattle.mx_office.proofs.CallLemmas.{keeps_then, so_far, so_more, tells_so, tells_fault}
+use Rattle.mx_office.proofs.CommandLemmas.{foreign_decides, no_message_decides, discard_decides}
+use Rattle.mx_office.proofs.OwnLemmas.{absent}
 use Rattle.mx_office.proofs.purses.discard.Goals as goal
 
-pub returns-then-not-branch-2-clause-decides : goal.returns-then-not-branch-2-clause-decides
-returns-then-not-branch-2-clause-decides g c = λ w honest spelled. no_message_decides w _ _ _ _ (g.met.B.Book.sound _ w spelled) (search rules) (search rules) (search rules) (search rules)
+pub returns-in_err-is_own : goal.returns-in_err-is_own
+returns-in_err-is_own g c = tells_fault g.B.Book _ c.in_err-is_own.ensures.keeps c.in_err-is_own.ensures.fault c.from_residual.ensures.1
 
-pub returns-clause-decides : goal.returns-clause-decides
-returns-clause-decides g c = λ w honest spelled. discard_decides w _ _ _ _ (g.met.B.Book.sound _ w spelled) (search rules) (search rules) (search rules) (search rules)
+pub returns-then-not-branch : goal.returns-then-not-branch
+returns-then-not-branch g c =
+    let own = so_far g.B.Book c.in_ok-is_own.ensures.keeps c.in_ok-is_own.ensures.value in
+    tells_so g.B.Book own c.in_ok-is_own.ensures.answered (λ w spelled known. foreign_decides w _ _ _ _ (g.met.B.Book.sound _ w spelled) (absent _ (sym known ∙ c.if-not-branch.true)) c.refuse.ensures.reply c.refuse.ensures.edits)
+
+pub returns-in_err-has_message : goal.returns-in_err-has_message
+returns-in_err-has_message g c =
+    tells_fault g.B.Book _ (keeps_then c.in_ok-is_own.ensures.keeps c.in_err-has_message.ensures.keeps) c.in_err-has_message.ensures.fault c.from_residual-in_err-has_message.ensures.1
+
+pub returns-then-not-branch-2 : goal.returns-then-not-branch-2
+returns-then-not-branch-2 g c =
+    let own = so_far g.B.Book c.in_ok-is_own.ensures.keeps c.in_ok-is_own.ensures.value in
+    let has_message = so_more g.B.Book own c.in_ok-has_message.ensures.keeps c.in_ok-has_message.ensures.value in
+    tells_so g.B.Book has_message c.in_ok-has_message.ensures.answered (λ w spelled known. no_message_decides w _ _ _ _ (g.met.B.Book.sound _ w spelled) (sym known.0 ∙ c.if-not-branch.false) (search rules) (search rules) (search rules))
+
+pub returns : goal.returns
+returns g c =
+    let own = so_far g.B.Book c.in_ok-is_own.ensures.keeps c.in_ok-is_own.ensures.value in
+    let has_message = so_more g.B.Book own c.in_ok-has_message.ensures.keeps c.in_ok-has_message.ensures.value in
+    tells_so g.B.Book has_message c.in_ok-has_message.ensures.answered (λ w spelled known. discard_decides w _ _ _ _ (g.met.B.Book.sound _ w spelled) (sym known.0 ∙ c.if-not-branch.false) (search rules) (search rules) (search rules))

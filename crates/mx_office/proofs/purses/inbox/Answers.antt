@@ -1,6 +1,26 @@
-use Rattle.std.proofs.Common.{rules}
-use Rattle.mx_office.proofs.CommandLemmas.{inbox_decides}
+use Rattle.std.proofs.Common.{rules, sym, ◌∙◌, inr}
+use Rattle.mx_office.proofs.CallLemmas.{keeps_then, so_far, so_more, tells_so, tells_fault, err_never, err_so}
+use Rattle.mx_book.proofs.StandLemmas.{sure_before}
+use Rattle.mx_office.proofs.OwnLemmas.{absent}
+use Rattle.mx_office.proofs.FaultLemmas.{memory_fails}
+use Rattle.mx_office.proofs.CommandLemmas.{foreign_decides, inbox_decides}
 use Rattle.mx_office.proofs.purses.inbox.Goals as goal
 
-pub returns-clause-decides : goal.returns-clause-decides
-returns-clause-decides g c = λ w honest spelled. inbox_decides w _ _ _ (g.met.B.Book.sound _ w spelled) (search rules) (search rules) (search rules)
+pub returns-in_err-is_own : goal.returns-in_err-is_own
+returns-in_err-is_own g c =
+    record { tells = tells_fault g.B.Book _ c.in_err-is_own.ensures.keeps (inr c.in_err-is_own.ensures.fault) c.from_residual.ensures.1; edits = err_never _ _ _ c.from_residual.ensures.1; memory = λ w sure spelled. err_so _ _ (inr c.in_err-is_own.ensures.fault) c.from_residual.ensures.1 }
+
+pub returns-then-not-branch : goal.returns-then-not-branch
+returns-then-not-branch g c =
+    let own = so_far g.B.Book c.in_ok-is_own.ensures.keeps c.in_ok-is_own.ensures.value in
+    record { tells = tells_so g.B.Book own c.in_ok-is_own.ensures.answered (λ w spelled known. foreign_decides w _ _ _ _ (g.met.B.Book.sound _ w spelled) (absent _ (sym known ∙ c.if-not-branch.true)) c.refuse.ensures.reply c.refuse.ensures.edits); edits = c.refuse.ensures.edits; memory = λ w sure spelled. tt }
+
+pub returns-in_err-messages : goal.returns-in_err-messages
+returns-in_err-messages g c =
+    record { tells = tells_fault g.B.Book _ (keeps_then c.in_ok-is_own.ensures.keeps c.in_err-messages.ensures.keeps) c.in_err-messages.ensures.fault c.from_residual-in_err-messages.ensures.1; edits = err_never _ _ _ c.from_residual-in_err-messages.ensures.1; memory = λ w sure spelled. err_so _ _ (memory_fails g.B.Book.fails _ _ (sym (c.in_ok-is_own.ensures.value w (sure_before c.in_err-messages.ensures.keeps.later sure) spelled) ∙ c.if-not-branch.false) c.in_err-messages.ensures.fault) c.from_residual-in_err-messages.ensures.1 }
+
+pub returns : goal.returns
+returns g c =
+    let own = so_far g.B.Book c.in_ok-is_own.ensures.keeps c.in_ok-is_own.ensures.value in
+    let messages = so_more g.B.Book own c.in_ok-messages.ensures.keeps c.in_ok-messages.ensures.value in
+    record { tells = tells_so g.B.Book messages c.in_ok-messages.ensures.answered (λ w spelled known. inbox_decides w _ _ _ (g.met.B.Book.sound _ w spelled) (sym known.0 ∙ c.if-not-branch.false) (search rules) c.tell.ensures.edits); edits = c.tell.ensures.edits; memory = λ w sure spelled. tt }

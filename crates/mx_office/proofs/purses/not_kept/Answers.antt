@@ -1,16 +1,34 @@
 use Rattle.std.proofs.Common.{rules, sym, ◌∙◌, ap}
 use Rattle.std.specs.Prelude.{option_map}
 use Rattle.mx_office.specs.Decides.{not_kept}
+use Rattle.mx_office.proofs.CallLemmas.{keeps_then, so_far, so_more, tells_none, tells_so, tells_fault}
 use Rattle.mx_office.proofs.ArchiveLemmas.{laid_kept, archived_kept, new_result}
 use Rattle.mx_office.proofs.purses.not_kept.Goals as goal
 
-pub returns-then-has-clause-value : goal.returns-then-has-clause-value
-returns-then-has-clause-value g c = λ w honest spelled. laid_kept w c.args.purse c.in_ok-laid.laid c.in-Some.details.now (search rules) (search rules) ∙ ap (λ o. not_kept w c.args.purse (option_map (λ d. d.now) o)) (sym c.in-Some.is)
+pub returns-in_default : goal.returns-in_default
+returns-in_default g c = λ working. tells_none g.B.Book working (λ w spelled. search rules)
 
-pub returns-then-branch-clause-value : goal.returns-then-branch-clause-value
-returns-then-branch-clause-value g c = λ w honest spelled.
-    archived_kept w c.args.purse c.in_ok-laid.laid c.in-Some.details.now (search rules) (search rules) (search rules) ∙ ap (λ o. not_kept w c.args.purse (option_map (λ d. d.now) o)) (sym c.in-Some.is)
+pub returns-in_err-laid : goal.returns-in_err-laid
+returns-in_err-laid g c =
+    λ working. tells_fault g.B.Book _ c.in_err-laid.ensures.keeps c.in_err-laid.ensures.fault c.from_residual.ensures.1
 
-pub returns-clause-value : goal.returns-clause-value
-returns-clause-value g c = λ w honest spelled.
-    new_result w c.args.purse c.in_ok-laid.laid c.in-Some.details.now (search rules) (search rules) (search rules) ∙ ap (λ o. not_kept w c.args.purse (option_map (λ d. d.now) o)) (sym c.in-Some.is)
+pub returns-then-has : goal.returns-then-has
+returns-then-has g c =
+    let laid = so_far g.B.Book c.in_ok-laid.ensures.keeps c.in_ok-laid.ensures.value in
+    λ working. tells_so g.B.Book laid c.in_ok-laid.ensures.answered (λ w spelled known. laid_kept w c.args.purse c.in_ok-laid.laid c.in-Some.details.now known (search rules) ∙ ap (λ o. not_kept w c.args.purse (option_map (λ d. d.now) o)) (sym c.in-Some.is))
+
+pub returns-in_err-archived : goal.returns-in_err-archived
+returns-in_err-archived g c =
+    λ working. tells_fault g.B.Book _ (keeps_then c.in_ok-laid.ensures.keeps c.in_err-archived.ensures.keeps) c.in_err-archived.ensures.fault c.from_residual-in_err-archived.ensures.1
+
+pub returns-then-branch : goal.returns-then-branch
+returns-then-branch g c =
+    let laid = so_far g.B.Book c.in_ok-laid.ensures.keeps c.in_ok-laid.ensures.value in
+    let archived = so_more g.B.Book laid c.in_ok-archived.ensures.keeps c.in_ok-archived.ensures.value in
+    λ working. tells_so g.B.Book archived c.in_ok-archived.ensures.answered (λ w spelled known. archived_kept w c.args.purse c.in_ok-laid.laid c.in-Some.details.now known.0 (search rules) (search rules) ∙ ap (λ o. not_kept w c.args.purse (option_map (λ d. d.now) o)) (sym c.in-Some.is))
+
+pub returns : goal.returns
+returns g c =
+    let laid = so_far g.B.Book c.in_ok-laid.ensures.keeps c.in_ok-laid.ensures.value in
+    let archived = so_more g.B.Book laid c.in_ok-archived.ensures.keeps c.in_ok-archived.ensures.value in
+    λ working. tells_so g.B.Book archived c.in_ok-archived.ensures.answered (λ w spelled known. new_result w c.args.purse c.in_ok-laid.laid c.in-Some.details.now known.0 (search rules) (search rules) ∙ ap (λ o. not_kept w c.args.purse (option_map (λ d. d.now) o)) (sym c.in-Some.is))

@@ -1,6 +1,23 @@
-use Rattle.std.proofs.Common.{rules}
+use Rattle.std.proofs.Common.{rules, sym, ◌∙◌}
+use Rattle.mx_office.proofs.CallLemmas.{keeps_then, so_far, so_more, tells_so, tells_fault}
+use Rattle.mx_office.proofs.CommandLemmas.{foreign_decides}
 use Rattle.mx_office.proofs.ArchiveLemmas.{read_decides}
 use Rattle.mx_office.proofs.purses.read_log.Goals as goal
 
-pub returns-clause-decides : goal.returns-clause-decides
-returns-clause-decides g c = λ w honest spelled. read_decides w c.args.holder c.args.purse c.in-Some.after c.args.place _ (g.met.B.Book.sound _ w spelled) (search rules) c.read_log-entry.result (search rules) (search rules) (search rules)
+pub returns-in_err-after : goal.returns-in_err-after
+returns-in_err-after g c = tells_fault g.B.Book _ c.in_err-after.ensures.keeps c.in_err-after.ensures.fault c.from_residual.ensures.1
+
+pub returns-in_default : goal.returns-in_default
+returns-in_default g c =
+    let after = so_far g.B.Book c.in_ok-after.ensures.keeps c.in_ok-after.ensures.value in
+    tells_so g.B.Book after c.in_ok-after.ensures.answered (λ w spelled known. foreign_decides w _ _ _ _ (g.met.B.Book.sound _ w spelled) (sym known ∙ c.in_default.is) c.refuse.ensures.reply c.refuse.ensures.edits)
+
+pub returns-in_err-new : goal.returns-in_err-new
+returns-in_err-new g c =
+    tells_fault g.B.Book _ (keeps_then c.in_ok-after.ensures.keeps (c.in_err-new.ensures c.in_ok-after.ensures.answered).keeps) (c.in_err-new.ensures c.in_ok-after.ensures.answered).fault c.from_residual-in_err-new.ensures.1
+
+pub returns : goal.returns
+returns g c =
+    let after = so_far g.B.Book c.in_ok-after.ensures.keeps c.in_ok-after.ensures.value in
+    let new = so_more g.B.Book after (c.in_ok-new.ensures c.in_ok-after.ensures.answered).keeps (c.in_ok-new.ensures c.in_ok-after.ensures.answered).value in
+    tells_so g.B.Book new (c.in_ok-new.ensures c.in_ok-after.ensures.answered).answered (λ w spelled known. read_decides w c.args.holder c.args.purse c.in-Some.after c.args.place _ (g.met.B.Book.sound _ w spelled) (sym known.0 ∙ c.in-Some.is) c.read_log-entry.result (search rules) (search rules) (search rules))

@@ -1,22 +1,35 @@
-use Rattle.std.proofs.Common.{rules, refl, None}
+use Rattle.std.proofs.Common.{refl, sym, ◌∙◌, ap, None}
 use Rattle.mx_purse.specs.declared.status.Status.TheVariants.{Epr}
 use Rattle.mx_purse.specs.Operations.{start_from_refusal, from_details}
-use Rattle.mx_office.specs.Step.{start_from}
-use Rattle.mx_office.proofs.CommandLemmas.{start_refused, start_decides}
+use Rattle.mx_office.specs.Step.{abort_line, start_from}
+use Rattle.mx_office.specs.Decides.{purse_edits}
+use Rattle.mx_office.specs.declared.values.Reply.TheVariants.{Refused}
+use Rattle.mx_office.proofs.CallLemmas.{so_far, tells_so, tells_fault}
+use Rattle.mx_office.proofs.CommandLemmas.{foreign_decides, start_refused, start_decides}
 use Rattle.mx_office.proofs.purses.start_from.Goals as goal
 
-pub returns-in-Err-clause-decides : goal.returns-in-Err-clause-decides
-unfolding start_from
-returns-in-Err-clause-decides g c = λ w honest spelled.
-    let q = c.in-Some.after in
-    let d = from_details q c.args.peer c.args.value c.args.seq in
-    start_refused w _ _ q (start_from c.args.peer c.args.value c.args.seq) (start_from_refusal q c.args.peer c.args.value) (Epr d) d (λ _. None) (λ a is. rw is refl) (λ _. tt) _ (g.met.B.Book.sound _ w spelled) (search rules)
-    c.in-Err.refusal (search rules) (search rules) (search rules)
+pub returns-in_err-after : goal.returns-in_err-after
+returns-in_err-after g c = tells_fault g.B.Book _ c.in_err-after.ensures.keeps c.in_err-after.ensures.fault c.from_residual.ensures.1
 
-pub returns-in-Ok-clause-decides : goal.returns-in-Ok-clause-decides
+pub returns-in_default : goal.returns-in_default
+returns-in_default g c =
+    let after = so_far g.B.Book c.in_ok-after.ensures.keeps c.in_ok-after.ensures.value in
+    tells_so g.B.Book after c.in_ok-after.ensures.answered (λ w spelled known. foreign_decides w _ _ _ _ (g.met.B.Book.sound _ w spelled) (sym known ∙ c.in_default.is) c.refuse.ensures.reply c.refuse.ensures.edits)
+
+pub returns-in-Err : goal.returns-in-Err
 unfolding start_from
-returns-in-Ok-clause-decides g c = λ w honest spelled.
+returns-in-Err g c =
     let q = c.in-Some.after in
     let d = from_details q c.args.peer c.args.value c.args.seq in
-    start_decides w _ _ q (start_from c.args.peer c.args.value c.args.seq) (start_from_refusal q c.args.peer c.args.value) (Epr d) d (λ _. None) (λ a is. rw is refl) (λ _. tt) _ (g.met.B.Book.sound _ w spelled) (search rules)
-    c.start_from.new.self c.in-Ok.details c.start_from.ensures.whole (search rules) (search rules) (search rules) (search rules)
+    let after = so_far g.B.Book c.in_ok-after.ensures.keeps c.in_ok-after.ensures.value in
+    tells_so g.B.Book after c.in_ok-after.ensures.answered (λ w spelled known. start_refused w _ _ q (start_from c.args.peer c.args.value c.args.seq) (start_from_refusal q c.args.peer c.args.value) (Epr d) d (λ _. None) (λ a is. rw is refl) (λ _. tt) _ (g.met.B.Book.sound _ w spelled) (sym known ∙ c.in-Some.is)
+    c.in-Err.refusal (sym c.in-Err.ensures.answer) (c.refuse-in-Err.ensures.reply ∙ ap Refused c.start_refusal.ensures) c.refuse-in-Err.ensures.edits)
+
+pub returns-in-Ok : goal.returns-in-Ok
+unfolding start_from
+returns-in-Ok g c =
+    let q = c.in-Some.after in
+    let d = from_details q c.args.peer c.args.value c.args.seq in
+    let after = so_far g.B.Book c.in_ok-after.ensures.keeps c.in_ok-after.ensures.value in
+    tells_so g.B.Book after c.in_ok-after.ensures.answered (λ w spelled known. start_decides w _ _ q (start_from c.args.peer c.args.value c.args.seq) (start_from_refusal q c.args.peer c.args.value) (Epr d) d (λ _. None) (λ a is. rw is refl) (λ _. tt) _ (g.met.B.Book.sound _ w spelled) (sym known ∙ c.in-Some.is)
+    c.start_from.new.self c.in-Ok.details c.start_from.ensures.whole (sym c.in-Ok.ensures.answer) c.in-Ok.ensures.new c.make_purse.ensures.reply (c.make_purse.ensures.edits ∙ ap (λ l. purse_edits c.start_from.new.self l None) (c.abort_line-line.ensures ∙ ap (abort_line c.start_from.new.self) c.pending-logged.ensures)))

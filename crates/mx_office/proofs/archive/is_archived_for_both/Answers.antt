@@ -1,0 +1,17 @@
+use Rattle.std.proofs.Common.{rules}
+use Rattle.mx_office.proofs.CallLemmas.{so_far, tells_so, tells_then, tells_fault}
+use Rattle.mx_office.proofs.archive.is_archived_for_both.Goals as goal
+
+pub returns-in_err-archived : goal.returns-in_err-archived
+returns-in_err-archived g c =
+    tells_fault g.B.Book _ c.in_err-archived.ensures.keeps c.in_err-archived.ensures.fault c.from_residual.ensures.1
+
+pub returns-then-not-branch : goal.returns-then-not-branch
+returns-then-not-branch g c =
+    let archived = so_far g.B.Book c.in_ok-archived.ensures.keeps c.in_ok-archived.ensures.value in
+    tells_so g.B.Book archived c.in_ok-archived.ensures.answered (λ w spelled known. search rules)
+
+pub returns : goal.returns
+returns g c =
+    let archived = so_far g.B.Book c.in_ok-archived.ensures.keeps c.in_ok-archived.ensures.value in
+    tells_then g.B.Book archived (record { keeps = c.archived-2.ensures.keeps; answered = c.archived-2.ensures.answered; value = c.archived-2.ensures.value; fault = c.archived-2.ensures.fault }) (λ w spelled known x is. search rules)
