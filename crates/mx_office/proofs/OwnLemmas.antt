@@ -15,9 +15,9 @@ pub absent : {X : Type 0} (o : Option X) → is_some o ≡ false → o ≡ None
 absent None f = refl
 absent (Some x) f = cc
 
-pub not_some : {X : Type 0} (o : Option X) → o ≡ None → IsTrue (is_some o) → ⊥
-not_some None none some = absurd (cc)
-not_some (Some x) none some = absurd (cc)
+pub never_some : {X : Type 0} (o : Option X) → o ≡ None → IsTrue (is_some o) → ⊥
+never_some None none some = absurd (cc)
+never_some (Some x) none some = absurd (cc)
 
 pub present : {X : Type 0} (o : Option X) → is_none o ≡ false → (x : X) × (o ≡ Some x)
 present None f = absurd (cc)

@@ -1,6 +1,6 @@
 use Rattle.std.proofs.Common.{rules, sym, ◌∙◌}
 use Rattle.mx_office.proofs.CallLemmas.{keeps_then, so_far, so_more, tells_so, tells_fault}
-use Rattle.mx_office.proofs.OwnLemmas.{not_some}
+use Rattle.mx_office.proofs.OwnLemmas.{never_some}
 use Rattle.mx_office.proofs.MoneyLemmas.{load_told, foreign_load, memberless_load, load_repeated, load_small_float, load_refuses, load_made}
 use Rattle.mx_office.proofs.money.load.Goals as goal
 
@@ -55,5 +55,5 @@ returns-in-Ok g c =
     tells_so g.B.Book before c.in_ok-before.ensures.answered (λ w spelled known. (
       (λ valid.
           load_made w _ _ _ _ c.in-Some.after (sym known.0.0 ∙ c.in-Some.is) c.in-Some-2.row (sym known.0.1 ∙ c.in-Some-2.is) c.load.new.self _ (g.met.B.Book.sound _ w spelled) (sym known.1 ∙ c.in_default-3.is) (search rules) valid.2 valid.1 (sym c.in-Ok.ensures.answer) c.in-Ok.ensures.new c.make_load.ensures.reply c.make_load.ensures.edits),
-      λ some. absurd (not_some _ (sym known.1 ∙ c.in_default-3.is) some),
+      λ some. absurd (never_some _ (sym known.1 ∙ c.in_default-3.is) some),
     ))

@@ -4,7 +4,7 @@ use Rattle.mx_office.specs.Step.{abort_line}
 use Rattle.mx_office.specs.declared.values.Reply.TheVariants.{Refused}
 use Rattle.mx_office.proofs.CallLemmas.{keeps_then, so_far, so_more, tells_so, tells_fault}
 use Rattle.mx_office.proofs.CommandLemmas.{foreign_decides, redeem_repeated, redeem_refuses, redeem_made}
-use Rattle.mx_office.proofs.OwnLemmas.{not_some}
+use Rattle.mx_office.proofs.OwnLemmas.{never_some}
 use Rattle.mx_office.proofs.purses.redeem.Goals as goal
 
 pub returns-in_err-after : goal.returns-in_err-after
@@ -38,5 +38,5 @@ returns-in-Ok g c =
     tells_so g.B.Book before c.in_ok-before.ensures.answered (λ w spelled known. (
       (λ valid. redeem_made w _ _ _ _ c.in-Some.after _ (g.met.B.Book.sound _ w spelled) (sym known.0 ∙ c.in-Some.is) c.abort-logged.new.self c.redeem.new.self
           (sym known.1 ∙ c.in_default-2.is) valid.2 valid.1 (sym c.in-Ok.ensures.answer) c.in-Ok.ensures.new c.abort-logged.ensures.new c.make_redemption.ensures.reply (c.make_redemption.ensures.edits ∙ ap (λ l. redeem_edits c.redeem.new.self l c.args.amount c.args.reference) (c.abort_line-line.ensures ∙ ap (abort_line c.abort-logged.new.self) c.abort-logged.ensures.logged))),
-      λ some. absurd (not_some _ (sym known.1 ∙ c.in_default-2.is) some),
+      λ some. absurd (never_some _ (sym known.1 ∙ c.in_default-2.is) some),
     ))
