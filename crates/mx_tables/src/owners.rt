@@ -1,5 +1,5 @@
 //! The index of purses by holder, which is kept in memory.
-ghost use Rattle.std.specs.Prelude.{◌≡◌, IfOk, OnOk, length};
+ghost use Rattle.std.specs.Prelude.{◌≡◌, IfOk, OnOk, is_some, length, true};
 ghost use Rattle.sqlite.specs.Held.{state};
 ghost use Rattle.mx_book.specs.Reads.{purses_of};
 ghost use Rattle.mx_book.specs.RowReads.{row_purses_of};
@@ -77,6 +77,7 @@ fn make_known<S: Alter>(
         → Knows (state S.Store conn.new) known.new }
     ensures live { IsAwake (state S.Store conn.old)
         → OnOk result (IsAwake (state S.Store conn.new)) }
+    ensures there { OnOk result (is_some known.new ≡ true) }
 {
     if known.is_some() {
         return Ok(());
@@ -118,10 +119,8 @@ pub fn count_purses<S: Alter>(
         → Reads S.Store conn.old conn.new result (λ r v. v ≡ length (row_purses_of r holder.now))) }
 {
     make_known(alloc, conn, known)?;
-    match known {
-        Some(known) => Ok(count_held(&known.held, *holder)),
-        None => Err(StoreFault::Store),
-    }
+    let Some(known) = known else { unreachable!() };
+    Ok(count_held(&known.held, *holder))
 }
 
 /// The names of the purses of a holder, in order. The connection is found open first, since an index that is kept answers
@@ -137,9 +136,7 @@ pub fn list_purses<S: Alter>(
 {
     find_live(conn)?;
     make_known(alloc, conn, known)?;
-    let Some(known) = known else {
-        return Err(StoreFault::Store);
-    };
+    let Some(known) = known else { unreachable!() };
     match names_held(alloc, &known.held, *holder) {
         Ok(names) => Ok(names),
         Err(_) => Err(StoreFault::Memory),

@@ -20,15 +20,6 @@ returns-in_err-make_known g c =
       known = λ ours was. made.knows (found.stays ours).ours ((found.stays ours).known _ was);
     }
 
-pub returns-in_default : goal.returns-in_default
-returns-in_default g c =
-    let found = c.in_ok-find_live.ensures.reads in
-    let made = c.in_ok-make_known.ensures in
-    record {
-      reads = λ ours was. tells_stopped g.S.Store (λ ours. stays_then _ (state g.S.Store c.find_live.new.conn) _ (found.stays ours) (made.stays (found.stays ours).ours)) refl;
-      known = λ ours was. made.knows (found.stays ours).ours ((found.stays ours).known _ was);
-    }
-
 pub returns-in-Err : goal.returns-in-Err
 returns-in-Err g c =
     let found = c.in_ok-find_live.ensures.reads in
