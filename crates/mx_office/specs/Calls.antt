@@ -15,7 +15,8 @@ use Rattle.mx_office.specs.declared.values.Decided.{Decided}
 
 -- The rows stay, and only a store that works gives an answer. Where there is no doubt in the end, what is said of an answer
 -- is so of the World that the rows spelled. A fault is one of these.
-pub record Tells {B T : Type 0} (b : Ghosts B) (fails : StoreFault → Type 0) (old new : B) (result : Result T StoreFault) (said : World → T → Type 0) : Type 0 where
+pub record Tells {B T : Type 0} (b : Ghosts B) (fails : StoreFault → Type 0) (old new : B)
+    (result : Result T StoreFault) (said : World → T → Type 0) : Type 0 where
   pub keeps : Keeps b.doubt b.rows b.leaves old new
   pub answered : OnOk result (IsWorking b.doubt new)
   pub value : (w : World) → b.doubt new ≡ 0 → b.spells (b.rows old) w → IfOk result (said w)
@@ -23,11 +24,15 @@ pub record Tells {B T : Type 0} (b : Ghosts B) (fails : StoreFault → Type 0) (
 
 -- The same of a decision on a command of a caller. One that isn't the caller's is refused without a look at the book. A command
 -- that only reads has no edits, nor has one that is idle in the World, and want of memory comes of lists alone.
-pub record TellsOf {B T : Type 0} (b : Ghosts B) (old new : B) (result : Result T StoreFault) (caller : Caller) (command : Command) (d : Decided) : Type 0 where
+pub record TellsOf {B T : Type 0} (b : Ghosts B) (old new : B) (result : Result T StoreFault)
+    (caller : Caller) (command : Command) (d : Decided) : Type 0 where
   pub keeps : Keeps b.doubt b.rows b.leaves old new
   pub answered : OnOk result (IsWorking b.doubt new ⊎ IsForAnother caller command d)
-  pub decides : (w : World) → IsCommand command → b.doubt new ≡ 0 → b.spells (b.rows old) w → OnOk result (Decides w (base w caller command) d)
+  pub decides : (w : World) → IsCommand command → b.doubt new ≡ 0 → b.spells (b.rows old) w
+      → OnOk result (Decides w (base w caller command) d)
   pub reads : OnOk result (IsTrue (is_read command) → d.edits ≡ [])
-  pub edits : (w : World) → b.doubt new ≡ 0 → b.spells (b.rows old) w → OnOk result (makes_edits w command ≡ false → d.edits ≡ [])
+  pub edits : (w : World) → b.doubt new ≡ 0 → b.spells (b.rows old) w
+      → OnOk result (makes_edits w command ≡ false → d.edits ≡ [])
   pub fault : IfErr result (MayNotDecide b.fails command)
-  pub memory : (w : World) → b.doubt new ≡ 0 → b.spells (b.rows old) w → IfErr result (FailsFor b.fails (lists w caller command))
+  pub memory : (w : World) → b.doubt new ≡ 0 → b.spells (b.rows old) w
+      → IfErr result (FailsFor b.fails (lists w caller command))

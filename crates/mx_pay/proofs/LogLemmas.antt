@@ -42,10 +42,6 @@ tested p [] zero = refl
 tested p [] (suc n) = grind (arith, nat_tests, tested p [] n)
 tested p (d ∷ ds) n = grind (arith, tested p ds n)
 
-all_some : (ds : List Details) → list_all (λ d. is_some (Some d)) ds ≡ true
-all_some [] = refl
-all_some (d ∷ ds) = all_some ds
-
 any_none : (d : Details) (n : ℕ) → list_any (holds_at d) (replicate n None) ≡ false
 any_none d zero = refl
 any_none d (suc n) = any_none d n
@@ -54,15 +50,7 @@ any_place : (d : Details) (ds : List Details) (n : ℕ) → list_any (holds_at d
 any_place d [] n = any_none d n
 any_place d (e ∷ es) n = grind (arith, any_place d es n)
 
--- the three calls, of the fields
-pub full_is : (entries : List (Option Details)) → IsLog entries → list_all is_some entries ≡ nat_le most_entries (log_len (log_of (some_prefix entries)))
-full_is entries h =
-    let ds : List Details = some_prefix entries in
-    let room : length ds ≤ most_entries = h.room in
-    let taken : (list_all (λ d. is_some (Some d)) ds && (nat_le (most_entries - length ds) 0 || false)) ≡ nat_le (most_entries - length ds) 0 = grind (arith, all_some ds) in
-    let last : nat_le (most_entries - length ds) 0 ≡ nat_le most_entries (length ds) = grind (arith, nat_tests) in
-    ap (list_all is_some) (sym h.exact) ∙ tested is_some ds (most_entries - length ds) ∙ taken ∙ last ∙ ap (nat_le most_entries) (sym (len-log_of ds h.rises))
-
+-- whether details are there, of the fields
 pub has_is : (entries : List (Option Details)) → IsLog entries → (d : Details) → list_any (holds_at d) entries ≡ has_logged (log_of (some_prefix entries)) d
 has_is entries h d =
     ap (list_any (holds_at d)) (sym h.exact) ∙ any_place d (some_prefix entries) (most_entries - length (some_prefix entries))

@@ -62,7 +62,7 @@ impl Log {
         ensures value { result ≡ nat_le most_entries (log_len self.now) }
         ensures valid { IsLogValue self.now }
     {
-        all_taken(&self.entries)
+        self.len() >= MOST_ENTRIES
     }
 
     /// The details at `place`, counted from 0, in order. None exactly where the log has no more than `place`
@@ -148,12 +148,6 @@ fn insert_into(entries: &mut [Option<PayDetails>], details: PayDetails)
             }
         }
     }
-}
-
-fn all_taken(entries: &[Option<PayDetails>]) -> bool
-    ensures { result ≡ list_all is_some entries.now }
-{
-    entries.iter().all(|entry| entry.is_some())
 }
 
 fn count(entries: &[Option<PayDetails>]) -> usize

@@ -14,7 +14,7 @@ pub const TOKEN_BYTES: usize = 16;
 
 /// The token by which a caller is known: 16 bytes, written as 32 hexadecimal digits. Tokens are ordered by
 /// their bytes. A contract sees a token as its bytes.
-#[derive(Clone, Copy, Debug)]
+#[derive(Clone, Copy)]
 pub struct Token {
     bytes: [u8; TOKEN_BYTES],
 }

@@ -233,7 +233,8 @@ fn import_row<B: Book>(
 ) -> Result<RowOutcome, StoreFault>
     ensures later { B.doubt office.old.book ≤ B.doubt office.new.book }
     ensures ok { (w : World) → B.doubt office.new.book ≡ 0 → B.spells (B.rows office.old.book) w → IfOk result (IsRowImported (B.spells (B.rows office.new.book)) w (Some row.now)) }
-    ensures err { B.doubt office.new.book ≡ 0 → OnErr result (B.rows office.new.book ≡ B.rows office.old.book) }
+    ensures err { B.doubt office.new.book ≡ 0
+        → OnErr result (B.rows office.new.book ≡ B.rows office.old.book) }
     ensures fault { IfErr result (λ e. (e ≡ fault.Memory) ⊎ B.fails e) }
 {
     if is_same(&mut office.book, alloc, row)? {
@@ -257,8 +258,10 @@ fn import_record<B: Book>(
     requires few { rows_counted (tally_of report.old) < 2 ^ 64 - 1 }
     ensures later { B.doubt office.old.book ≤ B.doubt office.new.book }
     ensures ok { (w : World) → B.doubt office.new.book ≡ 0 → B.spells (B.rows office.old.book) w → OnOk result (IsRecordImported (B.spells (B.rows office.new.book)) w (fields_of entry.now) (tally_of report.old) (tally_of report.new)) }
-    ensures counted { OnOk result (rows_counted (tally_of report.new) ≡ rows_counted (tally_of report.old) + 1) }
-    ensures err { B.doubt office.new.book ≡ 0 → OnErr result (B.rows office.new.book ≡ B.rows office.old.book) }
+    ensures counted { OnOk result
+        (rows_counted (tally_of report.new) ≡ rows_counted (tally_of report.old) + 1) }
+    ensures err { B.doubt office.new.book ≡ 0
+        → OnErr result (B.rows office.new.book ≡ B.rows office.old.book) }
     ensures uncounted { OnErr result (tally_of report.new ≡ tally_of report.old) }
     ensures fault { IfErr result (λ e. (e ≡ fault.Memory) ⊎ B.fails e) }
 {
@@ -294,7 +297,8 @@ fn take_header(records: &mut ByteRecordsIntoIter<&[u8]>) -> Result<(), RollFault
 /// The records of a roll behind its header.
 fn records_of(alloc: Global, bytes: &[u8]) -> Result<ByteRecordsIntoIter<&[u8]>, RollFaultKind>
     ensures ok { IfOk result (HasGiven bytes.now (roll_header ∷ []) (Some 4)) }
-    ensures err { IfErr result (λ kind. (kind ≢ Store) × (kind ≡ NotRoll → HasNoHeader bytes.now 0)) }
+    ensures err { IfErr result
+        (λ kind. (kind ≢ Store) × (kind ≡ NotRoll → HasNoHeader bytes.now 0)) }
 {
     let reader = ReaderBuilder::new()
         .has_headers(false)
@@ -317,8 +321,10 @@ fn import_next<B: Book>(
     ensures ok { (w : World) → B.doubt office.new.book ≡ 0 → B.spells (B.rows office.old.book) w
         → OnOk result (IfOk next (λ r. IsRecordImported (B.spells (B.rows office.new.book)) w
         (fields_of r) (tally_of report.old) (tally_of report.new))) }
-    ensures counted { OnOk result (rows_counted (tally_of report.new) ≡ rows_counted (tally_of report.old) + 1) }
-    ensures err { B.doubt office.new.book ≡ 0 → OnErr result (B.rows office.new.book ≡ B.rows office.old.book) }
+    ensures counted { OnOk result
+        (rows_counted (tally_of report.new) ≡ rows_counted (tally_of report.old) + 1) }
+    ensures err { B.doubt office.new.book ≡ 0
+        → OnErr result (B.rows office.new.book ≡ B.rows office.old.book) }
     ensures uncounted { OnErr result (tally_of report.new ≡ tally_of report.old) }
     ensures not_roll { IfErr result (λ kind. kind ≡ NotRoll
         → (error : Error) × (next ≡ Err error) × (record_fault (error_kind error) ≡ NotRoll)) }

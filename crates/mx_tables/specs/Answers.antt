@@ -72,7 +72,8 @@ state_columns r = column r 1 ∷ column r 2 ∷ column r 3 ∷ column r 4 ∷ co
 -- the row shows the purse of this name, which is the holder's, or another holder
 abbrev pub ShowsOwn : Name → Name → Row → Option State → Type 0
 ShowsOwn h p row None = (owner : Name) × (column row 0 ≡ Text owner) × (is_name h owner ≡ false)
-ShowsOwn h p row (Some s) = (column row 0 ≡ Text h) × (state_columns row ≡ state_shown s) × IsPurse s × (s.name ≡ p)
+ShowsOwn h p row (Some s) = (column row 0 ≡ Text h) × (state_columns row ≡ state_shown s)
+    × IsPurse s × (s.name ≡ p)
 
 -- the columns of a row of a purse
 abbrev pub purse_columns : Row → Row

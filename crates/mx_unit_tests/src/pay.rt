@@ -92,7 +92,7 @@ fn details_keep_their_fields_and_have_two_names(rt: HostRuntime) -> Result<(), F
 fn tokens_are_read_in_either_case_and_written_in_lower_case(rt: HostRuntime) -> Result<(), Fail> {
     let low = Token::read("0123456789abcdef0123456789abcdef");
     let high = Token::read_bytes(b"0123456789ABCDEF0123456789abcdEF");
-    assert_eq!(rt; high, low);
+    assert!(rt; high == low);
     assert_eq!(rt;
         low.ok_or("no token")?.text(),
         *b"0123456789abcdef0123456789abcdef"

@@ -81,12 +81,15 @@ said route.Settle d = option_map command.Settle (details_at (codes "details") d)
 said route.NewHolder d = of_two (name_at (codes "holder") d) (token_at (codes "token") d) command.NewHolder
 said route.NewPurse d = of_two (name_at (codes "purse") d) (name_at (codes "holder") d) command.NewPurse
 said (route.Load p) d = of_two (amount_at (codes "amount") d) (name_at (codes "ref") d) (command.Load p)
-said (route.StartFrom p) d = of_three (name_at (codes "peer") d) (amount_at (codes "value") d) (seq_at (codes "seq") d) (command.StartFrom p)
-said (route.StartTo p) d = of_three (name_at (codes "peer") d) (amount_at (codes "value") d) (seq_at (codes "seq") d) (command.StartTo p)
+said (route.StartFrom p) d = of_three (name_at (codes "peer") d) (amount_at (codes "value") d)
+    (seq_at (codes "seq") d) (command.StartFrom p)
+said (route.StartTo p) d = of_three (name_at (codes "peer") d) (amount_at (codes "value") d)
+    (seq_at (codes "seq") d) (command.StartTo p)
 said (route.Handle p) d = option_map (command.Handle p) (seq_at (codes "number") d)
 said (route.Discard p) d = option_map (command.Discard p) (seq_at (codes "number") d)
 said (route.ReadLog p) d = option_map (command.ReadLog p) (number_at (codes "place") d)
-said (route.Redeem p) d = of_two (amount_at (codes "amount") d) (name_at (codes "ref") d) (command.Redeem p)
+said (route.Redeem p) d = of_two (amount_at (codes "amount") d) (name_at (codes "ref") d)
+    (command.Redeem p)
 said r d = None
 
 -- the JSON value of a body, which has to be UTF-8
