@@ -8,7 +8,7 @@ use std::marker::Model;
 
 /// Payment details: who pays whom how much, and the sequence number that each of the two purses has for the
 /// payment. The two names differ. Details are ordered by their fields, in the order in which they stand here.
-#[derive(Clone, Copy, Debug, PartialEq, Eq, PartialOrd, Ord)]
+#[derive(Clone, Copy, PartialEq, Eq, PartialOrd, Ord)]
 pub struct PayDetails {
     from: Name,
     to: Name,

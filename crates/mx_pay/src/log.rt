@@ -165,49 +165,31 @@ fn slot(entries: &[Option<PayDetails>], place: usize) -> Option<PayDetails>
     }
 }
 
-fn is_at(entry: &Option<PayDetails>, details: &PayDetails) -> bool
-    ensures { result ≡ holds_at details.now entry.now }
-{
-    match entry {
-        None => false,
-        Some(held) => details.cmp(held).is_eq(),
-    }
-}
-
 fn holds(entries: &[Option<PayDetails>], details: &PayDetails) -> bool
     ensures { result ≡ list_any (holds_at details.now) entries.now }
 {
-    entries.iter().any(|entry| is_at(entry, details))
-}
-
-fn is_in(entry: &Option<PayDetails>, log: &Log) -> bool
-    ensures { result ≡ stands_in log.now entry.now }
-{
-    match entry {
-        None => true,
-        Some(details) => log.has(details),
-    }
+    entries.iter().any(|entry| match entry {
+        None => false,
+        Some(held) => details.cmp(held).is_eq(),
+    })
 }
 
 fn all_in(entries: &[Option<PayDetails>], log: &Log) -> bool
     ensures { result ≡ list_all (stands_in log.now) entries.now }
 {
-    entries.iter().all(|entry| is_in(entry, log))
-}
-
-fn is_before(entry: &Option<PayDetails>, details: &PayDetails) -> bool
-    ensures { result ≡ is_behind details.now entry.now }
-{
-    match entry {
+    entries.iter().all(|entry| match entry {
         None => true,
-        Some(held) => held.cmp(details).is_lt(),
-    }
+        Some(details) => log.has(details),
+    })
 }
 
 fn all_before(entries: &[Option<PayDetails>], details: &PayDetails) -> bool
     ensures { result ≡ list_all (is_behind details.now) entries.now }
 {
-    entries.iter().all(|entry| is_before(entry, details))
+    entries.iter().all(|entry| match entry {
+        None => true,
+        Some(held) => held.cmp(details).is_lt(),
+    })
 }
 
 fn is_owned(entry: &Option<PayDetails>, name: &Name, next: Seq) -> bool

@@ -15,7 +15,7 @@ pub const MOST_NAME_BYTES: usize = 24;
 
 /// A name of a member, a holder or a purse, or a reference: 1 to 24 bytes of `a` to `z`, `0` to `9` and `-`,
 /// the first a letter. Names are ordered by their bytes. A contract sees a name as its bytes.
-#[derive(Clone, Copy, Debug)]
+#[derive(Clone, Copy)]
 pub struct Name {
     // The text, and zeros behind it.
     bytes: [u8; MOST_NAME_BYTES],
@@ -96,7 +96,6 @@ fn word(bytes: &[u8; MOST_NAME_BYTES], at: usize) -> u64
 }
 
 /// The order of two names' bytes: eight at a time, as numbers.
-#[tactic(auto, using(crate::proofs::OrderLemmas::by_first, crate::proofs::OrderLemmas::by_second, crate::proofs::OrderLemmas::by_third))]
 fn order(a: &[u8; MOST_NAME_BYTES], b: &[u8; MOST_NAME_BYTES]) -> Ordering
     ensures { result ≡ slice_cmp nat_cmp a.now b.now }
 {

@@ -12,7 +12,7 @@ pub const MOST_AMOUNT: u64 = 1_000_000_000_000;
 pub const MOST_NUMBER: u64 = 1_000_000_000_000_000;
 
 /// The amount of one request or payment, from 0 to 10^12. A contract sees it as a number.
-#[derive(Clone, Copy, Debug, PartialEq, Eq, PartialOrd, Ord)]
+#[derive(Clone, Copy, PartialEq, Eq, PartialOrd, Ord)]
 pub struct Amount {
     value: u64,
 }
@@ -52,7 +52,7 @@ impl Amount {
 }
 
 /// A sequence number of a purse, from 0 to 10^15. A contract sees it as a number.
-#[derive(Clone, Copy, Debug, PartialEq, Eq, PartialOrd, Ord)]
+#[derive(Clone, Copy, PartialEq, Eq, PartialOrd, Ord)]
 pub struct Seq {
     number: u64,
 }

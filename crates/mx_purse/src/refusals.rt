@@ -2,7 +2,7 @@
 
 /// Why a purse refuses to start a payment, in the order in which the guards are looked at: where several fail,
 /// the first is answered.
-#[derive(Clone, Copy, Debug, PartialEq, Eq)]
+#[derive(Clone, Copy, PartialEq, Eq)]
 pub enum StartRefusal {
     /// The other purse of the payment would be the purse itself.
     SamePurse,

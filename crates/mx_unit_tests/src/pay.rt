@@ -135,7 +135,7 @@ fn a_code_text_is_read_as_its_log(rt: HostRuntime) -> Result<(), Fail> {
         assert_code_text(&rt, text, len)?;
     }
     let log = read_code("a,b,60,3,4").ok_or("no code text")?;
-    assert_eq!(rt; log.at(0), Some(details("b", 60, 3, 4)?));
+    assert!(rt; log.at(0) == Some(details("b", 60, 3, 4)?));
     Ok(())
 }
 

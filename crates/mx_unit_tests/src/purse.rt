@@ -53,9 +53,9 @@ const MOST: u64 = 1_000_000_000_000_000;
 fn a_new_purse_is_empty_and_at_rest(rt: HostRuntime) -> Result<(), Fail> {
     let name = Name::read("p1").ok_or("no name")?;
     let purse = Purse::new(name);
-    assert_eq!(rt; purse.name(), name);
+    assert!(rt; purse.name() == name);
     assert_eq!(rt; figures(&purse), (0, 0, 0, 0));
-    assert_eq!(rt; standing(&purse), ("eaFrom", None));
+    assert!(rt; standing(&purse) == ("eaFrom", None));
     Ok(())
 }
 
@@ -70,9 +70,9 @@ fn a_purse_of_given_parts_has_them(rt: HostRuntime) -> Result<(), Fail> {
         3,
     )?;
     let purse = purse.ok_or("no purse")?;
-    assert_eq!(rt; purse.name(), held.from());
+    assert!(rt; purse.name() == held.from());
     assert_eq!(rt; figures(&purse), (60, 2, 2, 3));
-    assert_eq!(rt; standing(&purse), ("epr", Some(held)));
+    assert!(rt; standing(&purse) == ("epr", Some(held)));
     Ok(())
 }
 
@@ -172,19 +172,19 @@ fn figures(purse: &Purse) -> (u64, u64, usize, u64) {
 /// Both purses start the payment.
 fn assert_started(rt: &impl Abort, p1: &mut Purse, q1: &mut Purse, sixty: PayDetails) {
     let begun = p1.start_from(sixty.to(), sixty.value(), Seq::zero());
-    assert_eq!(rt; begun, Ok(sixty));
-    assert_eq!(rt; standing(p1), ("epr", Some(sixty)));
+    assert!(rt; begun == Ok(sixty));
+    assert!(rt; standing(p1) == ("epr", Some(sixty)));
     let begun = q1.start_to(sixty.from(), sixty.value(), Seq::zero());
-    assert_eq!(rt; begun, Ok(sixty));
-    assert_eq!(rt; standing(q1), ("epv", Some(sixty)));
+    assert!(rt; begun == Ok(sixty));
+    assert!(rt; standing(q1) == ("epv", Some(sixty)));
 }
 
 /// The three messages of the payment are handled.
 fn assert_handled(rt: &impl Abort, p1: &mut Purse, q1: &mut Purse, sixty: PayDetails) {
-    assert_eq!(rt; taken(p1, Message::Req(sixty)), ("req", Some(sixty)));
-    assert_eq!(rt; standing(p1), ("epa", Some(sixty)));
-    assert_eq!(rt; taken(q1, Message::Val(sixty)), ("val", Some(sixty)));
-    assert_eq!(rt; taken(p1, Message::Ack(sixty)), ("ack", Some(sixty)));
+    assert!(rt; taken(p1, Message::Req(sixty)) == ("req", Some(sixty)));
+    assert!(rt; standing(p1) == ("epa", Some(sixty)));
+    assert!(rt; taken(q1, Message::Val(sixty)) == ("val", Some(sixty)));
+    assert!(rt; taken(p1, Message::Ack(sixty)) == ("ack", Some(sixty)));
 }
 
 #[test]
@@ -195,9 +195,9 @@ fn payment_in_five_steps(rt: HostRuntime) -> Result<(), Fail> {
     assert_started(&rt, &mut p1, &mut q1, sixty);
     assert_handled(&rt, &mut p1, &mut q1, sixty);
     assert_eq!(rt; figures(&p1), (40, 1, 0, 2));
-    assert_eq!(rt; standing(&p1), ("eaFrom", None));
+    assert!(rt; standing(&p1) == ("eaFrom", None));
     assert_eq!(rt; figures(&q1), (60, 1, 0, 1));
-    assert_eq!(rt; standing(&q1), ("eaTo", None));
+    assert!(rt; standing(&q1) == ("eaTo", None));
     Ok(())
 }
 
@@ -208,9 +208,9 @@ fn worn_purse(rt: HostRuntime) -> Result<(), Fail> {
     let mut p1 = made(100, MOST, Status::Epr(paid), Log::new(), 1)?.ok_or("no purse")?;
     let nothing = Amount::new(0).ok_or("no amount")?;
     let begun = p1.start_from(paid.to(), nothing, Seq::zero());
-    assert_eq!(rt; begun, Err(StartRefusal::Worn));
-    assert_eq!(rt; taken(&mut p1, Message::Req(paid)), ("req", Some(paid)));
-    assert_eq!(rt; p1.abort(), Some(paid));
+    assert!(rt; begun == Err(StartRefusal::Worn));
+    assert!(rt; taken(&mut p1, Message::Req(paid)) == ("req", Some(paid)));
+    assert!(rt; p1.abort() == Some(paid));
     assert_eq!(rt; figures(&p1), (40, MOST, 1, 3));
     Ok(())
 }
