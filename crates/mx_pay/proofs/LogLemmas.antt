@@ -50,6 +50,16 @@ any_place : (d : Details) (ds : List Details) (n : ℕ) → list_any (holds_at d
 any_place d [] n = any_none d n
 any_place d (e ∷ es) n = grind (arith, any_place d es n)
 
+-- a place has details where there are more than those before it
+some_at : (ds : List Details) (i : ℕ) → is_some (slice_get ds i) ≡ nat_le (suc i) (length ds)
+some_at [] zero = grind (arith, nat_tests)
+some_at [] (suc i) = grind (arith, nat_tests)
+some_at (d ∷ ds) zero = grind (arith, nat_tests)
+some_at (d ∷ ds) (suc i) = grind (arith, nat_tests, some_at ds i)
+
+pub full_is : (log : Entries) → is_some (entry_at log (most_entries - 1)) ≡ nat_le most_entries (log_len log)
+full_is log = some_at (logged log) (most_entries - 1) ∙ ap (nat_le most_entries) (length-map (fmap.entries log) _ ∙ sym (fmap.len-entries log))
+
 -- whether details are there, of the fields
 pub has_is : (entries : List (Option Details)) → IsLog entries → (d : Details) → list_any (holds_at d) entries ≡ has_logged (log_of (some_prefix entries)) d
 has_is entries h d =

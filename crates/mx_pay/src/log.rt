@@ -62,7 +62,7 @@ impl Log {
         ensures value { result ≡ nat_le most_entries (log_len self.now) }
         ensures valid { IsLogValue self.now }
     {
-        self.len() >= MOST_ENTRIES
+        self.at(MOST_ENTRIES - 1).is_some()
     }
 
     /// The details at `place`, counted from 0, in order. None exactly where the log has no more than `place`
