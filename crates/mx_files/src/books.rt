@@ -1,9 +1,7 @@
 //! Books in a store, wherever that keeps them.
 ghost use Rattle.std.specs.Prelude.{◌≡◌, ◌≤◌, [], IfOk, IsErr};
 ghost use Rattle.sqlite.specs.Held.{state as state_of};
-ghost use Rattle.mx_book.specs.Stands.{MovesTo};
 ghost use Rattle.mx_book.specs.World.{World, opening};
-ghost use Rattle.mx_desk.specs.Serve.{attempts};
 ghost use Rattle.mx_desk.specs.Steps.{state};
 ghost use Rattle.mx_tables.specs.Holds.{SpellsOne};
 ghost use Rattle.mx_tables.specs.States.{Leaves, worry};
@@ -14,10 +12,9 @@ ghost use Rattle.mx_files.specs.Opened.{open_fault_of};
 
 use mx_book::Book;
 use mx_desk::{Counted, Outlet};
-use mx_office::Office;
 use mx_pay::Token;
 use mx_tables::{OpenFault, Tables};
-use mx_tasks::{Done, TaskFault, Work, do_work};
+use mx_tasks::{Done, TaskFault, Work, work_over};
 use sqlite::{Alter, Connection};
 use std::alloc::Global;
 use std::io::Read;
@@ -55,26 +52,6 @@ pub fn make_in_store<S: Alter + Drop>(
     }
 }
 
-/// Lends books to a piece of work, and gives them back with what came of it.
-fn lend<R: Read, W: Outlet, B: Book>(
-    rt: &HostRuntime,
-    work: &Work<'_>,
-    book: B,
-    reader: &mut Counted<R>,
-    writer: &mut Counted<W>,
-) -> (Result<Done, TaskFault>, B)
-    ensures later { B.doubt book ≤ B.doubt result.1 }
-    ensures works { (w : World) → B.doubt result.1 ≤ 1 → (B.doubt book ≡ 0 → B.spells (B.rows book) w)
-        → Works B.fails (B.doubt result.1 ≡ 0) (B.spells (B.rows result.1))
-        (λ ms. MovesTo B.doubt B.rows B.spells B.leaves book result.1 w (attempts ms))
-        (state [] (R.remaining reader.old.device) (W.contents writer.old.device) w) work.now result.0
-        (R.remaining reader.new.device) (W.contents writer.new.device) }
-{
-    let mut office = Office::new(book);
-    let answer = do_work(rt, work, &mut office, reader, writer);
-    (answer, office.into_book())
-}
-
 /// Does a piece of work over the books in a store, and gives what came of it, with the store. What came of it is said of the
 /// World that the books spelled (`works`). Where the store is refused, nothing was read or written.
 ///
@@ -106,7 +83,7 @@ pub fn over_store<S: Alter + Drop, R: Read, W: Outlet>(
 {
     match Tables::open(rt.alloc(), store) {
         Ok(book) => {
-            let (answer, left) = lend(rt, work, book, reader, writer);
+            let (answer, left) = work_over(rt, work, book, reader, writer);
             Ok((answer, left.into_store()))
         }
         Err(refused) => Err(unmade(refused.fault)),

@@ -14,4 +14,4 @@ pub mod work;
 
 pub use alarm::{Alarm, Alarmed};
 pub use fault::TaskFault;
-pub use work::{Done, Work, do_work};
+pub use work::{Done, Work, do_work, work_over};

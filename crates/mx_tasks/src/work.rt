@@ -178,3 +178,23 @@ pub fn do_work<R: Read, W: Outlet, B: Book>(
         Work::Report(purse) => report(rt.alloc(), &mut office.book, *purse),
     }
 }
+
+/// Does a piece of work over books, and gives them back with what came of it.
+pub fn work_over<R: Read, W: Outlet, B: Book>(
+    rt: &HostRuntime,
+    work: &Work<'_>,
+    book: B,
+    reader: &mut Counted<R>,
+    writer: &mut Counted<W>,
+) -> (Result<Done, TaskFault>, B)
+    ensures later { B.doubt book ≤ B.doubt result.1 }
+    ensures works { (w : World) → B.doubt result.1 ≤ 1 → (B.doubt book ≡ 0 → B.spells (B.rows book) w)
+        → Works B.fails (B.doubt result.1 ≡ 0) (B.spells (B.rows result.1))
+        (λ ms. MovesTo B.doubt B.rows B.spells B.leaves book result.1 w (attempts ms))
+        (state [] (R.remaining reader.old.device) (W.contents writer.old.device) w) work.now result.0
+        (R.remaining reader.new.device) (W.contents writer.new.device) }
+{
+    let mut office = Office::new(book);
+    let answer = do_work(rt, work, &mut office, reader, writer);
+    (answer, office.into_book())
+}

@@ -1,4 +1,4 @@
-use Rattle.mx_files.proofs.books.lend.Goals as goal
+use Rattle.mx_tasks.proofs.work.work_over.Goals as goal
 
 pub returns-clause-works : goal.returns-clause-works
 returns-clause-works g c = λ w low was.
