@@ -188,6 +188,7 @@ pub fn work_over<R: Read, W: Outlet, B: Book>(
     writer: &mut Counted<W>,
 ) -> (Result<Done, TaskFault>, B)
     ensures later { B.doubt book ≤ B.doubt result.1 }
+    ensures untouched { (work.now ≡ Run) ⊎ Untouched reader.old reader.new writer.old writer.new }
     ensures works { (w : World) → B.doubt result.1 ≤ 1 → (B.doubt book ≡ 0 → B.spells (B.rows book) w)
         → Works B.fails (B.doubt result.1 ≡ 0) (B.spells (B.rows result.1))
         (λ ms. MovesTo B.doubt B.rows B.spells B.leaves book result.1 w (attempts ms))
