@@ -6,9 +6,9 @@ use Rattle.mx_book.specs.declared.values.Caller.{Caller}
 use Rattle.mx_book.specs.declared.values.Caller.TheVariants.{Operator, Clerk, Holder}
 use Rattle.mx_office.specs.Step.{Course, ends, asks, base, step}
 use Rattle.mx_office.specs.Isolation.{Event, Holdings, only_if, for_holder, issued_event, put_event, view_of, on_holdings, after_event, local, cut}
-use Rattle.mx_office.specs.declared.values.Command.{Command}
-use Rattle.mx_office.specs.declared.values.Refusal.TheVariants.{NotForCaller}
-use Rattle.mx_office.specs.declared.values.Reply.{Reply}
+use Rattle.mx_command.specs.declared.values.Command.{Command}
+use Rattle.mx_command.specs.declared.values.Refusal.TheVariants.{NotForCaller}
+use Rattle.mx_command.specs.declared.values.Reply.{Reply}
 use Rattle.mx_office.proofs.LawLemmas.{and_then, course-append, one_law}
 use Rattle.mx_wire.specs.Routes.{route_of, class_of}
 use Rattle.mx_wire.specs.Bodies.{command_of}

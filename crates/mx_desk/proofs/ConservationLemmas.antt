@@ -8,10 +8,10 @@ use Rattle.mx_book.specs.Reads.{who_of}
 use Rattle.mx_book.specs.World.{World, Name, Token}
 use Rattle.mx_book.specs.declared.values.Caller.{Caller}
 use Rattle.mx_book.specs.declared.values.Caller.TheVariants.{Operator, Clerk, Holder}
-use Rattle.mx_office.specs.Commands.{IsNamed, IsCaller, IsCommand, IsAsked}
+use Rattle.mx_command.specs.Commands.{IsNamed, IsCaller, IsCommand, IsAsked, Asked}
 use Rattle.mx_office.specs.Reachable.{IsReachable}
-use Rattle.mx_office.specs.Step.{Asked, step}
-use Rattle.mx_office.specs.declared.values.Command.{Command}
+use Rattle.mx_office.specs.Step.{step}
+use Rattle.mx_command.specs.declared.values.Command.{Command}
 use Rattle.mx_office.proofs.FullLemmas.{never_full}
 use Rattle.mx_office.proofs.ReachLemmas.{reachable_after}
 use Rattle.mx_office.proofs.StepLemmas.{reachable_world}

@@ -9,8 +9,8 @@ use Rattle.mx_book.specs.declared.contract.StoreFault.TheVariants.{Memory}
 use Rattle.mx_book.specs.declared.values.Caller.{Caller}
 use Rattle.mx_office.specs.Faults.{FailsFor, lists, takes_memory}
 use Rattle.mx_office.specs.Step.{step}
-use Rattle.mx_office.specs.declared.values.Command.{Command}
-use Rattle.mx_office.specs.declared.values.Reply.{Reply}
+use Rattle.mx_command.specs.declared.values.Command.{Command}
+use Rattle.mx_command.specs.declared.values.Reply.{Reply}
 use Rattle.mx_office.proofs.FaultLemmas.{decision_fails}
 use Rattle.mx_wire.specs.Bodies.{command_of, has_body}
 use Rattle.mx_wire.specs.Replies.{is_made}

@@ -3,7 +3,8 @@ use Rattle.std.proofs.Common.{◌≡◌, Bool, true, false, cond, List, [], ◌�
 use Rattle.mx_book.specs.World.{World, Token, opening}
 use Rattle.mx_office.specs.Abstract.{Refines, RefinesFromNone}
 use Rattle.mx_office.specs.Reachable.{IsReachable}
-use Rattle.mx_office.specs.Step.{Asked, listed, steps}
+use Rattle.mx_command.specs.Commands.{Asked}
+use Rattle.mx_office.specs.Step.{listed, steps}
 use Rattle.mx_office.proofs.RefinementLemmas.{steps_refine, run_refines}
 use Rattle.mx_desk.specs.Isolation.{asked_of}
 use Rattle.mx_desk.specs.Refinement.{asked_in, commands_of}

@@ -2,7 +2,8 @@
 use Rattle.std.specs.Prelude.{◌≡◌, Bool, List, [], ◌∷◌, Some}
 use Rattle.mx_book.specs.World.{World}
 use Rattle.mx_office.specs.Conservation.{IsNeverFull}
-use Rattle.mx_office.specs.Step.{Asked, step}
+use Rattle.mx_command.specs.Commands.{Asked}
+use Rattle.mx_office.specs.Step.{step}
 use Rattle.mx_desk.specs.Isolation.{asked_of}
 use Rattle.mx_desk.specs.Serve.{Marked, world_after_one}
 

@@ -2,10 +2,11 @@
 use Rattle.std.specs.Prelude.{◌≡◌, ℕ, Bool, true, false, List, [], ◌∷◌, ◌++◌, map, Option, Some, None, option_map, if◌then◌else◌}
 use Rattle.mx_book.specs.World.{World, Name}
 use Rattle.mx_book.specs.declared.values.Caller.{Caller}
-use Rattle.mx_office.specs.Step.{Asked, Course, ends, asks, base, course}
+use Rattle.mx_command.specs.Commands.{Asked}
+use Rattle.mx_office.specs.Step.{Course, ends, asks, base, course}
 use Rattle.mx_office.specs.Isolation.{Event, Holdings, for_holder, issued_event, put_event, on_holdings, after_event, cut}
-use Rattle.mx_office.specs.declared.values.Command.{Command}
-use Rattle.mx_office.specs.declared.values.Refusal.TheVariants.{NotForCaller}
+use Rattle.mx_command.specs.declared.values.Command.{Command}
+use Rattle.mx_command.specs.declared.values.Refusal.TheVariants.{NotForCaller}
 use Rattle.mx_wire.specs.Routes.{route_of, class_of}
 use Rattle.mx_wire.specs.Bodies.{command_of}
 use Rattle.mx_wire.specs.Replies.{Parts, sent, fixed_parts, reply_parts}

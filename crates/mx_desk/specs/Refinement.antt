@@ -1,7 +1,8 @@
 -- What requests ask.
 use Rattle.std.specs.Prelude.{List, [], ◌∷◌, ◌++◌, Option, None, if◌then◌else◌}
 use Rattle.mx_book.specs.World.{World}
-use Rattle.mx_office.specs.Step.{Asked, listed}
+use Rattle.mx_command.specs.Commands.{Asked}
+use Rattle.mx_office.specs.Step.{listed}
 use Rattle.mx_desk.specs.Isolation.{asked_of}
 use Rattle.mx_desk.specs.Serve.{Marked, world_after_one}
 

@@ -9,8 +9,8 @@ use Rattle.mx_book.specs.declared.values.Caller.{Caller}
 use Rattle.mx_book.specs.declared.values.Caller.TheVariants as caller
 use Rattle.mx_office.specs.Faults.{takes_memory}
 use Rattle.mx_office.specs.Step.{step}
-use Rattle.mx_office.specs.declared.values.Command.{Command}
-use Rattle.mx_office.specs.declared.values.Refusal.TheVariants.{NotForCaller}
+use Rattle.mx_command.specs.declared.values.Command.{Command}
+use Rattle.mx_command.specs.declared.values.Refusal.TheVariants.{NotForCaller}
 use Rattle.mx_wire.specs.Routes.{route_of, class_of}
 use Rattle.mx_wire.specs.Bodies.{command_of, has_body}
 use Rattle.mx_wire.specs.Replies.{Parts, fixed_parts, is_made, reply_parts}

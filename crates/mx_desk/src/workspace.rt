@@ -2,7 +2,7 @@
 ghost use Rattle.std.specs.Prelude.{◌≡◌, []};
 
 use crate::callers::Callers;
-use mx_office::Command;
+use mx_command::Command;
 use mx_office::values::Decided;
 use mx_wire::Scratch;
 use std::alloc::Global;

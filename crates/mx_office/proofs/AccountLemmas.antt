@@ -19,8 +19,8 @@ use Rattle.mx_book.specs.Edits.{AllSuit, all_edited}
 use Rattle.mx_book.proofs.NameLemmas.{names_total, same_name}
 use Rattle.mx_book.proofs.PurseLemmas.{with_lines, line_edits, change_there, set_same, edits_append, suits_append, purse_leads, purse_suits, purse_stays, put_leads, put_suits, put_stays, put_vanishes, put_nowhere}
 use Rattle.mx_office.specs.declared.values.Decided.{Decided}
-use Rattle.mx_office.specs.declared.values.Reply.{Reply}
-use Rattle.mx_office.specs.declared.values.Refusal.TheVariants.{NoSuchPurse}
+use Rattle.mx_command.specs.declared.values.Reply.{Reply}
+use Rattle.mx_command.specs.declared.values.Refusal.TheVariants.{NoSuchPurse}
 use Rattle.mx_office.specs.Step.{Deed, tell, on_own, on_found, in_place, put_sent, listed, with_purse}
 use Rattle.mx_office.specs.Decides.{Decides, placed, purse_and_lines, put_edits, purse_edits}
 use Rattle.mx_office.proofs.DecideLemmas.{edits_decide, told_decides}

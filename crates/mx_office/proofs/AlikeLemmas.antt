@@ -9,8 +9,8 @@ use Rattle.mx_book.specs.Reads.{from_row, of_purse, is_archived}
 use Rattle.mx_book.specs.Totals.{maybe_lost, still_lost}
 use Rattle.mx_book.specs.World.{World, Row, Name, set_row}
 use Rattle.mx_book.proofs.NameLemmas.{names_total, names_exact}
-use Rattle.mx_office.specs.declared.values.Command.{Command}
-use Rattle.mx_office.specs.declared.values.Reply.{Reply}
+use Rattle.mx_command.specs.declared.values.Command.{Command}
+use Rattle.mx_command.specs.declared.values.Reply.{Reply}
 use Rattle.mx_office.specs.Abstract.{AbstractPurse, Act, ChosenLost, IsAct, received_by, losses_of, abstract_purse, abstract_of}
 use Rattle.mx_office.proofs.ActLemmas.{Simulated, get-abstract}
 use Rattle.mx_office.proofs.FateLemmas.{received_same, lost_same}

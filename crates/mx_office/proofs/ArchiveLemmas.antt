@@ -26,8 +26,8 @@ use Rattle.mx_book.proofs.NameLemmas.{get-inserted}
 use Rattle.mx_book.proofs.PurseLemmas.{with_lines, line_edits, edits_append, suits_append, purse_leads, purse_suits, purse_stays, put_stays}
 use Rattle.mx_book.proofs.ResultLemmas.{archive_suits, archived_stays, empty_tray, result_stays, tray_has}
 use Rattle.mx_office.specs.declared.values.Decided.{Decided}
-use Rattle.mx_office.specs.declared.values.Refusal.TheVariants.{NoSuchPurse, NotArchived}
-use Rattle.mx_office.specs.declared.values.Reply.TheVariants as reply
+use Rattle.mx_command.specs.declared.values.Refusal.TheVariants.{NoSuchPurse, NotArchived}
+use Rattle.mx_command.specs.declared.values.Reply.TheVariants as reply
 use Rattle.mx_office.specs.Step.{Deed, tell, unless, in_place, on_own, abort_line, listed, with_aborted, read_log, archive, archive_refusal, may_clear, clear, clear_refusal, is_kept}
 use Rattle.mx_office.specs.Decides.{Decides, placed, put_edits, not_kept, read_edits}
 use Rattle.mx_office.proofs.DecideLemmas.{edits_decide, told_decides, edit_decides, refused_decides}

@@ -13,7 +13,7 @@ use Rattle.mx_book.specs.World.{World, Row, Holding, delivered, Name, is_of, is_
 use Rattle.mx_book.proofs.FoundLemmas.{inside}
 use Rattle.mx_book.proofs.MapLemmas.{get-pick}
 use Rattle.mx_book.proofs.NameLemmas.{names_total, same_name}
-use Rattle.mx_office.specs.declared.values.Command.{Command}
+use Rattle.mx_command.specs.declared.values.Command.{Command}
 use Rattle.mx_book.specs.Totals.{issued_row, redeemed_row}
 use Rattle.mx_office.specs.Balance.{IsBalanced, is_chosen, of_purses}
 use Rattle.mx_office.specs.Reachable.{IsReachable}

@@ -10,10 +10,10 @@ use Rattle.mx_book.specs.World.{World, Row, Holding, Name, Token, opening, set_r
 use Rattle.mx_book.proofs.NameLemmas.{names_exact}
 use Rattle.mx_book.proofs.PurseLemmas.{put_leads, put_vanishes, put_nowhere, change_there}
 use Rattle.mx_book.proofs.UnderLemmas.{get-remake}
-use Rattle.mx_office.specs.declared.values.Refusal.{Refusal}
-use Rattle.mx_office.specs.declared.values.Reply.{Reply}
-use Rattle.mx_office.specs.Step.{Deed, tell, refuse, unless, unless_told, on_found, idle, put_sent, is_kept, with_result, world_after, Asked, step, steps}
-use Rattle.mx_office.specs.Commands.{IsAsked}
+use Rattle.mx_command.specs.declared.values.Refusal.{Refusal}
+use Rattle.mx_command.specs.declared.values.Reply.{Reply}
+use Rattle.mx_command.specs.Commands.{Asked, IsAsked}
+use Rattle.mx_office.specs.Step.{Deed, tell, refuse, unless, unless_told, on_found, idle, put_sent, is_kept, with_result, world_after, step, steps}
 use Rattle.mx_office.specs.Reachable.{IsReachable}
 
 -- what holds of either holds of what a test chooses

@@ -37,9 +37,9 @@ use Rattle.std.proofs.ByRecursion.{All-append as all_append}
 use Rattle.mx_book.proofs.MoneyLemmas.{with_redemption, redemptions_stay, redemption_leads, redemption_suits}
 use Rattle.mx_book.proofs.PurseLemmas.{with_lines, line_edits, discard_leads, discard_suits, discard_stays}
 use Rattle.mx_office.specs.declared.values.Decided.{Decided}
-use Rattle.mx_office.specs.declared.values.Reply.{Reply}
-use Rattle.mx_office.specs.declared.values.Reply.TheVariants as reply
-use Rattle.mx_office.specs.declared.values.Refusal.TheVariants.{NoSuchMessage, NoSuchPurse, RefReused}
+use Rattle.mx_command.specs.declared.values.Reply.{Reply}
+use Rattle.mx_command.specs.declared.values.Reply.TheVariants as reply
+use Rattle.mx_command.specs.declared.values.Refusal.TheVariants.{NoSuchMessage, NoSuchPurse, RefReused}
 use Rattle.mx_office.specs.Step.{Deed, tell, unless, on_found, in_place, refusal_of_start, refusal_of_redeem, abort_line, payment_line, message_line, money_line, listed, with_aborted, inbox, statement, discard, abort, handle, handle_message, redeem, on_own, holding_for}
 use Rattle.mx_office.specs.Decides.{Decides, placed, purse_edits, redeem_edits}
 use Rattle.mx_office.proofs.CaseLemmas.{by_cond}

@@ -16,9 +16,9 @@ use Rattle.mx_book.specs.Reads.{who_of, purses_of, holder_of}
 use Rattle.mx_book.specs.Edits.{Fits, Suits, AllSuit, edited, all_edited}
 use Rattle.mx_book.proofs.KeepLemmas.{member_stays, holder_stays, new_purse_stays}
 use Rattle.mx_office.specs.declared.values.Decided.{Decided}
-use Rattle.mx_office.specs.declared.values.Refusal.{Refusal}
-use Rattle.mx_office.specs.declared.values.Reply.{Reply}
-use Rattle.mx_office.specs.declared.values.Reply.TheVariants.{Added, Refused}
+use Rattle.mx_command.specs.declared.values.Refusal.{Refusal}
+use Rattle.mx_command.specs.declared.values.Reply.{Reply}
+use Rattle.mx_command.specs.declared.values.Reply.TheVariants.{Added, Refused}
 use Rattle.mx_office.specs.Step.{Deed, tell, world_after, unless, new_member, new_holder, new_purse}
 use Rattle.mx_office.proofs.OwnLemmas.{absent, present, of_there, next, none_left}
 use Rattle.mx_office.specs.Decides.{Decides, purse_count}

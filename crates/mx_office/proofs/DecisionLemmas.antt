@@ -7,11 +7,11 @@ use Rattle.mx_book.specs.declared.contract.StoreFault.{StoreFault}
 use Rattle.mx_book.specs.declared.contract.StoreFault.TheVariants.{Memory}
 use Rattle.mx_book.specs.declared.values.Caller.{Caller}
 use Rattle.mx_office.specs.Calls.{Tells, TellsOf}
-use Rattle.mx_office.specs.Commands.{IsCommand}
+use Rattle.mx_command.specs.Commands.{IsCommand}
 use Rattle.mx_office.specs.Decides.{Decides}
 use Rattle.mx_office.specs.Faults.{FailsFor, is_read, lists, makes_edits, reads_list}
 use Rattle.mx_office.specs.Step.{base}
-use Rattle.mx_office.specs.declared.values.Command.{Command}
+use Rattle.mx_command.specs.declared.values.Command.{Command}
 use Rattle.mx_office.specs.declared.values.Decided.{Decided}
 use Rattle.mx_office.proofs.FaultLemmas.{memory_fails}
 

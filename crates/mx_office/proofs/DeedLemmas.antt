@@ -22,12 +22,12 @@ use Rattle.mx_book.specs.World.{World, Row, Holding, Name, set_row}
 use Rattle.mx_book.proofs.FoundLemmas.{inside}
 use Rattle.mx_book.proofs.NameLemmas.{names_total, get-inserted}
 use Rattle.mx_book.proofs.SumLemmas.{sum_values-insert}
-use Rattle.mx_office.specs.declared.values.Command.{Command}
-use Rattle.mx_office.specs.declared.values.Command.TheVariants.{Redeem}
-use Rattle.mx_office.specs.declared.values.Reply.{Reply}
-use Rattle.mx_office.specs.declared.values.Reply.TheVariants as reply
-use Rattle.mx_office.specs.declared.values.Refusal.{Refusal}
-use Rattle.mx_office.specs.declared.values.Refusal.TheVariants as refusal
+use Rattle.mx_command.specs.declared.values.Command.{Command}
+use Rattle.mx_command.specs.declared.values.Command.TheVariants.{Redeem}
+use Rattle.mx_command.specs.declared.values.Reply.{Reply}
+use Rattle.mx_command.specs.declared.values.Reply.TheVariants as reply
+use Rattle.mx_command.specs.declared.values.Refusal.{Refusal}
+use Rattle.mx_command.specs.declared.values.Refusal.TheVariants as refusal
 use Rattle.mx_office.specs.Abstract.{Act, IsAct}
 use Rattle.mx_office.specs.Step.{Deed, tell, unless, unless_told, on_found, idle, refusal_of_start, refusal_of_redeem, with_aborted, with_redemption, start_from, start_to, discard, abort, read_log, redeem}
 use Rattle.mx_office.proofs.AccountLemmas.{in_tray}

@@ -18,10 +18,10 @@ use Rattle.mx_book.specs.Reads.{is_archived, is_settled}
 use Rattle.mx_book.specs.World.{World, Row, Holding, Name, set_row}
 use Rattle.mx_book.proofs.FoundLemmas.{inside}
 use Rattle.mx_book.proofs.NameLemmas.{get-inserted}
-use Rattle.mx_office.specs.declared.values.Command.{Command}
-use Rattle.mx_office.specs.declared.values.Command.TheVariants.{Show, StartFrom, StartTo, Handle, Discard, Abort, ReadLog, Redeem, Inbox, Statement}
-use Rattle.mx_office.specs.declared.values.Reply.TheVariants as reply
-use Rattle.mx_office.specs.declared.values.Refusal.TheVariants as refusal
+use Rattle.mx_command.specs.declared.values.Command.{Command}
+use Rattle.mx_command.specs.declared.values.Command.TheVariants.{Show, StartFrom, StartTo, Handle, Discard, Abort, ReadLog, Redeem, Inbox, Statement}
+use Rattle.mx_command.specs.declared.values.Reply.TheVariants as reply
+use Rattle.mx_command.specs.declared.values.Refusal.TheVariants as refusal
 use Rattle.mx_office.specs.Step.{Deed, Asks, on_found, with_purse, message_line, handle_message, asks, show, handle, inbox, statement}
 use Rattle.mx_office.proofs.SeenLemmas.{IsTimely, clash, both_parts, neither}
 use Rattle.mx_office.proofs.SoundLemmas.{IsPresent, IsReceiver, Turns, none_moves, restarted, request_turns, value_turns, finish_turns, expects_req_is, expects_val_is, expects_ack_is}

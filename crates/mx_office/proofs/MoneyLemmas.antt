@@ -27,9 +27,9 @@ use Rattle.mx_book.proofs.ResultLemmas.{also_settled_stays}
 use Rattle.mx_book.proofs.PurseLemmas.{with_lines, line_edits, change_there, edits_append, suits_append, purse_leads, purse_suits, purse_stays}
 use Rattle.mx_book.proofs.MoneyLemmas.{with_load, set_member_stays, granted_after, loads_stay, load_leads, load_suits, collect_stays}
 use Rattle.mx_office.specs.declared.values.Decided.{Decided}
-use Rattle.mx_office.specs.declared.values.Reply.{Reply}
-use Rattle.mx_office.specs.declared.values.Reply.TheVariants as reply
-use Rattle.mx_office.specs.declared.values.Refusal.TheVariants as refusal
+use Rattle.mx_command.specs.declared.values.Reply.{Reply}
+use Rattle.mx_command.specs.declared.values.Reply.TheVariants as reply
+use Rattle.mx_command.specs.declared.values.Refusal.TheVariants as refusal
 use Rattle.mx_office.specs.Step.{tell, unless, unless_told, idle, money_line, refusal_of_load, float_of, change_member, grant, grant_refusal, collect, collect_refusal, loaded_holding, loaded_row, new_load_refusal, idle_load_at, idle_load, loaded_world, load_purse, payment_line, refusal_of_credit, settled_holding, settled_row, is_archived_for_both, settle_refusal, with_settled, settle}
 use Rattle.mx_office.specs.Decides.{Decides, member_purse, load_edits, settlement_edits}
 use Rattle.mx_office.proofs.DecideLemmas.{edits_decide, told_decides, edit_decides, refused_decides}

@@ -18,12 +18,12 @@ use Rattle.mx_book.specs.Limits.{most_purses}
 use Rattle.mx_book.specs.Reads.{from_row, who_of, purses_of, uncollected_of, tray_of, is_archived, is_settled}
 use Rattle.mx_book.specs.World.{World, Row, Holding, Name, Token, is_of_member, all_collected, with_archived, set_row, new_row, change_holding}
 use Rattle.mx_book.proofs.PurseLemmas.{change_there}
-use Rattle.mx_office.specs.declared.values.Command.{Command}
-use Rattle.mx_office.specs.declared.values.Command.TheVariants.{NewMember, Grant, Archive, Clear, NewHolder, NewPurse, Load, Collect, Reconcile, Settle}
-use Rattle.mx_office.specs.declared.values.Refusal.{Refusal}
-use Rattle.mx_office.specs.declared.values.Refusal.TheVariants.{NoSuchPurse, NotLost, AlreadySettled}
-use Rattle.mx_office.specs.declared.values.Reply.{Reply}
-use Rattle.mx_office.specs.declared.values.Reply.TheVariants as reply
+use Rattle.mx_command.specs.declared.values.Command.{Command}
+use Rattle.mx_command.specs.declared.values.Command.TheVariants.{NewMember, Grant, Archive, Clear, NewHolder, NewPurse, Load, Collect, Reconcile, Settle}
+use Rattle.mx_command.specs.declared.values.Refusal.{Refusal}
+use Rattle.mx_command.specs.declared.values.Refusal.TheVariants.{NoSuchPurse, NotLost, AlreadySettled}
+use Rattle.mx_command.specs.declared.values.Reply.{Reply}
+use Rattle.mx_command.specs.declared.values.Reply.TheVariants as reply
 use Rattle.mx_office.specs.Step.{Deed, Asks, tell, unless, unless_told, idle, in_place, asks, own_holding, on_world, new_member_refusal, new_holder_refusal, new_purse_refusal, float_of, change_member, grant_refusal, loaded_row, new_load_refusal, idle_load_at, idle_load, loaded_world, load_purse, collect_refusal, archive_refusal, may_clear, clear_refusal, settle_refusal, settled_row, with_settled, refusal_of_credit, base}
 use Rattle.mx_office.proofs.CaseLemmas.{by_refusal, by_found, new_reference}
 use Rattle.mx_office.proofs.OwnLemmas.{absent, present, none_refused, of_there, change_to, is_owned}

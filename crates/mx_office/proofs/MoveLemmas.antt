@@ -7,7 +7,7 @@ use Rattle.mx_book.specs.Totals.{of_all, issued_row, redeemed_row}
 use Rattle.mx_book.specs.World.{World, Row, Holding, Name, set_row, new_row}
 use Rattle.mx_book.proofs.NameLemmas.{names_total}
 use Rattle.mx_book.proofs.SumLemmas.{value_of, sum_values-insert}
-use Rattle.mx_office.specs.declared.values.Command.{Command}
+use Rattle.mx_command.specs.declared.values.Command.{Command}
 use Rattle.mx_office.specs.Conservation.{is_load as loads, is_redemption as redeems, is_settlement as settles}
 use Rattle.mx_office.specs.Step.{loaded_row, settled_row, base, step}
 use Rattle.mx_office.proofs.BalanceCommandLemmas.{loaded_redemptions, settled_redemptions}

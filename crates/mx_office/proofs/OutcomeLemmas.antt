@@ -8,11 +8,11 @@ use Rattle.std.proofs.ByRecursion.{All-append as all_append}
 use Rattle.mx_book.specs.declared.contract.StoreFault.{StoreFault}
 use Rattle.mx_office.specs.declared.values.Outcome.{Outcome}
 use Rattle.mx_office.specs.declared.values.Outcome.TheVariants.{Reply as Replied, Unavailable}
-use Rattle.mx_office.specs.declared.values.Refusal.{Refusal}
-use Rattle.mx_office.specs.declared.values.Reply.{Reply}
-use Rattle.mx_office.specs.declared.values.Reply.TheVariants.{Refused}
-use Rattle.mx_office.specs.Commands.{IsAsked}
-use Rattle.mx_office.specs.Step.{Asked, step}
+use Rattle.mx_command.specs.declared.values.Refusal.{Refusal}
+use Rattle.mx_command.specs.declared.values.Reply.{Reply}
+use Rattle.mx_command.specs.declared.values.Reply.TheVariants.{Refused}
+use Rattle.mx_command.specs.Commands.{IsAsked, Asked}
+use Rattle.mx_office.specs.Step.{step}
 use Rattle.mx_office.specs.Run.{IsRun, IsUndone, MayBeUndone, attempts, is_unavailable}
 
 one_taken : (cs : List Asked) (i : ℕ) (c : Asked) → i < length cs → c ≡ get_or cs i c → take (i + 1) cs ≡ take i cs ++ c ∷ []

@@ -6,7 +6,7 @@ use Rattle.std.specs.FinMap as fmap
 use Rattle.mx_pay.specs.Names.{is_name}
 use Rattle.mx_book.specs.declared.values.MemberRow.{MemberRow}
 use Rattle.mx_book.specs.World.{World, Row, Holding, Name, is_of}
-use Rattle.mx_office.specs.declared.values.Refusal.{Refusal}
+use Rattle.mx_command.specs.declared.values.Refusal.{Refusal}
 use Rattle.mx_office.specs.Step.{first_refusal, change_member, holding_for, own_holding}
 
 -- ---- options

@@ -5,13 +5,13 @@ use Rattle.mx_book.specs.World.{World, opening}
 use Rattle.std.proofs.ByRecursion.{All-append as all_append}
 use Rattle.mx_book.specs.declared.contract.StoreFault.{StoreFault}
 use Rattle.mx_book.specs.declared.values.Caller.{Caller}
-use Rattle.mx_office.specs.declared.values.Command.{Command}
+use Rattle.mx_command.specs.declared.values.Command.{Command}
 use Rattle.mx_office.specs.declared.values.Outcome.{Outcome}
 use Rattle.mx_office.specs.declared.values.Outcome.TheVariants.{Reply as Replied, Unavailable}
-use Rattle.mx_office.specs.Commands.{IsAsked, IsCaller, IsCommand}
+use Rattle.mx_command.specs.Commands.{IsAsked, IsCaller, IsCommand, Asked}
 use Rattle.mx_office.specs.Reachable.{IsReachable}
 use Rattle.mx_office.specs.Run.{IsRun}
-use Rattle.mx_office.specs.Step.{Asked, step, one_step}
+use Rattle.mx_office.specs.Step.{step, one_step}
 use Rattle.mx_office.specs.Conservation.{IsNeverFull, IsNeverFullOutcome}
 use Rattle.mx_office.proofs.FullLemmas.{never_full}
 use Rattle.mx_office.proofs.LawLemmas.{course-append}

@@ -17,16 +17,17 @@ use Rattle.mx_book.specs.Totals.{occurring, value_where}
 use Rattle.mx_book.specs.World.{World, Row, Name, Token, set_row, new_row, is_of_member, with_archived, opening}
 use Rattle.mx_book.proofs.NameLemmas.{names_total, names_exact, same_name, name_itself}
 use Rattle.mx_book.proofs.UnderLemmas.{entries_empty}
-use Rattle.mx_office.specs.declared.values.Command.{Command}
-use Rattle.mx_office.specs.declared.values.Command.TheVariants.{Archive, NewPurse, Load, Settle}
+use Rattle.mx_command.specs.declared.values.Command.{Command}
+use Rattle.mx_command.specs.declared.values.Command.TheVariants.{Archive, NewPurse, Load, Settle}
 use Rattle.mx_office.specs.declared.values.Outcome.{Outcome}
-use Rattle.mx_office.specs.declared.values.Refusal.TheVariants.{NoSuchPurse}
-use Rattle.mx_office.specs.declared.values.Reply.{Reply}
-use Rattle.mx_office.specs.declared.values.Reply.TheVariants as reply
+use Rattle.mx_command.specs.declared.values.Refusal.TheVariants.{NoSuchPurse}
+use Rattle.mx_command.specs.declared.values.Reply.{Reply}
+use Rattle.mx_command.specs.declared.values.Reply.TheVariants as reply
 use Rattle.mx_office.specs.Abstract.{recovers, has_lost, AbstractPurse, AbstractRun, Act, ChosenLost, IsAct, Refines, RefinesFromNone, Simulates, perform_all, counts_lost, counts_received, received_by, losses_of, abstract_purse, abstract_of}
 use Rattle.mx_office.specs.Reachable.{IsReachable}
 use Rattle.mx_office.specs.Run.{IsRun, answered}
-use Rattle.mx_office.specs.Step.{Deed, Asked, idle, with_purse, money_line, loaded_holding, loaded_row, settled_holding, settled_row, with_settled, new_load_refusal, idle_load, idle_load_at, base, step, steps}
+use Rattle.mx_command.specs.Commands.{Asked}
+use Rattle.mx_office.specs.Step.{Deed, idle, with_purse, money_line, loaded_holding, loaded_row, settled_holding, settled_row, with_settled, new_load_refusal, idle_load, idle_load_at, base, step, steps}
 use Rattle.mx_office.proofs.ActLemmas.{Simulated, map_same, get-abstract, get-change, act_leads, leads_to, turned, row_each, found_at, le_true, recover_case, still_load}
 use Rattle.mx_office.proofs.AlikeLemmas.{purse_of, alike_itself, alike_simulated, row_alike, then_alike, apart_alike}
 use Rattle.mx_office.proofs.CaseLemmas.{by_after, collected_same}

@@ -4,7 +4,7 @@ use Rattle.std.specs.FinMap as fmap
 use Rattle.mx_purse.specs.Operations.{expects_val}
 use Rattle.mx_book.specs.Reads.{is_settled}
 use Rattle.mx_book.specs.World.{World, Row, Holding, Name, set_row}
-use Rattle.mx_office.specs.declared.values.Command.{Command}
+use Rattle.mx_command.specs.declared.values.Command.{Command}
 use Rattle.mx_office.specs.Abstract.{ChosenLost}
 use Rattle.mx_office.specs.Step.{Deed, Asks, asks}
 use Rattle.mx_office.proofs.ActLemmas.{Simulated, still_nothing, still_redeem, request_simulated, value_simulated}

@@ -3,12 +3,12 @@ use Rattle.std.proofs.Common.{◌≡◌, subst, ℕ, Bool, true, false, refl, ap
 use Rattle.std.specs.FinMap as fmap
 use Rattle.mx_purse.specs.Operations.{start_from_refusal, start_to_refusal, redeem_refusal}
 use Rattle.mx_book.specs.World.{Holding, Name, World, set_row}
-use Rattle.mx_office.specs.declared.values.Command.{Command}
-use Rattle.mx_office.specs.declared.values.Command.TheVariants.{Show, StartFrom, StartTo, Handle, Discard, Abort, ReadLog, Redeem, Inbox, Statement}
-use Rattle.mx_office.specs.declared.values.Refusal.{Refusal}
-use Rattle.mx_office.specs.declared.values.Reply.{Reply}
-use Rattle.mx_office.specs.declared.values.Reply.TheVariants as reply
-use Rattle.mx_office.specs.declared.values.Refusal.TheVariants.{NoSuchMessage}
+use Rattle.mx_command.specs.declared.values.Command.{Command}
+use Rattle.mx_command.specs.declared.values.Command.TheVariants.{Show, StartFrom, StartTo, Handle, Discard, Abort, ReadLog, Redeem, Inbox, Statement}
+use Rattle.mx_command.specs.declared.values.Refusal.{Refusal}
+use Rattle.mx_command.specs.declared.values.Reply.{Reply}
+use Rattle.mx_command.specs.declared.values.Reply.TheVariants as reply
+use Rattle.mx_command.specs.declared.values.Refusal.TheVariants.{NoSuchMessage}
 use Rattle.mx_office.specs.Conservation.{is_redemption}
 use Rattle.mx_office.proofs.CaseLemmas.{by_told, by_named, by_found, new_reference}
 use Rattle.mx_office.specs.Step.{Deed, Asks, tell, idle, refusal_of_start, refusal_of_redeem, asks, show, start_from, start_to, handle, discard, abort, read_log, redeem, inbox, statement, base, put_sent, with_result, step}

@@ -12,7 +12,7 @@ use Rattle.mx_book.specs.Reads.{is_archived, is_settled}
 use Rattle.mx_book.specs.Totals.{balance_row, issued_row, redeemed_row}
 use Rattle.mx_book.specs.World.{World, Name, Token, result_cmp, opening}
 use Rattle.mx_book.proofs.FoundLemmas.{inside}
-use Rattle.mx_office.specs.declared.values.Command.{Command}
+use Rattle.mx_command.specs.declared.values.Command.{Command}
 use Rattle.mx_office.specs.Reachable.{IsReachable}
 use Rattle.mx_office.specs.Step.{base, step}
 use Rattle.mx_office.proofs.ArchiveLemmas.{clear_means}

@@ -16,8 +16,8 @@ use Rattle.mx_book.specs.World.{World, Row, Holding, Name, set_row, delivered}
 use Rattle.mx_book.proofs.FoundLemmas.{inside}
 use Rattle.mx_book.proofs.NameLemmas.{get-inserted}
 use Rattle.mx_book.proofs.ResultLemmas.{results_total, same_result}
-use Rattle.mx_office.specs.declared.values.Command.{Command}
-use Rattle.mx_office.specs.declared.values.Reply.{Reply}
+use Rattle.mx_command.specs.declared.values.Command.{Command}
+use Rattle.mx_command.specs.declared.values.Reply.{Reply}
 use Rattle.mx_office.specs.Step.{Deed, tell, in_place, world_after}
 use Rattle.mx_office.proofs.AccountLemmas.{in_tray}
 use Rattle.mx_office.proofs.CaseLemmas.{by_after}

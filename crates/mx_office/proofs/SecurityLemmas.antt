@@ -15,11 +15,11 @@ use Rattle.mx_book.specs.declared.values.Caller.TheVariants.{Holder}
 use Rattle.mx_book.specs.Reads.{from_row, is_archived, is_settled}
 use Rattle.mx_book.specs.Totals.{of_all, balance_row, issued_row, redeemed_row, from_logged, from_in_epa, to_logged, definitely_lost, still_lost, occurring, transit, lost}
 use Rattle.mx_book.specs.World.{World, Row, Holding as Held, Name, change_holding}
-use Rattle.mx_office.specs.declared.values.Command.{Command}
-use Rattle.mx_office.specs.declared.values.Command.TheVariants.{Handle}
-use Rattle.mx_office.specs.declared.values.Refusal.TheVariants.{NoSuchPurse, NoSuchMessage}
-use Rattle.mx_office.specs.declared.values.Reply.{Reply}
-use Rattle.mx_office.specs.declared.values.Reply.TheVariants as reply
+use Rattle.mx_command.specs.declared.values.Command.{Command}
+use Rattle.mx_command.specs.declared.values.Command.TheVariants.{Handle}
+use Rattle.mx_command.specs.declared.values.Refusal.TheVariants.{NoSuchPurse, NoSuchMessage}
+use Rattle.mx_command.specs.declared.values.Reply.{Reply}
+use Rattle.mx_command.specs.declared.values.Reply.TheVariants as reply
 use Rattle.mx_office.specs.Conservation.{CreatesNoValue, AccountsAllValue, AcceptsAuthentic, IsAuthentic, PaysCovered, is_load, is_redemption, is_settlement}
 use Rattle.mx_office.specs.Reachable.{IsReachable}
 use Rattle.mx_office.specs.Step.{on_found, in_place, own_holding, handle, handle_message, step}

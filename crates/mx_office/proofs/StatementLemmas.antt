@@ -16,14 +16,15 @@ use Rattle.mx_book.specs.World.{World, Row, Holding, Name, Token, opening, new_h
 use Rattle.mx_book.proofs.FoundLemmas.{each_inserted, none_found}
 use Rattle.mx_book.proofs.MapLemmas.{get-pick}
 use Rattle.mx_book.proofs.NameLemmas.{names_total, names_exact, name_itself}
-use Rattle.mx_office.specs.declared.values.Command.{Command}
-use Rattle.mx_office.specs.declared.values.Command.TheVariants.{Show, StartFrom, StartTo, Handle, Discard, Abort, ReadLog, Redeem, Inbox, Statement}
-use Rattle.mx_office.specs.declared.values.Refusal.TheVariants.{NoSuchPurse, NoSuchMessage}
-use Rattle.mx_office.specs.declared.values.Reply.TheVariants as reply
+use Rattle.mx_command.specs.declared.values.Command.{Command}
+use Rattle.mx_command.specs.declared.values.Command.TheVariants.{Show, StartFrom, StartTo, Handle, Discard, Abort, ReadLog, Redeem, Inbox, Statement}
+use Rattle.mx_command.specs.declared.values.Refusal.TheVariants.{NoSuchPurse, NoSuchMessage}
+use Rattle.mx_command.specs.declared.values.Reply.TheVariants as reply
 use Rattle.mx_office.specs.Isolation.{Event, Holdings, view, on_holdings, after_event, local, cut}
 use Rattle.mx_office.specs.Reachable.{IsReachable}
 use Rattle.mx_office.specs.Statement.{Item, item_of, balance_after, lines_from, balance_at_end, items_over, items_seen, statement_of, IsStated}
-use Rattle.mx_office.specs.Step.{Deed, Asks, Asked, idle, refusal_of_start, refusal_of_redeem, in_place, listed, abort_line, message_line, payment_line, money_line, with_purse, with_aborted, with_redemption, handle_message, asks, show, start_from, start_to, handle, discard, abort, read_log, redeem, inbox, statement, loaded_holding, settled_holding, holding_for, own_holding, steps}
+use Rattle.mx_command.specs.Commands.{Asked}
+use Rattle.mx_office.specs.Step.{Deed, Asks, idle, refusal_of_start, refusal_of_redeem, in_place, listed, abort_line, message_line, payment_line, money_line, with_purse, with_aborted, with_redemption, handle_message, asks, show, start_from, start_to, handle, discard, abort, read_log, redeem, inbox, statement, loaded_holding, settled_holding, holding_for, own_holding, steps}
 use Rattle.mx_office.proofs.CaseLemmas.{by_cond, by_told, by_named, by_found, by_room}
 use Rattle.mx_office.proofs.LawLemmas.{run_law}
 use Rattle.mx_office.proofs.OwnLemmas.{own_at}

@@ -9,8 +9,9 @@ use Rattle.mx_book.specs.Reads.{who_of}
 use Rattle.mx_book.specs.World.{World, Row, Name, Token, set_row, new_row}
 use Rattle.mx_book.proofs.FoundLemmas.{kept_value}
 use Rattle.mx_book.proofs.NameLemmas.{names_total, same_name}
-use Rattle.mx_office.specs.declared.values.Command.{Command}
-use Rattle.mx_office.specs.Step.{Asked, base, loaded_row, settled_row, step, steps}
+use Rattle.mx_command.specs.declared.values.Command.{Command}
+use Rattle.mx_command.specs.Commands.{Asked}
+use Rattle.mx_office.specs.Step.{base, loaded_row, settled_row, step, steps}
 use Rattle.mx_office.proofs.CaseLemmas.{by_after, collected_same}
 use Rattle.mx_office.proofs.MoveCaseLemmas.{by_moves}
 

@@ -25,12 +25,12 @@ use Rattle.mx_book.proofs.Opening.{opening_is}
 use Rattle.mx_book.proofs.KeepLemmas.{member_stays, holder_stays, new_purse_stays}
 use Rattle.mx_book.proofs.PurseLemmas.{put_stays}
 use Rattle.mx_book.proofs.ResultLemmas.{archived_stays}
-use Rattle.mx_office.specs.declared.values.Command.{Command}
-use Rattle.mx_office.specs.declared.values.Command.TheVariants.{Show, StartFrom, StartTo, Handle, Discard, Abort, ReadLog, Redeem, Inbox, Statement}
+use Rattle.mx_command.specs.declared.values.Command.{Command}
+use Rattle.mx_command.specs.declared.values.Command.TheVariants.{Show, StartFrom, StartTo, Handle, Discard, Abort, ReadLog, Redeem, Inbox, Statement}
 use Rattle.mx_office.specs.declared.values.Decided.{Decided}
-use Rattle.mx_office.specs.declared.values.Refusal.TheVariants.{NoSuchMessage, RefReused}
-use Rattle.mx_office.specs.declared.values.Reply.TheVariants as reply
-use Rattle.mx_office.specs.Commands.{IsNamed, IsCommand}
+use Rattle.mx_command.specs.declared.values.Refusal.TheVariants.{NoSuchMessage, RefReused}
+use Rattle.mx_command.specs.declared.values.Reply.TheVariants as reply
+use Rattle.mx_command.specs.Commands.{IsNamed, IsCommand}
 use Rattle.mx_office.specs.Decides.{Decides, placed, purse_edits, not_kept, read_edits, redeem_edits}
 use Rattle.mx_office.specs.Reachable.{IsReachable}
 use Rattle.mx_office.specs.Step.{Deed, Asks, tell, unless, refusal_of_start, refusal_of_redeem, abort_line, message_line, with_aborted, show, start_from, start_to, handle, discard, abort, read_log, redeem, inbox, statement, asks, on_own, world_after, step}

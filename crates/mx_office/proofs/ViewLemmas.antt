@@ -10,10 +10,10 @@ use Rattle.mx_book.specs.declared.values.Caller.TheVariants.{Operator, Clerk, Ho
 use Rattle.mx_book.specs.World.{World, Row, Name, has_room, set_row, new_row}
 use Rattle.mx_book.proofs.NameLemmas.{get-inserted}
 use Rattle.std.proofs.ByRecursion.{All-append as all_append}
-use Rattle.mx_office.specs.declared.values.Command.{Command}
-use Rattle.mx_office.specs.declared.values.Command.TheVariants.{NewPurse, Load, Settle}
-use Rattle.mx_office.specs.declared.values.Refusal.{Refusal}
-use Rattle.mx_office.specs.declared.values.Reply.TheVariants as reply
+use Rattle.mx_command.specs.declared.values.Command.{Command}
+use Rattle.mx_command.specs.declared.values.Command.TheVariants.{NewPurse, Load, Settle}
+use Rattle.mx_command.specs.declared.values.Refusal.{Refusal}
+use Rattle.mx_command.specs.declared.values.Reply.TheVariants as reply
 use Rattle.mx_office.specs.Isolation.{Event, IsOf, only_if, for_holder, issued_event, put_event, view_of}
 use Rattle.mx_office.specs.Step.{tell, unless, own_holding, idle_load, new_purse_refusal, settle_refusal, base, step}
 use Rattle.mx_office.proofs.OwnLemmas.{present, own_at, is_owned}

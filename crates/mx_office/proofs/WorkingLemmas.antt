@@ -6,10 +6,10 @@ use Rattle.mx_book.specs.declared.values.Caller.{Caller}
 use Rattle.mx_book.proofs.StandLemmas.{sure_before}
 use Rattle.mx_office.specs.Decides.{Decides, IsForAnother}
 use Rattle.mx_office.specs.Step.{base}
-use Rattle.mx_office.specs.declared.values.Command.{Command}
+use Rattle.mx_command.specs.declared.values.Command.{Command}
 use Rattle.mx_office.specs.declared.values.Decided.{Decided}
-use Rattle.mx_office.specs.declared.values.Refusal.{Refusal}
-use Rattle.mx_office.specs.declared.values.Reply.TheVariants.{Refused}
+use Rattle.mx_command.specs.declared.values.Refusal.{Refusal}
+use Rattle.mx_command.specs.declared.values.Reply.TheVariants.{Refused}
 
 -- a list of no length is empty
 pub nothing_listed : {X : Type 0} (xs : List X) → length xs ≡ 0 → xs ≡ []

@@ -16,11 +16,11 @@ use Rattle.mx_purse.specs.declared.refusals.StartRefusal.{StartRefusal}
 use Rattle.mx_book.specs.declared.values.LineKind.TheVariants as kind
 use Rattle.mx_book.specs.World.{Holding, Name, new_holding, with_message}
 use Rattle.mx_book.proofs.NameLemmas.{names_total, same_name}
-use Rattle.mx_office.specs.declared.values.Command.{Command}
-use Rattle.mx_office.specs.declared.values.Command.TheVariants.{Show, StartFrom, StartTo, Handle, Discard, Abort, ReadLog, Redeem, Inbox, Statement}
-use Rattle.mx_office.specs.declared.values.Refusal.TheVariants.{NoSuchPurse, NoSuchMessage}
-use Rattle.mx_office.specs.declared.values.Reply.{Reply}
-use Rattle.mx_office.specs.declared.values.Reply.TheVariants as reply
+use Rattle.mx_command.specs.declared.values.Command.{Command}
+use Rattle.mx_command.specs.declared.values.Command.TheVariants.{Show, StartFrom, StartTo, Handle, Discard, Abort, ReadLog, Redeem, Inbox, Statement}
+use Rattle.mx_command.specs.declared.values.Refusal.TheVariants.{NoSuchPurse, NoSuchMessage}
+use Rattle.mx_command.specs.declared.values.Reply.{Reply}
+use Rattle.mx_command.specs.declared.values.Reply.TheVariants as reply
 use Rattle.mx_office.specs.Isolation.{Event, Holdings, on_holdings, after_event, local}
 use Rattle.mx_office.specs.Statement.{Item, item_of, items_in, payment_item, money_item, abort_items, message_items, command_items, asked_items, items_after, items_over}
 use Rattle.mx_office.specs.Step.{Deed, Asks, idle, refusal_of_start, refusal_of_redeem, unless, unless_told, on_found, in_place, listed, abort_line, message_line, money_line, payment_line, with_purse, with_aborted, with_redemption, handle_message, asks, show, start_from, start_to, handle, discard, abort, read_log, redeem, inbox, statement, loaded_holding, settled_holding}

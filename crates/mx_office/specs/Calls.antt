@@ -6,11 +6,11 @@ use Rattle.mx_book.specs.World.{World}
 use Rattle.mx_book.specs.declared.contract.Book.{Ghosts}
 use Rattle.mx_book.specs.declared.contract.StoreFault.{StoreFault}
 use Rattle.mx_book.specs.declared.values.Caller.{Caller}
-use Rattle.mx_office.specs.Commands.{IsCommand}
+use Rattle.mx_command.specs.Commands.{IsCommand}
 use Rattle.mx_office.specs.Decides.{Decides, IsForAnother}
 use Rattle.mx_office.specs.Faults.{FailsFor, MayNotDecide, is_read, lists, makes_edits}
 use Rattle.mx_office.specs.Step.{base}
-use Rattle.mx_office.specs.declared.values.Command.{Command}
+use Rattle.mx_command.specs.declared.values.Command.{Command}
 use Rattle.mx_office.specs.declared.values.Decided.{Decided}
 
 -- The rows stay, and only a store that works gives an answer. Where there is no doubt in the end, what is said of an answer

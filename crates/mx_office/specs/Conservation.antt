@@ -11,13 +11,13 @@ use Rattle.mx_book.specs.declared.values.Caller.TheVariants.{Holder}
 use Rattle.mx_book.specs.declared.values.Totals.{Totals}
 use Rattle.mx_book.specs.World.{World, Row, Name}
 use Rattle.mx_book.specs.Totals.{totals_of, from_in_epa, from_logged}
-use Rattle.mx_office.specs.declared.values.Command.{Command}
-use Rattle.mx_office.specs.declared.values.Command.TheVariants.{Load, Redeem, Handle, Settle}
+use Rattle.mx_command.specs.declared.values.Command.{Command}
+use Rattle.mx_command.specs.declared.values.Command.TheVariants.{Load, Redeem, Handle, Settle}
 use Rattle.mx_office.specs.declared.values.Outcome.{Outcome}
 use Rattle.mx_office.specs.declared.values.Outcome.TheVariants.{Reply as Replied, Unavailable}
-use Rattle.mx_office.specs.declared.values.Refusal.TheVariants.{OverCap, FloatFull}
-use Rattle.mx_office.specs.declared.values.Reply.{Reply}
-use Rattle.mx_office.specs.declared.values.Reply.TheVariants as reply
+use Rattle.mx_command.specs.declared.values.Refusal.TheVariants.{OverCap, FloatFull}
+use Rattle.mx_command.specs.declared.values.Reply.{Reply}
+use Rattle.mx_command.specs.declared.values.Reply.TheVariants as reply
 use Rattle.mx_office.specs.Step.{step}
 
 -- ---- the scheme's equation

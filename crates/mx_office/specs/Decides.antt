@@ -13,10 +13,10 @@ use Rattle.mx_book.specs.declared.values.MemberRow.{MemberRow}
 use Rattle.mx_book.specs.World.{World, Name, is_of, is_of_member}
 use Rattle.mx_book.specs.Reads.{of_purse, finds_place, purses_of}
 use Rattle.mx_book.specs.Edits.{Fits, all_edited}
-use Rattle.mx_office.specs.declared.values.Command.{Command}
+use Rattle.mx_command.specs.declared.values.Command.{Command}
 use Rattle.mx_office.specs.declared.values.Decided.{Decided}
-use Rattle.mx_office.specs.declared.values.Refusal.TheVariants.{NotForCaller}
-use Rattle.mx_office.specs.declared.values.Reply.TheVariants.{Refused}
+use Rattle.mx_command.specs.declared.values.Refusal.TheVariants.{NotForCaller}
+use Rattle.mx_command.specs.declared.values.Reply.TheVariants.{Refused}
 use Rattle.mx_office.specs.Step.{Deed, base, world_after, is_kept, listed, money_line, payment_line}
 
 -- the reply of what is done, and edits that fit the World and lead to what is done, with what is sent

@@ -9,12 +9,13 @@ use Rattle.mx_book.specs.declared.values.Caller.{Caller}
 use Rattle.mx_book.specs.declared.values.Caller.TheVariants.{Operator, Clerk, Holder}
 use Rattle.mx_book.specs.World.{World, Holding, Name, new_holding, has_room, with_message}
 use Rattle.mx_book.specs.Maps.{pick}
-use Rattle.mx_office.specs.Step.{Deed, Asks, Asked, Course, ends, tell, refuse, on_found, in_place, asks, holding_for, own_holding, loaded_holding, settled_holding, settle_refusal, idle_load, new_purse_refusal, base, step, course}
-use Rattle.mx_office.specs.declared.values.Command.{Command}
-use Rattle.mx_office.specs.declared.values.Command.TheVariants.{NewPurse, Load, Settle}
-use Rattle.mx_office.specs.declared.values.Refusal.TheVariants.{NotForCaller, NoSuchPurse}
-use Rattle.mx_office.specs.declared.values.Reply.{Reply}
-use Rattle.mx_office.specs.declared.values.Reply.TheVariants as reply
+use Rattle.mx_command.specs.Commands.{Asked}
+use Rattle.mx_office.specs.Step.{Deed, Asks, Course, ends, tell, refuse, on_found, in_place, asks, holding_for, own_holding, loaded_holding, settled_holding, settle_refusal, idle_load, new_purse_refusal, base, step, course}
+use Rattle.mx_command.specs.declared.values.Command.{Command}
+use Rattle.mx_command.specs.declared.values.Command.TheVariants.{NewPurse, Load, Settle}
+use Rattle.mx_command.specs.declared.values.Refusal.TheVariants.{NotForCaller, NoSuchPurse}
+use Rattle.mx_command.specs.declared.values.Reply.{Reply}
+use Rattle.mx_command.specs.declared.values.Reply.TheVariants as reply
 
 -- ---- the view
 

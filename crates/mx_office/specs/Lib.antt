@@ -1,12 +1,10 @@
 pub mod Calls
 pub mod Step
 pub mod Isolation
-pub mod Texts
 pub mod Run
 pub mod Lends
 pub mod Outgoing
 pub mod Decides
-pub mod Commands
 pub mod Balance
 pub mod Reachable
 pub mod Faults

@@ -4,9 +4,9 @@ use Rattle.std.specs.List.{AllByRecursion}
 use Rattle.mx_pay.specs.Tokens.{IsToken}
 use Rattle.mx_book.specs.Conditions.{IsWorld}
 use Rattle.mx_book.specs.World.{World, Token, opening}
-use Rattle.mx_office.specs.Step.{Asked, steps}
+use Rattle.mx_command.specs.Commands.{Asked, IsAsked}
+use Rattle.mx_office.specs.Step.{steps}
 use Rattle.mx_office.specs.Balance.{IsBalanced}
-use Rattle.mx_office.specs.Commands.{IsAsked}
 use Rattle.mx_office.specs.Conservation.{IsConserved}
 
 -- some commands that are values lead to the World from one that has nothing but an operator's token

@@ -4,13 +4,14 @@ use Rattle.mx_book.specs.Stands.{Attempt}
 use Rattle.mx_book.specs.World.{World}
 use Rattle.mx_book.specs.declared.contract.StoreFault.{StoreFault}
 use Rattle.mx_book.specs.declared.values.Caller.{Caller}
-use Rattle.mx_office.specs.declared.values.Refusal.{Refusal}
-use Rattle.mx_office.specs.declared.values.Reply.{Reply}
-use Rattle.mx_office.specs.declared.values.Reply.TheVariants.{Refused}
+use Rattle.mx_command.specs.declared.values.Refusal.{Refusal}
+use Rattle.mx_command.specs.declared.values.Reply.{Reply}
+use Rattle.mx_command.specs.declared.values.Reply.TheVariants.{Refused}
 use Rattle.mx_office.specs.declared.values.Outcome.{Outcome}
 use Rattle.mx_office.specs.declared.values.Outcome.TheVariants.{Reply as Replied, Unavailable}
 use Rattle.mx_office.specs.Faults.{MayFail}
-use Rattle.mx_office.specs.Step.{Asked, step}
+use Rattle.mx_command.specs.Commands.{Asked}
+use Rattle.mx_office.specs.Step.{step}
 
 -- there is a cause for which a command may be left undone, over a book whose reads may fail so
 abbrev pub MayBeUndone : (StoreFault → Type 0) → World → Asked → Type 0

@@ -16,9 +16,9 @@ use Rattle.mx_book.specs.declared.values.Note.TheVariants as note
 use Rattle.mx_book.specs.World.{Holding, Name}
 use Rattle.mx_office.specs.Isolation.{Event, Holdings, after_event}
 use Rattle.mx_office.specs.Step.{Asks, asks, idle, listed, refusal_of_redeem}
-use Rattle.mx_office.specs.declared.values.Command.{Command}
-use Rattle.mx_office.specs.declared.values.Command.TheVariants.{StartFrom, StartTo, Handle, Abort, ReadLog, Redeem}
-use Rattle.mx_office.specs.declared.values.Reply.TheVariants as reply
+use Rattle.mx_command.specs.declared.values.Command.{Command}
+use Rattle.mx_command.specs.declared.values.Command.TheVariants.{StartFrom, StartTo, Handle, Abort, ReadLog, Redeem}
+use Rattle.mx_command.specs.declared.values.Reply.TheVariants as reply
 
 -- what a line tells, but for its number and its balance
 pub record Item : Type 0 where

@@ -34,12 +34,12 @@ use Rattle.mx_book.specs.World.{World, Row, Holding, Name, Token, is_of, is_of_m
 use Rattle.mx_book.specs.Conditions.{all_granted}
 use Rattle.mx_book.specs.Reads.{who_of, purses_of, page, of_purse, is_archived, is_settled, tray_of, uncollected_of}
 use Rattle.mx_book.specs.Totals.{totals_of}
-use Rattle.mx_office.specs.declared.values.Command.{Command}
-use Rattle.mx_office.specs.declared.values.Command.TheVariants.{NewMember, Grant, Archive, Clear, NewHolder, NewPurse, Load, Collect, Purses, Show, StartFrom, StartTo, Handle, Discard, Abort, ReadLog, Redeem, Inbox, Statement, Reconcile, Settle}
-use Rattle.mx_office.specs.declared.values.Refusal.{Refusal}
-use Rattle.mx_office.specs.declared.values.Refusal.TheVariants.{NotForCaller, NoSuchPurse, NoSuchHolder, NoSuchMember, NoSuchMessage, NameTaken, TokenTaken, TooManyPurses, SamePurse, NotEnough, LogFull, Worn, RefReused, FloatTooSmall, FloatFull, GrantTooLarge, OverCap, NotArchived, NotLost, AlreadySettled}
-use Rattle.mx_office.specs.declared.values.Reply.{Reply}
-use Rattle.mx_office.specs.declared.values.Reply.TheVariants as reply
+use Rattle.mx_command.specs.declared.values.Command.{Command}
+use Rattle.mx_command.specs.declared.values.Command.TheVariants.{NewMember, Grant, Archive, Clear, NewHolder, NewPurse, Load, Collect, Purses, Show, StartFrom, StartTo, Handle, Discard, Abort, ReadLog, Redeem, Inbox, Statement, Reconcile, Settle}
+use Rattle.mx_command.specs.declared.values.Refusal.{Refusal}
+use Rattle.mx_command.specs.declared.values.Refusal.TheVariants.{NotForCaller, NoSuchPurse, NoSuchHolder, NoSuchMember, NoSuchMessage, NameTaken, TokenTaken, TooManyPurses, SamePurse, NotEnough, LogFull, Worn, RefReused, FloatTooSmall, FloatFull, GrantTooLarge, OverCap, NotArchived, NotLost, AlreadySettled}
+use Rattle.mx_command.specs.declared.values.Reply.{Reply}
+use Rattle.mx_command.specs.declared.values.Reply.TheVariants as reply
 
 -- ---- what a command comes to
 
@@ -447,10 +447,6 @@ ends s rs = record { end = s; replies = rs }
 abbrev pub course : {S X R : Type 0} → (S → X → Course S R) → S → List X → Course S R
 course f s [] = ends s []
 course f s (x ∷ xs) = let rest = course f (f s x).end xs in ends rest.end ((f s x).replies ++ rest.replies)
-
--- a command and who asks
-abbrev pub Asked : Type 0
-Asked = Caller × Command
 
 -- the World after one command, and after commands in order, with the replies, each with the caller to whom it is
 -- given

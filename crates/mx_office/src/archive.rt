@@ -5,13 +5,14 @@ ghost use Rattle.mx_book.specs.Keeps.{Keeps, Gives};
 ghost use Rattle.mx_book.specs.Stands.{IsWorking};
 ghost use Rattle.mx_book.specs.Reads.{finds_place, tray_of};
 ghost use Rattle.mx_office.specs.Calls.{Tells};
-ghost use Rattle.mx_office.specs.Commands.{IsCommand};
+ghost use Rattle.mx_command.specs.Commands.{IsCommand};
 ghost use Rattle.mx_office.specs.Decides.{Decides, settlement_edits};
 ghost use Rattle.mx_office.specs.Step.{archive, clear, is_archived_for_both, may_clear, settle};
-ghost use Rattle.mx_office.specs.declared.values.Command.{Command};
+ghost use Rattle.mx_command.specs.declared.values.Command.{Command};
 
 use crate::decisions::{Outgoing, credit_refusal, make, make_purse, payment_line, refuse, tell};
-use crate::values::{Decided, Refusal, Reply};
+use mx_command::{Refusal, Reply};
+use crate::values::Decided;
 use mx_book::contract::{Book, StoreFault};
 use mx_book::edits::Edit;
 use mx_book::values::LineKind;

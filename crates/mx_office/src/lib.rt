@@ -12,4 +12,4 @@ mod purses;
 pub mod values;
 
 pub use office::Office;
-pub use values::{Command, Decided, Lines, Messages, Names, Outcome, Refusal, Reply};
+pub use values::{Decided, Outcome};

@@ -4,9 +4,9 @@ ghost use Rattle.mx_pay.specs.Details.{IsDetails};
 ghost use Rattle.mx_pay.specs.Limits.{most_amount, most_number};
 ghost use Rattle.mx_pay.specs.Log.{IsLogValue};
 ghost use Rattle.mx_pay.specs.Tokens.{IsToken};
-ghost use Rattle.mx_office.specs.Commands.{IsCaller, IsCommand, IsNamed};
+ghost use Rattle.mx_command.specs.Commands.{IsCaller, IsCommand, IsNamed};
 
-use crate::values::Command;
+use mx_command::Command;
 use mx_book::values::Caller;
 use mx_pay::{Amount, Log, Name, PayDetails, Seq, Token};
 

@@ -1,13 +1,14 @@
 //! The commands of the operator and of clerks.
 ghost use Rattle.std.specs.Prelude.{◌≡◌};
 ghost use Rattle.mx_office.specs.Calls.{Tells};
-ghost use Rattle.mx_office.specs.Commands.{IsCommand};
+ghost use Rattle.mx_command.specs.Commands.{IsCommand};
 ghost use Rattle.mx_office.specs.Decides.{Decides, purse_count};
 ghost use Rattle.mx_office.specs.Step.{new_member, new_holder, new_purse};
-ghost use Rattle.mx_office.specs.declared.values.Command.{Command};
+ghost use Rattle.mx_command.specs.declared.values.Command.{Command};
 
 use crate::decisions::{make, refuse};
-use crate::values::{Decided, Refusal, Reply};
+use mx_command::{Refusal, Reply};
+use crate::values::Decided;
 use mx_book::contract::{Book, StoreFault};
 use mx_book::edits::Edit;
 use mx_book::values::MOST_PURSES;

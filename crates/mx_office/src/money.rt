@@ -5,14 +5,15 @@ ghost use Rattle.mx_book.specs.Conditions.{all_granted};
 ghost use Rattle.mx_book.specs.Reads.{load_of, member_of};
 ghost use Rattle.mx_book.specs.World.{World};
 ghost use Rattle.mx_office.specs.Calls.{Tells};
-ghost use Rattle.mx_office.specs.Commands.{IsCommand};
+ghost use Rattle.mx_command.specs.Commands.{IsCommand};
 ghost use Rattle.mx_office.specs.Decides.{Decides, granted_to, load_edits, member_purse};
 ghost use Rattle.mx_office.specs.Faults.{FailsFor};
 ghost use Rattle.mx_office.specs.Step.{collect, grant, load_purse, reconcile};
-ghost use Rattle.mx_office.specs.declared.values.Command.{Command};
+ghost use Rattle.mx_command.specs.declared.values.Command.{Command};
 
 use crate::decisions::{Outgoing, again, load_refusal, make, make_purse, money_line, refuse, tell};
-use crate::values::{Decided, Refusal, Reply};
+use mx_command::{Refusal, Reply};
+use crate::values::Decided;
 use mx_book::contract::{Book, StoreFault};
 use mx_book::edits::Edit;
 use mx_book::values::{LineKind, MemberRow};

@@ -7,11 +7,11 @@ ghost use Rattle.mx_book.specs.Keeps.{Keeps};
 ghost use Rattle.mx_book.specs.Stands.{Attempts, IsWorking, MovesTo};
 ghost use Rattle.mx_book.specs.World.{World, Name as HolderName};
 ghost use Rattle.mx_book.specs.declared.contract.StoreFault.TheVariants.{Memory};
-ghost use Rattle.mx_office.specs.declared.values.Refusal.{Refusal};
-ghost use Rattle.mx_office.specs.declared.values.Reply.TheVariants.{Refused};
+ghost use Rattle.mx_command.specs.declared.values.Refusal.{Refusal};
+ghost use Rattle.mx_command.specs.declared.values.Reply.TheVariants.{Refused};
 ghost use Rattle.mx_office.specs.Abstract.{Refines};
 ghost use Rattle.mx_office.specs.Calls.{TellsOf};
-ghost use Rattle.mx_office.specs.Commands.{IsAsked};
+ghost use Rattle.mx_command.specs.Commands.{IsAsked};
 ghost use Rattle.mx_office.specs.Conservation.{IsNeverFullOutcome};
 ghost use Rattle.mx_office.specs.Decides.{Decides, IsForAnother};
 ghost use Rattle.mx_office.specs.Faults.{FailsFor, MayFail, MayNotDecide, is_read, lists, makes_edits};
@@ -29,7 +29,8 @@ use crate::money::{collect, grant, load, reconcile};
 use crate::purses::{
     abort, discard, handle, inbox, purses, read_log, redeem, show, start_from, start_to, statement,
 };
-use crate::values::{Command, Decided, Outcome, Refusal, Reply};
+use mx_command::{Command, Refusal, Reply};
+use crate::values::{Decided, Outcome};
 use mx_book::contract::{Book, StoreFault};
 use mx_book::values::Caller;
 use mx_pay::Name;

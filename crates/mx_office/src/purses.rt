@@ -5,18 +5,19 @@ ghost use Rattle.mx_book.specs.Stands.{IsWorking};
 ghost use Rattle.mx_book.specs.World.{World};
 ghost use Rattle.mx_book.specs.Reads.{own_purse, purses_of, redemption_of};
 ghost use Rattle.mx_office.specs.Calls.{Tells};
-ghost use Rattle.mx_office.specs.Commands.{IsCommand};
+ghost use Rattle.mx_command.specs.Commands.{IsCommand};
 ghost use Rattle.mx_office.specs.Decides.{Decides, not_kept, placed};
 ghost use Rattle.mx_office.specs.Faults.{FailsFor};
 ghost use Rattle.mx_office.specs.Outgoing.{carried};
 ghost use Rattle.mx_office.specs.Step.{abort, discard, handle, inbox, on_own, read_log, redeem, show, start_from, start_to, statement, tell};
-ghost use Rattle.mx_office.specs.declared.values.Command.{Command};
+ghost use Rattle.mx_command.specs.declared.values.Command.{Command};
 
 use crate::decisions::{
     Outgoing, abort_line, again, make, make_purse, make_read, make_redemption, message_line,
     peer_of, redeem_refusal, refuse, sent_for, start_refusal, tell,
 };
-use crate::values::{Decided, Lines, Messages, Names, Refusal, Reply};
+use mx_command::{Lines, Messages, Names, Refusal, Reply};
+use crate::values::Decided;
 use mx_book::contract::{Book, StoreFault};
 use mx_book::edits::Edit;
 use mx_book::values::MOST_LINES;

@@ -7,9 +7,9 @@ use Rattle.csv.specs.declared.error.ErrorKind.{ErrorKind}
 use Rattle.std.proofs.ByRecursion.{All-append as all_append}
 use Rattle.mx_book.specs.declared.values.Caller.{Caller}
 use Rattle.mx_book.specs.World.{World}
-use Rattle.mx_office.specs.Commands.{IsAsked}
+use Rattle.mx_command.specs.Commands.{IsAsked, Asked}
 use Rattle.mx_office.specs.Reachable.{IsReachable, StandsBalanced}
-use Rattle.mx_office.specs.Step.{Asked, one_step, step, steps}
+use Rattle.mx_office.specs.Step.{one_step, step, steps}
 use Rattle.mx_office.proofs.BalanceCommandLemmas.{reachable_balanced}
 use Rattle.mx_office.proofs.ConservedLemmas.{reachable_conserved}
 use Rattle.mx_office.proofs.LawLemmas.{course-append}

@@ -9,9 +9,9 @@ use Rattle.mx_book.specs.declared.values.Caller.TheVariants as caller
 use Rattle.mx_book.specs.Reads.{who_of}
 use Rattle.mx_book.specs.World.{World, Row, Name, Token, is_of, new_row}
 use Rattle.mx_book.proofs.NameLemmas.{get-inserted, name_itself}
-use Rattle.mx_office.specs.declared.values.Refusal.{Refusal}
-use Rattle.mx_office.specs.declared.values.Reply.{Reply}
-use Rattle.mx_office.specs.declared.values.Reply.TheVariants as reply
+use Rattle.mx_command.specs.declared.values.Refusal.{Refusal}
+use Rattle.mx_command.specs.declared.values.Reply.{Reply}
+use Rattle.mx_command.specs.declared.values.Reply.TheVariants as reply
 use Rattle.mx_office.specs.Step.{step, new_member_refusal, new_holder_refusal, new_purse_refusal}
 use Rattle.mx_office.proofs.OwnLemmas.{absent, none_refused}
 use Rattle.mx_report.specs.declared.roll_rows.RollRow.{RollRow}

@@ -6,9 +6,9 @@ use Rattle.mx_book.specs.declared.values.Caller.{Caller}
 use Rattle.mx_pay.specs.Names.{is_name}
 use Rattle.mx_book.specs.Reads.{from_row, own_purse}
 use Rattle.mx_book.specs.World.{World, Row, Name}
-use Rattle.mx_office.specs.declared.values.Refusal.TheVariants.{NoSuchHolder}
-use Rattle.mx_office.specs.declared.values.Reply.{Reply}
-use Rattle.mx_office.specs.Commands.{IsAsked}
+use Rattle.mx_command.specs.declared.values.Refusal.TheVariants.{NoSuchHolder}
+use Rattle.mx_command.specs.declared.values.Reply.{Reply}
+use Rattle.mx_command.specs.Commands.{IsAsked}
 use Rattle.mx_office.specs.Step.{step}
 use Rattle.mx_report.specs.declared.roll_rows.RollRow.{RollRow}
 use Rattle.mx_report.specs.declared.rolls.RollReason.TheVariants as reason

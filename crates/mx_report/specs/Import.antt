@@ -7,11 +7,11 @@ use Rattle.csv.specs.declared.parser.State.{State}
 use Rattle.csv.specs.declared.parser.State.TheVariants as st
 use Rattle.mx_book.specs.declared.values.Caller.{Caller}
 use Rattle.mx_book.specs.World.{World}
-use Rattle.mx_office.specs.declared.values.Reply.{Reply}
-use Rattle.mx_office.specs.declared.values.Reply.TheVariants as reply
-use Rattle.mx_office.specs.declared.values.Refusal.TheVariants.{NoSuchHolder}
-use Rattle.mx_office.specs.Commands.{IsAsked}
-use Rattle.mx_office.specs.Step.{Asked, step, steps, listed}
+use Rattle.mx_command.specs.declared.values.Reply.{Reply}
+use Rattle.mx_command.specs.declared.values.Reply.TheVariants as reply
+use Rattle.mx_command.specs.declared.values.Refusal.TheVariants.{NoSuchHolder}
+use Rattle.mx_command.specs.Commands.{IsAsked, Asked}
+use Rattle.mx_office.specs.Step.{step, steps, listed}
 use Rattle.mx_report.specs.declared.roll_rows.RollRow.{RollRow}
 use Rattle.mx_report.specs.declared.rolls.RollReason.TheVariants as reason
 use Rattle.mx_report.specs.declared.rolls.RowOutcome.{RowOutcome}

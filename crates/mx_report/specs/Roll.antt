@@ -7,8 +7,8 @@ use Rattle.mx_book.specs.declared.values.Caller.{Caller}
 use Rattle.mx_book.specs.declared.values.Caller.TheVariants as caller
 use Rattle.mx_book.specs.Reads.{who_of}
 use Rattle.mx_book.specs.World.{World, Row, Name, is_of}
-use Rattle.mx_office.specs.declared.values.Command.{Command}
-use Rattle.mx_office.specs.declared.values.Command.TheVariants.{NewMember, NewHolder, NewPurse}
+use Rattle.mx_command.specs.declared.values.Command.{Command}
+use Rattle.mx_command.specs.declared.values.Command.TheVariants.{NewMember, NewHolder, NewPurse}
 use Rattle.mx_report.specs.declared.roll_rows.RollRow.{RollRow}
 use Rattle.mx_report.specs.declared.roll_rows.RollRow.TheVariants.{Member, Holder, Purse}
 

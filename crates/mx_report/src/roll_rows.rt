@@ -4,7 +4,7 @@ ghost use Rattle.csv.specs.Records.{fields_of};
 ghost use Rattle.mx_report.specs.Roll.{roll_header, name_in, member_in, holder_in, purse_in, row_in, row_of, command_of};
 
 use csv::ByteRecord;
-use mx_office::Command;
+use mx_command::Command;
 use mx_pay::{Name, Token};
 
 /// A row of a roll.

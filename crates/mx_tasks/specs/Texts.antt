@@ -6,7 +6,7 @@ use Rattle.mx_book.specs.Totals.{members_totals_of, totals_of}
 use Rattle.mx_book.specs.declared.values.Account.{Account}
 use Rattle.mx_book.specs.declared.values.Line.{Line}
 use Rattle.mx_book.specs.World.{World, Name}
-use Rattle.mx_office.specs.Texts.{refusal_text}
+use Rattle.mx_command.specs.Texts.{refusal_text}
 use Rattle.mx_report.specs.Even.{is_even_report, is_even_statement}
 use Rattle.mx_report.specs.Reconciliation.{reconciliation_text}
 use Rattle.mx_report.specs.Statement.{own_lines, statement_of, statement_text}

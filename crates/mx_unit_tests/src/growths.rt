@@ -2,7 +2,7 @@
 //! hand. Run with one growth refused, as a check does for each growth in turn, a test says that a call that meets the
 //! refused one answers want of memory, and its usual value when it is made again.
 use crate::wire::words::read_words;
-use mx_office::{Messages, Names, Reply};
+use mx_command::{Messages, Names, Reply};
 use mx_pay::{Name, PayDetails, code_text, read_code, read_details};
 use mx_purse::{Message, Purse};
 use mx_wire::{Class, Routes, WireFault, render};

@@ -6,7 +6,8 @@ mod rounds;
 
 use mx_book::Book;
 use mx_memory::PlainBook;
-use mx_office::{Office, Refusal};
+use mx_command::Refusal;
+use mx_office::Office;
 use random::token;
 use std::alloc::AllocGlobal;
 use std::test::Fail;

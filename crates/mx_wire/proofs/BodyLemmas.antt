@@ -13,7 +13,7 @@ use Rattle.mx_pay.specs.Reading.{entry_of, entries_of}
 use Rattle.mx_pay.proofs.EntryLemmas.{entry_found, entry_valid, entry_again}
 use Rattle.mx_pay.proofs.CodeLemmas.{found_in, valid_in, only_in, none_is}
 use Rattle.mx_pay.proofs.SameLemmas.{none_valid}
-use Rattle.mx_office.specs.declared.values.Command.{Command}
+use Rattle.mx_command.specs.declared.values.Command.{Command}
 use Rattle.mx_wire.specs.declared.bodies.WireFault.{WireFault}
 use Rattle.mx_wire.specs.declared.routes.Route.{Route}
 use Rattle.mx_wire.specs.Bodies.{log_of_code, value_of, bare, bare_or, has_body, said, command_of}

@@ -18,9 +18,9 @@ use Rattle.mx_pay.proofs.CodeLemmas.{valid_in}
 use Rattle.mx_pay.proofs.EntryLemmas.{entry_valid}
 use Rattle.mx_pay.proofs.TokenLemmas.{token_of-is}
 use Rattle.mx_pay.proofs.SameLemmas.{none_valid}
-use Rattle.mx_office.specs.declared.values.Command.{Command}
-use Rattle.mx_office.specs.declared.values.Command.TheVariants as command
-use Rattle.mx_office.specs.Commands.{IsNamed, IsCommand}
+use Rattle.mx_command.specs.declared.values.Command.{Command}
+use Rattle.mx_command.specs.declared.values.Command.TheVariants as command
+use Rattle.mx_command.specs.Commands.{IsNamed, IsCommand}
 use Rattle.mx_wire.specs.declared.routes.Pattern.{Pattern}
 use Rattle.mx_wire.specs.declared.routes.Pattern.TheVariants as pattern
 use Rattle.mx_wire.specs.declared.routes.Route.{Route}

@@ -10,8 +10,8 @@ use Rattle.mx_pay.specs.Details.{Details}
 use Rattle.mx_pay.specs.Log.{Entries, none_logged}
 use Rattle.mx_pay.specs.Reading.{entry_of, entries_of}
 use Rattle.mx_pay.specs.Tokens.{token_of}
-use Rattle.mx_office.specs.declared.values.Command.{Command}
-use Rattle.mx_office.specs.declared.values.Command.TheVariants as command
+use Rattle.mx_command.specs.declared.values.Command.{Command}
+use Rattle.mx_command.specs.declared.values.Command.TheVariants as command
 use Rattle.mx_wire.specs.declared.routes.Route.{Route}
 use Rattle.mx_wire.specs.declared.routes.Route.TheVariants as route
 use Rattle.mx_wire.specs.Routes.{name_of, route_of}

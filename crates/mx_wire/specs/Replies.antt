@@ -12,11 +12,11 @@ use Rattle.mx_purse.specs.declared.message.Handled.TheVariants as took
 use Rattle.mx_book.specs.declared.values.Line.{Line}
 use Rattle.mx_book.specs.declared.values.Totals.{Totals}
 use Rattle.mx_book.specs.Words as words
-use Rattle.mx_office.specs.Texts.{refusal_text}
-use Rattle.mx_office.specs.declared.values.Refusal.{Refusal}
-use Rattle.mx_office.specs.declared.values.Refusal.TheVariants as refusal
-use Rattle.mx_office.specs.declared.values.Reply.{Reply}
-use Rattle.mx_office.specs.declared.values.Reply.TheVariants as reply
+use Rattle.mx_command.specs.Texts.{refusal_text}
+use Rattle.mx_command.specs.declared.values.Refusal.{Refusal}
+use Rattle.mx_command.specs.declared.values.Refusal.TheVariants as refusal
+use Rattle.mx_command.specs.declared.values.Reply.{Reply}
+use Rattle.mx_command.specs.declared.values.Reply.TheVariants as reply
 use Rattle.mx_wire.specs.declared.replies.Fixed.{Fixed}
 use Rattle.mx_wire.specs.declared.replies.Fixed.TheVariants as fixed
 

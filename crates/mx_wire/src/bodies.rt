@@ -1,6 +1,6 @@
 //! The bodies of requests: JSON in, commands out.
 ghost use Rattle.std.specs.Prelude.{◌≡◌, ◌≢◌, ◌↔◌, true, Some, None, Err, IsTrue, IfSome, IfOk, OnOk, codes, option_map};
-ghost use Rattle.mx_office.specs.declared.values.Command.TheVariants.{Clear};
+ghost use Rattle.mx_command.specs.declared.values.Command.TheVariants.{Clear};
 ghost use Rattle.mx_pay.specs.Codes.{code, entry_text};
 ghost use Rattle.mx_pay.specs.Details.{Details, IsDetails};
 ghost use Rattle.mx_pay.specs.Log.{Entries, IsLogValue};
@@ -12,7 +12,7 @@ ghost use Rattle.mx_wire.specs.Trees.{data_of, IsData};
 use crate::routes::{Route, Routes};
 use crate::trees::{is_data, number_at, text_at};
 use json::{Error, Reader, Scratch, Value};
-use mx_office::Command;
+use mx_command::Command;
 use mx_pay::{Amount, Log, Name, PayDetails, Seq, Token, read_code, read_details};
 use std::alloc::Global;
 

@@ -7,7 +7,7 @@ ghost use Rattle.std.specs.Fmt.{decimal};
 
 use mx_book::values::{Line, Totals};
 use mx_book::words::{kind_text, push_note};
-use mx_office::{Lines, Messages, Names, Refusal, Reply};
+use mx_command::{Lines, Messages, Names, Refusal, Reply};
 use mx_pay::{Name, PayDetails, code_text, push_entry};
 use mx_purse::words::{message_word, status_word};
 use mx_purse::{Handled, Message, Purse};

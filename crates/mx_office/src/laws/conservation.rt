@@ -6,7 +6,7 @@ ghost use Rattle.mx_book.specs.declared.values.Caller.{Caller};
 ghost use Rattle.mx_office.specs.Conservation.{AcceptsAuthentic, AccountsAllValue, CreatesNoValue, HasRoom, IsConserved, IsNeverFull, PaysCovered};
 ghost use Rattle.mx_office.specs.Reachable.{IsReachable};
 ghost use Rattle.mx_office.specs.Step.{step};
-ghost use Rattle.mx_office.specs.declared.values.Command.{Command};
+ghost use Rattle.mx_command.specs.declared.values.Command.{Command};
 
 /// Conservation: in every World that commands lead to, no value is made and none is gone.
 ///

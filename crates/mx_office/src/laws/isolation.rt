@@ -3,8 +3,9 @@ ghost use Rattle.std.specs.List.{AllByRecursion};
 ghost use Rattle.std.specs.Prelude.{◌≡◌, List};
 ghost use Rattle.mx_book.specs.World.{World, Name};
 ghost use Rattle.mx_book.specs.declared.values.Caller.{Caller};
-ghost use Rattle.mx_office.specs.declared.values.Command.{Command};
-ghost use Rattle.mx_office.specs.Step.{Asked, step, steps};
+ghost use Rattle.mx_command.specs.declared.values.Command.{Command};
+ghost use Rattle.mx_command.specs.Commands.{Asked};
+ghost use Rattle.mx_office.specs.Step.{step, steps};
 ghost use Rattle.mx_office.specs.Isolation.{IsOf, cut, for_holder, local, told_to, view, view_of};
 
 /// The law of isolation: to each holder the replies are those that the holder's purses give on the holder's view

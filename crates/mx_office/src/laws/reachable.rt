@@ -2,10 +2,10 @@
 ghost use Rattle.mx_book.specs.Conditions.{IsWorld};
 ghost use Rattle.mx_book.specs.World.{World};
 ghost use Rattle.mx_book.specs.declared.values.Caller.{Caller};
-ghost use Rattle.mx_office.specs.Commands.{IsCaller, IsCommand};
+ghost use Rattle.mx_command.specs.Commands.{IsCaller, IsCommand};
 ghost use Rattle.mx_office.specs.Reachable.{IsReachable};
 ghost use Rattle.mx_office.specs.Step.{step};
-ghost use Rattle.mx_office.specs.declared.values.Command.{Command};
+ghost use Rattle.mx_command.specs.declared.values.Command.{Command};
 
 /// The Worlds that commands lead to: what they are, and that commands lead from one to another.
 ///

@@ -4,8 +4,9 @@ ghost use Rattle.mx_book.specs.World.{Token, World, opening};
 ghost use Rattle.mx_book.specs.declared.values.Caller.{Caller};
 ghost use Rattle.mx_office.specs.Abstract.{AccountsFor, ChosenLost, Refines, RefinesFromNone, Simulates};
 ghost use Rattle.mx_office.specs.Reachable.{IsReachable};
-ghost use Rattle.mx_office.specs.Step.{Asked, steps};
-ghost use Rattle.mx_office.specs.declared.values.Command.{Command};
+ghost use Rattle.mx_command.specs.Commands.{Asked};
+ghost use Rattle.mx_office.specs.Step.{steps};
+ghost use Rattle.mx_command.specs.declared.values.Command.{Command};
 
 /// Refinement (PRG-126: the backward simulation): what the office does is what the abstract purses do, in which a
 /// payment is one operation that succeeds or loses its value.

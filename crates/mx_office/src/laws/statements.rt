@@ -5,7 +5,8 @@ ghost use Rattle.mx_book.specs.World.{Holding, Name, Row, Token, World, opening}
 ghost use Rattle.mx_office.specs.Isolation.{Event, Holdings, local, view};
 ghost use Rattle.mx_office.specs.Reachable.{IsReachable};
 ghost use Rattle.mx_office.specs.Statement.{IsStated, balance_at_end, items_in, items_over, items_seen, statement_of};
-ghost use Rattle.mx_office.specs.Step.{Asked, own_holding, steps};
+ghost use Rattle.mx_command.specs.Commands.{Asked};
+ghost use Rattle.mx_office.specs.Step.{own_holding, steps};
 
 /// The law of statements: the lines of each purse tell how it came by its balance.
 ///

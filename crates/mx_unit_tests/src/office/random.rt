@@ -2,7 +2,8 @@
 use super::with_office;
 use mx_book::{Caller, Totals};
 use mx_memory::PlainBook;
-use mx_office::{Command, Office, Reply};
+use mx_command::{Command, Reply};
+use mx_office::Office;
 use mx_pay::{Amount, Log, Name, PayDetails, Seq, Token};
 use mx_purse::Handled;
 use std::alloc::Global;

@@ -1,5 +1,5 @@
 //! The bytes of each response.
-use mx_office::{Refusal, Reply};
+use mx_command::{Refusal, Reply};
 use mx_pay::{Amount, Name, PayDetails, Seq};
 use mx_purse::Handled;
 use mx_wire::replies::{Fixed, fixed_text, render, unavailable_text};

@@ -1,5 +1,5 @@
 //! Commands in words.
-use mx_office::Command;
+use mx_command::Command;
 use mx_pay::{Amount, Log, Name, PayDetails, Seq, Token, code_text, push_entry};
 use mx_wire::WireFault;
 use std::alloc::{AllocError, Global};

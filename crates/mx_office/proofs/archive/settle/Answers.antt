@@ -1,6 +1,6 @@
 use Rattle.std.proofs.Common.{sym, ◌∙◌, ap}
 use Rattle.mx_book.specs.Reads.{account_of}
-use Rattle.mx_office.specs.declared.values.Reply.TheVariants.{Refused}
+use Rattle.mx_command.specs.declared.values.Reply.TheVariants.{Refused}
 use Rattle.mx_office.proofs.CallLemmas.{keeps_then, so_far, so_more, tells_so, tells_fault}
 use Rattle.mx_office.proofs.MoneyLemmas.{settled_already, settles_nothing, settles_no_purse, settle_refuses, settle_made}
 use Rattle.mx_office.proofs.archive.settle.Goals as goal

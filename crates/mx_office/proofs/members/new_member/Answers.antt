@@ -1,5 +1,5 @@
 use Rattle.std.proofs.Common.{rules}
-use Rattle.mx_office.specs.declared.values.Refusal.TheVariants.{NameTaken, TokenTaken}
+use Rattle.mx_command.specs.declared.values.Refusal.TheVariants.{NameTaken, TokenTaken}
 use Rattle.mx_office.proofs.CallLemmas.{keeps_then, so_far, so_more, tells_so, tells_fault}
 use Rattle.mx_office.proofs.OwnLemmas.{first, next}
 use Rattle.mx_office.proofs.DecideLemmas.{refused_decides, new_member_decides}

@@ -1,5 +1,5 @@
 use Rattle.std.proofs.Common.{rules, sym, ◌∙◌}
-use Rattle.mx_office.specs.declared.values.Refusal.TheVariants.{NoSuchHolder, NameTaken, TooManyPurses}
+use Rattle.mx_command.specs.declared.values.Refusal.TheVariants.{NoSuchHolder, NameTaken, TooManyPurses}
 use Rattle.mx_office.proofs.CallLemmas.{keeps_then, so_far, so_more, tells_so, tells_fault}
 use Rattle.mx_office.proofs.OwnLemmas.{first, next}
 use Rattle.mx_office.proofs.DecideLemmas.{refused_decides, no_holder, a_holder, many_held, new_purse_decides}

@@ -1,5 +1,5 @@
 use Rattle.std.proofs.Common.{rules, sym, ◌∙◌, ap, is_none}
-use Rattle.mx_office.specs.declared.values.Refusal.TheVariants.{NoSuchMember, FloatFull}
+use Rattle.mx_command.specs.declared.values.Refusal.TheVariants.{NoSuchMember, FloatFull}
 use Rattle.mx_office.proofs.CallLemmas.{keeps_then, so_far, so_more, tells_so, tells_fault}
 use Rattle.mx_office.proofs.OwnLemmas.{first}
 use Rattle.mx_office.proofs.DecideLemmas.{refused_decides}

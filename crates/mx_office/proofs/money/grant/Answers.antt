@@ -1,5 +1,5 @@
 use Rattle.std.proofs.Common.{rules, sym, ◌∙◌, ap, is_none, is_some, inr}
-use Rattle.mx_office.specs.declared.values.Refusal.TheVariants.{NoSuchMember, GrantTooLarge, FloatFull}
+use Rattle.mx_command.specs.declared.values.Refusal.TheVariants.{NoSuchMember, GrantTooLarge, FloatFull}
 use Rattle.mx_office.proofs.CallLemmas.{keeps_then, so_far, so_more, tells_so, tells_fault, err_so}
 use Rattle.mx_book.proofs.StandLemmas.{sure_before}
 use Rattle.mx_office.proofs.FaultLemmas.{memory_fails}

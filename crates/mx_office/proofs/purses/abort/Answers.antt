@@ -1,7 +1,7 @@
 use Rattle.std.proofs.Common.{sym, ◌∙◌, ap, is_some, None}
 use Rattle.mx_office.specs.Decides.{purse_edits}
 use Rattle.mx_office.specs.Step.{abort_line}
-use Rattle.mx_office.specs.declared.values.Reply.TheVariants.{Aborted}
+use Rattle.mx_command.specs.declared.values.Reply.TheVariants.{Aborted}
 use Rattle.mx_office.proofs.CallLemmas.{so_far, tells_so, tells_fault}
 use Rattle.mx_office.proofs.CommandLemmas.{foreign_decides, abort_decides}
 use Rattle.mx_office.proofs.purses.abort.Goals as goal

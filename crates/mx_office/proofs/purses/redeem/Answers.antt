@@ -1,7 +1,7 @@
 use Rattle.std.proofs.Common.{sym, ◌∙◌, ap}
 use Rattle.mx_office.specs.Decides.{redeem_edits}
 use Rattle.mx_office.specs.Step.{abort_line}
-use Rattle.mx_office.specs.declared.values.Reply.TheVariants.{Refused}
+use Rattle.mx_command.specs.declared.values.Reply.TheVariants.{Refused}
 use Rattle.mx_office.proofs.CallLemmas.{keeps_then, so_far, so_more, tells_so, tells_fault}
 use Rattle.mx_office.proofs.CommandLemmas.{foreign_decides, redeem_repeated, redeem_refuses, redeem_made}
 use Rattle.mx_office.proofs.OwnLemmas.{never_some}

@@ -1,5 +1,5 @@
 use Rattle.std.proofs.Common.{refl, sym, ◌∙◌}
-use Rattle.mx_office.specs.declared.values.Reply.TheVariants.{Shown}
+use Rattle.mx_command.specs.declared.values.Reply.TheVariants.{Shown}
 use Rattle.mx_office.specs.Step.{show}
 use Rattle.mx_office.proofs.CallLemmas.{so_far, tells_so, tells_fault, err_never}
 use Rattle.mx_office.proofs.CommandLemmas.{foreign_decides, purse_told}

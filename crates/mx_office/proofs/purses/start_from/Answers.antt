@@ -3,7 +3,7 @@ use Rattle.mx_purse.specs.declared.status.Status.TheVariants.{Epr}
 use Rattle.mx_purse.specs.Operations.{start_from_refusal, from_details}
 use Rattle.mx_office.specs.Step.{abort_line, start_from}
 use Rattle.mx_office.specs.Decides.{purse_edits}
-use Rattle.mx_office.specs.declared.values.Reply.TheVariants.{Refused}
+use Rattle.mx_command.specs.declared.values.Reply.TheVariants.{Refused}
 use Rattle.mx_office.proofs.CallLemmas.{so_far, tells_so, tells_fault}
 use Rattle.mx_office.proofs.CommandLemmas.{foreign_decides, start_refused, start_decides}
 use Rattle.mx_office.proofs.purses.start_from.Goals as goal

@@ -3,7 +3,7 @@ use Rattle.mx_purse.specs.declared.message.Message.TheVariants.{Req}
 use Rattle.mx_purse.specs.declared.status.Status.TheVariants.{Epv}
 use Rattle.mx_purse.specs.Operations.{start_to_refusal, to_details}
 use Rattle.mx_office.specs.Step.{start_to}
-use Rattle.mx_office.specs.declared.values.Reply.TheVariants.{Refused}
+use Rattle.mx_command.specs.declared.values.Reply.TheVariants.{Refused}
 use Rattle.mx_office.proofs.CallLemmas.{keeps_then, so_far, so_more, tells_so, tells_fault}
 use Rattle.mx_office.proofs.CommandLemmas.{foreign_decides, start_refused, start_decides}
 use Rattle.mx_office.proofs.purses.start_to.Goals as goal

@@ -1,7 +1,7 @@
 use Rattle.std.proofs.Common.{◌≡◌, ◌∙◌, inl, inr, refl, rules, subst}
 use Rattle.std.proofs.lemmas.List.{take_all}
 use Rattle.std.specs.List.{AllByRecursion}
-use Rattle.mx_office.specs.Commands.{IsAsked}
+use Rattle.mx_command.specs.Commands.{IsAsked}
 use Rattle.mx_book.specs.Stands.{MovesTo}
 use Rattle.mx_book.specs.declared.contract.StoreFault.TheVariants.{Store}
 use Rattle.mx_book.proofs.StandLemmas.{low_before, low_sure, moves_then, sure_before}

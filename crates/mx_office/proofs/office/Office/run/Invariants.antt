@@ -3,7 +3,7 @@ use Rattle.std.specs.Vec.{vec_capacity}
 use Rattle.std.specs.List.{AllByRecursion}
 use Rattle.mx_book.specs.Stands.{MovesTo}
 use Rattle.mx_book.specs.World.{World}
-use Rattle.mx_office.specs.Commands.{IsAsked}
+use Rattle.mx_command.specs.Commands.{IsAsked}
 use Rattle.mx_office.specs.Run.{IsUndone, Leads, attempts}
 use Rattle.mx_office.proofs.office.Office.run.Given as goal
 

@@ -8,9 +8,8 @@ use Rattle.mx_pay.specs.Log.{IsLogValue}
 use Rattle.mx_book.specs.declared.values.Caller.{Caller}
 use Rattle.mx_book.specs.declared.values.Caller.TheVariants.{Operator, Clerk, Holder}
 use Rattle.mx_book.specs.World.{Name}
-use Rattle.mx_office.specs.declared.values.Command.{Command}
-use Rattle.mx_office.specs.declared.values.Command.TheVariants.{NewMember, Grant, Archive, Clear, NewHolder, NewPurse, Load, Collect, Purses, Show, StartFrom, StartTo, Handle, Discard, Abort, ReadLog, Redeem, Inbox, Statement, Reconcile, Settle}
-use Rattle.mx_office.specs.Step.{Asked}
+use Rattle.mx_command.specs.declared.values.Command.{Command}
+use Rattle.mx_command.specs.declared.values.Command.TheVariants.{NewMember, Grant, Archive, Clear, NewHolder, NewPurse, Load, Collect, Purses, Show, StartFrom, StartTo, Handle, Discard, Abort, ReadLog, Redeem, Inbox, Statement, Reconcile, Settle}
 
 -- a name has the text of one
 abbrev pub IsNamed : Name → Type 0
@@ -46,6 +45,10 @@ IsCommand (Inbox purse) = IsNamed purse
 IsCommand (Statement purse after) = IsNamed purse × (after ≤ most_number)
 IsCommand Reconcile = Unit {0}
 IsCommand (Settle d) = IsDetails d
+
+-- a command and who asks
+abbrev pub Asked : Type 0
+Asked = Caller × Command
 
 -- a command that is a value, and so is who asks
 abbrev pub IsAsked : Asked → Type 0
