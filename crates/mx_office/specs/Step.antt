@@ -34,6 +34,7 @@ use Rattle.mx_book.specs.World.{World, Row, Holding, Name, Token, is_of, is_of_m
 use Rattle.mx_book.specs.Conditions.{all_granted}
 use Rattle.mx_book.specs.Reads.{who_of, purses_of, page, of_purse, is_archived, is_settled, tray_of, uncollected_of}
 use Rattle.mx_book.specs.Totals.{totals_of}
+use Rattle.mx_command.specs.Commands.{Asked}
 use Rattle.mx_command.specs.declared.values.Command.{Command}
 use Rattle.mx_command.specs.declared.values.Command.TheVariants.{NewMember, Grant, Archive, Clear, NewHolder, NewPurse, Load, Collect, Purses, Show, StartFrom, StartTo, Handle, Discard, Abort, ReadLog, Redeem, Inbox, Statement, Reconcile, Settle}
 use Rattle.mx_command.specs.declared.values.Refusal.{Refusal}
