@@ -1,8 +1,7 @@
 //! Commands, replies and refusals.
-ghost use Rattle.std.specs.Prelude.{◌≡◌, []};
+ghost use Rattle.std.specs.Prelude.{◌≡◌};
 ghost use Rattle.mx_command.specs.Texts.{refusal_text};
 
-use mx_book::edits::Edits;
 use mx_book::values::{Line, Totals};
 use mx_pay::{Amount, Log, Name, PayDetails, Seq, Token};
 use mx_purse::{Handled, Message, Purse};

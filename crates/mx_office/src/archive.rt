@@ -11,11 +11,11 @@ ghost use Rattle.mx_office.specs.Step.{archive, clear, is_archived_for_both, may
 ghost use Rattle.mx_command.specs.declared.values.Command.{Command};
 
 use crate::decisions::{Outgoing, credit_refusal, make, make_purse, payment_line, refuse, tell};
-use mx_command::{Refusal, Reply};
 use crate::values::Decided;
 use mx_book::contract::{Book, StoreFault};
 use mx_book::edits::Edit;
 use mx_book::values::LineKind;
+use mx_command::{Refusal, Reply};
 use mx_pay::{Log, Name, PayDetails};
 use mx_purse::{Message, Purse};
 use std::alloc::Global;

@@ -6,10 +6,10 @@ ghost use Rattle.mx_office.specs.Step.{abort_line, listed, message_line, money_l
 ghost use Rattle.mx_office.specs.Decides.{purse_edits, put_edits, read_edits, redeem_edits};
 ghost use Rattle.mx_office.specs.Outgoing.{carried};
 
-use mx_command::{Refusal, Reply};
 use crate::values::Decided;
 use mx_book::edits::{Edit, Edits};
 use mx_book::values::{Line, LineKind, Note};
+use mx_command::{Refusal, Reply};
 use mx_pay::{Amount, Name, PayDetails};
 use mx_purse::{CreditRefusal, Handled, LoadRefusal, Message, Purse, RedeemRefusal, StartRefusal};
 

@@ -6,8 +6,8 @@ ghost use Rattle.mx_pay.specs.Log.{IsLogValue};
 ghost use Rattle.mx_pay.specs.Tokens.{IsToken};
 ghost use Rattle.mx_command.specs.Commands.{IsCaller, IsCommand, IsNamed};
 
-use mx_command::Command;
 use mx_book::values::Caller;
+use mx_command::Command;
 use mx_pay::{Amount, Log, Name, PayDetails, Seq, Token};
 
 /// A name is one.

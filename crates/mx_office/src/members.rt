@@ -7,11 +7,11 @@ ghost use Rattle.mx_office.specs.Step.{new_member, new_holder, new_purse};
 ghost use Rattle.mx_command.specs.declared.values.Command.{Command};
 
 use crate::decisions::{make, refuse};
-use mx_command::{Refusal, Reply};
 use crate::values::Decided;
 use mx_book::contract::{Book, StoreFault};
 use mx_book::edits::Edit;
 use mx_book::values::MOST_PURSES;
+use mx_command::{Refusal, Reply};
 use mx_pay::names::same_name;
 use mx_pay::{Name, Token};
 use std::alloc::Global;

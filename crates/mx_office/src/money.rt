@@ -12,11 +12,11 @@ ghost use Rattle.mx_office.specs.Step.{collect, grant, load_purse, reconcile};
 ghost use Rattle.mx_command.specs.declared.values.Command.{Command};
 
 use crate::decisions::{Outgoing, again, load_refusal, make, make_purse, money_line, refuse, tell};
-use mx_command::{Refusal, Reply};
 use crate::values::Decided;
 use mx_book::contract::{Book, StoreFault};
 use mx_book::edits::Edit;
 use mx_book::values::{LineKind, MemberRow};
+use mx_command::{Refusal, Reply};
 use mx_pay::names::same_name;
 use mx_pay::numbers::MOST_NUMBER;
 use mx_pay::{Amount, Name};

@@ -29,10 +29,10 @@ use crate::money::{collect, grant, load, reconcile};
 use crate::purses::{
     abort, discard, handle, inbox, purses, read_log, redeem, show, start_from, start_to, statement,
 };
-use mx_command::{Command, Refusal, Reply};
 use crate::values::{Decided, Outcome};
 use mx_book::contract::{Book, StoreFault};
 use mx_book::values::Caller;
+use mx_command::{Command, Refusal, Reply};
 use mx_pay::Name;
 use std::alloc::{AllocError, Global};
 

@@ -16,11 +16,11 @@ use crate::decisions::{
     Outgoing, abort_line, again, make, make_purse, make_read, make_redemption, message_line,
     peer_of, redeem_refusal, refuse, sent_for, start_refusal, tell,
 };
-use mx_command::{Lines, Messages, Names, Refusal, Reply};
 use crate::values::Decided;
 use mx_book::contract::{Book, StoreFault};
 use mx_book::edits::Edit;
 use mx_book::values::MOST_LINES;
+use mx_command::{Lines, Messages, Names, Refusal, Reply};
 use mx_pay::{Amount, Name, PayDetails, Seq};
 use std::alloc::Global;
 

@@ -1,7 +1,6 @@
 //! The laws of conservation.
-ghost use Rattle.std.specs.Prelude.{◌≡◌, ℕ, List, Some};
-ghost use Rattle.std.specs.FinMap.{get};
-ghost use Rattle.mx_book.specs.World.{Holding, Name, Row, World, opening};
+ghost use Rattle.std.specs.Prelude.{◌≡◌, ℕ};
+ghost use Rattle.mx_book.specs.World.{Name, World};
 ghost use Rattle.mx_book.specs.declared.values.Caller.{Caller};
 ghost use Rattle.mx_office.specs.Conservation.{AcceptsAuthentic, AccountsAllValue, CreatesNoValue, HasRoom, IsConserved, IsNeverFull, PaysCovered};
 ghost use Rattle.mx_office.specs.Reachable.{IsReachable};
