@@ -1,11 +1,12 @@
 //! Calls of values and of the wire, made alone. With every growth granted each answers its usual value, worked out by
 //! hand. Run with one growth refused, as a check does for each growth in turn, a test says that a call that meets the
 //! refused one answers want of memory, and its usual value when it is made again.
-use crate::wire::words::read_words;
+use crate::wire::routes::assert_classes;
+use crate::wire::words::words_of;
 use mx_command::{Messages, Names, Reply};
-use mx_pay::{Name, PayDetails, code_text, read_code, read_details};
+use mx_pay::{Log, Name, PayDetails, code_text, read_code, read_details};
 use mx_purse::{Message, Purse};
-use mx_wire::{Class, Routes, WireFault, render};
+use mx_wire::{Routes, render};
 use std::alloc::{AllocError, Global};
 use std::process::Abort;
 use std::test::Fail;
@@ -13,13 +14,18 @@ use std::test::Fail;
 /// The code text of a log with four entries.
 const LOGGED: &str = "p1,q1,60,0,0;p1,q1,1000000000000,1,1;p1,q2,5,1000000000000000,0;q1,p1,5,1,2";
 
+/// The code text of a log, written again where there is no memory at first.
+fn code_in_the_end(alloc: Global, log: &Log) -> Result<String, AllocError> {
+    match code_text(alloc, log) {
+        Ok(text) => Ok(text),
+        Err(_) => code_text(alloc, log),
+    }
+}
+
 #[test]
 fn code_text_with_a_growth_refused(rt: HostRuntime) -> Result<(), Fail> {
     let log = read_code(LOGGED).ok_or("no code text")?;
-    let text = match code_text(rt.alloc(), &log) {
-        Ok(text) => text,
-        Err(_) => code_text(rt.alloc(), &log)?,
-    };
+    let text = code_in_the_end(rt.alloc(), &log)?;
     assert_eq!(rt; text.as_str(), LOGGED);
     Ok(())
 }
@@ -32,28 +38,25 @@ fn routes_in_the_end(alloc: Global) -> Result<Routes, AllocError> {
     }
 }
 
+/// Requests, a line each, with the class of each one's route.
+const CLASSES: &str = "
+operator: POST /members
+operator: POST /members/m/grant
+operator: POST /settle
+operator: GET /reconcile
+clerk: POST /purses
+clerk: POST /purses/p1/load
+holder: GET /purses
+holder: POST /purses/p1/start-to
+holder: GET /purses/p1/statement/50
+none: GET /members
+none: POST /purses/p1
+";
+
 #[test]
 fn routes_with_a_growth_refused(rt: HostRuntime) -> Result<(), Fail> {
     let routes = routes_in_the_end(rt.alloc())?;
-    for (method, path, class) in [
-        ("POST", "/members", Some(Class::Operator)),
-        ("POST", "/members/m/grant", Some(Class::Operator)),
-        ("POST", "/settle", Some(Class::Operator)),
-        ("GET", "/reconcile", Some(Class::Operator)),
-        ("POST", "/purses", Some(Class::Clerk)),
-        ("POST", "/purses/p1/load", Some(Class::Clerk)),
-        ("GET", "/purses", Some(Class::Holder)),
-        ("POST", "/purses/p1/start-to", Some(Class::Holder)),
-        ("GET", "/purses/p1/statement/50", Some(Class::Holder)),
-        ("GET", "/members", None),
-        ("POST", "/purses/p1", None),
-    ] {
-        assert_eq!(rt;
-            routes.class(method.as_bytes(), path.as_bytes()),
-            class,
-            "{method} {path}"
-        );
-    }
+    assert_classes(&rt, &routes, CLASSES);
     Ok(())
 }
 
@@ -70,34 +73,19 @@ POST /members: {"member":"m","token": -> bad body
 POST /nowhere: {"member":"m"} -> no route
 "#;
 
-/// What command a request says, in words, where there is memory for it.
-fn read_once(
-    alloc: Global,
-    routes: &Routes,
-    request: &str,
-    body: &str,
-) -> Result<String, AllocError> {
-    let (method, path) = request.split_once(' ').unwrap_or((request, ""));
-    let read = routes.read_command(alloc, method.as_bytes(), path.as_bytes(), body.as_bytes());
-    match read {
-        Err(WireFault::Memory) => Err(AllocError),
-        read => read_words(alloc, &read),
-    }
-}
-
 /// Asserts that a request says a command, read again where there is no memory at first.
-fn assert_read(
+fn assert_said_in_the_end(
     rt: &(impl Abort + AllocGlobal),
     routes: &Routes,
     asked: &str,
     words: &str,
-) -> Result<(), Fail> {
+) -> Result<(), AllocError> {
     let (request, body) = asked.split_once(": ").unwrap_or((asked, ""));
-    let read = match read_once(rt.alloc(), routes, request, body) {
-        Ok(read) => read,
-        Err(_) => read_once(rt.alloc(), routes, request, body)?,
+    let said = match words_of(rt.alloc(), routes, request, body.as_bytes()) {
+        Ok(said) => said,
+        Err(_) => words_of(rt.alloc(), routes, request, body.as_bytes())?,
     };
-    assert_eq!(rt; read.as_str(), words, "{asked}");
+    assert_eq!(rt; said.as_str(), words, "{asked}");
     Ok(())
 }
 
@@ -106,7 +94,7 @@ fn commands_with_a_growth_refused(rt: HostRuntime) -> Result<(), Fail> {
     let routes = routes_in_the_end(rt.alloc())?;
     for line in REQUESTS.lines() {
         if let Some((asked, words)) = line.split_once(" -> ") {
-            assert_read(&rt, &routes, asked, words)?;
+            assert_said_in_the_end(&rt, &routes, asked, words)?;
         }
     }
     Ok(())
@@ -165,27 +153,21 @@ fn reply_in_the_end(alloc: Global, place: usize) -> Option<Reply> {
     }
 }
 
-/// Asserts that a reply has a response with this body, rendered again where there is no memory at first.
-fn assert_rendered(
-    rt: &(impl Abort + AllocGlobal),
-    reply: &Reply,
-    body: &str,
-) -> Result<(), AllocError> {
-    let response = match render(rt.alloc(), reply) {
+/// Whether a reply has a response with this body, rendered again where there is no memory at first.
+fn is_rendered(alloc: Global, reply: &Reply, body: &str) -> Result<bool, AllocError> {
+    let response = match render(alloc, reply) {
         Ok(response) => response,
-        Err(_) => render(rt.alloc(), reply)?,
+        Err(_) => render(alloc, reply)?,
     };
     let bytes = response.text(false);
-    assert!(rt; bytes.starts_with(b"HTTP/1.1 200 OK\r\n"), "{body}");
-    assert!(rt; bytes.ends_with(body.as_bytes()), "{body}");
-    Ok(())
+    Ok(bytes.starts_with(b"HTTP/1.1 200 OK\r\n") && bytes.ends_with(body.as_bytes()))
 }
 
 #[test]
 fn responses_with_a_growth_refused(rt: HostRuntime) -> Result<(), Fail> {
     for (place, body) in BODIES.iter().enumerate() {
         let reply = reply_in_the_end(rt.alloc(), place).ok_or("no reply")?;
-        assert_rendered(&rt, &reply, body)?;
+        assert!(rt; is_rendered(rt.alloc(), &reply, body)?, "{body}");
     }
     Ok(())
 }

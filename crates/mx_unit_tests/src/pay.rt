@@ -1,191 +1,182 @@
 //! Examples of each rule, worked out by hand: what no contract says.
-use mx_pay::{Amount, Log, Name, PayDetails, Seq, Token, code_text, read_code};
-use std::process::Abort;
+use mx_pay::{Amount, Name, PayDetails, Seq, Token, code_text, read_code};
+use std::alloc::{AllocError, Global};
 use std::test::Fail;
 
-/// The name that is spelled `text`, which has to be one.
-fn name(text: &str) -> Result<Name, Fail> {
-    Ok(Name::read(text).ok_or("no name")?)
-}
+/// Texts, and whether each is a name.
+const NAMES: [(&str, bool); 25] = [
+    ("a", true),
+    ("z", true),
+    ("p1", true),
+    ("a-b", true),
+    ("a-", true),
+    ("z09", true),
+    ("abcdefghijklmnopqrstuvwx", true),
+    ("", false),
+    ("abcdefghijklmnopqrstuvwxy", false),
+    ("1a", false),
+    ("-a", false),
+    ("A", false),
+    ("aB", false),
+    ("a_b", false),
+    ("a b", false),
+    ("é", false),
+    ("aé", false),
+    ("`", false),
+    ("{", false),
+    ("a`", false),
+    ("a{", false),
+    ("a/", false),
+    ("a:", false),
+    ("a,", false),
+    ("a.", false),
+];
 
-/// Details of a payment from `a`, with the other fields as given.
-fn details(to: &str, value: u64, from_seq: u64, to_seq: u64) -> Result<PayDetails, Fail> {
-    let value = Amount::new(value).ok_or("no amount")?;
-    let from_seq = Seq::new(from_seq).ok_or("no number")?;
-    let to_seq = Seq::new(to_seq).ok_or("no number")?;
-    Ok(PayDetails::new(name("a")?, name(to)?, value, from_seq, to_seq).ok_or("no details")?)
+/// Whether the name that a text is read as is spelled so. None where it is no name.
+fn is_spelled(text: &str) -> Option<bool> {
+    let name = Name::read(text)?;
+    Some(name.as_str() == text)
 }
 
 #[test]
-fn names_are_accepted_by_their_rule(rt: HostRuntime) -> Result<(), Fail> {
-    for text in [
-        "a",
-        "z",
-        "p1",
-        "a-b",
-        "a-",
-        "z09",
-        "abcdefghijklmnopqrstuvwx",
-    ] {
-        assert_eq!(rt; name(text)?.as_str(), text);
+fn names_by_their_rule(rt: HostRuntime) {
+    for (text, is_name) in &NAMES {
+        assert!(rt; is_spelled(text) == is_name.then_some(true), "{text}");
     }
-    Ok(())
 }
 
-#[test]
-fn other_texts_are_no_names(rt: HostRuntime) {
-    for text in [
-        "",
-        "abcdefghijklmnopqrstuvwxy",
-        "1a",
-        "-a",
-        "A",
-        "aB",
-        "a_b",
-        "a b",
-        "é",
-        "aé",
-    ] {
-        assert!(rt; Name::read(text).is_none(), "{text}");
-    }
-    for text in ["`", "{", "a`", "a{", "a/", "a:", "a,", "a."] {
-        assert!(rt; Name::read(text).is_none(), "{text}");
-    }
-}
+/// Numbers, with the amount and the sequence number that each is.
+const NUMBERS: [(u64, Option<u64>, Option<u64>); 6] = [
+    (0, Some(0), Some(0)),
+    (
+        1_000_000_000_000,
+        Some(1_000_000_000_000),
+        Some(1_000_000_000_000),
+    ),
+    (1_000_000_000_001, None, Some(1_000_000_000_001)),
+    (1_000_000_000_000_000, None, Some(1_000_000_000_000_000)),
+    (1_000_000_000_000_001, None, None),
+    (u64::MAX, None, None),
+];
 
 #[test]
 fn numbers_are_accepted_up_to_their_limits(rt: HostRuntime) {
-    for (number, is_amount, is_seq) in [
-        (0, true, true),
-        (1_000_000_000_000, true, true),
-        (1_000_000_000_001, false, true),
-        (1_000_000_000_000_000, false, true),
-        (1_000_000_000_000_001, false, false),
-        (u64::MAX, false, false),
-    ] {
-        let (amount, seq) = (Amount::new(number), Seq::new(number));
-        assert_eq!(rt; amount.map(Amount::get), is_amount.then_some(number));
-        assert_eq!(rt; seq.map(Seq::get), is_seq.then_some(number));
+    for (number, amount, seq) in &NUMBERS {
+        let found = (
+            Amount::new(*number).map(Amount::get),
+            Seq::new(*number).map(Seq::get),
+        );
+        assert!(rt; found == (*amount, *seq), "{number}");
     }
+}
+
+/// Details of a payment of 60 from `a`, whose own number is 3, to a purse whose own is 4.
+fn details(to: &str) -> Option<PayDetails> {
+    let (from, to) = (Name::read("a")?, Name::read(to)?);
+    PayDetails::new(from, to, Amount::new(60)?, Seq::new(3)?, Seq::new(4)?)
+}
+
+/// The value of a payment, and the numbers of its purses.
+fn numbers(payment: &PayDetails) -> (u64, u64, u64) {
+    let (from_seq, to_seq) = (payment.from_seq(), payment.to_seq());
+    (payment.value().get(), from_seq.get(), to_seq.get())
 }
 
 #[test]
 fn details_keep_their_fields_and_have_two_names(rt: HostRuntime) -> Result<(), Fail> {
-    let payment = details("b", 60, 1, 2)?;
-    assert_eq!(rt; payment.from().as_str(), "a");
-    assert_eq!(rt; payment.to().as_str(), "b");
-    assert_eq!(rt; payment.value().get(), 60);
-    assert_eq!(rt; payment.from_seq().get(), 1);
-    assert_eq!(rt; payment.to_seq().get(), 2);
-    let same = PayDetails::new(
-        name("a")?,
-        name("a")?,
-        payment.value(),
-        Seq::zero(),
-        Seq::zero(),
-    );
-    assert!(rt; same.is_none());
+    let payment = details("b").ok_or("no details")?;
+    let (from, to) = (payment.from(), payment.to());
+    let fields = (from.as_str(), to.as_str(), numbers(&payment));
+    assert_eq!(rt; fields, ("a", "b", (60, 3, 4)));
+    let log = read_code("a,b,60,3,4").ok_or("no code text")?;
+    assert!(rt; log.at(0) == Some(payment) && details("a").is_none());
     Ok(())
 }
 
+/// Texts that are no tokens.
+const NO_TOKENS: [&str; 6] = [
+    "",
+    "0123456789abcdef0123456789abcde",
+    "0123456789abcdef0123456789abcdef0",
+    "0123456789abcdef0123456789abcdeg",
+    " 123456789abcdef0123456789abcdef",
+    "0x23456789abcdef0123456789abcdef",
+];
+
+/// Tokens are read in either case, and written in lower case.
 #[test]
-fn tokens_are_read_in_either_case_and_written_in_lower_case(rt: HostRuntime) -> Result<(), Fail> {
-    let low = Token::read("0123456789abcdef0123456789abcdef");
+fn tokens_by_their_rule(rt: HostRuntime) -> Result<(), Fail> {
+    let low = Token::read("0123456789abcdef0123456789abcdef").ok_or("no token")?;
     let high = Token::read_bytes(b"0123456789ABCDEF0123456789abcdEF");
-    assert!(rt; high == low);
-    assert_eq!(rt;
-        low.ok_or("no token")?.text(),
-        *b"0123456789abcdef0123456789abcdef"
-    );
-    assert!(rt; low < Token::read("0123456789abcdef0123456789abcdff"));
-    Ok(())
-}
-
-#[test]
-fn other_texts_are_no_tokens(rt: HostRuntime) {
-    for text in [
-        "",
-        "0123456789abcdef0123456789abcde",
-        "0123456789abcdef0123456789abcdef0",
-        "0123456789abcdef0123456789abcdeg",
-        " 123456789abcdef0123456789abcdef",
-        "0x23456789abcdef0123456789abcdef",
-    ] {
+    assert!(rt; high == Some(low) && low.text() == *b"0123456789abcdef0123456789abcdef");
+    let later = Token::read("0123456789abcdef0123456789abcdff");
+    assert!(rt; Some(low) < later && Token::read_bytes(&[0xFF; 32]).is_none());
+    for text in &NO_TOKENS {
         assert!(rt; Token::read(text).is_none(), "{text}");
     }
-    assert!(rt; Token::read_bytes(&[0xFF; 32]).is_none());
-}
-
-/// Asserts that a text is the code text of a log with so many entries.
-fn assert_code_text(rt: &(impl Abort + AllocGlobal), text: &str, len: usize) -> Result<(), Fail> {
-    let log = read_code(text).ok_or("no code text")?;
-    assert_eq!(rt; log.len(), len, "{text}");
-    assert_eq!(rt; code_text(rt.alloc(), &log)?.as_str(), text);
     Ok(())
 }
 
-#[test]
-fn a_code_text_is_read_as_its_log(rt: HostRuntime) -> Result<(), Fail> {
-    for (text, len) in [
-        ("", 0),
-        ("p1,q1,60,0,0", 1),
-        ("a,b,1000000000000,1000000000000000,1000000000000000", 1),
-        ("a,b,2,0,0;a,b,10,0,0;a-1,b,0,0,0;a1,b,0,0,0", 4),
-    ] {
-        assert_code_text(&rt, text, len)?;
-    }
-    let log = read_code("a,b,60,3,4").ok_or("no code text")?;
-    assert!(rt; log.at(0) == Some(details("b", 60, 3, 4)?));
-    Ok(())
-}
+/// Texts, each with how many entries its log has where it is a code text. 16 are the most.
+const CODE_TEXTS: [(&str, Option<usize>); 28] = [
+    ("", Some(0)),
+    ("p1,q1,60,0,0", Some(1)),
+    (
+        "a,b,1000000000000,1000000000000000,1000000000000000",
+        Some(1),
+    ),
+    ("a,b,2,0,0;a,b,10,0,0;a-1,b,0,0,0;a1,b,0,0,0", Some(4)),
+    (
+        "p1,q1,60,10,0;p1,q1,60,11,0;p1,q1,60,12,0;p1,q1,60,13,0;p1,q1,60,14,0;p1,q1,60,15,0;\
+p1,q1,60,16,0;p1,q1,60,17,0;p1,q1,60,18,0;p1,q1,60,19,0;p1,q1,60,20,0;p1,q1,60,21,0;\
+p1,q1,60,22,0;p1,q1,60,23,0;p1,q1,60,24,0;p1,q1,60,25,0",
+        Some(16),
+    ),
+    ("p1,q1,060,0,0", None),
+    ("p1,q1,60,00,0", None),
+    ("p1,q1,+60,0,0", None),
+    ("p1,q1,,0,0", None),
+    ("p1,p1,1,0,0", None),
+    ("p1,q1,60,0,0;", None),
+    (";p1,q1,60,0,0", None),
+    ("p1,q1,60,0,0;;p1,q1,61,0,0", None),
+    ("p1,q1,61,0,0;p1,q1,60,0,0", None),
+    ("p1,q1,10,0,0;p1,q1,9,0,0", None),
+    ("p1,q1,60,0,0;p1,q1,60,0,0", None),
+    ("p1,q1,1000000000001,0,0", None),
+    ("p1,q1,60,1000000000000001,0", None),
+    ("p1,q1,60,0,1000000000000001", None),
+    ("p1,q1,18446744073709551616,0,0", None),
+    ("p1,q1,60,0", None),
+    ("p1,q1,60,0,0,0", None),
+    ("P1,q1,60,0,0", None),
+    (" p1,q1,60,0,0", None),
+    ("p1,q1,60,0,0\n", None),
+    (";", None),
+    (",,,,", None),
+    (
+        "p1,q1,60,10,0;p1,q1,60,11,0;p1,q1,60,12,0;p1,q1,60,13,0;p1,q1,60,14,0;p1,q1,60,15,0;\
+p1,q1,60,16,0;p1,q1,60,17,0;p1,q1,60,18,0;p1,q1,60,19,0;p1,q1,60,20,0;p1,q1,60,21,0;\
+p1,q1,60,22,0;p1,q1,60,23,0;p1,q1,60,24,0;p1,q1,60,25,0;p1,q1,60,26,0",
+        None,
+    ),
+];
 
-#[test]
-fn other_texts_are_no_code_texts(rt: HostRuntime) {
-    for text in [
-        "p1,q1,060,0,0",
-        "p1,q1,60,00,0",
-        "p1,q1,+60,0,0",
-        "p1,q1,,0,0",
-        "p1,p1,1,0,0",
-        "p1,q1,60,0,0;",
-        ";p1,q1,60,0,0",
-        "p1,q1,60,0,0;;p1,q1,61,0,0",
-        "p1,q1,61,0,0;p1,q1,60,0,0",
-        "p1,q1,10,0,0;p1,q1,9,0,0",
-        "p1,q1,60,0,0;p1,q1,60,0,0",
-    ] {
-        assert!(rt; read_code(text).is_none(), "{text}");
-    }
-    for text in [
-        "p1,q1,1000000000001,0,0",
-        "p1,q1,60,1000000000000001,0",
-        "p1,q1,60,0,1000000000000001",
-        "p1,q1,18446744073709551616,0,0",
-        "p1,q1,60,0",
-        "p1,q1,60,0,0,0",
-        "P1,q1,60,0,0",
-        " p1,q1,60,0,0",
-        "p1,q1,60,0,0\n",
-        ";",
-        ",,,,",
-    ] {
-        assert!(rt; read_code(text).is_none(), "{text}");
-    }
-}
-
-#[test]
-fn a_code_text_has_at_most_16_entries(rt: HostRuntime) -> Result<(), Fail> {
-    let mut text = String::new(rt.alloc());
-    for number in 10..26 {
-        if number != 10 {
-            text.push_str(";")?;
+/// How many entries the log has that a text is read as, and whether its code text is that text.
+fn entries_in(alloc: Global, text: &str) -> Result<(Option<usize>, bool), AllocError> {
+    match read_code(text) {
+        None => Ok((None, true)),
+        Some(log) => {
+            let again = code_text(alloc, &log)?;
+            Ok((Some(log.len()), again.as_str() == text))
         }
-        text.push_str(format!(in rt.alloc(); "p1,q1,60,{number},0")?.as_str())?;
     }
-    let log = read_code(text.as_str()).ok_or("no code text")?;
-    assert_eq!(rt; log.len(), 16);
-    assert_eq!(rt; code_text(rt.alloc(), &log)?.as_str(), text.as_str());
-    text.push_str(";p1,q1,60,26,0")?;
-    assert!(rt; read_code(text.as_str()).is_none());
+}
+
+#[test]
+fn code_texts_by_their_rule(rt: HostRuntime) -> Result<(), Fail> {
+    for (text, entries) in &CODE_TEXTS {
+        assert_eq!(rt; entries_in(rt.alloc(), text)?, (*entries, true), "{text}");
+    }
     Ok(())
 }

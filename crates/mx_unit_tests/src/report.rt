@@ -2,10 +2,11 @@
 use mx_book::values::{Line, LineKind, MemberTotals, Note, Totals};
 use mx_pay::{Amount, Name};
 use mx_report::{Report, is_even_statement};
+use std::alloc::Global;
 use std::test::Fail;
 
 /// A scheme of one member, which was granted 1000 and loaded 100, of which these are balances.
-fn report_of(alloc: std::alloc::Global, balances: u128, float: u128) -> Result<Report, Fail> {
+fn report_of(alloc: Global, balances: u128, float: u128) -> Result<Report, Fail> {
     let mut members = Vec::new(alloc);
     let member = MemberTotals {
         granted: 1000,
@@ -29,11 +30,15 @@ fn report_of(alloc: std::alloc::Global, balances: u128, float: u128) -> Result<R
     Ok(Report { members, scheme })
 }
 
+/// The balances and the float of such schemes, and whether their sums add up.
+const SUMS: [(u128, u128, bool); 3] = [(40, 900, true), (56, 900, false), (40, 899, false)];
+
 #[test]
 fn sums_that_add_up_and_that_do_not(rt: HostRuntime) -> Result<(), Fail> {
-    assert!(&rt; report_of(rt.alloc(), 40, 900)?.is_even());
-    assert!(&rt; !report_of(rt.alloc(), 56, 900)?.is_even());
-    assert!(&rt; !report_of(rt.alloc(), 40, 899)?.is_even());
+    for (balances, float, is_even) in &SUMS {
+        let report = report_of(rt.alloc(), *balances, *float)?;
+        assert!(rt; report.is_even() == *is_even, "{balances} {float}");
+    }
     Ok(())
 }
 
@@ -48,11 +53,32 @@ fn line(number: u64, balance: u64) -> Result<Line, Fail> {
     })
 }
 
+/// The numbers of lines with the balances after them, a balance in the end, and whether the lines lead to it.
+const STATEMENTS: [(&[(u64, u64)], u64, bool); 6] = [
+    (&[], 0, true),
+    (&[(1, 5), (2, 7)], 7, true),
+    (&[], 5, false),
+    (&[(1, 5), (2, 7)], 5, false),
+    (&[(1, 5), (3, 9)], 9, false),
+    (&[(2, 7)], 7, false),
+];
+
+/// Whether these lines lead to the balance.
+fn leads_to(alloc: Global, rows: &[(u64, u64)], balance: u64) -> Result<bool, Fail> {
+    let mut lines = Vec::new(alloc);
+    for (number, after) in rows {
+        lines.push(line(*number, *after)?)?;
+    }
+    Ok(is_even_statement(lines.as_slice(), balance))
+}
+
 #[test]
 fn lines_that_lead_to_the_balance_and_that_do_not(rt: HostRuntime) -> Result<(), Fail> {
-    let (first, second, third) = (line(1, 5)?, line(2, 7)?, line(3, 9)?);
-    assert!(&rt; is_even_statement(&[], 0) && is_even_statement(&[first, second], 7));
-    assert!(&rt; !is_even_statement(&[], 5) && !is_even_statement(&[first, second], 5));
-    assert!(&rt; !is_even_statement(&[first, third], 9) && !is_even_statement(&[second], 7));
+    for (rows, balance, expected) in &STATEMENTS {
+        assert!(rt;
+            leads_to(rt.alloc(), rows, *balance)? == *expected,
+            "{balance}"
+        );
+    }
     Ok(())
 }

@@ -1,5 +1,5 @@
 //! Routes, bodies and responses, worked out by hand.
 mod bodies;
 mod replies;
-mod routes;
+pub(super) mod routes;
 pub(super) mod words;

@@ -1,9 +1,8 @@
 //! The abstract purses of worked payments, for each choice of what becomes of the value that is under way.
-use super::random::{amount, name, open, seq};
+use super::asks::{Ask, P1, Q0, Q1, answer_to, open};
 use super::with_office;
-use mx_book::{Book, Caller};
+use mx_command::Reply;
 use mx_memory::PlainBook;
-use mx_command::{Command, Reply};
 use mx_office::Office;
 use mx_pay::{Name, PayDetails};
 use mx_purse::Purse;
@@ -11,21 +10,8 @@ use std::alloc::Global;
 use std::process::Abort;
 use std::test::Fail;
 
-/// The purses of the table, each with its holder.
-const PURSES: [(&str, &str); 3] = [("p1", "ann"), ("q0", "cy"), ("q1", "dan")];
-
-/// What a purse is asked.
-#[derive(Clone, Copy)]
-enum Ask {
-    /// To pay the purse at that place so much, whose next number is this.
-    StartFrom(usize, u64, u64),
-    /// To be paid so.
-    StartTo(usize, u64, u64),
-    /// To handle the message of that number.
-    Handle(u64),
-    /// To abort.
-    Abort,
-}
+/// The places of the purses of the table.
+const PLACES: [usize; 3] = [P1, Q0, Q1];
 
 /// What each purse has in the abstract world, and what it has lost there.
 type AbstractWorld = [(u64, u64); 3];
@@ -34,85 +20,63 @@ type AbstractWorld = [(u64, u64); 3];
 /// under way will arrive, and the second where it will be lost. Where no value is under way the two are the same.
 struct Row(usize, Ask, AbstractWorld, AbstractWorld);
 
-/// p1 pays 60 to q0, which breaks off before the value comes; then p1 pays 25 to q1.
-const TABLE: [Row; 8] = [
+/// p1 is loaded with 100, and pays 60 to q0, which breaks off before the value comes; then p1 pays 25 to q1.
+const TABLE: [Row; 9] = [
     Row(
-        0,
-        Ask::StartFrom(1, 60, 0),
+        P1,
+        Ask::Load(100, 1),
         [(100, 0), (0, 0), (0, 0)],
         [(100, 0), (0, 0), (0, 0)],
     ),
     Row(
-        1,
-        Ask::StartTo(0, 60, 0),
+        P1,
+        Ask::StartFrom(Q0, 60, 0),
         [(100, 0), (0, 0), (0, 0)],
         [(100, 0), (0, 0), (0, 0)],
     ),
     Row(
-        0,
+        Q0,
+        Ask::StartTo(P1, 60, 0),
+        [(100, 0), (0, 0), (0, 0)],
+        [(100, 0), (0, 0), (0, 0)],
+    ),
+    Row(
+        P1,
         Ask::Handle(0),
         [(40, 0), (60, 0), (0, 0)],
         [(40, 60), (0, 0), (0, 0)],
     ),
     Row(
-        1,
+        Q0,
         Ask::Abort,
         [(40, 60), (0, 0), (0, 0)],
         [(40, 60), (0, 0), (0, 0)],
     ),
     Row(
-        0,
-        Ask::StartFrom(2, 25, 0),
+        P1,
+        Ask::StartFrom(Q1, 25, 0),
         [(40, 60), (0, 0), (0, 0)],
         [(40, 60), (0, 0), (0, 0)],
     ),
     Row(
-        2,
-        Ask::StartTo(0, 25, 1),
+        Q1,
+        Ask::StartTo(P1, 25, 1),
         [(40, 60), (0, 0), (0, 0)],
         [(40, 60), (0, 0), (0, 0)],
     ),
     Row(
-        0,
+        P1,
         Ask::Handle(1),
         [(15, 60), (0, 0), (25, 0)],
         [(15, 85), (0, 0), (0, 0)],
     ),
     Row(
-        2,
+        Q1,
         Ask::Handle(0),
         [(15, 60), (0, 0), (25, 0)],
         [(15, 60), (0, 0), (25, 0)],
     ),
 ];
-
-/// The name of the purse at that place.
-fn purse_at(place: usize) -> Result<Name, Fail> {
-    name(PURSES[place % 3].0)
-}
-
-/// The command by which a purse is asked.
-fn command_of(purse: Name, ask: Ask) -> Result<Command, Fail> {
-    Ok(match ask {
-        Ask::StartFrom(peer, value, next) => Command::StartFrom {
-            purse,
-            peer: purse_at(peer)?,
-            value: amount(value)?,
-            seq: seq(next)?,
-        },
-        Ask::StartTo(peer, value, next) => Command::StartTo {
-            purse,
-            peer: purse_at(peer)?,
-            value: amount(value)?,
-            seq: seq(next)?,
-        },
-        Ask::Handle(number) => Command::Handle {
-            purse,
-            number: seq(number)?,
-        },
-        Ask::Abort => Command::Abort { purse },
-    })
-}
 
 /// Whether the value of a payment has left its from purse, which then waits for the acknowledgement, or has logged it.
 fn has_left(purses: &[Purse], details: &PayDetails) -> bool {
@@ -209,14 +173,20 @@ fn abstract_purse(payments: &Payments, purse: &Purse, is_lost: bool) -> (u64, u6
     }
 }
 
+/// A purse, as an office shows it.
+fn shown(alloc: Global, office: &mut Office<PlainBook>, place: usize) -> Option<Purse> {
+    let reply = answer_to(alloc, office, place, &Ask::Show)?;
+    match &reply {
+        Reply::Shown(purse) => Some(*purse),
+        _ => None,
+    }
+}
+
 /// The purses of the table, as an office shows them.
 fn purses_of(alloc: Global, office: &mut Office<PlainBook>) -> Result<Vec<Purse>, Fail> {
     let mut purses = Vec::new(alloc);
-    for (purse, _) in PURSES {
-        match office.book().purse(alloc, name(purse)?) {
-            Ok(Some(account)) => purses.push(account.purse)?,
-            _ => Err("no purse")?,
-        }
+    for place in &PLACES {
+        purses.push(shown(alloc, office, *place).ok_or("no purse")?)?;
     }
     Ok(purses)
 }
@@ -236,11 +206,9 @@ fn assert_abstract(
 
 /// Asks what a row asks.
 fn ask_row(alloc: Global, office: &mut Office<PlainBook>, row: &Row) -> Result<(), Fail> {
-    let holder = Caller::Holder(name(PURSES[row.0 % 3].1)?);
-    let command = command_of(purse_at(row.0)?, row.1)?;
-    match office.answer(alloc, holder, &command) {
-        Ok(Reply::Refused(_)) | Err(_) => Err("refused")?,
-        Ok(_) => Ok(()),
+    match answer_to(alloc, office, row.0, &row.1) {
+        Some(Reply::Refused(_)) | None => Err("refused")?,
+        Some(_) => Ok(()),
     }
 }
 
@@ -258,27 +226,12 @@ fn assert_row(
     Ok(())
 }
 
-/// Loads p1 with 100.
-fn load_p1(alloc: Global, office: &mut Office<PlainBook>) -> Result<(), Fail> {
-    let clerk = Caller::Clerk(name("m")?);
-    let load = Command::Load {
-        purse: purse_at(0)?,
-        amount: amount(100)?,
-        reference: name("a1")?,
-    };
-    match office.answer(alloc, clerk, &load) {
-        Ok(_) => Ok(()),
-        Err(_) => Err("not loaded")?,
-    }
-}
-
-/// Loads p1 with 100, and goes through the table, in an office in which nothing is.
+/// Goes through the table, in an office in which nothing is.
 fn assert_table(
     rt: &(impl Abort + AllocGlobal),
     office: &mut Office<PlainBook>,
 ) -> Result<(), Fail> {
     open(rt.alloc(), office)?;
-    load_p1(rt.alloc(), office)?;
     for row in &TABLE {
         assert_row(rt, office, row)?;
     }

@@ -1,56 +1,40 @@
 //! Many payments in one run of the office, and a run of no commands.
-use super::random::{amount, name, open, seq};
+use super::asks::{Ask, P1, Q1, asked, open};
 use super::with_office;
 use mx_book::Caller;
-use mx_memory::PlainBook;
 use mx_command::{Command, Reply};
+use mx_memory::PlainBook;
 use mx_office::{Office, Outcome};
 use mx_purse::Handled;
 use std::alloc::Global;
 use std::process::Abort;
 use std::test::Fail;
 
-/// The starts of a payment of nothing from p1 to q1, which both have this next number.
-fn add_starts(commands: &mut Vec<(Caller, Command)>, number: u64) -> Result<(), Fail> {
-    let (from, to) = (name("p1")?, name("q1")?);
-    let (value, seq) = (amount(0)?, seq(number)?);
-    let start = Command::StartFrom {
-        purse: from,
-        peer: to,
-        value,
-        seq,
-    };
-    commands.push((Caller::Holder(name("ann")?), start))?;
-    let start = Command::StartTo {
-        purse: to,
-        peer: from,
-        value,
-        seq,
-    };
-    commands.push((Caller::Holder(name("dan")?), start))?;
-    Ok(())
-}
-
-/// What is done with the messages of that payment, p1's by ann and q1's by dan: p1 has got twice as many messages before it,
-/// and q1 as many. Each is handled, and then discarded.
-fn add_messages(commands: &mut Vec<(Caller, Command)>, number: u64) -> Result<(), Fail> {
+/// What is asked in a payment of nothing from p1 to q1, which both have this next number: p1 has got twice as many messages
+/// before it, and q1 as many. Each message is handled, and then discarded.
+fn asks_of(number: u64) -> [(usize, Ask); 8] {
     let first = number.saturating_mul(2);
     let second = first.saturating_add(1);
-    for (holder, purse, message, is_handled) in [
-        ("ann", "p1", first, true),
-        ("dan", "q1", number, true),
-        ("ann", "p1", second, true),
-        ("ann", "p1", first, false),
-        ("ann", "p1", second, false),
-        ("dan", "q1", number, false),
-    ] {
-        let (purse, number) = (name(purse)?, seq(message)?);
-        let command = if is_handled {
-            Command::Handle { purse, number }
-        } else {
-            Command::Discard { purse, number }
-        };
-        commands.push((Caller::Holder(name(holder)?), command))?;
+    [
+        (P1, Ask::StartFrom(Q1, 0, number)),
+        (Q1, Ask::StartTo(P1, 0, number)),
+        (P1, Ask::Handle(first)),
+        (Q1, Ask::Handle(number)),
+        (P1, Ask::Handle(second)),
+        (P1, Ask::Discard(first)),
+        (P1, Ask::Discard(second)),
+        (Q1, Ask::Discard(number)),
+    ]
+}
+
+/// Adds the commands of such a payment.
+fn add_payment(
+    alloc: Global,
+    commands: &mut Vec<(Caller, Command)>,
+    number: u64,
+) -> Result<(), Fail> {
+    for (purse, ask) in &asks_of(number) {
+        commands.push(asked(alloc, *purse, ask).ok_or("no command")?)?;
     }
     Ok(())
 }
@@ -66,6 +50,17 @@ fn is_done(outcome: &Outcome) -> bool {
     }
 }
 
+/// How many of these outcomes are of commands that were done.
+fn count_done(outcomes: &[Outcome]) -> usize {
+    let mut count: usize = 0;
+    for outcome in outcomes {
+        if is_done(outcome) {
+            count = count.saturating_add(1);
+        }
+    }
+    count
+}
+
 /// How many outcomes so many payments in one run have, and how many of these are of commands that were done.
 fn paid(
     alloc: Global,
@@ -74,12 +69,10 @@ fn paid(
 ) -> Result<(usize, usize), Fail> {
     let mut commands = Vec::new(alloc);
     for number in 0..rounds {
-        add_starts(&mut commands, number)?;
-        add_messages(&mut commands, number)?;
+        add_payment(alloc, &mut commands, number)?;
     }
     let outcomes = office.run(alloc, commands.as_slice())?;
-    let done = outcomes.iter().filter(|outcome| is_done(outcome)).count();
-    Ok((outcomes.len(), done))
+    Ok((outcomes.len(), count_done(outcomes.as_slice())))
 }
 
 /// Asserts what comes of a run of no commands and of one of 250 payments, in a new office.

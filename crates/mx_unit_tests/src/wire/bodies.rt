@@ -1,56 +1,17 @@
 //! Requests with their bodies, and the commands that they say.
-use super::words::read_words;
+use super::words::{read_words, words_of};
 use mx_pay::Name;
 use mx_wire::Scratch;
 use mx_wire::bodies::read_body;
 use mx_wire::routes::{Route, Routes};
-use std::alloc::Global;
+use std::alloc::{AllocError, Global};
 use std::process::Abort;
 use std::test::Fail;
 
-/// The words of the command that a request, a method and a path, with this body says.
-fn words_of(alloc: Global, routes: &Routes, request: &str, body: &[u8]) -> Result<String, Fail> {
-    let (method, path) = request.split_once(' ').unwrap_or((request, ""));
-    let read = routes.read_command(alloc, method.as_bytes(), path.as_bytes(), body);
-    Ok(read_words(alloc, &read)?)
-}
-
-/// Asserts that a request, a method and a path, with this body says the command in words.
-fn assert_command(
-    rt: &(impl Abort + AllocGlobal),
-    request: &str,
-    body: &[u8],
-    words: &str,
-) -> Result<(), Fail> {
-    let text = words_of(rt.alloc(), &Routes::new(rt.alloc())?, request, body)?;
-    assert_eq!(rt; text.as_str(), words, "{request}");
-    Ok(())
-}
-
-/// The same of each request of a script: a line, `METHOD PATH: BODY -> WORDS`.
-fn assert_script(rt: &(impl Abort + AllocGlobal), script: &str) -> Result<(), Fail> {
-    for line in script.lines() {
-        if let Some((asked, words)) = line.split_once(" -> ") {
-            let (request, body) = asked.split_once(": ").unwrap_or((asked, ""));
-            assert_command(rt, request, body.as_bytes(), words)?;
-        }
-    }
-    Ok(())
-}
-
-/// Asserts that no line of a text, of which one is empty, is a body that says a command of this request.
-fn assert_bad(rt: &(impl Abort + AllocGlobal), request: &str, bodies: &str) -> Result<(), Fail> {
-    for body in bodies.lines() {
-        assert_command(rt, request, body.as_bytes(), "bad body")?;
-    }
-    Ok(())
-}
-
-#[test]
-fn each_command_from_its_request(rt: HostRuntime) -> Result<(), Fail> {
-    assert_script(
-        &rt,
-        r#"
+/// Requests, a line each, with the words of the command that each says, `METHOD PATH: BODY -> WORDS`. Any other line says
+/// nothing.
+const REQUESTS: &str = r#"
+# Each command.
 POST /members: {"member":"m","token":"00000000000000000000000000000002"} -> new-member m 00000000000000000000000000000002
 POST /members/m/grant: {"amount":1000} -> grant m 1000
 POST /archive/p1 -> archive p1
@@ -74,33 +35,14 @@ GET /purses/p1/inbox -> inbox p1
 GET /purses/p1/statement/50 -> statement p1 50
 GET /reconcile -> reconcile
 HEAD /purses/p1 -> show p1
-"#,
-    )
-}
-
-/// The body of a command that takes none isn't looked at, nor that of a request without a route.
-#[test]
-fn bodies_that_are_not_looked_at(rt: HostRuntime) -> Result<(), Fail> {
-    assert_script(
-        &rt,
-        r#"
+# The body of a command that takes none isn't looked at, nor that of a request without a route.
 GET /purses/p1: { -> show p1
 POST /purses/p1/abort: [] -> abort p1
 POST /archive/p1: {"x":1e999 -> archive p1
 GET /collect -> no route
 GET /archive/p1 -> no route
 POST /purses/P1/handle: { -> no route
-"#,
-    )?;
-    assert_command(&rt, "POST /collect", b"\xff", "collect")
-}
-
-/// Other keys and spaces don't count; of a key that stands twice the last value does.
-#[test]
-fn objects_in_other_forms(rt: HostRuntime) -> Result<(), Fail> {
-    assert_script(
-        &rt,
-        r#"
+# Other keys and spaces don't count; of a key that stands twice the last value does.
 POST /members/m/grant: {"amount":1,"amount":2} -> grant m 2
 POST /members/m/grant: {"amount":"1","amount":2} -> grant m 2
 POST /members/m/grant: {"amount":1,"amount":"2"} -> bad body
@@ -114,22 +56,7 @@ POST /purses/p1/read-log: {"details":"","place":3} -> read-log p1 3
 POST /purses: {"purse":"\u0070","holder":"ann"} -> new-purse p ann
 POST /purses: {"holder":"ann","\u0070urse":"p1","purse":"p2"} -> new-purse p2 ann
 POST /purses: {"holder":"ann","purse":"p2","p\u0075rse":"p1"} -> new-purse p1 ann
-"#,
-    )?;
-    assert_command(
-        &rt,
-        "POST /members/m/grant",
-        b" {\r\n\t\"amount\" : 5 , \"Amount\" : null, \"x\" : [{}, \"\\u00e9\"] } ",
-        "grant m 5",
-    )
-}
-
-/// Each number has its limit.
-#[test]
-fn numbers_at_their_limits(rt: HostRuntime) -> Result<(), Fail> {
-    assert_script(
-        &rt,
-        r#"
+# Each number has its limit.
 POST /members/m/grant: {"amount":0} -> grant m 0
 POST /members/m/grant: {"amount":1000000000000} -> grant m 1000000000000
 POST /members/m/grant: {"amount":1000000000001} -> bad body
@@ -142,176 +69,203 @@ POST /purses/p1/read-log: {"place":0} -> read-log p1 0
 POST /purses/p1/read-log: {"place":1000000000000001} -> read-log p1 1000000000000001
 POST /purses/p1/read-log: {"place":18446744073709551615} -> read-log p1 18446744073709551615
 POST /purses/p1/read-log: {"place":18446744073709551616} -> bad body
-"#,
-    )
-}
-
-/// A number is one that reads as a u64.
-#[test]
-fn amounts_that_are_bad(rt: HostRuntime) -> Result<(), Fail> {
-    assert_bad(
-        &rt,
-        "POST /members/m/grant",
-        r#"
-{"amount":-1}
-{"amount":1.0}
-{"amount":1e3}
-{"amount":"5"}
-{"amount":null}
-{"amount":true}
-{"amount":[5]}
-{"amount":05}
-{"amount":+5}
-{"amount":18446744073709551616}
-"#,
-    )
-}
-
-/// A place is one too, and any.
-#[test]
-fn places_that_are_bad(rt: HostRuntime) -> Result<(), Fail> {
-    assert_bad(
-        &rt,
-        "POST /purses/p1/read-log",
-        r#"
-{}
-{"Place":1}
-{"place":-1}
-{"place":1.5}
-{"place":1.0}
-{"place":"1"}
-{"place":null}
-{"place":18446744073709551616}
-{"place":1,"place":-1}
-"#,
-    )
-}
-
-/// The details of a clear are a code text: entries of five fields that rise, with nothing beside them.
-#[test]
-fn details_that_are_bad(rt: HostRuntime) -> Result<(), Fail> {
-    assert_bad(
-        &rt,
-        "POST /clear/p1",
-        r#"
-{}
-{"details":null}
-{"details":[]}
-{"details":0}
-{"details":" "}
-{"details":";"}
-{"details":"p1"}
-{"details":"p1,q1,60,4"}
-{"details":"p1,q1,60,4,7,8"}
-{"details":"p1,q1,60,4,7;"}
-{"details":"p1,q1,60,4,7 "}
-{"details":"p1,q1,060,4,7"}
-{"details":"p1,q1,1000000000001,4,7"}
-{"details":"p1,p1,60,4,7"}
-{"details":"P1,q1,60,4,7"}
-{"details":"p1,q1,60,4,7;p1,q1,60,4,7"}
-{"details":"p1,q1,60,4,7;a,p1,5,0,3"}
-{"details":["p1,q1,60,4,7"]}
-{"Details":"p1,q1,60,4,7"}
-"#,
-    )
-}
-
-/// The details of a settlement are those of one payment: neither of none nor of two.
-#[test]
-fn details_of_a_settlement_that_are_bad(rt: HostRuntime) -> Result<(), Fail> {
-    assert_bad(
-        &rt,
-        "POST /settle",
-        r#"
-{}
-{"details":null}
-{"details":""}
-{"details":";"}
-{"details":"p1,q1,60,4"}
-{"details":"p1,q1,60,4,7;"}
-{"details":";p1,q1,60,4,7"}
-{"details":"p1,q1,60,4,7 "}
-{"details":"p1,q1,60,4,07"}
-{"details":"p1,p1,60,4,7"}
-{"details":"p1,q1,1000000000001,4,7"}
-{"details":"a,p1,5,0,3;p1,q1,60,4,7"}
-{"details":"p1,q1,60,4,7;p1,q1,60,4,7"}
-{"details":["p1,q1,60,4,7"]}
-{"Details":"p1,q1,60,4,7"}
-"#,
-    )
-}
-
-/// A body is one object of JSON, in UTF-8, with the key that is asked for.
-#[test]
-fn bodies_that_are_bad(rt: HostRuntime) -> Result<(), Fail> {
-    assert_bad(
-        &rt,
-        "POST /members/m/grant",
-        r#"
-5
-null
-"amount"
-[]
-[{"amount":5}]
-{}
-{"Amount":5}
-{"value":5}
-{"amount":5
-{"amount":5}}
-{"amount":5}{"amount":5}
-{"amount":5,}
-{amount:5}
-{'amount':5}
-{"amount":5,"x":"\ud83d"}
-"#,
-    )
-}
-
-/// A body is UTF-8, without a byte order mark, and isn't blank.
-#[test]
-fn bodies_that_are_no_text(rt: HostRuntime) -> Result<(), Fail> {
-    let bodies: [&[u8]; 5] = [
-        b" ",
-        b"{\"amount\":5,\"x\":\"\xff\"}",
-        b"{\"amount\":5,\"x\":\"\xed\xa0\x80\"}",
-        b"\xff{\"amount\":5}",
-        b"\xef\xbb\xbf{\"amount\":5}",
-    ];
-    for body in bodies {
-        assert_command(&rt, "POST /members/m/grant", body, "bad body")?;
-    }
-    Ok(())
-}
-
-/// Under a key that doesn't count there may be any JSON, but no number that is too large for a float.
-#[test]
-fn values_of_other_keys(rt: HostRuntime) -> Result<(), Fail> {
-    assert_script(
-        &rt,
-        r#"
+# Under a key that doesn't count there may be any JSON.
 POST /members/m/grant: {"x":[[1],[{"y":[]},-0.5e-3]],"amount":5} -> grant m 5
 POST /members/m/grant: {"amount":5,"x":{"amount":6}} -> grant m 5
 POST /members/m/grant: {"amount":5,"x":1e308,"y":-1e308,"z":1e-999} -> grant m 5
 POST /members/m/grant: {"amount":5,"x":18446744073709551616,"y":-9223372036854775809} -> grant m 5
-"#,
-    )?;
-    assert_bad(
-        &rt,
+# A number is one that reads as a u64.
+POST /members/m/grant:  -> bad body
+POST /members/m/grant: {"amount":-1} -> bad body
+POST /members/m/grant: {"amount":1.0} -> bad body
+POST /members/m/grant: {"amount":1e3} -> bad body
+POST /members/m/grant: {"amount":"5"} -> bad body
+POST /members/m/grant: {"amount":null} -> bad body
+POST /members/m/grant: {"amount":true} -> bad body
+POST /members/m/grant: {"amount":[5]} -> bad body
+POST /members/m/grant: {"amount":05} -> bad body
+POST /members/m/grant: {"amount":+5} -> bad body
+POST /members/m/grant: {"amount":18446744073709551616} -> bad body
+# A place is one too, and any.
+POST /purses/p1/read-log:  -> bad body
+POST /purses/p1/read-log: {} -> bad body
+POST /purses/p1/read-log: {"Place":1} -> bad body
+POST /purses/p1/read-log: {"place":-1} -> bad body
+POST /purses/p1/read-log: {"place":1.5} -> bad body
+POST /purses/p1/read-log: {"place":1.0} -> bad body
+POST /purses/p1/read-log: {"place":"1"} -> bad body
+POST /purses/p1/read-log: {"place":null} -> bad body
+POST /purses/p1/read-log: {"place":18446744073709551616} -> bad body
+POST /purses/p1/read-log: {"place":1,"place":-1} -> bad body
+# The details of a clear are a code text: entries of five fields that rise, with nothing beside them.
+POST /clear/p1:  -> bad body
+POST /clear/p1: {} -> bad body
+POST /clear/p1: {"details":null} -> bad body
+POST /clear/p1: {"details":[]} -> bad body
+POST /clear/p1: {"details":0} -> bad body
+POST /clear/p1: {"details":" "} -> bad body
+POST /clear/p1: {"details":";"} -> bad body
+POST /clear/p1: {"details":"p1"} -> bad body
+POST /clear/p1: {"details":"p1,q1,60,4"} -> bad body
+POST /clear/p1: {"details":"p1,q1,60,4,7,8"} -> bad body
+POST /clear/p1: {"details":"p1,q1,60,4,7;"} -> bad body
+POST /clear/p1: {"details":"p1,q1,60,4,7 "} -> bad body
+POST /clear/p1: {"details":"p1,q1,060,4,7"} -> bad body
+POST /clear/p1: {"details":"p1,q1,1000000000001,4,7"} -> bad body
+POST /clear/p1: {"details":"p1,p1,60,4,7"} -> bad body
+POST /clear/p1: {"details":"P1,q1,60,4,7"} -> bad body
+POST /clear/p1: {"details":"p1,q1,60,4,7;p1,q1,60,4,7"} -> bad body
+POST /clear/p1: {"details":"p1,q1,60,4,7;a,p1,5,0,3"} -> bad body
+POST /clear/p1: {"details":["p1,q1,60,4,7"]} -> bad body
+POST /clear/p1: {"Details":"p1,q1,60,4,7"} -> bad body
+# The details of a settlement are those of one payment: neither of none nor of two.
+POST /settle:  -> bad body
+POST /settle: {} -> bad body
+POST /settle: {"details":null} -> bad body
+POST /settle: {"details":""} -> bad body
+POST /settle: {"details":";"} -> bad body
+POST /settle: {"details":"p1,q1,60,4"} -> bad body
+POST /settle: {"details":"p1,q1,60,4,7;"} -> bad body
+POST /settle: {"details":";p1,q1,60,4,7"} -> bad body
+POST /settle: {"details":"p1,q1,60,4,7 "} -> bad body
+POST /settle: {"details":"p1,q1,60,4,07"} -> bad body
+POST /settle: {"details":"p1,p1,60,4,7"} -> bad body
+POST /settle: {"details":"p1,q1,1000000000001,4,7"} -> bad body
+POST /settle: {"details":"a,p1,5,0,3;p1,q1,60,4,7"} -> bad body
+POST /settle: {"details":"p1,q1,60,4,7;p1,q1,60,4,7"} -> bad body
+POST /settle: {"details":["p1,q1,60,4,7"]} -> bad body
+POST /settle: {"Details":"p1,q1,60,4,7"} -> bad body
+# A body is one object of JSON, with the key that is asked for.
+POST /members/m/grant:  -> bad body
+POST /members/m/grant: 5 -> bad body
+POST /members/m/grant: null -> bad body
+POST /members/m/grant: "amount" -> bad body
+POST /members/m/grant: [] -> bad body
+POST /members/m/grant: [{"amount":5}] -> bad body
+POST /members/m/grant: {} -> bad body
+POST /members/m/grant: {"Amount":5} -> bad body
+POST /members/m/grant: {"value":5} -> bad body
+POST /members/m/grant: {"amount":5 -> bad body
+POST /members/m/grant: {"amount":5}} -> bad body
+POST /members/m/grant: {"amount":5}{"amount":5} -> bad body
+POST /members/m/grant: {"amount":5,} -> bad body
+POST /members/m/grant: {amount:5} -> bad body
+POST /members/m/grant: {'amount':5} -> bad body
+POST /members/m/grant: {"amount":5,"x":"\ud83d"} -> bad body
+# But no number that is too large for a float.
+POST /members/m/grant:  -> bad body
+POST /members/m/grant: {"amount":5,"x":1e999} -> bad body
+POST /members/m/grant: {"x":-1e999,"amount":5} -> bad body
+POST /members/m/grant: {"x":[0,1e309],"amount":5} -> bad body
+POST /members/m/grant: {"amount":5,"x":[{"y":[1e999]}]} -> bad body
+POST /members/m/grant: {"amount":1e999,"amount":5} -> bad body
+# Names and tokens are texts of their kinds.
+POST /purses:  -> bad body
+POST /purses: {"purse":"","holder":"ann"} -> bad body
+POST /purses: {"purse":"P1","holder":"ann"} -> bad body
+POST /purses: {"purse":"1p","holder":"ann"} -> bad body
+POST /purses: {"purse":"p 1","holder":"ann"} -> bad body
+POST /purses: {"purse":"a23456789-123456789-12345","holder":"ann"} -> bad body
+POST /purses: {"purse":1,"holder":"ann"} -> bad body
+POST /purses: {"purse":"p1","holder":null} -> bad body
+POST /purses: {"purse":"p1"} -> bad body
+POST /purses: {"holder":"ann"} -> bad body
+POST /holders:  -> bad body
+POST /holders: {"holder":"ann","token":"000000000000000000000000000000a"} -> bad body
+POST /holders: {"holder":"ann","token":"0000000000000000000000000000000aa"} -> bad body
+POST /holders: {"holder":"ann","token":"0000000000000000000000000000000g"} -> bad body
+POST /holders: {"holder":"ann","token":10} -> bad body
+POST /holders: {"holder":"ann"} -> bad body
+POST /holders: {"token":"0000000000000000000000000000000a"} -> bad body
+# A command of several values needs them all.
+POST /purses/p1/load:  -> bad body
+POST /purses/p1/load: {"amount":1} -> bad body
+POST /purses/p1/load: {"ref":"a1"} -> bad body
+POST /purses/p1/redeem:  -> bad body
+POST /purses/p1/redeem: {"amount":1} -> bad body
+POST /purses/p1/redeem: {"ref":"a1"} -> bad body
+POST /purses/p1/start-from:  -> bad body
+POST /purses/p1/start-from: {"value":1,"seq":0} -> bad body
+POST /purses/p1/start-from: {"peer":"q1","seq":0} -> bad body
+POST /purses/p1/start-from: {"peer":"q1","value":1} -> bad body
+POST /purses/p1/start-to:  -> bad body
+POST /purses/p1/start-to: {"value":1,"seq":0} -> bad body
+POST /purses/p1/start-to: {"peer":"q1","seq":0} -> bad body
+POST /purses/p1/start-to: {"peer":"q1","value":1} -> bad body
+POST /purses/p1/handle:  -> bad body
+POST /purses/p1/handle: {} -> bad body
+POST /purses/p1/handle: {"number":"0"} -> bad body
+POST /purses/p1/discard:  -> bad body
+POST /purses/p1/discard: {} -> bad body
+POST /purses/p1/discard: {"number":"0"} -> bad body
+"#;
+
+/// The words of the command that a request, a method and a path, with this body says by new routes.
+fn said(alloc: Global, request: &str, body: &[u8]) -> Result<String, AllocError> {
+    words_of(alloc, &Routes::new(alloc)?, request, body)
+}
+
+/// Asserts that what a line asks says the command in words.
+fn assert_said(
+    rt: &(impl Abort + AllocGlobal),
+    asked: &str,
+    words: &str,
+) -> Result<(), AllocError> {
+    let (request, body) = asked.split_once(": ").unwrap_or((asked, ""));
+    let text = said(rt.alloc(), request, body.as_bytes())?;
+    assert_eq!(rt; text.as_str(), words, "{asked}");
+    Ok(())
+}
+
+#[test]
+fn each_command_from_its_request(rt: HostRuntime) -> Result<(), Fail> {
+    for line in REQUESTS.lines() {
+        if let Some((asked, words)) = line.split_once(" -> ") {
+            assert_said(&rt, asked, words)?;
+        }
+    }
+    Ok(())
+}
+
+/// Requests whose bodies aren't lines of text, with the words of the command that each says.
+const BYTES: [(&str, &[u8], &str); 7] = [
+    ("POST /collect", b"\xff", "collect"),
+    (
         "POST /members/m/grant",
-        r#"
-{"amount":5,"x":1e999}
-{"x":-1e999,"amount":5}
-{"x":[0,1e309],"amount":5}
-{"amount":5,"x":[{"y":[1e999]}]}
-{"amount":1e999,"amount":5}
-"#,
-    )
+        b" {\r\n\t\"amount\" : 5 , \"Amount\" : null, \"x\" : [{}, \"\\u00e9\"] } ",
+        "grant m 5",
+    ),
+    // A body is UTF-8, without a byte order mark, and isn't blank.
+    ("POST /members/m/grant", b" ", "bad body"),
+    (
+        "POST /members/m/grant",
+        b"{\"amount\":5,\"x\":\"\xff\"}",
+        "bad body",
+    ),
+    (
+        "POST /members/m/grant",
+        b"{\"amount\":5,\"x\":\"\xed\xa0\x80\"}",
+        "bad body",
+    ),
+    ("POST /members/m/grant", b"\xff{\"amount\":5}", "bad body"),
+    (
+        "POST /members/m/grant",
+        b"\xef\xbb\xbf{\"amount\":5}",
+        "bad body",
+    ),
+];
+
+#[test]
+fn bodies_of_bytes(rt: HostRuntime) -> Result<(), Fail> {
+    for (request, body, words) in &BYTES {
+        let text = said(rt.alloc(), request, body)?;
+        assert_eq!(rt; text.as_str(), *words, "{request}");
+    }
+    Ok(())
 }
 
 /// A body with so many arrays within each other under a key that doesn't count.
-fn nested(alloc: Global, depth: usize) -> Result<String, Fail> {
+fn nested(alloc: Global, depth: usize) -> Result<String, AllocError> {
     let mut text = String::from_str(alloc, "{\"amount\":5,\"x\":")?;
     for _ in 0..depth {
         text.push('[')?;
@@ -323,120 +277,69 @@ fn nested(alloc: Global, depth: usize) -> Result<String, Fail> {
     Ok(text)
 }
 
-/// Arrays and objects nest 127 deep at most, of which the body's own object is one.
+/// How many arrays are within each other, with the words. They nest 127 deep at most, of which the body's own object is one.
+const DEPTHS: [(usize, &str); 4] = [
+    (126, "grant m 5"),
+    (127, "bad body"),
+    (128, "bad body"),
+    (1000, "bad body"),
+];
+
 #[test]
 fn arrays_within_arrays(rt: HostRuntime) -> Result<(), Fail> {
-    let deep = nested(rt.alloc(), 126)?;
-    assert_command(&rt, "POST /members/m/grant", deep.as_bytes(), "grant m 5")?;
-    for depth in [127, 128, 1000] {
-        let deeper = nested(rt.alloc(), depth)?;
-        assert_command(&rt, "POST /members/m/grant", deeper.as_bytes(), "bad body")?;
+    for (depth, words) in &DEPTHS {
+        let body = nested(rt.alloc(), *depth)?;
+        let text = said(rt.alloc(), "POST /members/m/grant", body.as_bytes())?;
+        assert_eq!(rt; text.as_str(), *words, "{depth}");
     }
     Ok(())
+}
+
+/// Bodies that come one after another, of a new purse or else of a grant to m, with the words of the command of each.
+const KEPT: [(bool, &[u8], &str); 6] = [
+    (
+        true,
+        b"{\"\\u0070urse\":\"\\u0070\\u0031\",\"holder\":\"a\\u006en\"}",
+        "new-purse p1 ann",
+    ),
+    (false, b"{\"amount\":1}", "grant m 1"),
+    (
+        true,
+        b"{\"purse\":\"q\",\"holder\":\"\\u0062ob\"}",
+        "new-purse q bob",
+    ),
+    (false, b"{\"amount\":\"\\u0031\"}", "bad body"),
+    (false, b"{\"\\u0061\\u006d", "bad body"),
+    (
+        false,
+        b"{\"\\u0061mount\":2,\"x\":\"\\n\\\"\\u00e9\\ud83d\\ude00\"}",
+        "grant m 2",
+    ),
+];
+
+/// The words of the command that one of these bodies says.
+fn kept_words(
+    alloc: Global,
+    scratch: &mut Scratch,
+    is_purse: bool,
+    body: &[u8],
+) -> Result<String, Fail> {
+    let route = if is_purse {
+        Route::NewPurse
+    } else {
+        Route::Grant(Name::read("m").ok_or("no name")?)
+    };
+    let read = read_body(alloc, &route, body, scratch);
+    Ok(read_words(alloc, &read)?)
 }
 
 /// One scratch serves body after body, of any lengths and with any escapes.
 #[test]
 fn a_scratch_that_is_kept(rt: HostRuntime) -> Result<(), Fail> {
-    let member = Name::read("m").ok_or("no name")?;
     let mut scratch = Scratch::new(rt.alloc());
-    let rows: [(Route, &[u8], &str); 6] = [
-        (
-            Route::NewPurse,
-            b"{\"\\u0070urse\":\"\\u0070\\u0031\",\"holder\":\"a\\u006en\"}",
-            "new-purse p1 ann",
-        ),
-        (Route::Grant(member), b"{\"amount\":1}", "grant m 1"),
-        (
-            Route::NewPurse,
-            b"{\"purse\":\"q\",\"holder\":\"\\u0062ob\"}",
-            "new-purse q bob",
-        ),
-        (
-            Route::Grant(member),
-            b"{\"amount\":\"\\u0031\"}",
-            "bad body",
-        ),
-        (Route::Grant(member), b"{\"\\u0061\\u006d", "bad body"),
-        (
-            Route::Grant(member),
-            b"{\"\\u0061mount\":2,\"x\":\"\\n\\\"\\u00e9\\ud83d\\ude00\"}",
-            "grant m 2",
-        ),
-    ];
-    for (route, body, words) in &rows {
-        let read = read_body(rt.alloc(), route, body, &mut scratch);
-        let text = read_words(rt.alloc(), &read)?;
+    for (is_purse, body, words) in &KEPT {
+        let text = kept_words(rt.alloc(), &mut scratch, *is_purse, body)?;
         assert_eq!(rt; text.as_str(), *words);
-    }
-    Ok(())
-}
-
-/// Names and tokens are texts of their kinds.
-#[test]
-fn names_and_tokens_that_are_bad(rt: HostRuntime) -> Result<(), Fail> {
-    assert_bad(
-        &rt,
-        "POST /purses",
-        r#"
-{"purse":"","holder":"ann"}
-{"purse":"P1","holder":"ann"}
-{"purse":"1p","holder":"ann"}
-{"purse":"p 1","holder":"ann"}
-{"purse":"a23456789-123456789-12345","holder":"ann"}
-{"purse":1,"holder":"ann"}
-{"purse":"p1","holder":null}
-{"purse":"p1"}
-{"holder":"ann"}
-"#,
-    )?;
-    assert_bad(
-        &rt,
-        "POST /holders",
-        r#"
-{"holder":"ann","token":"000000000000000000000000000000a"}
-{"holder":"ann","token":"0000000000000000000000000000000aa"}
-{"holder":"ann","token":"0000000000000000000000000000000g"}
-{"holder":"ann","token":10}
-{"holder":"ann"}
-{"token":"0000000000000000000000000000000a"}
-"#,
-    )
-}
-
-/// A command of several values needs them all.
-#[test]
-fn values_that_are_missing(rt: HostRuntime) -> Result<(), Fail> {
-    for request in ["POST /purses/p1/load", "POST /purses/p1/redeem"] {
-        assert_bad(
-            &rt,
-            request,
-            r#"
-{"amount":1}
-{"ref":"a1"}
-"#,
-        )?;
-    }
-    for request in ["POST /purses/p1/start-from", "POST /purses/p1/start-to"] {
-        assert_bad(
-            &rt,
-            request,
-            r#"
-{"value":1,"seq":0}
-{"peer":"q1","seq":0}
-{"peer":"q1","value":1}
-"#,
-        )?;
-    }
-    for request in ["POST /purses/p1/handle", "POST /purses/p1/discard"] {
-        assert_bad(
-            &rt,
-            request,
-            r#"
-{}
-{"number":"0"}
-"#,
-        )?;
     }
     Ok(())
 }

@@ -1,56 +1,41 @@
 //! The bytes of each response.
 use mx_command::{Refusal, Reply};
-use mx_pay::{Amount, Name, PayDetails, Seq};
+use mx_pay::{PayDetails, read_details};
 use mx_purse::Handled;
 use mx_wire::replies::{Fixed, fixed_text, render, unavailable_text};
-use std::process::Abort;
+use std::alloc::{AllocError, Global};
 use std::test::Fail;
 
 /// The head of a response with that status, and reason, and a body of so many bytes.
-fn head_of(rt: &impl AllocGlobal, status: &str, size: usize) -> Result<String, Fail> {
-    Ok(format!(in rt.alloc();
+fn head_of(alloc: Global, status: &str, size: usize) -> Result<String, AllocError> {
+    format!(in alloc;
         "HTTP/1.1 {status}\r\ncontent-type: application/json\r\ncontent-length: {size}\r\nconnection: close\r\n\r\n"
-    )?)
+    )
 }
 
-/// Asserts that bytes are the head of a response with that status and body, and that others are the head and the body.
-fn assert_bytes(
-    rt: &(impl Abort + AllocGlobal),
-    head: &[u8],
-    whole: &[u8],
+/// Whether bytes are the head of a response with that status and body, and others the head and the body.
+fn is_response(
+    alloc: Global,
+    bytes: (&[u8], &[u8]),
     status: &str,
     body: &str,
-) -> Result<(), Fail> {
-    let mut text = head_of(rt, status, body.len())?;
-    assert_eq!(rt; head, text.as_bytes(), "{body}");
+) -> Result<bool, AllocError> {
+    let (head, whole) = bytes;
+    let mut text = head_of(alloc, status, body.len())?;
+    let is_head = head == text.as_bytes();
     text.push_str(body)?;
-    assert_eq!(rt; whole, text.as_bytes(), "{body}");
-    Ok(())
+    Ok(is_head && whole == text.as_bytes())
 }
 
-/// Asserts that a reply has the response with that status and body.
-fn assert_reply(
-    rt: &(impl Abort + AllocGlobal),
-    reply: &Reply,
-    status: &str,
-    body: &str,
-) -> Result<(), Fail> {
-    let response = render(rt.alloc(), reply)?;
-    assert_bytes(rt, response.text(true), response.text(false), status, body)
-}
-
-fn name(word: &str) -> Result<Name, Fail> {
-    Ok(Name::read(word).ok_or("no name")?)
-}
-
-/// The payment of 60 by p1, whose own number is 4, to q1, whose own is 7.
-fn payment() -> Result<PayDetails, Fail> {
-    let value = Amount::new(60).ok_or("no amount")?;
-    let (from, to) = (
-        Seq::new(4).ok_or("no number")?,
-        Seq::new(7).ok_or("no number")?,
-    );
-    Ok(PayDetails::new(name("p1")?, name("q1")?, value, from, to).ok_or("no details")?)
+/// Whether a reply has the response with that status and body.
+fn is_rendered(alloc: Global, reply: &Reply, status: &str, body: &str) -> Result<bool, AllocError> {
+    let response = render(alloc, reply)?;
+    is_response(
+        alloc,
+        (response.text(true), response.text(false)),
+        status,
+        body,
+    )
 }
 
 /// The body of each of the replies below.
@@ -71,87 +56,105 @@ const BODIES: [&str; 14] = [
     "{\"done\":\"redeemed\"}",
 ];
 
+/// The reply with the body at this place, of which three tell of a payment.
+fn fixed_reply(place: usize, payment: PayDetails) -> Reply {
+    match place {
+        0 => Reply::Added,
+        1 => Reply::Granted,
+        2 => Reply::Loaded,
+        3 => Reply::Sent,
+        4 => Reply::Settled,
+        5 => Reply::Handled(Handled::Req(payment)),
+        6 => Reply::Handled(Handled::Val(payment)),
+        7 => Reply::Handled(Handled::Ack(payment)),
+        8 => Reply::Handled(Handled::Cleared),
+        9 => Reply::Handled(Handled::Ignored),
+        10 => Reply::Discarded,
+        11 => Reply::Aborted { logged: true },
+        12 => Reply::Aborted { logged: false },
+        _ => Reply::Redeemed,
+    }
+}
+
 #[test]
 fn fixed_replies(rt: HostRuntime) -> Result<(), Fail> {
-    let payment = payment()?;
-    let replies: [Reply; 14] = [
-        Reply::Added,
-        Reply::Granted,
-        Reply::Loaded,
-        Reply::Sent,
-        Reply::Settled,
-        Reply::Handled(Handled::Req(payment)),
-        Reply::Handled(Handled::Val(payment)),
-        Reply::Handled(Handled::Ack(payment)),
-        Reply::Handled(Handled::Cleared),
-        Reply::Handled(Handled::Ignored),
-        Reply::Discarded,
-        Reply::Aborted { logged: true },
-        Reply::Aborted { logged: false },
-        Reply::Redeemed,
-    ];
-    for (reply, body) in replies.iter().zip(BODIES) {
-        assert_reply(&rt, reply, "200 OK", body)?;
+    let payment = read_details("p1,q1,60,4,7").ok_or("no details")?;
+    for (place, body) in BODIES.iter().enumerate() {
+        let reply = fixed_reply(place, payment);
+        assert!(rt; is_rendered(rt.alloc(), &reply, "200 OK", body)?, "{body}");
     }
     Ok(())
 }
 
-/// Asserts that these refusals are answered by that status, each with its body.
-fn assert_refusals(
-    rt: &(impl Abort + AllocGlobal),
+/// The status and the words of each of the refusals below, a line each.
+const REFUSALS: &str = "403 Forbidden: not for this caller
+404 Not Found: no such purse
+404 Not Found: no such holder
+404 Not Found: no such member
+404 Not Found: no such message
+409 Conflict: name taken
+409 Conflict: token taken
+409 Conflict: too many purses
+409 Conflict: same purse
+409 Conflict: not enough
+409 Conflict: log full
+409 Conflict: purse worn
+409 Conflict: reference reused
+409 Conflict: float too small
+409 Conflict: float full
+409 Conflict: grant too large
+409 Conflict: over cap
+409 Conflict: not archived
+409 Conflict: not lost
+409 Conflict: already settled";
+
+/// The refusal of the line at this place.
+fn refusal_at(place: usize) -> Refusal {
+    match place {
+        0 => Refusal::NotForCaller,
+        1 => Refusal::NoSuchPurse,
+        2 => Refusal::NoSuchHolder,
+        3 => Refusal::NoSuchMember,
+        4 => Refusal::NoSuchMessage,
+        5 => Refusal::NameTaken,
+        6 => Refusal::TokenTaken,
+        7 => Refusal::TooManyPurses,
+        8 => Refusal::SamePurse,
+        9 => Refusal::NotEnough,
+        10 => Refusal::LogFull,
+        11 => Refusal::Worn,
+        12 => Refusal::RefReused,
+        13 => Refusal::FloatTooSmall,
+        14 => Refusal::FloatFull,
+        15 => Refusal::GrantTooLarge,
+        16 => Refusal::OverCap,
+        17 => Refusal::NotArchived,
+        18 => Refusal::NotLost,
+        _ => Refusal::AlreadySettled,
+    }
+}
+
+/// Whether a refusal has these words, and the response with that status whose body says them.
+fn is_refused(
+    alloc: Global,
+    refusal: Refusal,
+    words: &str,
     status: &str,
-    refusals: &[(Refusal, &str)],
-) -> Result<(), Fail> {
-    for (refusal, body) in refusals {
-        assert_reply(rt, &Reply::Refused(*refusal), status, body)?;
+) -> Result<bool, AllocError> {
+    let body = format!(in alloc; "{{\"error\":\"{words}\"}}")?;
+    let is_right = is_rendered(alloc, &Reply::Refused(refusal), status, body.as_str())?;
+    Ok(is_right && refusal.text() == words)
+}
+
+#[test]
+fn refusals_in_words_and_in_responses(rt: HostRuntime) -> Result<(), Fail> {
+    assert_eq!(rt; REFUSALS.lines().count(), 20);
+    for (place, line) in REFUSALS.lines().enumerate() {
+        let (status, words) = line.split_once(": ").unwrap_or((line, ""));
+        let is_right = is_refused(rt.alloc(), refusal_at(place), words, status)?;
+        assert!(rt; is_right, "{words}");
     }
     Ok(())
-}
-
-/// What is for another caller, and what isn't there.
-#[test]
-fn refusals_of_callers_and_of_absent_things(rt: HostRuntime) -> Result<(), Fail> {
-    assert_refusals(
-        &rt,
-        "403 Forbidden",
-        &[(Refusal::NotForCaller, "{\"error\":\"not for this caller\"}")],
-    )?;
-    assert_refusals(
-        &rt,
-        "404 Not Found",
-        &[
-            (Refusal::NoSuchPurse, "{\"error\":\"no such purse\"}"),
-            (Refusal::NoSuchHolder, "{\"error\":\"no such holder\"}"),
-            (Refusal::NoSuchMember, "{\"error\":\"no such member\"}"),
-            (Refusal::NoSuchMessage, "{\"error\":\"no such message\"}"),
-        ],
-    )
-}
-
-/// What doesn't fit.
-#[test]
-fn refusals_of_what_does_not_fit(rt: HostRuntime) -> Result<(), Fail> {
-    assert_refusals(
-        &rt,
-        "409 Conflict",
-        &[
-            (Refusal::NameTaken, "{\"error\":\"name taken\"}"),
-            (Refusal::TokenTaken, "{\"error\":\"token taken\"}"),
-            (Refusal::TooManyPurses, "{\"error\":\"too many purses\"}"),
-            (Refusal::SamePurse, "{\"error\":\"same purse\"}"),
-            (Refusal::NotEnough, "{\"error\":\"not enough\"}"),
-            (Refusal::LogFull, "{\"error\":\"log full\"}"),
-            (Refusal::Worn, "{\"error\":\"purse worn\"}"),
-            (Refusal::RefReused, "{\"error\":\"reference reused\"}"),
-            (Refusal::FloatTooSmall, "{\"error\":\"float too small\"}"),
-            (Refusal::FloatFull, "{\"error\":\"float full\"}"),
-            (Refusal::GrantTooLarge, "{\"error\":\"grant too large\"}"),
-            (Refusal::OverCap, "{\"error\":\"over cap\"}"),
-            (Refusal::NotArchived, "{\"error\":\"not archived\"}"),
-            (Refusal::NotLost, "{\"error\":\"not lost\"}"),
-            (Refusal::AlreadySettled, "{\"error\":\"already settled\"}"),
-        ],
-    )
 }
 
 /// The responses that no reply of the office is, with their statuses and bodies.
@@ -194,20 +197,16 @@ const OF_THE_DESK: [(Fixed, &str, &str); 8] = [
     ),
 ];
 
+/// The response when there is no memory.
+const UNAVAILABLE: &[u8] =
+    b"HTTP/1.1 503 Service Unavailable\r\ncontent-length: 0\r\nconnection: close\r\n\r\n";
+
 #[test]
 fn responses_of_the_desk(rt: HostRuntime) -> Result<(), Fail> {
-    for (fixed, status, body) in OF_THE_DESK {
-        assert_bytes(
-            &rt,
-            fixed_text(fixed, true),
-            fixed_text(fixed, false),
-            status,
-            body,
-        )?;
+    for (fixed, status, body) in &OF_THE_DESK {
+        let bytes = (fixed_text(*fixed, true), fixed_text(*fixed, false));
+        assert!(rt; is_response(rt.alloc(), bytes, status, body)?, "{body}");
     }
-    assert_eq!(rt;
-        unavailable_text(),
-        b"HTTP/1.1 503 Service Unavailable\r\ncontent-length: 0\r\nconnection: close\r\n\r\n".as_slice()
-    );
+    assert!(rt; unavailable_text() == UNAVAILABLE);
     Ok(())
 }

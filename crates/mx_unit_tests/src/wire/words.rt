@@ -1,7 +1,7 @@
-//! Commands in words.
+//! What requests say, in words.
 use mx_command::Command;
 use mx_pay::{Amount, Log, Name, PayDetails, Seq, Token, code_text, push_entry};
-use mx_wire::WireFault;
+use mx_wire::{Routes, WireFault};
 use std::alloc::{AllocError, Global};
 
 /// What a command is called, and the names that come first in it.
@@ -23,8 +23,15 @@ fn with_token(alloc: Global, what: &str, name: &Name, token: &Token) -> Result<S
     Ok(text)
 }
 
+fn push_number(alloc: Global, text: &mut String, number: u64) -> Result<(), AllocError> {
+    let number = format!(in alloc; " {number}")?;
+    text.push_str(number.as_str())
+}
+
 fn with_number(alloc: Global, what: &str, name: &Name, number: u64) -> Result<String, AllocError> {
-    format!(in alloc; "{what} {} {number}", name.as_str())
+    let mut text = start_words(alloc, what, &[name])?;
+    push_number(alloc, &mut text, number)?;
+    Ok(text)
 }
 
 fn with_log(alloc: Global, what: &str, name: &Name, log: &Log) -> Result<String, AllocError> {
@@ -46,23 +53,23 @@ fn with_reference(
     amount: Amount,
     reference: &Name,
 ) -> Result<String, AllocError> {
-    let amount = amount.get();
-    format!(in alloc; "{what} {} {amount} {}", purse.as_str(), reference.as_str())
+    let mut text = with_number(alloc, what, purse, amount.get())?;
+    text.push_str(" ")?;
+    text.push_str(reference.as_str())?;
+    Ok(text)
 }
 
 fn with_peer(
     alloc: Global,
     what: &str,
-    names: (&Name, &Name),
+    names: [&Name; 2],
     value: Amount,
     seq: Seq,
 ) -> Result<String, AllocError> {
-    let (value, seq) = (value.get(), seq.get());
-    format!(in alloc;
-        "{what} {} {} {value} {seq}",
-        names.0.as_str(),
-        names.1.as_str()
-    )
+    let mut text = start_words(alloc, what, &names)?;
+    push_number(alloc, &mut text, value.get())?;
+    push_number(alloc, &mut text, seq.get())?;
+    Ok(text)
 }
 
 fn command_words(alloc: Global, command: &Command) -> Result<String, AllocError> {
@@ -87,13 +94,13 @@ fn command_words(alloc: Global, command: &Command) -> Result<String, AllocError>
             peer,
             value,
             seq,
-        } => with_peer(alloc, "start-from", (purse, peer), *value, *seq),
+        } => with_peer(alloc, "start-from", [purse, peer], *value, *seq),
         Command::StartTo {
             purse,
             peer,
             value,
             seq,
-        } => with_peer(alloc, "start-to", (purse, peer), *value, *seq),
+        } => with_peer(alloc, "start-to", [purse, peer], *value, *seq),
         Command::Handle { purse, number } => with_number(alloc, "handle", purse, number.get()),
         Command::Discard { purse, number } => with_number(alloc, "discard", purse, number.get()),
         Command::Abort { purse } => start_words(alloc, "abort", &[purse]),
@@ -110,7 +117,7 @@ fn command_words(alloc: Global, command: &Command) -> Result<String, AllocError>
 }
 
 /// The words of a command, or why there is none.
-pub(crate) fn read_words(
+pub(super) fn read_words(
     alloc: Global,
     read: &Result<Command, WireFault>,
 ) -> Result<String, AllocError> {
@@ -118,6 +125,18 @@ pub(crate) fn read_words(
         Ok(command) => command_words(alloc, command),
         Err(WireFault::NoRoute) => String::from_str(alloc, "no route"),
         Err(WireFault::BadBody) => String::from_str(alloc, "bad body"),
-        Err(WireFault::Memory) => String::from_str(alloc, "no memory"),
+        Err(WireFault::Memory) => Err(AllocError),
     }
+}
+
+/// The words of the command that a request, a method and a path, with this body says.
+pub(crate) fn words_of(
+    alloc: Global,
+    routes: &Routes,
+    request: &str,
+    body: &[u8],
+) -> Result<String, AllocError> {
+    let (method, path) = request.split_once(' ').unwrap_or((request, ""));
+    let read = routes.read_command(alloc, method.as_bytes(), path.as_bytes(), body);
+    read_words(alloc, &read)
 }
