@@ -1,5 +1,7 @@
 //! The desk over a book in memory and over tables: requests with the bytes of the responses to them, worked out by hand.
+mod answered;
 mod apart;
+mod broken;
 mod devices;
 mod faults;
 mod framing;
@@ -15,11 +17,13 @@ mod scripts;
 mod settled;
 mod sums;
 
+pub(super) use self::answered::answer_in_the_end;
 use self::payments::FIVE_STEPS;
+pub(super) use self::scripts::{unfolded, written};
 use self::scripts::{Exchange, RUN_END};
-use self::settled::{ARCHIVED, LOST, REDEEMED, SETTLED, SETTLED_BETWEEN, assert_answered};
-use self::sums::add_loads;
-use crate::empty::{with_book, with_tables};
+use self::settled::{ARCHIVED, LOST, REDEEMED, SETTLED, SETTLED_BETWEEN};
+use crate::empty::{FaultyTrial, Trial, in_both, in_faulty};
+use crate::faulty::Faulty;
 use mx_book::Book;
 use mx_desk::Counted;
 use mx_desk::desk::run;
@@ -40,7 +44,7 @@ clerk POST /purses {"purse":"q1","holder":"bob"} -> 200 {"done":"added"}
 "#;
 
 /// m is granted 1000, of which p1 is loaded with 100 by the reference a1.
-const FUNDED: &str = r#"
+pub(super) const FUNDED: &str = r#"
 operator POST /members/m/grant {"amount":1000} -> 200 {"done":"granted"}
 clerk POST /purses/p1/load {"amount":100,"ref":"a1"} -> 200 {"done":"loaded"}
 "#;
@@ -52,36 +56,70 @@ pub(super) const PAYMENT: [&str; 3] = [STANDING, FUNDED, FIVE_STEPS];
 /// on.
 pub(super) const SETTLEMENT: [&str; 6] = [STANDING, FUNDED, LOST, ARCHIVED, SETTLED, REDEEMED];
 
+/// A lost payment of 60 from p1 to q1, and its settlement between the steps of another payment, from nothing on.
+pub(super) const SETTLEMENT_BETWEEN: [&str; 5] = [
+    STANDING,
+    FUNDED,
+    LOST,
+    ARCHIVED,
+    SETTLED_BETWEEN,
+];
+
+/// A member, a holder and a purse, which is then shown.
+const FIRST_PATH: &str = r#"
+operator POST /members {"member":"m","token":"00000000000000000000000000000002"} -> 200 {"done":"added"}
+clerk POST /holders {"holder":"ann","token":"0000000000000000000000000000000a"} -> 200 {"done":"added"}
+clerk POST /purses {"purse":"p1","holder":"ann"} -> 200 {"done":"added"}
+ann GET /purses/p1 -> 200 {"balance":0,"next":0,"purse":"p1","status":"eaFrom"}
+"#;
+
+/// The bytes of `503`, the response to a request that is given up.
+const UNAVAILABLE: &str =
+    "HTTP/1.1 503 Service Unavailable\r\ncontent-length: 0\r\nconnection: close\r\n\r\n";
+
 /// What is written in one or more runs, and how many responses that are.
 #[derive(Drop)]
-struct Told {
+struct Written {
     bytes: Vec<u8>,
     count: u64,
 }
 
 /// Serves what a reader gives in one run, and gives what the run adds to a writer.
-fn serve_from(
+fn serve_by(
     alloc: Global,
+    routes: &Routes,
     office: &mut Office<impl Book>,
     reader: impl Read + Drop,
-) -> Result<Told, Fail> {
-    let routes = Routes::new(alloc)?;
+) -> Result<Written, Fail> {
     let mut reader = Counted::new(reader);
     let mut writer = Counted::new(Vec::new(alloc));
-    let count = run(alloc, &mut reader, &mut writer, &routes, office)?;
-    Ok(Told {
+    let count = run(alloc, &mut reader, &mut writer, routes, office)?;
+    Ok(Written {
         bytes: writer.into_inner(),
         count,
     })
 }
 
+/// The same by routes of its own.
+fn serve_from(
+    alloc: Global,
+    office: &mut Office<impl Book>,
+    reader: impl Read + Drop,
+) -> Result<Written, Fail> {
+    serve_by(alloc, &Routes::new(alloc)?, office, reader)
+}
+
 /// Serves the requests of an exchange, each run of it by a call of its own.
-fn serve(alloc: Global, office: &mut Office<impl Book>, exchange: &Exchange) -> Result<Told, Fail> {
-    let mut all = Told {
+fn serve(
+    alloc: Global,
+    office: &mut Office<impl Book>,
+    exchange: &Exchange,
+) -> Result<Written, Fail> {
+    let mut all = Written {
         bytes: Vec::new(alloc),
         count: 0,
     };
-    for input in exchange.input().split(RUN_END) {
+    for input in exchange.input.as_str().split(RUN_END) {
         let told = serve_from(alloc, office, input.as_bytes())?;
         all.bytes.extend_from_slice(told.bytes.as_slice())?;
         all.count = all.count.saturating_add(told.count);
@@ -90,39 +128,34 @@ fn serve(alloc: Global, office: &mut Office<impl Book>, exchange: &Exchange) -> 
 }
 
 /// Asserts that the responses of an exchange were written, and nothing else.
-fn assert_told(rt: &impl Abort, told: &Told, exchange: &Exchange) -> Result<(), Fail> {
+fn assert_told(rt: &impl Abort, told: &Written, exchange: &Exchange) -> Result<(), Fail> {
     let text = std::str::from_utf8(told.bytes.as_slice())?;
-    assert_eq!(rt; text, exchange.output());
-    assert_eq!(rt; told.count, exchange.count());
+    assert_eq!(rt; text, exchange.output.as_str());
+    assert_eq!(rt; told.count, exchange.count);
     Ok(())
 }
 
-/// Serves an exchange in two offices in which nothing is, over a book in memory and over tables, and asserts that both
-/// write its responses.
-fn served(rt: &(impl Abort + AllocGlobal), exchange: &Exchange) -> Result<(), Fail> {
-    with_book(rt, |rt, office| assert_served(rt, office, exchange))?;
-    with_tables(rt, |rt, office| assert_served(rt, office, exchange))
+/// An office in which nothing is serves an exchange, and writes its responses.
+impl Trial for Exchange {
+    fn try_in(
+        &self,
+        rt: &(impl Abort + AllocGlobal),
+        office: &mut Office<impl Book>,
+    ) -> Result<(), Fail> {
+        let told = serve(rt.alloc(), office, self)?;
+        assert_told(rt, &told, self)
+    }
 }
 
-/// Serves the scenarios of a text, each in two such offices behind these scripts. A scenario begins with a line
-/// `@ WHAT IT SHOWS`.
+/// Serves the scenarios of a text, each in two offices in which nothing is, over a book in memory and over tables, behind
+/// these scripts, and asserts that both write its responses. A scenario begins with a line `@ WHAT IT SHOWS`.
 fn played(rt: &(impl Abort + AllocGlobal), before: &[&str], scenarios: &str) -> Result<(), Fail> {
     for scenario in scenarios.split('@') {
         let mut exchange = Exchange::of_runs(rt.alloc(), before)?;
         exchange.add_script(scenario)?;
-        served(rt, &exchange)?;
+        in_both(rt, &exchange)?;
     }
     Ok(())
-}
-
-/// Serves an exchange in an office, and asserts that its responses are written.
-fn assert_served(
-    rt: &(impl Abort + AllocGlobal),
-    office: &mut Office<impl Book>,
-    exchange: &Exchange,
-) -> Result<(), Fail> {
-    let told = serve(rt.alloc(), office, exchange)?;
-    assert_told(rt, &told, exchange)
 }
 
 /// Serves the requests of a script in one run, and asserts that each gets its response.
@@ -131,40 +164,63 @@ fn tell(
     office: &mut Office<impl Book>,
     script: &str,
 ) -> Result<(), Fail> {
-    let exchange = Exchange::of(rt.alloc(), script)?;
-    assert_served(rt, office, &exchange)
+    Exchange::of_one_run(rt.alloc(), &[script])?.try_in(rt, office)
 }
 
-/// Makes `STANDING`, `FUNDED` and a payment of 60 from p1 to q1 in an office in which nothing is.
-pub(super) fn fund_and_pay(
+/// Serves scripts, each in a run of its own, and asserts that each request gets its response.
+pub(super) fn tell_runs(
     rt: &(impl Abort + AllocGlobal),
     office: &mut Office<impl Book>,
+    scripts: &[&str],
 ) -> Result<(), Fail> {
-    tell(rt, office, STANDING)?;
-    tell(rt, office, FUNDED)?;
-    tell(rt, office, FIVE_STEPS)
+    Exchange::of_runs(rt.alloc(), scripts)?.try_in(rt, office)
 }
 
-/// Makes `STANDING`, `FUNDED`, a lost payment of 60 from p1 to q1 and its settlement in an office in which nothing is.
-pub(super) fn fund_and_settle(
+/// A script whose parts begin with a line `!` or `!N`. The requests of a part are served in one run, and the book leaves out
+/// the call that comes behind N others.
+#[derive(Drop)]
+struct Parts<'a> {
+    before: &'a [&'a str],
+    script: &'a str,
+}
+
+/// Serves one of its parts.
+fn tell_part(
     rt: &(impl Abort + AllocGlobal),
-    office: &mut Office<impl Book>,
+    office: &mut Office<Faulty<impl Book>>,
+    part: &str,
 ) -> Result<(), Fail> {
-    for script in [STANDING, FUNDED, LOST, ARCHIVED, SETTLED_BETWEEN] {
-        tell(rt, office, script)?;
+    let (passed, script) = part.split_once('\n').unwrap_or(("", part));
+    assert!(rt; !passed.contains(" -> "), "{passed}");
+    office.book.left = passed.parse::<u64>().ok();
+    tell(rt, office, script)
+}
+
+impl FaultyTrial for Parts<'_> {
+    fn try_in(
+        &self,
+        rt: &(impl Abort + AllocGlobal),
+        office: &mut Office<Faulty<impl Book>>,
+    ) -> Result<(), Fail> {
+        tell_runs(rt, office, self.before)?;
+        for part in self.script.split('!') {
+            tell_part(rt, office, part)?;
+        }
+        Ok(())
+    }
+}
+
+/// Serves the scenarios of a text, each in parts in an office in which nothing is, over a book that fails, behind these
+/// scripts.
+fn given_up<'a>(
+    rt: &(impl Abort + AllocGlobal),
+    before: &'a [&'a str],
+    scenarios: &'a str,
+) -> Result<(), Fail> {
+    for script in scenarios.split('@') {
+        in_faulty(rt, &Parts { before, script })?;
     }
     Ok(())
-}
-
-/// Makes `STANDING`, `FUNDED` and so many loads of 1 to p1 in an office in which nothing is.
-pub(super) fn fund_and_load(
-    rt: &(impl Abort + AllocGlobal),
-    office: &mut Office<impl Book>,
-    count: u64,
-) -> Result<(), Fail> {
-    let mut exchange = Exchange::of_runs(rt.alloc(), &[STANDING, FUNDED])?;
-    add_loads(&mut exchange, rt.alloc(), count)?;
-    assert_served(rt, office, &exchange)
 }
 
 /// Routes, which are made again where there is no memory at first.
@@ -173,18 +229,4 @@ pub(super) fn routes_in_the_end(alloc: Global) -> Result<Routes, AllocError> {
         Ok(routes) => Ok(routes),
         Err(_) => Routes::new(alloc),
     }
-}
-
-/// Serves each request of scripts in an office, again where it is given up for want of memory, and asserts that it gets its
-/// response.
-pub(super) fn answer_in_the_end(
-    rt: &(impl Abort + AllocGlobal),
-    office: &mut Office<impl Book>,
-    scripts: &[&str],
-) -> Result<(), Fail> {
-    let routes = routes_in_the_end(rt.alloc())?;
-    for script in scripts {
-        assert_answered(rt, &routes, office, script)?;
-    }
-    Ok(())
 }

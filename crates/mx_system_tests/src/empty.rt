@@ -1,4 +1,4 @@
-//! Offices in which nothing is but the operator's token, over each kind of book.
+//! Offices in which nothing is but the operator's token, over each kind of book, and what is tried in them.
 use crate::faulty::Faulty;
 use mx_book::Book;
 use mx_memory::PlainBook;
@@ -7,51 +7,48 @@ use mx_pay::Token;
 use mx_tables::Tables;
 use sqlite::{Connection, MemStore};
 use std::alloc::Global;
+use std::process::Abort;
 use std::test::Fail;
 
+/// What is tried in an office in which nothing is. It is proved once for a book of any kind, which is quick; what names a
+/// kind of book is proved slowly.
+pub(super) trait Trial {
+    /// Fails where something isn't as it is to be.
+    fn try_in(
+        &self,
+        rt: &(impl Abort + AllocGlobal),
+        office: &mut Office<impl Book>,
+    ) -> Result<(), Fail>;
+}
+
+/// The same over a book that leaves out the calls that it is told to.
+pub(super) trait FaultyTrial {
+    /// Fails where something isn't as it is to be.
+    fn try_in(
+        &self,
+        rt: &(impl Abort + AllocGlobal),
+        office: &mut Office<Faulty<impl Book>>,
+    ) -> Result<(), Fail>;
+}
+
 /// The operator's token: zeros and a 1.
-fn operator() -> Result<Token, Fail> {
+pub(super) fn operator() -> Result<Token, Fail> {
     Ok(Token::read("00000000000000000000000000000001").ok_or("no token")?)
 }
 
-/// What comes of an office over a book. What owns a book of any kind is proved quickly, and what owns one of these kinds
-/// slowly, since it drops it at each of its ends; so this owns them all.
-fn with<H, B, T, F>(rt: &H, book: B, ask: F) -> Result<T, Fail>
-where
-    H: AllocGlobal,
-    B: Book + Drop,
-    T: Drop,
-    F: FnOnce(&H, &mut Office<B>) -> Result<T, Fail>,
-    requires { F.IsAlwaysCallable ask }
-{
+/// Tries something in an office over a book.
+pub(super) fn in_office(
+    rt: &(impl Abort + AllocGlobal),
+    book: impl Book + Drop,
+    trial: &impl Trial,
+) -> Result<(), Fail> {
     let mut office = Office::new(book);
-    ask(rt, &mut office)
+    trial.try_in(rt, &mut office)
 }
 
-/// The same of a book in memory.
-pub(super) fn with_book<H, T, F>(rt: &H, ask: F) -> Result<T, Fail>
-where
-    H: AllocGlobal,
-    T: Drop,
-    F: FnOnce(&H, &mut Office<PlainBook>) -> Result<T, Fail>,
-    requires { F.IsAlwaysCallable ask }
-{
-    with(rt, PlainBook::new(rt.alloc(), operator()?), ask)
-}
-
-/// The same of a book in memory that leaves out what it is told to, and nothing at first.
-pub(super) fn with_faulty<H, F>(rt: &H, ask: F) -> Result<(), Fail>
-where
-    H: AllocGlobal,
-    F: FnOnce(&H, &mut Office<Faulty<PlainBook>>) -> Result<(), Fail>,
-    requires { F.IsAlwaysCallable ask }
-{
-    let book = Faulty {
-        book: PlainBook::new(rt.alloc(), operator()?),
-        left: None,
-        lines_asked: (u64::MAX, 0),
-    };
-    with(rt, book, ask)
+/// The same over a book in memory.
+pub(super) fn in_memory(rt: &(impl Abort + AllocGlobal), trial: &impl Trial) -> Result<(), Fail> {
+    in_office(rt, PlainBook::new(rt.alloc(), operator()?), trial)
 }
 
 /// New tables in memory, where there is memory for them.
@@ -60,19 +57,42 @@ fn new_tables(alloc: Global, operator: Token) -> Option<Tables<MemStore>> {
     Tables::create(alloc, store, operator).ok()
 }
 
-/// The same of tables in memory, which are made again where there is no memory at first.
-pub(super) fn with_tables<H, F>(rt: &H, ask: F) -> Result<(), Fail>
-where
-    H: AllocGlobal,
-    F: FnOnce(&H, &mut Office<Tables<MemStore>>) -> Result<(), Fail>,
-    requires { F.IsAlwaysCallable ask }
-{
+/// The same over tables in memory, which are made again where there is no memory at first.
+pub(super) fn in_tables(rt: &(impl Abort + AllocGlobal), trial: &impl Trial) -> Result<(), Fail> {
     let operator = operator()?;
     let book = match new_tables(rt.alloc(), operator) {
         Some(book) => book,
         None => new_tables(rt.alloc(), operator).ok_or("not made")?,
     };
-    with(rt, book, ask)
+    in_office(rt, book, trial)
+}
+
+/// The same over a book in memory, and over tables.
+pub(super) fn in_both(rt: &(impl Abort + AllocGlobal), trial: &impl Trial) -> Result<(), Fail> {
+    in_memory(rt, trial)?;
+    in_tables(rt, trial)
+}
+
+/// Tries something in an office over a book that leaves out calls.
+fn in_faulty_office(
+    rt: &(impl Abort + AllocGlobal),
+    book: impl Book + Drop,
+    trial: &impl FaultyTrial,
+) -> Result<(), Fail> {
+    let mut office = Office::new(Faulty {
+        book,
+        left: None,
+        lines_asked: (u64::MAX, 0),
+    });
+    trial.try_in(rt, &mut office)
+}
+
+/// The same over one that passes its calls on to a book in memory, and leaves none out at first.
+pub(super) fn in_faulty(
+    rt: &(impl Abort + AllocGlobal),
+    trial: &impl FaultyTrial,
+) -> Result<(), Fail> {
+    in_faulty_office(rt, PlainBook::new(rt.alloc(), operator()?), trial)
 }
 
 /// A store in memory in which nothing is.

@@ -8,6 +8,8 @@ mod opened;
 mod reads;
 mod values;
 
+pub(super) use self::asked::asked;
+pub(super) use self::reads::assert_values;
 use mx_book::StoreFault;
 
 /// Whether a refused growth may be answered by this fault: over tables it may be the store's too.

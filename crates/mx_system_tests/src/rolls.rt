@@ -1,7 +1,7 @@
 //! The import of rolls into books in memory and into tables: rolls with what is told of them, worked out by hand.
-use crate::empty::{with_book, with_tables};
+use crate::desk::unfolded;
+use crate::empty::{Trial, in_both, in_memory};
 use mx_book::Book;
-use mx_memory::PlainBook;
 use mx_office::Office;
 use mx_report::{RollFault, RollFaultKind, RollReason, RollReport, import_roll};
 use std::alloc::{AllocError, Global};
@@ -44,15 +44,6 @@ kind,name,of,token|holder,dan,m9,00000000000000000000000000000044|purse,p1,bob,|
 kind,name,of,token|purse,d1,dan,|holder,dan,m,0000000000000000000000000000000D| -> added 1|same 0|refused 1|row 1: no such holder|
 kind,name,of,token|purse,d1,dan,|holder,dan,m,0000000000000000000000000000000d| -> added 1|same 1|refused 0|
 ";
-
-/// The text with a line end in place of each `|`.
-fn unfolded(alloc: Global, text: &str) -> Result<String, AllocError> {
-    let mut lines = String::new(alloc);
-    for character in text.chars() {
-        lines.push(if character == '|' { '\n' } else { character })?;
-    }
-    Ok(lines)
-}
 
 /// What is told of an import: its counts, and a line for each row that was refused.
 fn report_lines(alloc: Global, report: &RollReport) -> Result<String, AllocError> {
@@ -102,93 +93,111 @@ fn import_one(
     roll: &str,
     told: &str,
 ) -> Result<(), Fail> {
-    let roll = unfolded(rt.alloc(), roll)?;
+    let roll = unfolded(rt.alloc(), roll, "\n")?;
     let lines = lines_of(rt.alloc(), office, roll.as_str().as_bytes())?;
-    let told = unfolded(rt.alloc(), told)?;
+    let told = unfolded(rt.alloc(), told, "\n")?;
     assert_eq!(rt; lines.as_str(), told.as_str());
     Ok(())
 }
 
-/// Imports the rolls, and asserts what is told of each.
-fn import_all(rt: &(impl Abort + AllocGlobal), office: &mut Office<impl Book>) -> Result<(), Fail> {
-    for line in ROLLS.lines() {
-        if let Some((roll, told)) = line.split_once(" -> ") {
-            import_one(rt, office, roll, told)?;
+/// Rolls, a line each, that are imported one after another.
+#[derive(Drop)]
+struct Imported<'a>(&'a str);
+
+impl Trial for Imported<'_> {
+    fn try_in(
+        &self,
+        rt: &(impl Abort + AllocGlobal),
+        office: &mut Office<impl Book>,
+    ) -> Result<(), Fail> {
+        for line in self.0.lines() {
+            if let Some((roll, told)) = line.split_once(" -> ") {
+                import_one(rt, office, roll, told)?;
+            }
         }
+        Ok(())
     }
-    Ok(())
 }
 
 #[test]
 fn rolls_one_after_another(rt: HostRuntime) -> Result<(), Fail> {
-    with_book(&rt, |rt, office| import_all(rt, office))?;
-    with_tables(&rt, |rt, office| import_all(rt, office))
+    in_both(&rt, &Imported(ROLLS))
 }
 
-/// Asserts that a field that isn't UTF-8 makes a bad row.
-fn assert_bad_rows(
-    rt: &(impl Abort + AllocGlobal),
-    office: &mut Office<impl Book>,
-) -> Result<(), Fail> {
-    let roll = b"kind,name,of,token\npurse,p\xff,ann,\n\xffurse,p2,ann,\npurse,p2,ann,\xc3\n";
-    let lines = lines_of(rt.alloc(), office, roll)?;
-    assert_eq!(rt;
-        lines.as_str(),
-        "added 0\nsame 0\nrefused 3\nrow 1: bad row\nrow 2: bad row\nrow 3: bad row\n"
-    );
-    Ok(())
+/// A roll with fields that aren't UTF-8, each of which makes a bad row.
+#[derive(Drop)]
+struct BadFields;
+
+impl Trial for BadFields {
+    fn try_in(
+        &self,
+        rt: &(impl Abort + AllocGlobal),
+        office: &mut Office<impl Book>,
+    ) -> Result<(), Fail> {
+        let roll = b"kind,name,of,token\npurse,p\xff,ann,\n\xffurse,p2,ann,\npurse,p2,ann,\xc3\n";
+        let lines = lines_of(rt.alloc(), office, roll)?;
+        assert_eq!(rt;
+            lines.as_str(),
+            "added 0\nsame 0\nrefused 3\nrow 1: bad row\nrow 2: bad row\nrow 3: bad row\n"
+        );
+        Ok(())
+    }
 }
 
 #[test]
 fn a_field_that_is_no_text(rt: HostRuntime) -> Result<(), Fail> {
-    with_book(&rt, |rt, office| assert_bad_rows(rt, office))
+    in_memory(&rt, &BadFields)
 }
 
 /// The report of a roll that is imported, or imported again where there is no memory at first.
 fn report_again(
     alloc: Global,
-    office: &mut Office<PlainBook>,
+    office: &mut Office<impl Book>,
     roll: &str,
-) -> Result<RollReport, Fail> {
+) -> Result<RollReport, RollFault> {
     match import_roll(alloc, office, roll.as_bytes()) {
-        Ok(report) => Ok(report),
-        Err(fault) => {
-            if !matches!(fault.kind, RollFaultKind::Memory) {
-                return Err("another fault")?;
-            }
-            let again = import_roll(alloc, office, roll.as_bytes());
-            Ok(again.ok().ok_or("a fault twice")?)
+        Err(fault) if matches!(fault.kind, RollFaultKind::Memory) => {
+            import_roll(alloc, office, roll.as_bytes())
         }
+        report => report,
     }
 }
 
 /// Imports a roll, again where there is no memory at first, and asserts how many of its rows stand and were refused.
 fn import_grown(
     rt: &(impl Abort + AllocGlobal),
-    office: &mut Office<PlainBook>,
+    office: &mut Office<impl Book>,
     roll: &str,
     rows: (u64, usize),
-) -> Result<(), Fail> {
-    let report = report_again(rt.alloc(), office, roll)?;
+) -> Result<u64, Fail> {
+    let report = report_again(rt.alloc(), office, roll)
+        .ok()
+        .ok_or("a fault")?;
     let stand = report.added.saturating_add(report.same);
     assert_eq!(rt; (stand, report.refused.len()), rows);
-    Ok(())
+    Ok(report.added)
 }
 
-/// Asserts that with the second import of a roll all of its rows stand, however far the first one came.
-fn assert_imported_in_the_end(
-    rt: &(impl Abort + AllocGlobal),
-    office: &mut Office<PlainBook>,
-) -> Result<(), Fail> {
-    import_grown(rt, office, STANDING, (5, 0))?;
-    import_grown(rt, office, SECOND, (3, 1))?;
-    import_grown(rt, office, SECOND, (3, 1))?;
-    let report = report_again(rt.alloc(), office, SECOND)?;
-    assert_eq!(rt; (report.added, report.same), (0, 3));
-    Ok(())
+/// With the second import of a roll all of its rows stand, however far the first one came, and a third adds none.
+#[derive(Drop)]
+struct Grown;
+
+impl Trial for Grown {
+    fn try_in(
+        &self,
+        rt: &(impl Abort + AllocGlobal),
+        office: &mut Office<impl Book>,
+    ) -> Result<(), Fail> {
+        import_grown(rt, office, STANDING, (5, 0))?;
+        import_grown(rt, office, SECOND, (3, 1))?;
+        import_grown(rt, office, SECOND, (3, 1))?;
+        let added = import_grown(rt, office, SECOND, (3, 1))?;
+        assert_eq!(rt; added, 0);
+        Ok(())
+    }
 }
 
 #[test]
 fn rolls_with_a_growth_refused(rt: HostRuntime) -> Result<(), Fail> {
-    with_book(&rt, |rt, office| assert_imported_in_the_end(rt, office))
+    in_memory(&rt, &Grown)
 }

@@ -1,10 +1,12 @@
-//! Books on tables: how they are made and opened.
-use crate::empty::{empty_store, made};
-use mx_book::{Book, Caller, StoreFault};
-use mx_pay::{Name, Token};
+//! Books on tables: how they are made and opened, and what they read of rows.
+use crate::desk::written;
+use crate::empty::{empty_store, made, operator};
+use crate::growths::asked;
+use mx_book::{Book, StoreFault};
+use mx_pay::Token;
 use mx_tables::{OpenFault, OpenRefused, Tables};
-use sqlite::{Connection, MemStore, params};
-use std::alloc::Global;
+use sqlite::{Connection, MemStore};
+use std::alloc::{AllocError, Global};
 use std::process::Abort;
 use std::test::Fail;
 
@@ -19,10 +21,8 @@ pub(super) fn unopened(
     alloc: Global,
     store: Connection<MemStore>,
 ) -> Result<Connection<MemStore>, Fail> {
-    match Tables::open(alloc, store) {
-        Ok(_) => Err("opened")?,
-        Err(refused) => not_this_schema(refused),
-    }
+    let refused = Tables::open(alloc, store).err();
+    not_this_schema(refused.ok_or("opened")?)
 }
 
 /// The store that `create` refuses, which has books.
@@ -31,10 +31,8 @@ pub(super) fn unmade(
     store: Connection<MemStore>,
     operator: Token,
 ) -> Result<Connection<MemStore>, Fail> {
-    match Tables::create(alloc, store, operator) {
-        Ok(_) => Err("made twice")?,
-        Err(refused) => not_this_schema(refused),
-    }
+    let refused = Tables::create(alloc, store, operator).err();
+    not_this_schema(refused.ok_or("made twice")?)
 }
 
 /// The store that is refused for its schema.
@@ -45,126 +43,157 @@ fn not_this_schema(refused: OpenRefused<MemStore>) -> Result<Connection<MemStore
     }
 }
 
-/// What a book says of the operator's token, and how many members it has.
-fn read_book(
-    alloc: Global,
-    book: &mut impl Book,
-    operator: &Token,
-) -> Result<(Option<Caller>, usize), StoreFault> {
-    let caller = book.who(alloc, operator)?;
-    let members = book.members(alloc)?;
-    Ok((caller, members.len()))
+/// What a call of a book answers, in words, or which fault.
+fn answer_of(alloc: Global, book: &mut impl Book, call: &str) -> Result<String, AllocError> {
+    match asked(alloc, book, call) {
+        Ok(words) => Ok(words),
+        Err(StoreFault::Memory) => String::from_str(alloc, "no memory"),
+        Err(StoreFault::Store) => String::from_str(alloc, "store"),
+    }
 }
 
-/// Asserts that the operator is known to a book, which has no member m and no other.
-fn assert_opening(
+/// Asserts that the calls of a script answer so, a line each, `CALL ARGUMENT -> ANSWER`. The first words say of which rows.
+fn assert_answers(
     rt: &(impl Abort + AllocGlobal),
     book: &mut impl Book,
-    operator: &Token,
+    rows: &str,
+    script: &str,
 ) -> Result<(), Fail> {
-    let (caller, members) = read_book(rt.alloc(), book, operator)?;
-    assert!(rt; matches!(caller, Some(Caller::Operator)));
-    assert_eq!(rt; members, 0);
-    let name = Name::read("m").ok_or("no name")?;
-    assert!(rt; book.member(rt.alloc(), name)?.is_none());
-    assert!(rt; book.member_totals(rt.alloc(), name)?.is_none());
+    for line in script.lines() {
+        if let Some((call, value)) = line.split_once(" -> ") {
+            let answer = answer_of(rt.alloc(), book, call)?;
+            assert_eq!(rt; answer.as_str(), value, "{call}, {rows}");
+        }
+    }
     Ok(())
 }
+
+/// A book whose calls answer so.
+fn answering<B: Book + Drop>(
+    rt: &(impl Abort + AllocGlobal),
+    mut book: B,
+    rows: &str,
+    script: &str,
+) -> Result<B, Fail> {
+    assert_answers(rt, &mut book, rows, script)?;
+    Ok(book)
+}
+
+/// Asserts that the calls of a book answer so.
+fn assert_book(
+    rt: &(impl Abort + AllocGlobal),
+    book: impl Book + Drop,
+    rows: &str,
+    script: &str,
+) -> Result<(), Fail> {
+    answering(rt, book, rows, script)?;
+    Ok(())
+}
+
+/// What new tables answer.
+const NEW: &str = "
+who 00000000000000000000000000000001 -> operator
+members -> none
+member m -> none
+member_totals m -> none
+";
 
 /// An empty store is refused, and stands then for new tables; these are opened again, and not made again.
 #[test]
 fn made_and_opened_again(rt: HostRuntime) -> Result<(), Fail> {
-    let alloc = rt.alloc();
-    let operator = Token::read("00000000000000000000000000000001").ok_or("no token")?;
-    let store = unopened(alloc, empty_store(alloc)?)?;
-    let mut book = made(alloc, store, operator)?;
-    assert_opening(&rt, &mut book, &operator)?;
-    let store = unmade(alloc, book.into_store(), operator)?;
-    let mut again = opened(alloc, store)?;
-    assert_opening(&rt, &mut again, &operator)
+    let operator = operator()?;
+    let store = unopened(rt.alloc(), empty_store(rt.alloc())?)?;
+    let book = answering(&rt, made(rt.alloc(), store, operator)?, "made", NEW)?;
+    let store = unmade(rt.alloc(), book.into_store(), operator)?;
+    assert_book(&rt, opened(rt.alloc(), store)?, "opened", NEW)
 }
 
 /// The tables of version 1 of the schema, which had no settled details.
-const VERSION_1: [&str; 11] = [
-    "CREATE TABLE meta (id INTEGER PRIMARY KEY, version INTEGER NOT NULL) STRICT",
-    "CREATE TABLE member (name TEXT NOT NULL PRIMARY KEY, granted INTEGER NOT NULL, unspent INTEGER NOT NULL) STRICT",
-    "CREATE TABLE token (token TEXT NOT NULL PRIMARY KEY, kind TEXT NOT NULL, name TEXT NOT NULL, UNIQUE (kind, name)) STRICT",
-    "CREATE TABLE holder (name TEXT NOT NULL PRIMARY KEY, member TEXT NOT NULL REFERENCES member (name)) STRICT",
-    "CREATE TABLE purse (name TEXT NOT NULL PRIMARY KEY, holder TEXT NOT NULL REFERENCES holder (name), balance INTEGER NOT NULL, next_number INTEGER NOT NULL, status TEXT NOT NULL, details TEXT NOT NULL, log TEXT NOT NULL, line_count INTEGER NOT NULL, next_message INTEGER NOT NULL) STRICT",
-    "CREATE TABLE inbox (purse TEXT NOT NULL, number INTEGER NOT NULL, kind TEXT NOT NULL, details TEXT NOT NULL, PRIMARY KEY (purse, number)) STRICT",
-    "CREATE TABLE line (purse TEXT NOT NULL, number INTEGER NOT NULL, kind TEXT NOT NULL, amount INTEGER NOT NULL, balance INTEGER NOT NULL, note TEXT NOT NULL, PRIMARY KEY (purse, number)) STRICT",
-    "CREATE TABLE tray (purse TEXT NOT NULL, details TEXT NOT NULL, PRIMARY KEY (purse, details)) STRICT",
-    "CREATE TABLE archive (purse TEXT NOT NULL, details TEXT NOT NULL, PRIMARY KEY (purse, details)) STRICT",
-    "CREATE TABLE load (purse TEXT NOT NULL, reference TEXT NOT NULL, amount INTEGER NOT NULL, PRIMARY KEY (purse, reference)) STRICT",
-    "CREATE TABLE redemption (purse TEXT NOT NULL, reference TEXT NOT NULL, amount INTEGER NOT NULL, collected INTEGER NOT NULL, PRIMARY KEY (purse, reference)) STRICT",
-];
+const VERSION_1: &str = "
+CREATE TABLE meta (id INTEGER PRIMARY KEY, version INTEGER NOT NULL) STRICT
+CREATE TABLE member (name TEXT NOT NULL PRIMARY KEY, granted INTEGER NOT NULL, unspent INTEGER NOT NULL) STRICT
+CREATE TABLE token (token TEXT NOT NULL PRIMARY KEY, kind TEXT NOT NULL, name TEXT NOT NULL, UNIQUE (kind, name)) STRICT
+CREATE TABLE holder (name TEXT NOT NULL PRIMARY KEY, member TEXT NOT NULL REFERENCES member (name)) STRICT
+CREATE TABLE purse (name TEXT NOT NULL PRIMARY KEY, holder TEXT NOT NULL REFERENCES holder (name), balance INTEGER NOT NULL, next_number INTEGER NOT NULL, status TEXT NOT NULL, details TEXT NOT NULL, log TEXT NOT NULL, line_count INTEGER NOT NULL, next_message INTEGER NOT NULL) STRICT
+CREATE TABLE inbox (purse TEXT NOT NULL, number INTEGER NOT NULL, kind TEXT NOT NULL, details TEXT NOT NULL, PRIMARY KEY (purse, number)) STRICT
+CREATE TABLE line (purse TEXT NOT NULL, number INTEGER NOT NULL, kind TEXT NOT NULL, amount INTEGER NOT NULL, balance INTEGER NOT NULL, note TEXT NOT NULL, PRIMARY KEY (purse, number)) STRICT
+CREATE TABLE tray (purse TEXT NOT NULL, details TEXT NOT NULL, PRIMARY KEY (purse, details)) STRICT
+CREATE TABLE archive (purse TEXT NOT NULL, details TEXT NOT NULL, PRIMARY KEY (purse, details)) STRICT
+CREATE TABLE load (purse TEXT NOT NULL, reference TEXT NOT NULL, amount INTEGER NOT NULL, PRIMARY KEY (purse, reference)) STRICT
+CREATE TABLE redemption (purse TEXT NOT NULL, reference TEXT NOT NULL, amount INTEGER NOT NULL, collected INTEGER NOT NULL, PRIMARY KEY (purse, reference)) STRICT
+INSERT INTO meta (id, version) VALUES (1, 1)
+";
 
-/// A store with these tables.
-pub(super) fn of_version_1(alloc: Global) -> Result<Connection<MemStore>, Fail> {
-    let mut store = empty_store(alloc)?;
-    for text in VERSION_1 {
-        store.execute(text, &[])?;
+/// Executes the statements of a text, a line each.
+fn execute_lines(store: &mut Connection<MemStore>, text: &str) -> Result<(), Fail> {
+    for statement in text.lines() {
+        if !statement.is_empty() {
+            store.execute(statement, &[])?;
+        }
     }
-    store.execute("INSERT INTO meta (id, version) VALUES (1, 1)", &[])?;
+    Ok(())
+}
+
+/// A store with the tables of version 1 and these rows.
+pub(super) fn of_version_1(alloc: Global, rows: &str) -> Result<Connection<MemStore>, Fail> {
+    let mut store = empty_store(alloc)?;
+    execute_lines(&mut store, VERSION_1)?;
+    execute_lines(&mut store, rows)?;
     Ok(store)
 }
 
 /// Tables of version 1 are refused, and found as such.
 #[test]
 fn tables_of_the_version_before(rt: HostRuntime) -> Result<(), Fail> {
-    unopened(rt.alloc(), of_version_1(rt.alloc())?)?;
+    unopened(rt.alloc(), of_version_1(rt.alloc(), "")?)?;
     Ok(())
 }
 
-/// Adds a line of p1 of that number and kind.
-fn add_line(store: &mut Connection<MemStore>, number: i64, kind: &str) -> Result<(), Fail> {
-    store.execute(
-        "INSERT INTO line (purse, number, kind, amount, balance, note) VALUES ('p1', ?1, ?2, 1, ?1, 'a1')",
-        params![number, kind],
-    )?;
-    Ok(())
-}
-
-/// New tables with fifty lines of p1, and a 51st of a kind that no line has.
-fn with_a_bad_line(alloc: Global, operator: Token) -> Result<Tables<MemStore>, Fail> {
-    let mut store = made(alloc, empty_store(alloc)?, operator)?.into_store();
-    for number in 1..51 {
-        add_line(&mut store, number, "loaded")?;
-    }
-    add_line(&mut store, 51, "found")?;
+/// New tables in which the statements of two texts were executed.
+fn with_rows(alloc: Global, rows: &str, change: &str) -> Result<Tables<MemStore>, Fail> {
+    let mut store = made(alloc, empty_store(alloc)?, operator()?)?.into_store();
+    execute_lines(&mut store, rows)?;
+    execute_lines(&mut store, change)?;
     opened(alloc, store)
 }
+
+/// Asserts that calls answer so over them.
+fn assert_rows(
+    rt: &(impl Abort + AllocGlobal),
+    rows: &str,
+    change: &str,
+    script: &str,
+) -> Result<(), Fail> {
+    assert_book(rt, with_rows(rt.alloc(), rows, change)?, change, script)
+}
+
+/// Adds a line of p1 of that number.
+const LINE: &str =
+    "INSERT INTO line (purse, number, kind, amount, balance, note) VALUES ('p1', #n#, 'loaded', 1, #n#, 'a1')\n";
+
+/// Adds a 51st line, of a kind that no line has.
+const BAD_LINE: &str =
+    "INSERT INTO line (purse, number, kind, amount, balance, note) VALUES ('p1', 51, 'found', 1, 51, 'a1')";
 
 /// A page of lines is read up to its end and no further: what stands behind it doesn't matter to it.
 #[test]
 fn page_before_a_line_of_no_kind(rt: HostRuntime) -> Result<(), Fail> {
-    let operator = Token::read("00000000000000000000000000000001").ok_or("no token")?;
-    let p1 = Name::read("p1").ok_or("no name")?;
-    let mut book = with_a_bad_line(rt.alloc(), operator)?;
-    let page = book.lines(rt.alloc(), p1, 0, 50)?;
-    assert_eq!(rt; page.len(), 50);
-    let whole = book.lines(rt.alloc(), p1, 0, 51);
-    assert_eq!(rt; whole.err(), Some(StoreFault::Store));
-    Ok(())
+    let lines = written(rt.alloc(), &[(1, 51, LINE)])?;
+    assert_rows(
+        &rt,
+        lines.as_str(),
+        BAD_LINE,
+        "page p1 50 -> 50 lines to 50, balance 50\npage p1 51 -> store",
+    )
 }
 
 /// A member, a holder and the holder's purse p1, which was loaded with 100.
-const LOADED: [&str; 4] = [
-    "INSERT INTO member (name, granted, unspent) VALUES ('m', 100, 0)",
-    "INSERT INTO holder (name, member) VALUES ('ann', 'm')",
-    "INSERT INTO purse (name, holder, balance, next_number, status, details, log, line_count, next_message) VALUES ('p1', 'ann', 100, 0, 'eaFrom', '', '', 1, 0)",
-    "INSERT INTO load (purse, reference, amount) VALUES ('p1', 'a1', 100)",
-];
-
-/// New tables with these rows, and then a change.
-fn with_change(alloc: Global, operator: Token, change: &str) -> Result<Tables<MemStore>, Fail> {
-    let mut store = made(alloc, empty_store(alloc)?, operator)?.into_store();
-    for text in LOADED {
-        store.execute(text, &[])?;
-    }
-    store.execute(change, &[])?;
-    opened(alloc, store)
-}
+const LOADED: &str = "
+INSERT INTO member (name, granted, unspent) VALUES ('m', 100, 0)
+INSERT INTO holder (name, member) VALUES ('ann', 'm')
+INSERT INTO purse (name, holder, balance, next_number, status, details, log, line_count, next_message) VALUES ('p1', 'ann', 100, 0, 'eaFrom', '', '', 1, 0)
+INSERT INTO load (purse, reference, amount) VALUES ('p1', 'a1', 100)
+";
 
 /// Two messages for p1, of which the later number came first.
 const CROSSED: &str =
@@ -173,50 +202,55 @@ const CROSSED: &str =
 /// Messages that came in another order than that of their keys keep no holder from its purses.
 #[test]
 fn purses_beside_messages_in_another_order(rt: HostRuntime) -> Result<(), Fail> {
-    let operator = Token::read("00000000000000000000000000000001").ok_or("no token")?;
-    let ann = Name::read("ann").ok_or("no name")?;
-    let mut book = with_change(rt.alloc(), operator, CROSSED)?;
-    assert_eq!(rt; book.purses_of(rt.alloc(), ann)?.len(), 1);
-    Ok(())
+    assert_rows(&rt, LOADED, CROSSED, "purses_of ann -> p1|")
 }
 
-/// Why the sums of the scheme and those of its members can't be read of these rows after a change; None where they can.
-fn faults_after(
-    alloc: Global,
-    change: &str,
-) -> Result<(Option<StoreFault>, Option<StoreFault>), Fail> {
-    let operator = Token::read("00000000000000000000000000000001").ok_or("no token")?;
-    let mut book = with_change(alloc, operator, change)?;
-    let scheme = book.totals(alloc).err();
-    let members = book.members_totals(alloc).err();
-    Ok((scheme, members))
-}
+/// Changes of these rows, and what the sums of the scheme and those of its members are then.
+const CHANGES: [(&str, &str); 9] = [
+    (
+        "UPDATE purse SET next_number = 1",
+        "totals -> 100,0,0,100,0,100,0,0\nmembers_totals -> m,100,0,0,100,0,100|",
+    ),
+    (
+        "UPDATE purse SET balance = 1000000000000000",
+        "totals -> 100,0,0,100,0,1000000000000000,0,0\nmembers_totals -> m,100,0,0,100,0,1000000000000000|",
+    ),
+    (
+        "UPDATE purse SET balance = 1000000000000001",
+        "totals -> store\nmembers_totals -> store",
+    ),
+    (
+        "UPDATE load SET amount = 1000000000000",
+        "totals -> 100,0,0,1000000000000,0,100,0,0\nmembers_totals -> m,100,0,0,1000000000000,0,100|",
+    ),
+    (
+        "UPDATE load SET amount = 1000000000001",
+        "totals -> store\nmembers_totals -> store",
+    ),
+    (
+        "UPDATE member SET granted = 1000000000000001",
+        "totals -> store\nmembers_totals -> store",
+    ),
+    (
+        "UPDATE purse SET status = 'xx'",
+        "totals -> store\nmembers_totals -> m,100,0,0,100,0,100|",
+    ),
+    (
+        "UPDATE load SET purse = 'zz'",
+        "totals -> 100,0,0,100,0,100,0,0\nmembers_totals -> store",
+    ),
+    (
+        "INSERT INTO archive (purse, details) VALUES ('zz', 'p1,q1,60,0,0')",
+        "totals -> store\nmembers_totals -> m,100,0,0,100,0,100|",
+    ),
+];
 
 /// Rows that are no value of the books are added up by no sum that reads them: a balance, a load or grants above their
 /// limits, a status that there isn't, a load or an archived result of nobody's purse.
 #[test]
 fn sums_of_rows_that_are_no_value(rt: HostRuntime) -> Result<(), Fail> {
-    let store = Some(StoreFault::Store);
-    for (change, scheme, members) in [
-        ("UPDATE purse SET next_number = 1", None, None),
-        ("UPDATE purse SET balance = 1000000000000000", None, None),
-        ("UPDATE purse SET balance = 1000000000000001", store, store),
-        ("UPDATE load SET amount = 1000000000000", None, None),
-        ("UPDATE load SET amount = 1000000000001", store, store),
-        ("UPDATE member SET granted = 1000000000000001", store, store),
-        ("UPDATE purse SET status = 'xx'", store, None),
-        ("UPDATE load SET purse = 'zz'", None, store),
-        (
-            "INSERT INTO archive (purse, details) VALUES ('zz', 'p1,q1,60,0,0')",
-            store,
-            None,
-        ),
-    ] {
-        assert_eq!(rt;
-            faults_after(rt.alloc(), change)?,
-            (scheme, members),
-            "{change}"
-        );
+    for (change, sums) in CHANGES {
+        assert_rows(&rt, LOADED, change, sums)?;
     }
     Ok(())
 }

@@ -1,11 +1,8 @@
 //! What a holder is told, whatever others do.
-use super::scripts::Exchange;
-use super::{FUNDED, STANDING, assert_served, served, tell};
-use crate::empty::{with_book, with_faulty};
-use crate::faulty::Faulty;
+use super::scripts::{Exchange, Piece, written};
+use super::{FUNDED, STANDING, given_up, played, serve_by, tell};
+use crate::empty::{Trial, in_memory, operator};
 use mx_book::Book;
-use mx_desk::Counted;
-use mx_desk::desk::run;
 use mx_memory::PlainBook;
 use mx_office::Office;
 use mx_wire::Routes;
@@ -30,98 +27,41 @@ const AFTER: &str = r#"
 ann GET /purses/p1 -> 200 {"balance":100,"next":1,"purse":"p1","status":"epr"}
 "#;
 
-/// Serves the opening scripts of an office.
-fn tell_opening(
-    rt: &(impl Abort + AllocGlobal),
-    office: &mut Office<impl Book>,
-) -> Result<(), Fail> {
-    tell(rt, office, STANDING)?;
-    tell(rt, office, FUNDED)
-}
-
-/// Bob breaks a payment off, and cy handles the first request of one.
-const BROKEN_OFF: &str = r#"
-bob POST /purses/q1/abort -> 200 {"done":"aborted","logged":true}
-cy POST /purses/c1/handle {"number":0} -> 200 {"done":"ignored"}
-"#;
-
-/// Three requests of the others: bob asks c1 for a payment, of which it is the turn of this number, and breaks it off; cy
-/// handles the first such request.
-fn add_turn_of_others(
-    exchange: &mut Exchange,
-    alloc: Global,
-    number: u64,
-) -> Result<(), AllocError> {
-    let request = "bob POST /purses/q1/start-to {\"peer\":\"c1\",\"value\":5,\"seq\":0}";
-    let started = format!(in alloc;
-        "200 {{\"details\":\"c1,q1,5,0,{number}\",\"done\":\"started\"}}"
-    )?;
-    exchange.add(request, started.as_str())?;
-    exchange.add_script(BROKEN_OFF)?;
-    exchange.end_run()
-}
-
-/// Bob's look at p1.
-const UNSEEN: &str = r#"
-bob GET /purses/p1 -> 404 {"error":"no such purse"}
-"#;
-
-/// The same, where the book fails.
-const LEFT_OUT: &str = r#"
-bob GET /purses/p1 -> 503
-"#;
-
-/// A turn of the others, and bob's look at p1, at which the book fails.
-fn tell_others(
-    rt: &(impl Abort + AllocGlobal),
-    office: &mut Office<Faulty<PlainBook>>,
-    number: u64,
-) -> Result<(), Fail> {
-    let mut turn = Exchange::new(rt.alloc());
-    add_turn_of_others(&mut turn, rt.alloc(), number)?;
-    assert_served(rt, office, &turn)?;
-    // The caller is looked for in vain, or the purse.
-    office.book.left = Some(number % 2);
-    tell(rt, office, LEFT_OUT)
-}
-
-/// Ann's requests, with forty of the others between.
-fn among_others(alloc: Global) -> Result<Exchange, AllocError> {
-    let mut exchange = Exchange::of_runs(alloc, &[STANDING, FUNDED, THIRD, BEFORE])?;
-    for number in 0..10 {
-        add_turn_of_others(&mut exchange, alloc, number)?;
-        exchange.add_script(UNSEEN)?;
-        exchange.end_run()?;
-    }
-    exchange.add_script(AFTER)?;
-    Ok(exchange)
-}
+/// Ten turns of the others: in each bob asks c1 for a payment and breaks it off, cy handles the first such request, and bob looks
+/// at p1.
+const TURNS: [Piece<'static>; 2] = [
+    (
+        0,
+        10,
+        "bob POST /purses/q1/start-to {\"peer\":\"c1\",\"value\":5,\"seq\":0} -> 200 {\"details\":\"c1,q1,5,0,#n#\",\"done\":\"started\"}\nbob POST /purses/q1/abort -> 200 {\"done\":\"aborted\",\"logged\":true}\ncy POST /purses/c1/handle {\"number\":0} -> 200 {\"done\":\"ignored\"}\nbob GET /purses/p1 -> 404 {\"error\":\"no such purse\"}\n",
+    ),
+    (0, 1, AFTER),
+];
 
 /// A holder is told the same bytes alone and among forty requests of others.
 #[test]
 fn forty_requests_of_others(rt: HostRuntime) -> Result<(), Fail> {
-    let alone = Exchange::of_runs(rt.alloc(), &[STANDING, FUNDED, THIRD, BEFORE, AFTER])?;
-    served(&rt, &alone)?;
-    served(&rt, &among_others(rt.alloc())?)
+    let before = [STANDING, FUNDED, THIRD, BEFORE];
+    played(&rt, &before, AFTER)?;
+    let among = written(rt.alloc(), &TURNS)?;
+    played(&rt, &before, among.as_str())
 }
 
-/// Asserts the same where the book fails at ten of them.
-fn assert_told_in_spite(
-    rt: &(impl Abort + AllocGlobal),
-    office: &mut Office<Faulty<PlainBook>>,
-) -> Result<(), Fail> {
-    tell_opening(rt, office)?;
-    tell(rt, office, THIRD)?;
-    tell(rt, office, BEFORE)?;
-    for number in 0..10 {
-        tell_others(rt, office, number)?;
-    }
-    tell(rt, office, AFTER)
-}
+/// The same turns, at each of which the book fails when bob looks at p1: at one the caller is looked for in vain, and at the
+/// next the purse.
+const TURNS_GIVEN_UP: [Piece<'static>; 2] = [
+    (
+        0,
+        5,
+        "!\nbob POST /purses/q1/start-to {\"peer\":\"c1\",\"value\":5,\"seq\":0} -> 200 {\"details\":\"c1,q1,5,0,#2n#\",\"done\":\"started\"}\nbob POST /purses/q1/abort -> 200 {\"done\":\"aborted\",\"logged\":true}\ncy POST /purses/c1/handle {\"number\":0} -> 200 {\"done\":\"ignored\"}\n!0\nbob GET /purses/p1 -> 503\n!\nbob POST /purses/q1/start-to {\"peer\":\"c1\",\"value\":5,\"seq\":0} -> 200 {\"details\":\"c1,q1,5,0,#2n+1#\",\"done\":\"started\"}\nbob POST /purses/q1/abort -> 200 {\"done\":\"aborted\",\"logged\":true}\ncy POST /purses/c1/handle {\"number\":0} -> 200 {\"done\":\"ignored\"}\n!1\nbob GET /purses/p1 -> 503\n",
+    ),
+    (0, 1, AFTER),
+];
 
 #[test]
 fn forty_requests_of_others_of_which_ten_are_given_up(rt: HostRuntime) -> Result<(), Fail> {
-    with_faulty(&rt, |rt, office| assert_told_in_spite(rt, office))
+    let among = written(rt.alloc(), &TURNS_GIVEN_UP)?;
+    given_up(&rt, &[STANDING, FUNDED, THIRD, BEFORE], among.as_str())
 }
 
 /// What ann asks.
@@ -160,26 +100,9 @@ nobody GET /purses/p1
 bob GET /purses
 "#;
 
-/// The bytes of the response to one request.
-fn response_to(
-    alloc: Global,
-    routes: &Routes,
-    office: &mut Office<PlainBook>,
-    request: &str,
-) -> Result<Vec<u8>, Fail> {
-    let mut exchange = Exchange::new(alloc);
-    exchange.add(request, "")?;
-    let mut reader = Counted::new(exchange.input().as_bytes());
-    let mut writer = Counted::new(Vec::new(alloc));
-    run(alloc, &mut reader, &mut writer, routes, office)?;
-    Ok(writer.into_inner())
-}
-
-/// The number after this one: always the same.
+/// The number after this one: always the same, and never 0.
 fn next_number(number: u64) -> u64 {
-    number
-        .wrapping_mul(6_364_136_223_846_793_005)
-        .wrapping_add(1_442_695_040_888_963_407)
+    number.wrapping_mul(48_271) % 2_147_483_647
 }
 
 /// Takes the next line of a text, and its line end; at the end nothing.
@@ -197,10 +120,10 @@ fn take_line<'t>(text: &mut &'t str) -> &'t str {
 fn interleaved(alloc: Global, others: &str, seed: u64) -> Result<String, AllocError> {
     let mut requests = String::new(alloc);
     let (mut own, mut other) = (ANN, others);
-    let mut number = seed;
+    let mut number = seed.saturating_add(1);
     for _ in 0..100 {
         number = next_number(number);
-        if number >> 63 == 0 {
+        if number % 2 == 0 {
             requests.push_str(take_line(&mut own))?;
         } else {
             requests.push_str(take_line(&mut other))?;
@@ -213,42 +136,76 @@ fn interleaved(alloc: Global, others: &str, seed: u64) -> Result<String, AllocEr
 fn heard_by_ann(
     rt: &(impl Abort + AllocGlobal),
     routes: &Routes,
-    office: &mut Office<PlainBook>,
+    office: &mut Office<impl Book>,
     requests: &str,
 ) -> Result<Vec<u8>, Fail> {
-    tell_opening(rt, office)?;
+    tell(rt, office, STANDING)?;
+    tell(rt, office, FUNDED)?;
     let mut heard = Vec::new(rt.alloc());
     for request in requests.lines() {
-        let response = response_to(rt.alloc(), routes, office, request)?;
+        let mut exchange = Exchange::new(rt.alloc());
+        exchange.add(request, "")?;
+        let told = serve_by(
+            rt.alloc(),
+            routes,
+            office,
+            exchange.input.as_str().as_bytes(),
+        )?;
         if request.starts_with("ann ") {
-            heard.extend_from_slice(response.as_slice())?;
+            heard.extend_from_slice(told.bytes.as_slice())?;
         }
     }
     Ok(heard)
 }
 
-/// What ann is told where her requests are among those of others, in the order of a seed.
-fn told_to_ann(
-    rt: &(impl Abort + AllocGlobal),
-    routes: &Routes,
-    others: &str,
+/// Her requests among those of others, in the order of a seed, and what she is told of them alone.
+#[derive(Drop)]
+struct Among<'a> {
+    routes: &'a Routes,
     seed: u64,
-) -> Result<Vec<u8>, Fail> {
-    let requests = interleaved(rt.alloc(), others, seed)?;
-    with_book(rt, |rt, office| {
-        heard_by_ann(rt, routes, office, requests.as_str())
-    })
+    alone: &'a [u8],
 }
 
-/// Asserts that ann is told these bytes among the requests of others, in the order of a seed.
-fn assert_told_to_ann(
+/// She is told the same.
+impl Trial for Among<'_> {
+    fn try_in(
+        &self,
+        rt: &(impl Abort + AllocGlobal),
+        office: &mut Office<impl Book>,
+    ) -> Result<(), Fail> {
+        let requests = interleaved(rt.alloc(), OTHERS, self.seed)?;
+        let among = heard_by_ann(rt, self.routes, office, requests.as_str())?;
+        assert_eq!(rt; among.as_slice(), self.alone, "{}", self.seed);
+        Ok(())
+    }
+}
+
+/// What she is told alone.
+fn heard_alone(
     rt: &(impl Abort + AllocGlobal),
     routes: &Routes,
-    seed: u64,
-    alone: &[u8],
+    book: impl Book + Drop,
+) -> Result<Vec<u8>, Fail> {
+    let mut office = Office::new(book);
+    heard_by_ann(rt, routes, &mut office, ANN)
+}
+
+/// Asserts that she is told so in the orders of two hundred seeds.
+fn assert_interleaved<'a>(
+    rt: &(impl Abort + AllocGlobal),
+    routes: &'a Routes,
+    alone: &'a [u8],
 ) -> Result<(), Fail> {
-    let among = told_to_ann(rt, routes, OTHERS, seed)?;
-    assert_eq!(rt; among.as_slice(), alone, "{seed}");
+    for seed in 0..200 {
+        in_memory(
+            rt,
+            &Among {
+                routes,
+                seed,
+                alone,
+            },
+        )?;
+    }
     Ok(())
 }
 
@@ -256,9 +213,7 @@ fn assert_told_to_ann(
 #[test]
 fn two_hundred_interleavings(rt: HostRuntime) -> Result<(), Fail> {
     let routes = Routes::new(rt.alloc())?;
-    let alone = told_to_ann(&rt, &routes, "", 0)?;
-    for seed in 0..200 {
-        assert_told_to_ann(&rt, &routes, seed, alone.as_slice())?;
-    }
-    Ok(())
+    let book = PlainBook::new(rt.alloc(), operator()?);
+    let alone = heard_alone(&rt, &routes, book)?;
+    assert_interleaved(&rt, &routes, alone.as_slice())
 }

@@ -1,8 +1,8 @@
 //! Heads, lengths and bodies, and what ends a run.
-use super::scripts::Exchange;
-use super::{STANDING, serve_from, served};
-use crate::empty::with_book;
-use std::alloc::{AllocError, Global};
+use super::broken::Told;
+use super::scripts::{Exchange, Piece, unfolded, written};
+use super::{STANDING, played};
+use crate::empty::{in_both, in_memory};
 use std::process::Abort;
 use std::test::Fail;
 
@@ -10,7 +10,7 @@ use std::test::Fail;
 fn tell_bytes(rt: &(impl Abort + AllocGlobal), bytes: &str, response: &str) -> Result<(), Fail> {
     let mut exchange = Exchange::of_runs(rt.alloc(), &[STANDING])?;
     exchange.add_bytes(bytes, response)?;
-    served(rt, &exchange)
+    in_both(rt, &exchange)
 }
 
 /// The member and a holder.
@@ -28,54 +28,40 @@ clerk POST /purses {"purse":"p1","holder":"ann"} -> 200 {"done":"added"}
 /// What was answered before the input ends inside a head stands. There are three responses.
 #[test]
 fn head_cut_short(rt: HostRuntime) -> Result<(), Fail> {
-    let mut exchange = Exchange::of(rt.alloc(), TWO_REQUESTS)?;
+    let mut exchange = Exchange::of_one_run(rt.alloc(), &[TWO_REQUESTS])?;
     exchange.add_bytes("POST /purs", "400 {\"error\":\"bad head\"}")?;
     exchange.end_run()?;
     exchange.add_script(AFTER_A_CUT_HEAD)?;
-    served(&rt, &exchange)
+    in_both(&rt, &exchange)
 }
 
-/// A request with a body of 4,096 bytes, which is an array.
-fn large_array(alloc: Global) -> Result<String, AllocError> {
-    let head =
-        "POST /members HTTP/1.1\r\npurse-token: 00000000000000000000000000000001\r\ncontent-length: 4096\r\n\r\n[";
-    let mut text = String::from_str(alloc, head)?;
-    for _ in 0..4094 {
-        text.push(' ')?;
-    }
-    text.push(']')?;
-    Ok(text)
-}
+/// A body of 4,096 bytes, which is an array.
+const LARGE_ARRAY: [Piece<'static>; 3] = [
+    (
+        0,
+        1,
+        "POST /members HTTP/1.1|purse-token: 00000000000000000000000000000001|content-length: 4096||[",
+    ),
+    (0, 4094, " "),
+    (0, 1, "] -> 400 {\"error\":\"bad body\"}"),
+];
 
 /// A body has 4,096 bytes at most, and is an object.
 #[test]
 fn body_that_is_a_large_array(rt: HostRuntime) -> Result<(), Fail> {
-    let array = large_array(rt.alloc())?;
-    tell_bytes(&rt, array.as_str(), "400 {\"error\":\"bad body\"}")
+    let script = written(rt.alloc(), &LARGE_ARRAY)?;
+    framed(&rt, script.as_str())
 }
 
 /// Serves what comes to offices of its own each: a line, `BYTES -> RESPONSE`, in which `|` stands for the end of a line.
 fn framed(rt: &(impl Abort + AllocGlobal), script: &str) -> Result<(), Fail> {
     for line in script.lines() {
         if let Some((bytes, response)) = line.split_once(" -> ") {
-            let bytes = unfolded(rt.alloc(), bytes)?;
+            let bytes = unfolded(rt.alloc(), bytes, "\r\n")?;
             tell_bytes(rt, bytes.as_str(), response)?;
         }
     }
     Ok(())
-}
-
-/// The text with a line end in place of each `|`.
-fn unfolded(alloc: Global, line: &str) -> Result<String, AllocError> {
-    let mut text = String::new(alloc);
-    for character in line.chars() {
-        if character == '|' {
-            text.push_str("\r\n")?;
-        } else {
-            text.push(character)?;
-        }
-    }
-    Ok(text)
 }
 
 const FRAMES: &str = r#"
@@ -115,80 +101,88 @@ fn frames(rt: HostRuntime) -> Result<(), Fail> {
     framed(&rt, OTHER_FORMS)
 }
 
-/// A request of ann's purses whose head has so many bytes.
-fn head_of(alloc: Global, size: usize) -> Result<String, AllocError> {
-    let start = "GET /purses HTTP/1.1\r\npurse-token: 0000000000000000000000000000000a\r\nx: ";
-    let mut text = String::from_str(alloc, start)?;
-    for _ in text.len().saturating_add(4)..size {
-        text.push('a')?;
-    }
-    text.push_str("\r\n\r\n")?;
-    Ok(text)
-}
-
-/// One whose head has so many fields besides the token.
-fn fields_of(alloc: Global, count: usize) -> Result<String, AllocError> {
-    let start = "GET /purses HTTP/1.1\r\npurse-token: 0000000000000000000000000000000a\r\n";
-    let mut text = String::from_str(alloc, start)?;
-    for _ in 0..count {
-        text.push_str("x: 1\r\n")?;
-    }
-    text.push_str("\r\n")?;
-    Ok(text)
-}
+/// Requests of ann's purses. The first head has 8,192 bytes, of which 76 aren't the letters a, and the next one a byte more;
+/// then come one with 64 fields, of which one is the token, and one with a field more.
+const LARGEST_HEADS: [Piece<'static>; 12] = [
+    (
+        0,
+        1,
+        "GET /purses HTTP/1.1|purse-token: 0000000000000000000000000000000a|x: ",
+    ),
+    (0, 8116, "a"),
+    (0, 1, "|| -> 200 {\"purses\":[\"p1\"]}\n"),
+    (
+        0,
+        1,
+        "GET /purses HTTP/1.1|purse-token: 0000000000000000000000000000000a|x: ",
+    ),
+    (0, 8117, "a"),
+    (0, 1, "|| -> 400 {\"error\":\"bad head\"}\n"),
+    (
+        0,
+        1,
+        "GET /purses HTTP/1.1|purse-token: 0000000000000000000000000000000a|",
+    ),
+    (0, 63, "x: 1|"),
+    (0, 1, "| -> 200 {\"purses\":[\"p1\"]}\n"),
+    (
+        0,
+        1,
+        "GET /purses HTTP/1.1|purse-token: 0000000000000000000000000000000a|",
+    ),
+    (0, 64, "x: 1|"),
+    (0, 1, "| -> 400 {\"error\":\"bad head\"}\n"),
+];
 
 /// A head has 8,192 bytes and 64 fields at most.
 #[test]
 fn largest_heads(rt: HostRuntime) -> Result<(), Fail> {
-    for (size, fields, response) in [
-        (8192, 63, "200 {\"purses\":[\"p1\"]}"),
-        (8193, 64, "400 {\"error\":\"bad head\"}"),
-    ] {
-        let head = head_of(rt.alloc(), size)?;
-        tell_bytes(&rt, head.as_str(), response)?;
-        let fields = fields_of(rt.alloc(), fields)?;
-        tell_bytes(&rt, fields.as_str(), response)?;
-    }
-    Ok(())
+    let script = written(rt.alloc(), &LARGEST_HEADS)?;
+    framed(&rt, script.as_str())
 }
 
-/// A grant whose body has a key more, with so many arrays within each other.
-fn nested(alloc: Global, arrays: usize) -> Result<String, AllocError> {
-    let mut text = String::from_str(alloc, "operator POST /members/m/grant {\"amount\":5,\"x\":")?;
-    for _ in 0..arrays {
-        text.push('[')?;
-    }
-    for _ in 0..arrays {
-        text.push(']')?;
-    }
-    text.push('}')?;
-    Ok(text)
-}
+/// Grants whose bodies have a key more, with 126, 127 and 1,000 arrays within each other.
+const NESTED: [Piece<'static>; 10] = [
+    (0, 1, "operator POST /members/m/grant {\"amount\":5,\"x\":"),
+    (0, 126, "["),
+    (0, 126, "]"),
+    (
+        0,
+        1,
+        "} -> 200 {\"done\":\"granted\"}\noperator POST /members/m/grant {\"amount\":5,\"x\":",
+    ),
+    (0, 127, "["),
+    (0, 127, "]"),
+    (
+        0,
+        1,
+        "} -> 400 {\"error\":\"bad body\"}\noperator POST /members/m/grant {\"amount\":5,\"x\":",
+    ),
+    (0, 1000, "["),
+    (0, 1000, "]"),
+    (0, 1, "} -> 400 {\"error\":\"bad body\"}\n"),
+];
 
 /// Objects and arrays nest 127 deep at most.
 #[test]
 fn arrays_within_each_other(rt: HostRuntime) -> Result<(), Fail> {
-    let mut exchange = Exchange::of_runs(rt.alloc(), &[STANDING])?;
-    for (arrays, response) in [
-        (126, "200 {\"done\":\"granted\"}"),
-        (127, "400 {\"error\":\"bad body\"}"),
-        (1000, "400 {\"error\":\"bad body\"}"),
-    ] {
-        let request = nested(rt.alloc(), arrays)?;
-        exchange.add(request.as_str(), response)?;
-    }
-    served(&rt, &exchange)
+    let script = written(rt.alloc(), &NESTED)?;
+    played(&rt, &[STANDING], script.as_str())
 }
 
 /// A grant whose body isn't UTF-8.
 const NOT_UTF_8: &[u8] =
     b"POST /members/m/grant HTTP/1.1\r\npurse-token: 00000000000000000000000000000001\r\ncontent-length: 14\r\n\r\n{\"amount\":5,\xff\"";
 
+const BAD_BODY_BYTES: &str =
+    "HTTP/1.1 400 Bad Request\r\ncontent-type: application/json\r\ncontent-length: 20\r\nconnection: close\r\n\r\n{\"error\":\"bad body\"}";
+
 #[test]
 fn body_that_is_not_utf_8(rt: HostRuntime) -> Result<(), Fail> {
-    let told = with_book(&rt, |rt, office| serve_from(rt.alloc(), office, NOT_UTF_8))?;
-    let mut bad_body = Exchange::new(rt.alloc());
-    bad_body.add_bytes("", "400 {\"error\":\"bad body\"}")?;
-    assert_eq!(rt; told.bytes.as_slice(), bad_body.output().as_bytes());
-    Ok(())
+    let told = Told {
+        input: NOT_UTF_8,
+        output: b"",
+        end: BAD_BODY_BYTES,
+    };
+    in_memory(&rt, &told)
 }

@@ -1,7 +1,6 @@
 //! Grants, loads, redemptions and collects.
-use super::scripts::Exchange;
-use super::{FUNDED, STANDING, played, served};
-use std::alloc::AllocError;
+use super::scripts::{Piece, written};
+use super::{FUNDED, STANDING, played};
 use std::test::Fail;
 
 const MONEY: &str =
@@ -31,18 +30,22 @@ fn loads_redemptions_and_collects(rt: HostRuntime) -> Result<(), Fail> {
 }
 
 /// A thousand grants, of which the last finds no room.
-fn add_thousand_grants(exchange: &mut Exchange) -> Result<(), AllocError> {
-    let grant = "operator POST /members/m/grant {\"amount\":1000000000000}";
-    for _ in 0..999 {
-        exchange.add(grant, "200 {\"done\":\"granted\"}")?;
-    }
-    exchange.add(grant, "409 {\"error\":\"grant too large\"}")
-}
+const THOUSAND_GRANTS: [Piece<'static>; 2] = [
+    (
+        0,
+        999,
+        "operator POST /members/m/grant {\"amount\":1000000000000} -> 200 {\"done\":\"granted\"}\n",
+    ),
+    (
+        0,
+        1,
+        "operator POST /members/m/grant {\"amount\":1000000000000} -> 409 {\"error\":\"grant too large\"}\n",
+    ),
+];
 
 /// All grants together are at most 10^15. The office begins with one of 1000.
 #[test]
 fn grants_up_to_the_limit(rt: HostRuntime) -> Result<(), Fail> {
-    let mut exchange = Exchange::of_runs(rt.alloc(), &[STANDING, FUNDED])?;
-    add_thousand_grants(&mut exchange)?;
-    served(&rt, &exchange)
+    let script = written(rt.alloc(), &THOUSAND_GRANTS)?;
+    played(&rt, &[STANDING, FUNDED], script.as_str())
 }

@@ -1,11 +1,10 @@
 //! Payments of p1, which holds 100, to q1.
 use super::devices::Pieces;
 use super::scripts::Exchange;
-use super::{FUNDED, STANDING, assert_told, played, serve_from};
-use crate::empty::with_book;
-use mx_memory::PlainBook;
+use super::{FUNDED, PAYMENT, STANDING, assert_told, played, serve_from};
+use crate::empty::{Trial, in_memory};
+use mx_book::Book;
 use mx_office::Office;
-use std::alloc::{AllocError, Global};
 use std::process::Abort;
 use std::test::Fail;
 
@@ -84,34 +83,35 @@ ann GET /purses/p1 -> 200 {"balance":40,"next":1,"purse":"p1","status":"eaFrom"}
 bob GET /purses/q1 -> 200 {"balance":60,"next":1,"purse":"q1","status":"eaTo"}
 "#;
 
-/// The set-up and a payment, in one run.
-fn payment(alloc: Global) -> Result<Exchange, AllocError> {
-    let mut exchange = Exchange::of(alloc, STANDING)?;
-    exchange.add_script(FUNDED)?;
-    exchange.add_script(FIVE_STEPS)?;
-    Ok(exchange)
+/// An exchange whose bytes are read so many at a time.
+#[derive(Drop)]
+struct InPieces<'a> {
+    exchange: &'a Exchange,
+    size: usize,
 }
 
-/// Asserts what is told of it where so many bytes are read at a time.
-fn assert_in_pieces(
-    rt: &(impl Abort + AllocGlobal),
-    office: &mut Office<PlainBook>,
-    exchange: &Exchange,
-    size: usize,
-) -> Result<(), Fail> {
-    let reader = Pieces::new(exchange.input().as_bytes(), size);
-    let told = serve_from(rt.alloc(), office, reader)?;
-    assert_told(rt, &told, exchange)
+impl Trial for InPieces<'_> {
+    fn try_in(
+        &self,
+        rt: &(impl Abort + AllocGlobal),
+        office: &mut Office<impl Book>,
+    ) -> Result<(), Fail> {
+        let reader = Pieces::new(self.exchange.input.as_str().as_bytes(), self.size);
+        let told = serve_from(rt.alloc(), office, reader)?;
+        assert_told(rt, &told, self.exchange)
+    }
 }
 
 /// However the bytes come, the responses are the same.
 #[test]
 fn payment_read_in_pieces(rt: HostRuntime) -> Result<(), Fail> {
-    let exchange = payment(rt.alloc())?;
+    let exchange = Exchange::of_one_run(rt.alloc(), &PAYMENT)?;
     for size in 1..=40 {
-        with_book(&rt, |rt, office| {
-            assert_in_pieces(rt, office, &exchange, size)
-        })?;
+        let pieces = InPieces {
+            exchange: &exchange,
+            size,
+        };
+        in_memory(&rt, &pieces)?;
     }
     Ok(())
 }

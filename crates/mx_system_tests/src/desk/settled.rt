@@ -1,15 +1,7 @@
 //! A payment of 60 from p1, which holds 100, to q1: it is lost, and the operator settles it.
-use super::faults::answered_in_the_end;
-use super::scripts::Exchange;
-use super::{FUNDED, STANDING, played, tell};
-use crate::empty::{with_book, with_faulty, with_tables};
-use crate::faulty::Faulty;
-use mx_book::Book;
-use mx_memory::PlainBook;
-use mx_office::Office;
-use mx_wire::Routes;
-use std::alloc::{AllocError, Global};
-use std::process::Abort;
+use super::answered::Answered;
+use super::{FUNDED, SETTLEMENT_BETWEEN, STANDING, given_up, played};
+use crate::empty::in_both;
 use std::test::Fail;
 
 /// Both purses log the payment. The log of p1 is read, archived and cleared.
@@ -80,11 +72,7 @@ bob GET /purses/q1 -> 200 {"balance":40,"next":2,"purse":"q1","status":"eaTo"}
 
 #[test]
 fn lost_value_is_settled_between(rt: HostRuntime) -> Result<(), Fail> {
-    played(
-        &rt,
-        &[STANDING, FUNDED, LOST, ARCHIVED, SETTLED_BETWEEN],
-        LINES,
-    )
+    played(&rt, &SETTLEMENT_BETWEEN, LINES)
 }
 
 const REFUSED: &str = r#"@ The details are those of one payment.
@@ -135,90 +123,35 @@ fn payments_of_which_one_purse_has_an_entry(rt: HostRuntime) -> Result<(), Fail>
     played(&rt, &[STANDING, FUNDED], ONE_LOG)
 }
 
-/// The settlement, where the book fails.
+/// A settlement takes six calls of the book: who asks, whether the details are settled, whether they are archived for each
+/// purse, the purse that paid, and the edits. Where one of them fails it changes nothing.
 const GIVEN_UP: &str = r#"
+!0
 operator POST /settle {"details":"p1,q1,60,0,0"} -> 503
+!1
+operator POST /settle {"details":"p1,q1,60,0,0"} -> 503
+!2
+operator POST /settle {"details":"p1,q1,60,0,0"} -> 503
+!3
+operator POST /settle {"details":"p1,q1,60,0,0"} -> 503
+!4
+operator POST /settle {"details":"p1,q1,60,0,0"} -> 503
+!5
+operator POST /settle {"details":"p1,q1,60,0,0"} -> 503
+!
+operator POST /settle {"details":"p1,q1,60,0,0"} -> 200 {"done":"settled"}
+ann GET /purses/p1 -> 200 {"balance":100,"next":1,"purse":"p1","status":"eaFrom"}
+bob GET /purses/q1 -> 200 {"balance":0,"next":1,"purse":"q1","status":"eaFrom"}
+operator GET /reconcile -> 200 {"balances":"100","float":"900","granted":"1000","issued":"100","lost":"0","redeemed":"0","transit":"0","uncollected":"0"}
 "#;
-
-/// Asserts that a settlement changes nothing where one of its calls of the book fails.
-fn assert_settled_in_spite(
-    rt: &(impl Abort + AllocGlobal),
-    office: &mut Office<Faulty<PlainBook>>,
-) -> Result<(), Fail> {
-    for script in [STANDING, FUNDED, LOST, ARCHIVED] {
-        tell(rt, office, script)?;
-    }
-    // There are six: who asks, whether the details are settled, whether they are archived for each purse, the purse that
-    // paid, and the edits.
-    for left in 0..6 {
-        office.book.left = Some(left);
-        tell(rt, office, GIVEN_UP)?;
-    }
-    tell(rt, office, SETTLED)
-}
 
 #[test]
 fn faults_in_a_settlement(rt: HostRuntime) -> Result<(), Fail> {
-    with_faulty(&rt, |rt, office| assert_settled_in_spite(rt, office))
+    given_up(&rt, &[STANDING, FUNDED, LOST, ARCHIVED], GIVEN_UP)
 }
 
-/// The request of a line with its response, or neither where the line says nothing. It is read again where there is no
-/// memory at first.
-fn exchange_of(alloc: Global, line: &str) -> Result<Exchange, AllocError> {
-    match Exchange::of(alloc, line) {
-        Ok(exchange) => Ok(exchange),
-        Err(_) => Exchange::of(alloc, line),
-    }
-}
-
-/// Asserts that each request of a script is answered as usual, or by 503 and, sent again, as usual.
-pub(super) fn assert_answered(
-    rt: &(impl Abort + AllocGlobal),
-    routes: &Routes,
-    office: &mut Office<impl Book>,
-    script: &str,
-) -> Result<(), Fail> {
-    for line in script.lines().filter(|line| !line.is_empty()) {
-        let exchange = exchange_of(rt.alloc(), line)?;
-        assert!(rt;
-            answered_in_the_end(
-                rt.alloc(),
-                exchange.input(),
-                routes,
-                office,
-                exchange.output(),
-            ),
-            "{line}"
-        );
-    }
-    Ok(())
-}
-
-/// Asserts it of a lost payment and its settlement.
-fn assert_settled_in_the_end(
-    rt: &(impl Abort + AllocGlobal),
-    routes: &Routes,
-    office: &mut Office<impl Book>,
-) -> Result<(), Fail> {
-    for script in [STANDING, FUNDED, LOST, ARCHIVED, SETTLED, AGAIN] {
-        assert_answered(rt, routes, office, script)?;
-    }
-    Ok(())
-}
-
-/// With every growth granted this says what is said above. Run with one growth refused, it says that a request changes
-/// nothing where its response is 503.
 #[test]
 fn settlement_with_a_growth_refused(rt: HostRuntime) -> Result<(), Fail> {
-    let Ok(routes) = Routes::new(rt.alloc()) else {
-        return Ok(());
-    };
-    with_book(
-        &rt,
-        |rt, office| assert_settled_in_the_end(rt, &routes, office),
-    )?;
-    with_tables(
-        &rt,
-        |rt, office| assert_settled_in_the_end(rt, &routes, office),
-    )
+    let scripts = [STANDING, FUNDED, LOST, ARCHIVED, SETTLED, AGAIN];
+    in_both(&rt, &Answered(&scripts))
 }

@@ -1,8 +1,8 @@
 //! Statements, and what the books come to, after payments of p1, which holds 100, to q1.
-use super::hostile::assert_grown;
-use super::scripts::Exchange;
-use super::{FUNDED, STANDING, played, served};
-use std::alloc::{AllocError, Global};
+use super::answered::Answered;
+use super::scripts::{Piece, written};
+use super::{FUNDED, STANDING, played};
+use crate::empty::in_both;
 use std::test::Fail;
 
 /// While 60 have left p1 and may still reach q1 they are in transit; once they will not, they are lost.
@@ -65,86 +65,53 @@ fn statements_and_sums(rt: HostRuntime) -> Result<(), Fail> {
     played(&rt, &[STANDING, FUNDED], SUMS)
 }
 
-/// The response to a statement of the loads b`first` to b`last` of 1 each, of which the first is the line after b`first`.
-fn page(alloc: Global, first: u64, last: u64) -> Result<String, AllocError> {
-    let mut response = String::from_str(alloc, "200 {\"lines\":[")?;
-    if first == 1 {
-        response.push_str(
-            "{\"amount\":100,\"balance\":100,\"kind\":\"loaded\",\"note\":\"a1\",\"number\":1},",
-        )?;
-    }
-    for n in first..=last {
-        let (balance, number) = (n.saturating_add(100), n.saturating_add(1));
-        let line = format!(in alloc;
-            "{{\"amount\":1,\"balance\":{balance},\"kind\":\"loaded\",\"note\":\"b{n}\",\"number\":{number}}}"
-        )?;
-        response.push_str(line.as_str())?;
-        response.push_str(if n == last { "]}" } else { "," })?;
-    }
-    Ok(response)
-}
+/// Sixty loads of 1 to p1, and the pages of its statement: the first ends with line 50, at a balance of 149, the second with
+/// line 61, at 160, and a third has no line. Then the sums.
+const LOADS_AND_PAGES: [Piece<'static>; 6] = [
+    (
+        1,
+        61,
+        "clerk POST /purses/p1/load {\"amount\":1,\"ref\":\"b#n#\"} -> 200 {\"done\":\"loaded\"}\n",
+    ),
+    (
+        0,
+        1,
+        "ann GET /purses/p1/statement/0 -> 200 {\"lines\":[{\"amount\":100,\"balance\":100,\"kind\":\"loaded\",\"note\":\"a1\",\"number\":1}",
+    ),
+    (
+        1,
+        50,
+        ",{\"amount\":1,\"balance\":#n+100#,\"kind\":\"loaded\",\"note\":\"b#n#\",\"number\":#n+1#}",
+    ),
+    (
+        0,
+        1,
+        "]}\nann GET /purses/p1/statement/50 -> 200 {\"lines\":[{\"amount\":1,\"balance\":150,\"kind\":\"loaded\",\"note\":\"b50\",\"number\":51}",
+    ),
+    (
+        51,
+        61,
+        ",{\"amount\":1,\"balance\":#n+100#,\"kind\":\"loaded\",\"note\":\"b#n#\",\"number\":#n+1#}",
+    ),
+    (
+        0,
+        1,
+        "]}\nann GET /purses/p1/statement/61 -> 200 {\"lines\":[]}\noperator GET /reconcile -> 200 {\"balances\":\"160\",\"float\":\"840\",\"granted\":\"1000\",\"issued\":\"160\",\"lost\":\"0\",\"redeemed\":\"0\",\"transit\":\"0\",\"uncollected\":\"0\"}\n",
+    ),
+];
 
-/// So many loads of 1 to p1.
-pub(super) fn add_loads(
-    exchange: &mut Exchange,
-    alloc: Global,
-    count: u64,
-) -> Result<(), AllocError> {
-    for n in 1..=count {
-        let load = format!(in alloc;
-            "clerk POST /purses/p1/load {{\"amount\":1,\"ref\":\"b{n}\"}}"
-        )?;
-        exchange.add(load.as_str(), "200 {\"done\":\"loaded\"}")?;
-    }
-    exchange.end_run()
-}
-
-/// A page that has no line, and the sums.
-const AFTER_SIXTY_LOADS: &str = r#"
-ann GET /purses/p1/statement/61 -> 200 {"lines":[]}
-operator GET /reconcile -> 200 {"balances":"160","float":"840","granted":"1000","issued":"160","lost":"0","redeemed":"0","transit":"0","uncollected":"0"}
-"#;
-
-/// Sixty loads of 1 to p1, a line each.
-fn sixty_loads(alloc: Global) -> Result<String, AllocError> {
-    let mut script = String::new(alloc);
-    for n in 1..=60 {
-        let load = format!(in alloc;
-            "clerk POST /purses/p1/load {{\"amount\":1,\"ref\":\"b{n}\"}} -> 200 {{\"done\":\"loaded\"}}\n"
-        )?;
-        script.push_str(load.as_str())?;
-    }
-    Ok(script)
-}
-
-/// Sixty loads and the pages of the statement.
-fn loads_and_pages(alloc: Global) -> Result<String, AllocError> {
-    let mut script = sixty_loads(alloc)?;
-    let (first, second) = (page(alloc, 1, 49)?, page(alloc, 50, 60)?);
-    let pages = format!(in alloc;
-        "ann GET /purses/p1/statement/0 -> {}\nann GET /purses/p1/statement/50 -> {}\n",
-        first.as_str(),
-        second.as_str()
-    )?;
-    script.push_str(pages.as_str())?;
-    script.push_str(AFTER_SIXTY_LOADS)?;
-    Ok(script)
-}
-
-/// After sixty loads of 1 the first page ends with line 50, at a balance of 149, the second with line 61, at 160.
 #[test]
 fn statement_in_two_pages(rt: HostRuntime) -> Result<(), Fail> {
-    let script = loads_and_pages(rt.alloc())?;
-    let exchange = Exchange::of_runs(rt.alloc(), &[STANDING, FUNDED, script.as_str()])?;
-    served(&rt, &exchange)
+    let script = written(rt.alloc(), &LOADS_AND_PAGES)?;
+    played(&rt, &[STANDING, FUNDED], script.as_str())
 }
 
 /// Run with one growth refused, it says that a request changes nothing where it is given up, and is answered as usual when
 /// it is sent again. Where there is no memory for the script nothing is asserted.
 #[test]
 fn pages_with_a_growth_refused(rt: HostRuntime) -> Result<(), Fail> {
-    match loads_and_pages(rt.alloc()) {
-        Ok(script) => assert_grown(&rt, &[STANDING, FUNDED, script.as_str()]),
+    match written(rt.alloc(), &LOADS_AND_PAGES) {
+        Ok(script) => in_both(&rt, &Answered(&[STANDING, FUNDED, script.as_str()])),
         Err(_) => Ok(()),
     }
 }

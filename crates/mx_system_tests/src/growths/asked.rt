@@ -1,6 +1,6 @@
 //! Calls of a book that change nothing, and reports, as lines of words: `CALL ARGUMENT ..`.
 use super::values::{
-    account_words, caller_words, holder_words, inbox_words, lines_words, log_words,
+    account_words, caller_words, end_words, holder_words, inbox_words, lines_words, log_words,
     member_sums_words, member_words, members_sums_words, message_words, names_words, number_words,
     purse_words, report_words, scheme_words, truth_words,
 };
@@ -46,6 +46,7 @@ fn of_scheme(alloc: Global, book: &mut impl Book, call: &str) -> Result<String, 
         "totals" => scheme_words(alloc, &book.totals(alloc)?),
         "members_totals" => members_sums_words(alloc, book.members_totals(alloc)?),
         "reconcile" => report_words(alloc, &reconcile(alloc, book)?),
+        "is_even" => truth_words(alloc, reconcile(alloc, book)?.is_even()),
         _ => return Err(StoreFault::Store),
     })
 }
@@ -69,6 +70,7 @@ fn of_name(
         "uncollected" => number_words(alloc, Some(book.uncollected(alloc, name)?)),
         "member_totals" => member_sums_words(alloc, book.member_totals(alloc, name)?),
         "statement" => lines_words(alloc, statement(alloc, book, name)?),
+        "end_of" => end_words(alloc, statement(alloc, book, name)?),
         _ => return Err(StoreFault::Store),
     })
 }
@@ -116,13 +118,14 @@ fn of_purse(
         "message" => message_words(alloc, book.message(alloc, purse, number_of(word)?)?),
         "has_message" => truth_words(alloc, book.has_message(alloc, purse, number_of(word)?)?),
         "lines" => lines_words(alloc, Some(book.lines(alloc, purse, number_of(word)?, 50)?)),
+        "page" => end_words(alloc, Some(book.lines(alloc, purse, 0, number_of(word)?)?)),
         "archived" => truth_words(alloc, book.archived(alloc, purse, &details_of(word)?)?),
         _ => return of_names(alloc, book, call, purse, name_of(word)?),
     })
 }
 
-/// The value of a call, in words. A call `lines` asks for 50 of them.
-pub(super) fn asked(alloc: Global, book: &mut impl Book, line: &str) -> Result<String, StoreFault> {
+/// The value of a call, in words. A call `lines` asks for 50 of them behind a number, and a call `page` for the first ones.
+pub(crate) fn asked(alloc: Global, book: &mut impl Book, line: &str) -> Result<String, StoreFault> {
     let mut words = line.split(' ');
     let call = words.next().unwrap_or("");
     match (words.next(), words.next()) {

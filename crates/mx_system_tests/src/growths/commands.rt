@@ -1,11 +1,11 @@
 //! The calls of an office: each command of a script by one call, or by two.
 use super::is_want;
 use crate::desk::{SETTLEMENT, routes_in_the_end};
-use crate::empty::{with_book, with_tables};
+use crate::empty::{Trial, in_both, in_memory, in_tables};
 use mx_book::{Book, Caller, StoreFault};
 use mx_command::{Command, Refusal, Reply};
 use mx_office::{Office, Outcome};
-use mx_pay::{Name, Token};
+use mx_pay::Name;
 use mx_wire::{Routes, WireFault, render};
 use std::alloc::{AllocError, Global};
 use std::process::Abort;
@@ -26,20 +26,16 @@ enum Way {
     Run,
 }
 
-/// A command, and who gives it.
-#[derive(Clone, Copy)]
-struct Asked {
-    caller: Caller,
-    command: Command,
-}
+/// Who gives a command, and the command.
+type Asked = (Caller, Command);
 
 /// What comes of it.
 fn committed(
     alloc: Global,
     office: &mut Office<impl Book>,
-    asked: &Asked,
+    (caller, command): &Asked,
 ) -> Result<Reply, StoreFault> {
-    let decided = office.decide(alloc, asked.caller, &asked.command)?;
+    let decided = office.decide(alloc, *caller, command)?;
     office.commit(&decided)?;
     Ok(decided.reply)
 }
@@ -47,9 +43,9 @@ fn committed(
 fn applied(
     alloc: Global,
     office: &mut Office<impl Book>,
-    asked: &Asked,
+    (caller, command): &Asked,
 ) -> Result<Reply, StoreFault> {
-    let decided = office.decide(alloc, asked.caller, &asked.command)?;
+    let decided = office.decide(alloc, *caller, command)?;
     let edits = decided.edits.as_slice();
     if !edits.is_empty() {
         office.book.apply(edits)?;
@@ -63,10 +59,9 @@ fn run_alone(
     office: &mut Office<impl Book>,
     asked: &Asked,
 ) -> Result<Reply, StoreFault> {
-    let commands = [(asked.caller, asked.command)];
-    let mut outcomes = office
-        .run(alloc, &commands)
-        .map_err(|_| StoreFault::Memory)?;
+    let Ok(mut outcomes) = office.run(alloc, &[*asked]) else {
+        return Err(StoreFault::Memory);
+    };
     match outcomes.pop() {
         Some(Outcome::Reply(reply)) => Ok(reply),
         Some(Outcome::Unavailable) => Err(StoreFault::Memory),
@@ -82,21 +77,23 @@ fn reply_by(
     asked: &Asked,
 ) -> Result<Reply, StoreFault> {
     match way {
-        Way::Decide => Ok(office.decide(alloc, asked.caller, &asked.command)?.reply),
+        Way::Decide => Ok(office.decide(alloc, asked.0, &asked.1)?.reply),
         Way::Commit => committed(alloc, office, asked),
         Way::Apply => applied(alloc, office, asked),
-        Way::Answer => office.answer(alloc, asked.caller, &asked.command),
+        Way::Answer => office.answer(alloc, asked.0, &asked.1),
         Way::Run => run_alone(alloc, office, asked),
     }
 }
 
-/// The caller of a word.
+/// The caller of a word. The clerk is m's.
 fn caller_of(who: &str) -> Option<Caller> {
-    match who {
-        "operator" => Some(Caller::Operator),
-        "clerk" => Some(Caller::Clerk(Name::read("m")?)),
-        _ => Some(Caller::Holder(Name::read(who)?)),
+    if who == "operator" {
+        return Some(Caller::Operator);
     }
+    if who == "clerk" {
+        return Name::read("m").map(Caller::Clerk);
+    }
+    Name::read(who).map(Caller::Holder)
 }
 
 /// The command of a request, `WHO METHOD PATH BODY`.
@@ -108,7 +105,7 @@ fn read_once(alloc: Global, routes: &Routes, request: &str) -> Result<Asked, Wir
     let body = words.next().unwrap_or("");
     let caller = caller_of(who).ok_or(WireFault::NoRoute)?;
     let command = routes.read_command(alloc, method.as_bytes(), path.as_bytes(), body.as_bytes())?;
-    Ok(Asked { caller, command })
+    Ok((caller, command))
 }
 
 /// The same, read again where there is no memory at first.
@@ -155,13 +152,12 @@ fn reply_in_the_end(
 fn assert_request(
     rt: &(impl Abort + AllocGlobal),
     office: &mut Office<impl Book>,
-    ways: &[Way],
+    given: &Given<'_>,
     asked: &Asked,
     response: &str,
-    is_tables: bool,
 ) -> Result<(), Fail> {
-    for way in ways {
-        let reply = reply_in_the_end(rt, office, *way, asked, is_tables)?;
+    for way in given.ways {
+        let reply = reply_in_the_end(rt, office, *way, asked, given.is_tables)?;
         assert!(rt;
             is_usual(rt.alloc(), &reply, response)?,
             "{way:?} {response}"
@@ -175,15 +171,14 @@ fn assert_script(
     rt: &(impl Abort + AllocGlobal),
     routes: &Routes,
     office: &mut Office<impl Book>,
-    ways: &[Way],
+    given: &Given<'_>,
     script: &str,
-    is_tables: bool,
 ) -> Result<(), Fail> {
     for line in script.lines() {
         if let Some((request, response)) = line.split_once(" -> ") {
             let asked = read_in_the_end(rt.alloc(), routes, request);
             let asked = asked.ok().ok_or("no command")?;
-            assert_request(rt, office, ways, &asked, response, is_tables)?;
+            assert_request(rt, office, given, &asked, response)?;
         }
     }
     Ok(())
@@ -203,24 +198,43 @@ ann GET /purses/p1/statement/4 -> 200 {"lines":[{"amount":30,"balance":70,"kind"
 operator GET /reconcile -> 200 {"balances":"70","float":"930","granted":"1000","issued":"100","lost":"0","redeemed":"30","transit":"0","uncollected":"0"}
 "#;
 
-/// Asserts so of all commands, in an office in which nothing is.
-fn assert_commands(
-    rt: &(impl Abort + AllocGlobal),
-    office: &mut Office<impl Book>,
-    ways: &[Way],
+/// All commands, each of which is given in these ways, one after the other.
+#[derive(Drop)]
+struct Given<'a> {
+    ways: &'a [Way],
     is_tables: bool,
-) -> Result<(), Fail> {
-    let routes = routes_in_the_end(rt.alloc())?;
-    for script in SETTLEMENT {
-        assert_script(rt, &routes, office, ways, script, is_tables)?;
-    }
-    assert_script(rt, &routes, office, ways, AFTERWARDS, is_tables)
 }
 
-/// The same over each kind of book.
+impl Trial for Given<'_> {
+    fn try_in(
+        &self,
+        rt: &(impl Abort + AllocGlobal),
+        office: &mut Office<impl Book>,
+    ) -> Result<(), Fail> {
+        let routes = routes_in_the_end(rt.alloc())?;
+        for script in SETTLEMENT {
+            assert_script(rt, &routes, office, self, script)?;
+        }
+        assert_script(rt, &routes, office, self, AFTERWARDS)
+    }
+}
+
+/// Tries them over each kind of book.
 fn assert_ways(rt: &(impl Abort + AllocGlobal), ways: &[Way]) -> Result<(), Fail> {
-    with_book(rt, |rt, office| assert_commands(rt, office, ways, false))?;
-    with_tables(rt, |rt, office| assert_commands(rt, office, ways, true))
+    in_memory(
+        rt,
+        &Given {
+            ways,
+            is_tables: false,
+        },
+    )?;
+    in_tables(
+        rt,
+        &Given {
+            ways,
+            is_tables: true,
+        },
+    )
 }
 
 #[test]
@@ -243,31 +257,26 @@ fn runs_with_a_growth_refused(rt: HostRuntime) -> Result<(), Fail> {
     assert_ways(&rt, &[Way::Run])
 }
 
-/// Three members, none of which is needed for another.
-const THREE_MEMBERS: [(&str, &str); 3] = [
-    ("m", "00000000000000000000000000000002"),
-    ("n", "00000000000000000000000000000003"),
-    ("o", "00000000000000000000000000000004"),
-];
-
-/// The command that adds one of them.
-fn new_member((member, token): (&str, &str)) -> Option<(Caller, Command)> {
-    let member = Name::read(member)?;
-    let token = Token::read(token)?;
-    Some((Caller::Operator, Command::NewMember { member, token }))
-}
-
-/// The commands that add them.
-fn new_members() -> Option<[(Caller, Command); 3]> {
-    let [first, second, third] = THREE_MEMBERS;
-    Some([new_member(first)?, new_member(second)?, new_member(third)?])
+/// The commands that add three members, none of which is needed for another.
+fn new_members(alloc: Global, routes: &Routes) -> Result<[Asked; 3], WireFault> {
+    let first =
+        r#"operator POST /members {"member":"m","token":"00000000000000000000000000000002"}"#;
+    let second =
+        r#"operator POST /members {"member":"n","token":"00000000000000000000000000000003"}"#;
+    let third =
+        r#"operator POST /members {"member":"o","token":"00000000000000000000000000000004"}"#;
+    Ok([
+        read_in_the_end(alloc, routes, first)?,
+        read_in_the_end(alloc, routes, second)?,
+        read_in_the_end(alloc, routes, third)?,
+    ])
 }
 
 /// What comes of a run of commands, run again where there was no memory to begin it.
 fn run_in_the_end(
     alloc: Global,
     office: &mut Office<impl Book>,
-    commands: &[(Caller, Command)],
+    commands: &[Asked],
 ) -> Result<Vec<Outcome>, AllocError> {
     match office.run(alloc, commands) {
         Ok(outcomes) => Ok(outcomes),
@@ -285,24 +294,36 @@ fn is_added_once(first: &Outcome, second: &Outcome) -> bool {
     }
 }
 
-/// Asserts that of two runs that add three members at most one gives up one command, which the other makes, and that
-/// all others stand.
-fn assert_run_of_three(
-    rt: &(impl Abort + AllocGlobal),
-    office: &mut Office<impl Book>,
-) -> Result<(), Fail> {
-    let commands = new_members().ok_or("no commands")?;
-    let first = run_in_the_end(rt.alloc(), office, &commands)?;
-    let second = run_in_the_end(rt.alloc(), office, &commands)?;
-    assert_eq!(rt; (first.len(), second.len()), (3, 3));
-    for (place, (first, second)) in first.iter().zip(second.iter()).enumerate() {
-        assert!(rt; is_added_once(first, second), "{place}");
+/// Of two runs that add three members at most one gives up one command, which the other makes, and all others stand.
+#[derive(Drop)]
+struct TwoRuns<'a> {
+    commands: &'a [Asked],
+}
+
+impl Trial for TwoRuns<'_> {
+    fn try_in(
+        &self,
+        rt: &(impl Abort + AllocGlobal),
+        office: &mut Office<impl Book>,
+    ) -> Result<(), Fail> {
+        let first = run_in_the_end(rt.alloc(), office, self.commands)?;
+        let second = run_in_the_end(rt.alloc(), office, self.commands)?;
+        assert_eq!(rt; (first.len(), second.len()), (3, 3));
+        for (place, (first, second)) in first.iter().zip(second.iter()).enumerate() {
+            assert!(rt; is_added_once(first, second), "{place}");
+        }
+        Ok(())
     }
-    Ok(())
 }
 
 #[test]
 fn a_run_of_three_with_a_growth_refused(rt: HostRuntime) -> Result<(), Fail> {
-    with_book(&rt, |rt, office| assert_run_of_three(rt, office))?;
-    with_tables(&rt, |rt, office| assert_run_of_three(rt, office))
+    let routes = routes_in_the_end(rt.alloc())?;
+    let commands = new_members(rt.alloc(), &routes).ok().ok_or("no commands")?;
+    in_both(
+        &rt,
+        &TwoRuns {
+            commands: &commands,
+        },
+    )
 }

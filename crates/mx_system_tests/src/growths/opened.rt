@@ -1,8 +1,9 @@
 //! Tables that are made, opened and refused.
 use super::reads::assert_read;
 use crate::desk::{STANDING, answer_in_the_end};
-use crate::empty::{empty_store, made};
+use crate::empty::{empty_store, made, operator};
 use crate::tables::{opened, unmade, unopened};
+use mx_book::Book;
 use mx_office::Office;
 use mx_pay::Token;
 use mx_tables::{OpenFault, OpenRefused, Tables};
@@ -109,21 +110,18 @@ fn assert_made(rt: &(impl Abort + AllocGlobal), operator: Token) -> Result<Table
     Ok(book)
 }
 
-/// The store of these tables, which are filled.
-fn filled(
-    rt: &(impl Abort + AllocGlobal),
-    book: Tables<MemStore>,
-) -> Result<Connection<MemStore>, Fail> {
+/// A book in which members, holders and purses are added.
+fn filled<B: Book + Drop>(rt: &(impl Abort + AllocGlobal), book: B) -> Result<B, Fail> {
     let mut office = Office::new(book);
     answer_in_the_end(rt, &mut office, &[STANDING])?;
-    Ok(office.into_book().into_store())
+    Ok(office.into_book())
 }
 
 /// A store that is refused is as it was: tables are made in it, or opened, by the same call.
 #[test]
 fn openings_with_a_growth_refused(rt: HostRuntime) -> Result<(), Fail> {
-    let operator = Token::read("00000000000000000000000000000001").ok_or("no token")?;
-    let store = filled(&rt, assert_made(&rt, operator)?)?;
+    let operator = operator()?;
+    let store = filled(&rt, assert_made(&rt, operator)?)?.into_store();
     let store = unmade_in_the_end(rt.alloc(), store, operator)?;
     let mut book = opened_in_the_end(rt.alloc(), store)?;
     assert_read(&rt, &mut book, FILLED, true);

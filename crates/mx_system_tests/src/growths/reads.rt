@@ -2,7 +2,7 @@
 use super::asked::asked;
 use super::is_want;
 use crate::desk::{PAYMENT, SETTLEMENT, answer_in_the_end};
-use crate::empty::{with_book, with_tables};
+use crate::empty::{Trial, in_memory, in_tables};
 use mx_book::{Book, StoreFault};
 use mx_office::Office;
 use std::process::Abort;
@@ -89,7 +89,7 @@ fn assert_value(
 }
 
 /// Asserts that the calls of a script answer their values up to the first fault.
-fn assert_values(
+pub(crate) fn assert_values(
     rt: &(impl Abort + AllocGlobal),
     book: &mut impl Book,
     script: &str,
@@ -115,39 +115,56 @@ pub(super) fn assert_read(
     }
 }
 
-/// Makes scripts in an office in which nothing is, and asserts so of the calls of another.
-fn assert_read_after(
-    rt: &(impl Abort + AllocGlobal),
-    office: &mut Office<impl Book>,
-    before: &[&str],
-    script: &str,
+/// Scripts, and the calls of another behind them.
+#[derive(Drop)]
+struct ReadAfter<'a> {
+    before: &'a [&'a str],
+    calls: &'a str,
     is_tables: bool,
+}
+
+impl Trial for ReadAfter<'_> {
+    fn try_in(
+        &self,
+        rt: &(impl Abort + AllocGlobal),
+        office: &mut Office<impl Book>,
+    ) -> Result<(), Fail> {
+        answer_in_the_end(rt, office, self.before)?;
+        assert_read(rt, office.book(), self.calls, self.is_tables);
+        Ok(())
+    }
+}
+
+/// Tries them over each kind of book.
+fn read_after<'a>(
+    rt: &(impl Abort + AllocGlobal),
+    before: &'a [&'a str],
+    calls: &'a str,
 ) -> Result<(), Fail> {
-    answer_in_the_end(rt, office, before)?;
-    assert_read(rt, office.book(), script, is_tables);
-    Ok(())
+    in_memory(
+        rt,
+        &ReadAfter {
+            before,
+            calls,
+            is_tables: false,
+        },
+    )?;
+    in_tables(
+        rt,
+        &ReadAfter {
+            before,
+            calls,
+            is_tables: true,
+        },
+    )
 }
 
 #[test]
 fn reads_after_a_payment_with_a_growth_refused(rt: HostRuntime) -> Result<(), Fail> {
-    with_book(
-        &rt,
-        |rt, office| assert_read_after(rt, office, &PAYMENT, PAID, false),
-    )?;
-    with_tables(
-        &rt,
-        |rt, office| assert_read_after(rt, office, &PAYMENT, PAID, true),
-    )
+    read_after(&rt, &PAYMENT, PAID)
 }
 
 #[test]
 fn reads_after_a_settlement_with_a_growth_refused(rt: HostRuntime) -> Result<(), Fail> {
-    with_book(
-        &rt,
-        |rt, office| assert_read_after(rt, office, &SETTLEMENT, SETTLED, false),
-    )?;
-    with_tables(
-        &rt,
-        |rt, office| assert_read_after(rt, office, &SETTLEMENT, SETTLED, true),
-    )
+    read_after(&rt, &SETTLEMENT, SETTLED)
 }

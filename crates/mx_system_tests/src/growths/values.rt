@@ -222,6 +222,20 @@ pub(super) fn lines_words(alloc: Global, lines: Option<Vec<Line>>) -> Result<Str
     }
 }
 
+/// How many lines a statement has, and the number and the balance of the last.
+pub(super) fn end_words(alloc: Global, lines: Option<Vec<Line>>) -> Result<String, AllocError> {
+    let lines = lines.unwrap_or(Vec::new(alloc));
+    match lines.last() {
+        Some(line) => format!(in alloc;
+            "{} lines to {}, balance {}",
+            lines.len(),
+            line.number,
+            line.balance
+        ),
+        None => none(alloc),
+    }
+}
+
 /// The text of a reconciliation.
 pub(super) fn report_words(alloc: Global, report: &Report) -> Result<String, AllocError> {
     let text = reconcile_text(alloc, report)?;
