@@ -7,7 +7,7 @@ use crate::requests::LOOKS;
 use mx_lives::{closed_lives, new_files, stopped_lives};
 use mx_wire::Routes;
 use sqlite::{Files, Options};
-use sqlite_disk::Memory;
+use sqlite_disk::{Crash, Disk, Memory};
 use std::alloc::Global;
 use std::process::Abort;
 use std::test::Fail;
@@ -16,28 +16,40 @@ use std::test::Fail;
 const SEED: u64 = 7;
 
 /// The files of new books, closed.
-fn made(alloc: Global) -> Option<Files<Memory>> {
-    new_files(alloc, empty_files(alloc), Options::new(SEED), operator()?)
+fn made<D: Disk + Drop>(alloc: Global, empty: Files<D>) -> Option<Files<D>> {
+    new_files(alloc, empty, Options::new(SEED), operator()?)
 }
 
-/// The files after both lives, each of which ends with a close.
-fn after_closes(alloc: Global, case: &TwoLives) -> Option<Files<Memory>> {
+/// Files with nothing in them after both lives, each of which ends with a close.
+fn after_closes<D: Disk + Drop>(
+    alloc: Global,
+    empty: Files<D>,
+    case: &TwoLives,
+) -> Option<Files<D>> {
     let [first, second] = &case.inputs;
     let inputs = [first.as_bytes(), second.as_bytes()];
-    closed_lives(alloc, made(alloc)?, Options::new(SEED), &inputs)
+    closed_lives(alloc, made(alloc, empty)?, Options::new(SEED), &inputs)
 }
 
-/// The files after both lives, each of which ends with a stop.
-fn after_stops(alloc: Global, case: &TwoLives) -> Option<Files<Memory>> {
+/// The same, where each life ends with a stop.
+fn after_stops<D: Crash + Drop>(
+    alloc: Global,
+    empty: Files<D>,
+    case: &TwoLives,
+) -> Option<Files<D>> {
     let [first, second] = &case.inputs;
     let inputs = [first.as_bytes(), second.as_bytes()];
-    stopped_lives(alloc, made(alloc)?, Options::new(SEED), &inputs)
+    stopped_lives(alloc, made(alloc, empty)?, Options::new(SEED), &inputs)
 }
 
 /// What the books in files show.
-fn shown_of(alloc: Global, routes: &Routes, files: &Files<Memory>) -> Option<String> {
-    let disks = never_stopping(alloc, files).ok()?;
-    shown_in(alloc, routes, disks, LOOKS).done.flatten()
+fn shown_of(
+    rt: &(impl Abort + AllocGlobal),
+    routes: &Routes,
+    files: &Files<Memory>,
+) -> Option<String> {
+    let disks = never_stopping(rt.alloc(), files).ok()?;
+    shown_in(rt, routes, disks, LOOKS).done.flatten()
 }
 
 /// Asserts what both files show, and the database file with an empty log.
@@ -50,19 +62,19 @@ fn assert_shown(
     let alloc = rt.alloc();
     let whole = case.looks.as_slice().last();
     assert!(rt; whole.is_some());
-    assert!(rt; shown_of(alloc, routes, &left).as_ref() == whole);
+    assert!(rt; shown_of(rt, routes, &left).as_ref() == whole);
     let alone = Files {
         log: Memory::new(alloc),
         db: left.db,
     };
-    assert!(rt; shown_of(alloc, routes, &alone).as_ref() == whole);
+    assert!(rt; shown_of(rt, routes, &alone).as_ref() == whole);
 }
 
 #[test]
 fn lives_that_end_with_a_close(rt: HostRuntime) -> Result<(), Fail> {
     let routes = Routes::new(rt.alloc())?;
     let case = two_lives(&rt, &routes).ok_or("no memory")?;
-    let left = after_closes(rt.alloc(), &case).ok_or("not closed")?;
+    let left = after_closes(rt.alloc(), empty_files(rt.alloc()), &case).ok_or("not closed")?;
     assert_shown(&rt, &routes, &case, left);
     Ok(())
 }
@@ -71,7 +83,7 @@ fn lives_that_end_with_a_close(rt: HostRuntime) -> Result<(), Fail> {
 fn lives_that_end_with_a_stop(rt: HostRuntime) -> Result<(), Fail> {
     let routes = Routes::new(rt.alloc())?;
     let case = two_lives(&rt, &routes).ok_or("no memory")?;
-    let left = after_stops(rt.alloc(), &case).ok_or("not closed")?;
+    let left = after_stops(rt.alloc(), empty_files(rt.alloc()), &case).ok_or("not closed")?;
     assert_shown(&rt, &routes, &case, left);
     Ok(())
 }

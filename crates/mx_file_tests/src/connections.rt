@@ -1,6 +1,6 @@
 //! Connections over a loopback socket.
-use crate::scratch::{expect, request, response, with_office};
-use mx_memory::PlainBook;
+use crate::scratch::{Trial, expect, in_memory, request, response};
+use mx_book::Book;
 use mx_office::Office;
 use mx_tasks::connections::{listen, serve_connections};
 use mx_wire::Routes;
@@ -11,6 +11,12 @@ use std::test::Fail;
 
 /// The body that adds the member m.
 const MEMBER: &str = "{\"member\":\"m\",\"token\":\"00000000000000000000000000000002\"}";
+
+/// The body of the first response to that.
+const ADDED: &str = "{\"done\":\"added\"}";
+
+/// The body of the second.
+const NAME_TAKEN: &str = "{\"error\":\"name taken\"}";
 
 /// A connection on which the operator's request for the member m was sent, which ends then.
 fn sent(rt: &HostRuntime, listener: &TcpListener) -> Result<TcpStream, Fail> {
@@ -30,36 +36,41 @@ fn received(alloc: Global, stream: &TcpStream) -> Result<String, Fail> {
     Ok(format!(in alloc; "{text}")?)
 }
 
-/// Fails unless of two connections with the same request each is served, one after the other.
-fn expect_served(
-    rt: &HostRuntime,
-    routes: &Routes,
-    office: &mut Office<PlainBook>,
+/// Fails unless this response comes on a connection.
+fn expect_received(
+    alloc: Global,
+    stream: &TcpStream,
+    status: &str,
+    body: &str,
 ) -> Result<(), Fail> {
-    let alloc = rt.alloc();
-    let listener = listen(rt, 0)?;
-    let first = sent(rt, &listener)?;
-    let second = sent(rt, &listener)?;
-    serve_connections(rt, &listener, 2, routes, office)?;
-    let added = response(alloc, "200 OK", "{\"done\":\"added\"}")?;
-    let taken = response(alloc, "409 Conflict", "{\"error\":\"name taken\"}")?;
-    expect(
-        alloc,
-        "first",
-        received(alloc, &first)?.as_str(),
-        added.as_str(),
-    )?;
-    expect(
-        alloc,
-        "second",
-        received(alloc, &second)?.as_str(),
-        taken.as_str(),
-    )
+    let told = received(alloc, stream)?;
+    let wanted = response(alloc, status, body)?;
+    expect(alloc, "response", told.as_str(), wanted.as_str())
+}
+
+/// Of two connections with the same request each is served, one after the other.
+#[derive(Drop)]
+struct EachServed;
+
+impl Trial for EachServed {
+    fn try_in(
+        &self,
+        rt: &HostRuntime,
+        routes: &Routes,
+        office: &mut Office<impl Book>,
+    ) -> Result<(), Fail> {
+        let listener = listen(rt, 0)?;
+        let first = sent(rt, &listener)?;
+        let second = sent(rt, &listener)?;
+        serve_connections(rt, &listener, 2, routes, office)?;
+        expect_received(rt.alloc(), &first, "200 OK", ADDED)?;
+        expect_received(rt.alloc(), &second, "409 Conflict", NAME_TAKEN)
+    }
 }
 
 #[test]
 fn connections_one_after_another(rt: HostRuntime) -> Result<(), Fail> {
-    with_office(&rt, |rt, routes, office| expect_served(rt, routes, office))
+    in_memory(&rt, &EachServed)
 }
 
 /// The port is listened on at 127.0.0.1, and at no other address of the machine.

@@ -1,14 +1,12 @@
-//! A database file and its log, in memory, of which one stops at a call.
-use sqlite::{Connection, FileStore, Files, Options};
+//! A database file and its log, in memory, of which one stops at a call, and what is done with a connection to them.
+use sqlite::{Alter, Connection, FileStore, Files, Options};
 use sqlite_disk::{Crash, Disk, Fuse, Memory};
 use std::alloc::Global;
 use std::io;
+use std::process::Abort;
 
 /// A file in memory that may stop.
 pub(super) type Fused = Fuse<Memory>;
-
-/// A store over such files.
-pub(super) type Store = FileStore<Fused>;
 
 /// The file that stops: each of its calls from then on fails.
 #[derive(Clone, Copy, Debug)]
@@ -27,9 +25,9 @@ pub(super) const EACH: [Stopping; 3] = [Stopping::Log, Stopping::CopiedLog, Stop
 /// Two files that may stop.
 #[derive(Drop)]
 pub(super) struct Disks {
-    files: Files<Fused>,
+    pub(super) files: Files<Fused>,
     /// How many frames the log has when a commit first copies it into the database file.
-    frames: usize,
+    pub(super) frames: usize,
 }
 
 /// A fuse of so many calls never blows.
@@ -119,8 +117,11 @@ pub(super) fn as_synced(alloc: Global, files: &mut Files<Fused>) -> io::Result<F
 }
 
 /// A connection to files, or the files where they can't be opened.
-pub(super) fn connected(alloc: Global, disks: Disks) -> Result<Connection<Store>, Files<Fused>> {
-    let Disks { files, frames } = disks;
+pub(super) fn connected<D: Disk + Drop>(
+    alloc: Global,
+    files: Files<D>,
+    frames: usize,
+) -> Result<Connection<FileStore<D>>, Files<D>> {
     if !files.may_be_used() {
         return Err(files);
     }
@@ -135,32 +136,53 @@ pub(super) fn connected(alloc: Global, disks: Disks) -> Result<Connection<Store>
 }
 
 /// The files of a connection, as it leaves them where it stops.
-pub(super) fn files_of(conn: Connection<Store>) -> Files<Fused> {
+pub(super) fn files_of<D: Disk + Drop>(conn: Connection<FileStore<D>>) -> Files<D> {
     conn.into_store().close()
 }
 
-/// What was done with files, if they were opened, and the files after it.
+/// What is done with a connection. It is proved once for a store of any kind, which is quick; what names a kind of store is
+/// proved slowly.
+pub(super) trait Deed {
+    /// What it gives.
+    type Done: Drop;
+
+    /// Does it, and gives the connection back. None where it isn't done.
+    fn act<S: Alter + Drop>(
+        &self,
+        rt: &(impl Abort + AllocGlobal),
+        conn: Connection<S>,
+    ) -> (Option<Self::Done>, Connection<S>);
+}
+
+/// What was done with files, if they were opened and it was done, and the files after it.
 #[derive(Drop)]
 pub(super) struct Ended<T> {
     pub(super) done: Option<T>,
     pub(super) files: Files<Fused>,
 }
 
-/// What is done with a connection to files.
-pub(super) fn with_connection<T, F>(alloc: Global, disks: Disks, act: F) -> Ended<T>
-where
-    T: Drop,
-    F: FnOnce(&mut Connection<Store>) -> T + Drop,
-    requires { F.IsAlwaysCallable act }
-{
-    match connected(alloc, disks) {
-        Ok(mut conn) => {
-            let done = act(&mut conn);
-            Ended {
-                done: Some(done),
-                files: files_of(conn),
-            }
+/// Does it with a connection to files. None where they aren't opened.
+fn act_on<D: Disk + Drop, A: Deed>(
+    rt: &(impl Abort + AllocGlobal),
+    files: Files<D>,
+    frames: usize,
+    deed: &A,
+) -> (Option<A::Done>, Files<D>) {
+    match connected(rt.alloc(), files, frames) {
+        Ok(conn) => {
+            let (done, conn) = deed.act(rt, conn);
+            (done, files_of(conn))
         }
-        Err(files) => Ended { done: None, files },
+        Err(files) => (None, files),
     }
+}
+
+/// Does it with a connection to files that may stop.
+pub(super) fn done_in<A: Deed>(
+    rt: &(impl Abort + AllocGlobal),
+    disks: Disks,
+    deed: &A,
+) -> Ended<A::Done> {
+    let (done, files) = act_on(rt, disks.files, disks.frames, deed);
+    Ended { done, files }
 }

@@ -1,8 +1,8 @@
 //! A writer that shows nothing of its bytes before a flush, and a reader that gives one piece a call.
-use crate::scratch::{expect, request, response, with_office};
+use crate::scratch::{Trial, expect, in_memory, request, response};
+use mx_book::Book;
 use mx_desk::desk::run;
 use mx_desk::{Counted, Outlet};
-use mx_memory::PlainBook;
 use mx_office::Office;
 use mx_wire::Routes;
 use std::alloc::Global;
@@ -61,7 +61,7 @@ fn two_pieces(alloc: Global) -> Result<Vec<String>, Fail> {
 fn shown_of(
     alloc: Global,
     routes: &Routes,
-    office: &mut Office<PlainBook>,
+    office: &mut Office<impl Book>,
     pieces: &[String],
 ) -> Result<Vec<usize>, Fail> {
     let mut reader = Counted::new(Pieces { left: pieces });
@@ -73,22 +73,33 @@ fn shown_of(
     Ok(writer.into_inner().shown)
 }
 
-/// Fails unless a response is shown before the next read.
-fn expect_shown(
-    rt: &HostRuntime,
-    routes: &Routes,
-    office: &mut Office<PlainBook>,
-) -> Result<(), Fail> {
-    let pieces = two_pieces(rt.alloc())?;
-    let one = response(rt.alloc(), "404 Not Found", "{\"error\":\"no route\"}")?.len();
-    let shown = shown_of(rt.alloc(), routes, office, pieces.as_slice())?;
-    let told = format!(in rt.alloc(); "{:?}", shown.as_slice())?;
-    let wanted = format!(in rt.alloc(); "[0, {one}, {}]", one.saturating_add(one))?;
-    expect(rt.alloc(), "shown", told.as_str(), wanted.as_str())
+/// Fails unless nothing was shown at first, then one response, and then both.
+fn expect_shown(alloc: Global, shown: &[usize]) -> Result<(), Fail> {
+    let one = response(alloc, "404 Not Found", "{\"error\":\"no route\"}")?.len();
+    let told = format!(in alloc; "{shown:?}")?;
+    let wanted = format!(in alloc; "[0, {one}, {}]", one.saturating_add(one))?;
+    expect(alloc, "shown", told.as_str(), wanted.as_str())
+}
+
+/// A response is shown before the next read.
+#[derive(Drop)]
+struct ShownBeforeReads;
+
+impl Trial for ShownBeforeReads {
+    fn try_in(
+        &self,
+        rt: &HostRuntime,
+        routes: &Routes,
+        office: &mut Office<impl Book>,
+    ) -> Result<(), Fail> {
+        let pieces = two_pieces(rt.alloc())?;
+        let shown = shown_of(rt.alloc(), routes, office, pieces.as_slice())?;
+        expect_shown(rt.alloc(), shown.as_slice())
+    }
 }
 
 /// What was written is passed on before the next read, and at the end.
 #[test]
 fn responses_are_passed_on_before_the_next_read(rt: HostRuntime) -> Result<(), Fail> {
-    with_office(&rt, |rt, routes, office| expect_shown(rt, routes, office))
+    in_memory(&rt, &ShownBeforeReads)
 }

@@ -5,7 +5,7 @@ use crate::disks::{
     never_stopping, stopping_after,
 };
 use crate::made::new_books;
-use crate::offices::{serve_in, shown_in, with_book};
+use crate::offices::{Question, serve_in, shown_in, told_in_memory};
 use crate::requests::{FUNDED, LOOKS, PAID};
 use crate::scripts::{input_of, length_of, run_through, serve, shown};
 use mx_book::Book;
@@ -13,7 +13,7 @@ use mx_lives::live_on;
 use mx_office::Office;
 use mx_wire::Routes;
 use sqlite::Files;
-use sqlite_disk::Memory;
+use sqlite_disk::{Crash, Memory};
 use std::alloc::Global;
 use std::process::Abort;
 use std::test::Fail;
@@ -27,17 +27,26 @@ pub(super) struct TwoLives {
     pub(super) looks: Vec<String>,
 }
 
-/// What books show after the first requests of the first life, and then the second.
-fn look_after(
-    rt: &(impl Abort + AllocGlobal),
-    routes: &Routes,
-    office: &mut Office<impl Book>,
+/// The first requests of the first life and all of the second, after which what books show is told.
+#[derive(Drop)]
+struct LookAfter<'a> {
+    routes: &'a Routes,
     count: usize,
-    second: &str,
-) -> Option<String> {
-    serve(rt, routes, office, FUNDED, count)?;
-    run_through(rt.alloc(), routes, office, second)?;
-    shown(rt.alloc(), routes, office, LOOKS)
+    second: &'a str,
+}
+
+impl Question for LookAfter<'_> {
+    type Told = String;
+
+    fn ask(
+        &self,
+        rt: &(impl Abort + AllocGlobal),
+        office: &mut Office<impl Book>,
+    ) -> Option<String> {
+        serve(rt, self.routes, office, FUNDED, self.count)?;
+        run_through(rt.alloc(), self.routes, office, self.second)?;
+        shown(rt.alloc(), self.routes, office, LOOKS)
+    }
 }
 
 /// What a book in memory shows after each number of requests of the first life, and then the second.
@@ -48,11 +57,12 @@ fn looks_after(
 ) -> Option<Vec<String>> {
     let mut looks = Vec::new(rt.alloc());
     for count in 0..=length_of(FUNDED) {
-        let text = with_book(
-            rt.alloc(),
-            |office| look_after(rt, routes, office, count, second),
-        )?;
-        looks.push(text).ok()?;
+        let question = LookAfter {
+            routes,
+            count,
+            second,
+        };
+        looks.push(told_in_memory(rt, &question)?).ok()?;
     }
     Some(looks)
 }
@@ -64,18 +74,35 @@ pub(super) fn two_lives(rt: &(impl Abort + AllocGlobal), routes: &Routes) -> Opt
     let looks = looks_after(rt, routes, second.as_str())?;
     Some(TwoLives {
         inputs: [input_of(alloc, FUNDED)?, second],
-        before: new_books(alloc)?,
+        before: new_books(rt)?,
         looks,
     })
 }
 
-/// What the books in files show that both lives have left. None where they couldn't be opened.
-fn lived_through(alloc: Global, routes: &Routes, case: &TwoLives, disks: Disks) -> Option<String> {
-    let store = connected(alloc, disks).ok()?;
+/// The files that both lives have left. None where they couldn't be opened.
+fn lived_in<D: Crash + Drop>(
+    alloc: Global,
+    files: Files<D>,
+    frames: usize,
+    case: &TwoLives,
+) -> Option<Files<D>> {
+    let store = connected(alloc, files, frames).ok()?;
     let [first, second] = &case.inputs;
     let end = live_on(alloc, store, &[first.as_bytes(), second.as_bytes()])?;
-    let left = as_written(alloc, &files_of(end)).ok()?;
-    let ended = shown_in(alloc, routes, never_stopping(alloc, &left).ok()?, LOOKS);
+    Some(files_of(end))
+}
+
+/// What the books in files show that both lives have left. None where they couldn't be opened.
+fn lived_through(
+    rt: &(impl Abort + AllocGlobal),
+    routes: &Routes,
+    case: &TwoLives,
+    disks: Disks,
+) -> Option<String> {
+    let alloc = rt.alloc();
+    let files = lived_in(alloc, disks.files, disks.frames, case)?;
+    let left = as_written(alloc, &files).ok()?;
+    let ended = shown_in(rt, routes, never_stopping(alloc, &left).ok()?, LOOKS);
     ended.done.flatten()
 }
 
@@ -92,7 +119,7 @@ fn assert_lived(
     let disks = stopping_after(alloc, &case.before, which, calls)?;
     let mut first = serve_in(rt, routes, disks, FUNDED);
     let disks = stopping_after(alloc, &case.before, which, calls)?;
-    let left = lived_through(alloc, routes, case, disks);
+    let left = lived_through(rt, routes, case, disks);
     match first.done {
         Some(count) => {
             let count = count.ok_or("not served")?;

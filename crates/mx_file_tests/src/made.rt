@@ -1,14 +1,14 @@
 //! Tables that are made in new files, which stop.
 use crate::disks::{
-    Disks, EACH, Ended, MOST_CALLS, Stopping, Store, as_synced, as_written, connected, empty_files,
-    files_of, have_stopped, never_stopping, once_more, stopping_after,
+    Deed, EACH, MOST_CALLS, Stopping, as_synced, as_written, done_in, empty_files, have_stopped,
+    never_stopping, once_more, stopping_after,
 };
 use crate::offices::{operator, serve_in};
 use crate::scripts::length_of;
 use mx_pay::Token;
 use mx_tables::{OpenFault, Tables};
 use mx_wire::Routes;
-use sqlite::{Connection, Files};
+use sqlite::{Alter, Connection, Files};
 use sqlite_disk::Memory;
 use std::alloc::Global;
 use std::process::Abort;
@@ -24,56 +24,60 @@ enum Found {
 }
 
 /// Makes books over a connection.
-fn make(alloc: Global, conn: Connection<Store>, operator: Token) -> Ended<Found> {
+fn make<S: Alter + Drop>(
+    alloc: Global,
+    conn: Connection<S>,
+    operator: Token,
+) -> (Option<Found>, Connection<S>) {
     match Tables::create(alloc, conn, operator) {
-        Ok(book) => Ended {
-            done: Some(Found::Made),
-            files: files_of(book.into_store()),
-        },
-        Err(refused) => Ended {
-            done: None,
-            files: files_of(refused.store),
-        },
+        Ok(book) => (Some(Found::Made), book.into_store()),
+        Err(refused) => (None, refused.store),
     }
 }
 
-/// Makes books in files.
-fn make_in(alloc: Global, disks: Disks, operator: Token) -> Ended<Found> {
-    match connected(alloc, disks) {
-        Ok(conn) => make(alloc, conn, operator),
-        Err(files) => Ended { done: None, files },
+/// New books with this token of the operator.
+#[derive(Drop)]
+struct Created(Token);
+
+impl Deed for Created {
+    type Done = Found;
+
+    fn act<S: Alter + Drop>(
+        &self,
+        rt: &(impl Abort + AllocGlobal),
+        conn: Connection<S>,
+    ) -> (Option<Found>, Connection<S>) {
+        make(rt.alloc(), conn, self.0)
     }
 }
 
-/// Opens the books over a connection, or makes them where there are none.
-fn open_or_make(alloc: Global, conn: Connection<Store>, operator: Token) -> Ended<Found> {
-    match Tables::open(alloc, conn) {
-        Ok(book) => Ended {
-            done: Some(Found::There),
-            files: files_of(book.into_store()),
-        },
-        Err(refused) => match refused.fault {
-            OpenFault::NotThisSchema => make(alloc, refused.store, operator),
-            _ => Ended {
-                done: None,
-                files: files_of(refused.store),
+/// The books that are there, or new ones with this token of the operator where there are none.
+#[derive(Drop)]
+struct OpenedOrCreated(Token);
+
+impl Deed for OpenedOrCreated {
+    type Done = Found;
+
+    fn act<S: Alter + Drop>(
+        &self,
+        rt: &(impl Abort + AllocGlobal),
+        conn: Connection<S>,
+    ) -> (Option<Found>, Connection<S>) {
+        match Tables::open(rt.alloc(), conn) {
+            Ok(book) => (Some(Found::There), book.into_store()),
+            Err(refused) => match refused.fault {
+                OpenFault::NotThisSchema => make(rt.alloc(), refused.store, self.0),
+                _ => (None, refused.store),
             },
-        },
-    }
-}
-
-/// Opens the books in files, or makes them where there are none.
-fn open_or_make_in(alloc: Global, disks: Disks, operator: Token) -> Ended<Found> {
-    match connected(alloc, disks) {
-        Ok(conn) => open_or_make(alloc, conn, operator),
-        Err(files) => Ended { done: None, files },
+        }
     }
 }
 
 /// New books in files that never stop.
-pub(super) fn new_books(alloc: Global) -> Option<Files<Memory>> {
+pub(super) fn new_books(rt: &(impl Abort + AllocGlobal)) -> Option<Files<Memory>> {
+    let alloc = rt.alloc();
     let disks = never_stopping(alloc, &empty_files(alloc)).ok()?;
-    let ended = make_in(alloc, disks, operator()?);
+    let ended = done_in(rt, disks, &Created(operator()?));
     ended.done?;
     as_written(alloc, &ended.files).ok()
 }
@@ -97,7 +101,7 @@ fn assert_left(
 ) -> Result<(), Fail> {
     let alloc = rt.alloc();
     let operator = operator().ok_or("no token")?;
-    let ended = open_or_make_in(alloc, never_stopping(alloc, left)?, operator);
+    let ended = done_in(rt, never_stopping(alloc, left)?, &OpenedOrCreated(operator));
     assert!(rt; ended.done.is_some());
     assert!(rt; answered.is_none() || ended.done == Some(Found::There));
     let told = serve_in(rt, routes, once_more(ended.files), NEW);
@@ -115,7 +119,7 @@ fn assert_stop(
     let alloc = rt.alloc();
     let disks = stopping_after(alloc, &empty_files(alloc), which, calls)?;
     let operator = operator().ok_or("no token")?;
-    let mut ended = make_in(alloc, disks, operator);
+    let mut ended = done_in(rt, disks, &Created(operator));
     let stopped = have_stopped(&mut ended.files);
     assert!(rt; stopped || ended.done.is_some());
     let written = as_written(alloc, &ended.files)?;

@@ -1,15 +1,14 @@
 //! Books of version 1 of the schema, in which p1 paid 60 to q1, are brought to version 2 over files that stop.
 use crate::disks::{
-    Disks, EACH, Ended, MOST_CALLS, Stopping, Store, as_synced, as_written, empty_files,
-    have_stopped, never_stopping, once_more, stopping_after, with_connection,
+    Deed, Disks, EACH, Ended, MOST_CALLS, Stopping, as_synced, as_written, done_in, empty_files,
+    have_stopped, never_stopping, once_more, stopping_after,
 };
 use crate::offices::serve_in;
 use crate::scripts::length_of;
 use mx_tables::{Migrated, OpenFault, migrate};
 use mx_wire::Routes;
-use sqlite::{Connection, Error, Files};
+use sqlite::{Alter, Connection, Error, Files};
 use sqlite_disk::Memory;
-use std::alloc::Global;
 use std::process::Abort;
 use std::test::Fail;
 
@@ -57,24 +56,59 @@ ann POST /purses/p1/discard {"number":1} -> 200 {"done":"discarded"}
 "#;
 
 /// Runs the statements of version 1.
-fn make_version_1(conn: &mut Connection<Store>) -> Result<(), Error> {
-    for text in VERSION_1 {
+fn run_version_1(conn: &mut Connection<impl Alter>) -> Result<(), Error> {
+    for text in &VERSION_1 {
         conn.execute(text, &[])?;
     }
     Ok(())
 }
 
+/// Books of version 1.
+#[derive(Drop)]
+struct VersionOne;
+
+impl Deed for VersionOne {
+    type Done = ();
+
+    fn act<S: Alter + Drop>(
+        &self,
+        _rt: &(impl Abort + AllocGlobal),
+        mut conn: Connection<S>,
+    ) -> (Option<()>, Connection<S>) {
+        let made = run_version_1(&mut conn);
+        (made.ok(), conn)
+    }
+}
+
 /// Files of version 1.
-fn of_version_1(alloc: Global) -> Option<Files<Memory>> {
+fn of_version_1(rt: &(impl Abort + AllocGlobal)) -> Option<Files<Memory>> {
+    let alloc = rt.alloc();
     let disks = never_stopping(alloc, &empty_files(alloc)).ok()?;
-    let ended = with_connection(alloc, disks, |conn| make_version_1(conn).ok());
-    ended.done.flatten()?;
+    let ended = done_in(rt, disks, &VersionOne);
+    ended.done?;
     as_written(alloc, &ended.files).ok()
 }
 
+/// What brings books to version 2, and gives what it answers.
+#[derive(Drop)]
+struct Migration;
+
+impl Deed for Migration {
+    type Done = Result<Migrated, OpenFault>;
+
+    fn act<S: Alter + Drop>(
+        &self,
+        rt: &(impl Abort + AllocGlobal),
+        mut conn: Connection<S>,
+    ) -> (Option<Self::Done>, Connection<S>) {
+        let answer = migrate(rt.alloc(), &mut conn);
+        (Some(answer), conn)
+    }
+}
+
 /// Brings files to version 2.
-fn migrate_in(alloc: Global, disks: Disks) -> Ended<Result<Migrated, OpenFault>> {
-    with_connection(alloc, disks, |conn| migrate(alloc, conn))
+fn migrate_in(rt: &(impl Abort + AllocGlobal), disks: Disks) -> Ended<Result<Migrated, OpenFault>> {
+    done_in(rt, disks, &Migration)
 }
 
 /// Asserts that what a stop left is brought to version 2, or has it already, which it has where that was answered; and
@@ -86,7 +120,7 @@ fn assert_left(
     answered: bool,
 ) -> Result<(), Fail> {
     let alloc = rt.alloc();
-    let ended = migrate_in(alloc, never_stopping(alloc, left)?);
+    let ended = migrate_in(rt, never_stopping(alloc, left)?);
     let already = ended.done == Some(Ok(Migrated::Already));
     assert!(rt; already || !answered && ended.done == Some(Ok(Migrated::Done)));
     let told = serve_in(rt, routes, once_more(ended.files), KEPT);
@@ -104,7 +138,7 @@ fn assert_stop(
     calls: u64,
 ) -> Result<bool, Fail> {
     let alloc = rt.alloc();
-    let mut ended = migrate_in(alloc, stopping_after(alloc, files, which, calls)?);
+    let mut ended = migrate_in(rt, stopping_after(alloc, files, which, calls)?);
     let answered = ended.done == Some(Ok(Migrated::Done));
     let stopped = have_stopped(&mut ended.files);
     assert!(rt; stopped || answered);
@@ -133,7 +167,7 @@ fn assert_each_stop(
 #[test]
 fn stops_of_a_migration(rt: HostRuntime) -> Result<(), Fail> {
     let routes = Routes::new(rt.alloc())?;
-    let files = of_version_1(rt.alloc()).ok_or("not made")?;
+    let files = of_version_1(&rt).ok_or("not made")?;
     for which in EACH {
         assert_each_stop(&rt, &routes, &files, which)?;
     }
@@ -142,33 +176,34 @@ fn stops_of_a_migration(rt: HostRuntime) -> Result<(), Fail> {
 
 /// What `migrate` answers over copies of files, and what it leaves. None where there is no memory for the files.
 fn outcome_of(
-    alloc: Global,
+    rt: &(impl Abort + AllocGlobal),
     files: &Files<Memory>,
 ) -> Option<(Result<Migrated, OpenFault>, Files<Memory>)> {
-    let mut ended = migrate_in(alloc, never_stopping(alloc, files).ok()?);
+    let alloc = rt.alloc();
+    let mut ended = migrate_in(rt, never_stopping(alloc, files).ok()?);
     let left = as_synced(alloc, &mut ended.files).ok()?;
     Some((ended.done?, left))
 }
 
 /// The same, tried again where there is no memory for the files at first.
 fn outcome_in_the_end(
-    alloc: Global,
+    rt: &(impl Abort + AllocGlobal),
     files: &Files<Memory>,
 ) -> Option<(Result<Migrated, OpenFault>, Files<Memory>)> {
-    match outcome_of(alloc, files) {
+    match outcome_of(rt, files) {
         Some(both) => Some(both),
-        None => outcome_of(alloc, files),
+        None => outcome_of(rt, files),
     }
 }
 
 /// The same, tried again where the answer is a fault at first.
 fn answer_in_the_end(
-    alloc: Global,
+    rt: &(impl Abort + AllocGlobal),
     files: &Files<Memory>,
 ) -> Option<(Result<Migrated, OpenFault>, Files<Memory>)> {
-    match outcome_of(alloc, files) {
+    match outcome_of(rt, files) {
         Some((Ok(migrated), left)) => Some((Ok(migrated), left)),
-        _ => outcome_of(alloc, files),
+        _ => outcome_of(rt, files),
     }
 }
 
@@ -188,13 +223,13 @@ fn assert_migrated(
     routes: &Routes,
     files: &Files<Memory>,
 ) -> Result<(), Fail> {
-    let (first, left) = outcome_in_the_end(rt.alloc(), files).ok_or("no memory")?;
+    let (first, left) = outcome_in_the_end(rt, files).ok_or("no memory")?;
     let expected = match first {
         Ok(Migrated::Done) => Migrated::Already,
         Err(OpenFault::Memory | OpenFault::Store) => Migrated::Done,
         _ => return Err("another answer")?,
     };
-    let (second, left) = answer_in_the_end(rt.alloc(), &left).ok_or("no memory")?;
+    let (second, left) = answer_in_the_end(rt, &left).ok_or("no memory")?;
     assert_eq!(rt; second, Ok(expected));
     let kept = are_kept(rt, routes, &left) == Some(true);
     assert!(rt; kept || are_kept(rt, routes, &left) == Some(true));
@@ -208,9 +243,9 @@ fn migration_with_a_growth_refused(rt: HostRuntime) -> Result<(), Fail> {
     let Ok(routes) = Routes::new(rt.alloc()) else {
         return Ok(());
     };
-    let files = match of_version_1(rt.alloc()) {
+    let files = match of_version_1(&rt) {
         Some(files) => files,
-        None => of_version_1(rt.alloc()).ok_or("not made")?,
+        None => of_version_1(&rt).ok_or("not made")?,
     };
     assert_migrated(&rt, &routes, &files)
 }

@@ -1,12 +1,13 @@
-//! Offices over files, and over a book in memory, each lent to what a test does with it.
-use crate::disks::{Disks, Ended, Store, connected, files_of};
+//! Offices over files, and over a book in memory, and what is asked of them.
+use crate::disks::{Deed, Disks, Ended, done_in};
 use crate::scripts::{serve, shown};
+use mx_book::Book;
 use mx_memory::PlainBook;
 use mx_office::Office;
 use mx_pay::Token;
 use mx_tables::Tables;
 use mx_wire::Routes;
-use std::alloc::Global;
+use sqlite::{Alter, Connection};
 use std::process::Abort;
 
 /// The operator's token: zeros and a 1.
@@ -14,41 +15,95 @@ pub(super) fn operator() -> Option<Token> {
     Token::read("00000000000000000000000000000001")
 }
 
-/// What is done with an office over a new book in memory.
-pub(super) fn with_book<T, F>(alloc: Global, ask: F) -> Option<T>
-where
-    T: Drop,
-    F: FnOnce(&mut Office<PlainBook>) -> Option<T> + Drop,
-    requires { F.IsAlwaysCallable ask }
-{
-    let mut office = Office::new(PlainBook::new(alloc, operator()?));
-    ask(&mut office)
+/// What is asked of an office. It is proved once for a book of any kind.
+pub(super) trait Question {
+    /// What is told.
+    type Told: Drop;
+
+    /// Asks it. None where there is no memory for what is told.
+    fn ask(
+        &self,
+        rt: &(impl Abort + AllocGlobal),
+        office: &mut Office<impl Book>,
+    ) -> Option<Self::Told>;
 }
 
-/// What is done with an office over the books in files, if these can be opened.
-fn with_office<T, F>(alloc: Global, disks: Disks, ask: F) -> Ended<T>
-where
-    T: Drop,
-    F: FnOnce(&mut Office<Tables<Store>>) -> T + Drop,
-    requires { F.IsAlwaysCallable ask }
-{
-    let conn = match connected(alloc, disks) {
-        Ok(conn) => conn,
-        Err(files) => return Ended { done: None, files },
-    };
-    match Tables::open(alloc, conn) {
-        Ok(book) => {
-            let mut office = Office::new(book);
-            let done = ask(&mut office);
-            Ended {
-                done: Some(done),
-                files: files_of(office.into_book().into_store()),
+/// What an office over a book tells.
+fn told_by<Q: Question>(
+    rt: &(impl Abort + AllocGlobal),
+    book: impl Book + Drop,
+    question: &Q,
+) -> Option<Q::Told> {
+    let mut office = Office::new(book);
+    question.ask(rt, &mut office)
+}
+
+/// What an office over a new book in memory tells.
+pub(super) fn told_in_memory<Q: Question>(
+    rt: &(impl Abort + AllocGlobal),
+    question: &Q,
+) -> Option<Q::Told> {
+    told_by(rt, PlainBook::new(rt.alloc(), operator()?), question)
+}
+
+/// What is asked of an office over the books that are there, if these can be opened.
+#[derive(Drop)]
+struct InOffice<'a, Q>(&'a Q);
+
+impl<Q: Question> Deed for InOffice<'_, Q> {
+    type Done = Option<Q::Told>;
+
+    fn act<S: Alter + Drop>(
+        &self,
+        rt: &(impl Abort + AllocGlobal),
+        conn: Connection<S>,
+    ) -> (Option<Self::Done>, Connection<S>) {
+        match Tables::open(rt.alloc(), conn) {
+            Ok(book) => {
+                let mut office = Office::new(book);
+                let told = self.0.ask(rt, &mut office);
+                (Some(told), office.into_book().into_store())
             }
+            Err(refused) => (None, refused.store),
         }
-        Err(refused) => Ended {
-            done: None,
-            files: files_of(refused.store),
-        },
+    }
+}
+
+/// A script that is served up to the first request that is given up. Tells how many were answered.
+#[derive(Drop)]
+struct Script<'a> {
+    routes: &'a Routes,
+    script: &'a str,
+}
+
+impl Question for Script<'_> {
+    type Told = usize;
+
+    fn ask(
+        &self,
+        rt: &(impl Abort + AllocGlobal),
+        office: &mut Office<impl Book>,
+    ) -> Option<usize> {
+        serve(rt, self.routes, office, self.script, usize::MAX)
+    }
+}
+
+/// Requests, of which what an office answers is told, a line each.
+#[derive(Drop)]
+struct Answers<'a> {
+    routes: &'a Routes,
+    requests: &'a str,
+}
+
+impl Question for Answers<'_> {
+    type Told = String;
+
+    fn ask(
+        &self,
+        rt: &(impl Abort + AllocGlobal),
+        office: &mut Office<impl Book>,
+    ) -> Option<String> {
+        shown(rt.alloc(), self.routes, office, self.requests)
     }
 }
 
@@ -59,21 +114,15 @@ pub(super) fn serve_in(
     disks: Disks,
     script: &str,
 ) -> Ended<Option<usize>> {
-    with_office(rt.alloc(), disks, |office| {
-        serve(rt, routes, office, script, usize::MAX)
-    })
+    done_in(rt, disks, &InOffice(&Script { routes, script }))
 }
 
 /// What the books in files answer to requests, a line each.
 pub(super) fn shown_in(
-    alloc: Global,
+    rt: &(impl Abort + AllocGlobal),
     routes: &Routes,
     disks: Disks,
     requests: &str,
 ) -> Ended<Option<String>> {
-    with_office(
-        alloc,
-        disks,
-        |office| shown(alloc, routes, office, requests),
-    )
+    done_in(rt, disks, &InOffice(&Answers { routes, requests }))
 }

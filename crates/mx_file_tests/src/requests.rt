@@ -4,14 +4,13 @@ use crate::disks::{
     EACH, MOST_CALLS, Stopping, as_synced, as_written, have_stopped, never_stopping, stopping_after,
 };
 use crate::made::new_books;
-use crate::offices::{serve_in, shown_in, with_book};
+use crate::offices::{Question, serve_in, shown_in, told_in_memory};
 use crate::scripts::{length_of, serve, shown};
 use mx_book::Book;
 use mx_office::Office;
 use mx_wire::Routes;
 use sqlite::Files;
 use sqlite_disk::Memory;
-use std::alloc::Global;
 use std::process::Abort;
 use std::test::Fail;
 
@@ -86,18 +85,27 @@ struct Case {
     shows: Vec<String>,
 }
 
-/// What books show after a script and the first requests of another.
-fn show(
-    rt: &(impl Abort + AllocGlobal),
-    routes: &Routes,
-    office: &mut Office<impl Book>,
-    before: &str,
-    script: &str,
+/// A script and the first requests of another, after which what books show is told.
+#[derive(Drop)]
+struct ShownAfter<'a> {
+    routes: &'a Routes,
+    before: &'a str,
+    script: &'a str,
     count: usize,
-) -> Option<String> {
-    serve(rt, routes, office, before, usize::MAX)?;
-    serve(rt, routes, office, script, count)?;
-    shown(rt.alloc(), routes, office, LOOKS)
+}
+
+impl Question for ShownAfter<'_> {
+    type Told = String;
+
+    fn ask(
+        &self,
+        rt: &(impl Abort + AllocGlobal),
+        office: &mut Office<impl Book>,
+    ) -> Option<String> {
+        serve(rt, self.routes, office, self.before, usize::MAX)?;
+        serve(rt, self.routes, office, self.script, self.count)?;
+        shown(rt.alloc(), self.routes, office, LOOKS)
+    }
 }
 
 /// What a book in memory shows after a script and each number of requests of another.
@@ -109,10 +117,13 @@ fn shows_of(
 ) -> Option<Vec<String>> {
     let mut shows = Vec::new(rt.alloc());
     for count in 0..=length_of(script) {
-        let text = with_book(rt.alloc(), |office| {
-            show(rt, routes, office, before, script, count)
-        })?;
-        shows.push(text).ok()?;
+        let question = ShownAfter {
+            routes,
+            before,
+            script,
+            count,
+        };
+        shows.push(told_in_memory(rt, &question)?).ok()?;
     }
     Some(shows)
 }
@@ -124,7 +135,7 @@ fn books_after(
     before: &str,
 ) -> Option<Files<Memory>> {
     let alloc = rt.alloc();
-    let disks = never_stopping(alloc, &new_books(alloc)?).ok()?;
+    let disks = never_stopping(alloc, &new_books(rt)?).ok()?;
     let ended = serve_in(rt, routes, disks, before);
     assert_eq!(rt; ended.done.flatten(), Some(length_of(before)));
     as_written(alloc, &ended.files).ok()
@@ -147,7 +158,7 @@ fn assert_left(
     count: usize,
 ) -> Result<(), Fail> {
     let alloc = rt.alloc();
-    let ended = shown_in(alloc, routes, never_stopping(alloc, left)?, LOOKS);
+    let ended = shown_in(rt, routes, never_stopping(alloc, left)?, LOOKS);
     let text = ended.done.flatten().ok_or("not opened")?;
     let found = is_shown(case, count, text.as_str())
         || is_shown(case, count.saturating_add(1), text.as_str());

@@ -1,4 +1,5 @@
 //! What the tests stand on: a folder of their own, an office, requests and responses.
+use mx_book::Book;
 use mx_memory::PlainBook;
 use mx_office::Office;
 use mx_pay::Token;
@@ -16,16 +17,28 @@ pub(super) fn new_folder(rt: &HostRuntime, name: &str) -> Result<String, Fail> {
     Ok(folder)
 }
 
-/// What comes of an office over a new book in memory, whose operator's token ends in f.
-pub(super) fn with_office<F>(rt: &HostRuntime, ask: F) -> Result<(), Fail>
-where
-    F: FnOnce(&HostRuntime, &Routes, &mut Office<PlainBook>) -> Result<(), Fail>,
-    requires { F.IsAlwaysCallable ask }
-{
-    let operator = Token::read("0000000000000000000000000000000f").ok_or("no token")?;
+/// What is tried in an office. It is proved once for a book of any kind.
+pub(super) trait Trial {
+    /// Fails where something isn't as it is to be.
+    fn try_in(
+        &self,
+        rt: &HostRuntime,
+        routes: &Routes,
+        office: &mut Office<impl Book>,
+    ) -> Result<(), Fail>;
+}
+
+/// Tries something in an office over a book.
+fn in_office(rt: &HostRuntime, book: impl Book + Drop, trial: &impl Trial) -> Result<(), Fail> {
     let routes = Routes::new(rt.alloc())?;
-    let mut office = Office::new(PlainBook::new(rt.alloc(), operator));
-    ask(rt, &routes, &mut office)
+    let mut office = Office::new(book);
+    trial.try_in(rt, &routes, &mut office)
+}
+
+/// The same over a new book in memory, whose operator's token ends in f.
+pub(super) fn in_memory(rt: &HostRuntime, trial: &impl Trial) -> Result<(), Fail> {
+    let operator = Token::read("0000000000000000000000000000000f").ok_or("no token")?;
+    in_office(rt, PlainBook::new(rt.alloc(), operator), trial)
 }
 
 /// The text with a line end in place of each `|`.
