@@ -191,8 +191,12 @@ fn tell_part(
     part: &str,
 ) -> Result<(), Fail> {
     let (passed, script) = part.split_once('\n').unwrap_or(("", part));
-    assert!(rt; !passed.contains(" -> "), "{passed}");
-    office.book.left = passed.parse::<u64>().ok();
+    let left = passed.parse::<u64>().ok();
+    assert!(rt;
+        left.is_some() || passed.is_empty() || passed.starts_with(' '),
+        "{passed}"
+    );
+    office.book.left = left;
     tell(rt, office, script)
 }
 

@@ -60,9 +60,12 @@ fn assert_answers(
     script: &str,
 ) -> Result<(), Fail> {
     for line in script.lines() {
-        if let Some((call, value)) = line.split_once(" -> ") {
-            let answer = answer_of(rt.alloc(), book, call)?;
-            assert_eq!(rt; answer.as_str(), value, "{call}, {rows}");
+        match line.split_once(" -> ") {
+            Some((call, value)) => {
+                let answer = answer_of(rt.alloc(), book, call)?;
+                assert_eq!(rt; answer.as_str(), value, "{call}, {rows}");
+            }
+            None => assert!(rt; line.is_empty(), "{line}"),
         }
     }
     Ok(())

@@ -206,6 +206,19 @@ clerk POST /purses {"purse":"p1","holder":"ann"} -> 200 {"done":"added"}
 !1
 ann GET /purses/p1 -> 503
 ann GET /purses/p1 -> 200 {"balance":0,"next":0,"purse":"p1","status":"eaFrom"}
+@ A new member takes four calls, a new holder five, a new purse four and a show two, and no more.
+!4
+operator POST /members {"member":"n","token":"00000000000000000000000000000003"} -> 200 {"done":"added"}
+clerk POST /purses {"purse":"p1","holder":"ann"} -> 503
+!5
+clerk POST /holders {"holder":"bob","token":"0000000000000000000000000000000b"} -> 200 {"done":"added"}
+clerk POST /purses {"purse":"p1","holder":"ann"} -> 503
+!4
+clerk POST /purses {"purse":"p1","holder":"ann"} -> 200 {"done":"added"}
+ann GET /purses/p1 -> 503
+!2
+ann GET /purses/p1 -> 200 {"balance":0,"next":0,"purse":"p1","status":"eaFrom"}
+ann GET /purses/p1 -> 503
 "#;
 
 /// A call of the book that fails leaves its request undone, and no other.
@@ -239,6 +252,19 @@ ann POST /purses/p1/redeem {"amount":60,"ref":"r1"} -> 200 {"done":"redeemed"}
 !3
 clerk POST /collect -> 503
 clerk POST /collect -> 200 {"collected":"60"}
+@ Each takes so many calls, and no more.
+!5
+operator POST /members/m/grant {"amount":100} -> 200 {"done":"granted"}
+clerk POST /purses/p1/load {"amount":100,"ref":"a1"} -> 503
+!5
+clerk POST /purses/p1/load {"amount":100,"ref":"a1"} -> 200 {"done":"loaded"}
+ann POST /purses/p1/redeem {"amount":60,"ref":"r1"} -> 503
+!4
+ann POST /purses/p1/redeem {"amount":60,"ref":"r1"} -> 200 {"done":"redeemed"}
+clerk POST /collect -> 503
+!4
+clerk POST /collect -> 200 {"collected":"60"}
+operator GET /reconcile -> 503
 "#;
 
 /// A purse.
@@ -274,6 +300,13 @@ operator GET /reconcile -> 200 {"balances":"100","float":"0","granted":"100","is
 !2
 ann GET /purses/p1/statement/1 -> 503
 ann GET /purses/p1/statement/1 -> 200 {"lines":[]}
+@ Each takes so many calls, and no more.
+!2
+operator GET /reconcile -> 200 {"balances":"100","float":"0","granted":"100","issued":"100","lost":"0","redeemed":"0","transit":"0","uncollected":"0"}
+ann GET /purses/p1/statement/1 -> 503
+!3
+ann GET /purses/p1/statement/1 -> 200 {"lines":[]}
+operator GET /reconcile -> 503
 "#;
 
 /// The same of requests that only tell something.

@@ -67,7 +67,7 @@ fn statements_and_sums(rt: HostRuntime) -> Result<(), Fail> {
 
 /// Sixty loads of 1 to p1, and the pages of its statement: the first ends with line 50, at a balance of 149, the second with
 /// line 61, at 160, and a third has no line. Then the sums.
-const LOADS_AND_PAGES: [Piece<'static>; 6] = [
+const LOADS_AND_PAGES: [Piece<'static>; 7] = [
     (
         1,
         61,
@@ -93,12 +93,14 @@ const LOADS_AND_PAGES: [Piece<'static>; 6] = [
         61,
         ",{\"amount\":1,\"balance\":#n+100#,\"kind\":\"loaded\",\"note\":\"b#n#\",\"number\":#n+1#}",
     ),
-    (
-        0,
-        1,
-        "]}\nann GET /purses/p1/statement/61 -> 200 {\"lines\":[]}\noperator GET /reconcile -> 200 {\"balances\":\"160\",\"float\":\"840\",\"granted\":\"1000\",\"issued\":\"160\",\"lost\":\"0\",\"redeemed\":\"0\",\"transit\":\"0\",\"uncollected\":\"0\"}\n",
-    ),
+    (0, 1, "]}"),
+    (0, 1, AFTER_SIXTY_LOADS),
 ];
+
+const AFTER_SIXTY_LOADS: &str = r#"
+ann GET /purses/p1/statement/61 -> 200 {"lines":[]}
+operator GET /reconcile -> 200 {"balances":"160","float":"840","granted":"1000","issued":"160","lost":"0","redeemed":"0","transit":"0","uncollected":"0"}
+"#;
 
 #[test]
 fn statement_in_two_pages(rt: HostRuntime) -> Result<(), Fail> {

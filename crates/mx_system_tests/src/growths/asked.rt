@@ -9,8 +9,7 @@ use mx_pay::{Amount, Name, PayDetails, Token, read_details};
 use mx_report::{reconcile, statement};
 use std::alloc::{AllocError, Global};
 
-/// The name of a word. A word of another kind is Store, and so is a call that there isn't: made twice it answers Store
-/// twice, which no refused growth explains.
+/// The name of a word. A word of another kind is Store: asked twice it answers Store twice, which no refused growth explains.
 fn name_of(word: &str) -> Result<Name, StoreFault> {
     Name::read(word).ok_or(StoreFault::Store)
 }
@@ -35,6 +34,11 @@ fn in_words(words: Result<String, AllocError>) -> Result<String, StoreFault> {
     words.map_err(|_| StoreFault::Memory)
 }
 
+/// The words of a call that there isn't, which no call has.
+fn unknown_words(alloc: Global) -> Result<String, AllocError> {
+    String::from_str(alloc, "no such call")
+}
+
 fn amount_words(alloc: Global, amount: Option<Amount>) -> Result<String, AllocError> {
     number_words(alloc, amount.map(|amount| u128::from(amount.get())))
 }
@@ -47,7 +51,7 @@ fn of_scheme(alloc: Global, book: &mut impl Book, call: &str) -> Result<String, 
         "members_totals" => members_sums_words(alloc, book.members_totals(alloc)?),
         "reconcile" => report_words(alloc, &reconcile(alloc, book)?),
         "is_even" => truth_words(alloc, reconcile(alloc, book)?.is_even()),
-        _ => return Err(StoreFault::Store),
+        _ => unknown_words(alloc),
     })
 }
 
@@ -71,7 +75,7 @@ fn of_name(
         "member_totals" => member_sums_words(alloc, book.member_totals(alloc, name)?),
         "statement" => lines_words(alloc, statement(alloc, book, name)?),
         "end_of" => end_words(alloc, statement(alloc, book, name)?),
-        _ => return Err(StoreFault::Store),
+        _ => unknown_words(alloc),
     })
 }
 
@@ -102,7 +106,7 @@ fn of_names(
         "is_own" => truth_words(alloc, book.is_own(alloc, name, other)?),
         "load_of" => amount_words(alloc, book.load_of(alloc, name, other)?),
         "redemption_of" => amount_words(alloc, book.redemption_of(alloc, name, other)?),
-        _ => return Err(StoreFault::Store),
+        _ => unknown_words(alloc),
     })
 }
 

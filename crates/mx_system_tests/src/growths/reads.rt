@@ -95,8 +95,9 @@ pub(crate) fn assert_values(
     script: &str,
 ) -> Result<(), StoreFault> {
     for line in script.lines() {
-        if let Some((call, value)) = line.split_once(" -> ") {
-            assert_value(rt, book, call, value)?;
+        match line.split_once(" -> ") {
+            Some((call, value)) => assert_value(rt, book, call, value)?,
+            None => assert!(rt; line.is_empty(), "{line}"),
         }
     }
     Ok(())

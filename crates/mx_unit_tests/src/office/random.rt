@@ -195,12 +195,12 @@ impl Ledger {
         Ok(())
     }
 
-    /// Money is moved as a purse was asked.
-    fn move_money(&mut self, purse: usize, ask: &Ask) -> Result<(), Fail> {
-        match ask {
-            Ask::Load(amount, _) => self.load(purse, *amount as u128),
-            Ask::Redeem(amount, _) => self.redeem(purse, *amount as u128),
-            Ask::Settle(details) => self.settle(details)?,
+    /// Money is moved as a purse was asked, where the reply is to that.
+    fn move_money(&mut self, purse: usize, ask: &Ask, reply: &Reply) -> Result<(), Fail> {
+        match (ask, reply) {
+            (Ask::Load(amount, _), Reply::Loaded) => self.load(purse, *amount as u128),
+            (Ask::Redeem(amount, _), Reply::Redeemed) => self.redeem(purse, *amount as u128),
+            (Ask::Settle(details), Reply::Settled) => self.settle(details)?,
             _ => {}
         }
         Ok(())
@@ -215,7 +215,7 @@ impl Ledger {
             Reply::Aborted { .. } => self.side(purse).waits = None,
             Reply::Read(entry) => self.read(purse, *entry),
             Reply::Discarded => self.discard(purse),
-            Reply::Loaded | Reply::Redeemed | Reply::Settled => self.move_money(purse, ask)?,
+            Reply::Loaded | Reply::Redeemed | Reply::Settled => self.move_money(purse, ask, reply)?,
             Reply::Collected(_) => self.collect(PURSES[purse % 5].2),
             Reply::Sent => self.put(purse),
             _ => {}

@@ -8,8 +8,8 @@ use std::alloc::{AllocError, Global};
 use std::process::Abort;
 use std::test::Fail;
 
-/// Requests, a line each, with the words of the command that each says, `METHOD PATH: BODY -> WORDS`. Any other line says
-/// nothing.
+/// Requests, a line each, with the words of the command that each says, `METHOD PATH: BODY -> WORDS`. A line that begins
+/// with `#` says what comes behind it.
 const REQUESTS: &str = r#"
 # Each command.
 POST /members: {"member":"m","token":"00000000000000000000000000000002"} -> new-member m 00000000000000000000000000000002
@@ -220,8 +220,9 @@ fn assert_said(
 #[test]
 fn each_command_from_its_request(rt: HostRuntime) -> Result<(), Fail> {
     for line in REQUESTS.lines() {
-        if let Some((asked, words)) = line.split_once(" -> ") {
-            assert_said(&rt, asked, words)?;
+        match line.split_once(" -> ") {
+            Some((asked, words)) => assert_said(&rt, asked, words)?,
+            None => assert!(rt; line.is_empty() || line.starts_with("# "), "{line}"),
         }
     }
     Ok(())

@@ -17,8 +17,9 @@ fn class_of(routes: &Routes, request: &str) -> &'static str {
 /// Asserts that the request of each line of a text, `CLASS: METHOD PATH`, has a route of this class, or that none has one.
 pub(crate) fn assert_classes(rt: &impl Abort, routes: &Routes, text: &str) {
     for line in text.lines() {
-        if let Some((class, request)) = line.split_once(": ") {
-            assert!(rt; class_of(routes, request) == class, "{line}");
+        match line.split_once(": ") {
+            Some((class, request)) => assert!(rt; class_of(routes, request) == class, "{line}"),
+            None => assert!(rt; line.is_empty(), "{line}"),
         }
     }
 }
