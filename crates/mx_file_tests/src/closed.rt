@@ -1,10 +1,12 @@
-//! Two lives over the books in files, from files with nothing in them, where the files are closed in the end: what their bytes
-//! show then, and those of the database file alone, is what a book in memory has after the requests of both.
+//! Two lives over the books in files, from files with nothing in them, where the files are closed in the end: each request of
+//! both got its response, and what the bytes of the files show then, and those of the database file alone, is what a book in
+//! memory has after all of them.
 use crate::disks::{empty_files, never_stopping};
 use crate::lives::{TwoLives, two_lives};
 use crate::offices::{operator, shown_in};
-use crate::requests::LOOKS;
-use mx_lives::{closed_lives, new_files, stopped_lives};
+use crate::requests::{FUNDED, LOOKS, PAID};
+use crate::scripts::{length_of, responses_of, told_in};
+use mx_lives::{Life, closed_lives, new_files, stopped_lives};
 use mx_wire::Routes;
 use sqlite::{Files, Options};
 use sqlite_disk::{Crash, Disk, Memory};
@@ -25,7 +27,7 @@ fn after_closes<D: Disk + Drop>(
     alloc: Global,
     empty: Files<D>,
     case: &TwoLives,
-) -> Option<Files<D>> {
+) -> Option<(Files<D>, Vec<Life>)> {
     let [first, second] = &case.inputs;
     let inputs = [first.as_bytes(), second.as_bytes()];
     closed_lives(alloc, made(alloc, empty)?, Options::new(SEED), &inputs)
@@ -36,7 +38,7 @@ fn after_stops<D: Crash + Drop>(
     alloc: Global,
     empty: Files<D>,
     case: &TwoLives,
-) -> Option<Files<D>> {
+) -> Option<(Files<D>, Vec<Life>)> {
     let [first, second] = &case.inputs;
     let inputs = [first.as_bytes(), second.as_bytes()];
     stopped_lives(alloc, made(alloc, empty)?, Options::new(SEED), &inputs)
@@ -52,13 +54,27 @@ fn shown_of(
     shown_in(rt, routes, disks, LOOKS).done.flatten()
 }
 
-/// Asserts what both files show, and the database file with an empty log.
+/// Asserts that a life answered each request of a script as that has it.
+fn assert_answered(rt: &(impl Abort + AllocGlobal), life: Option<&Life>, script: &str) {
+    let Some(life) = life else {
+        assert!(rt; false);
+        return;
+    };
+    assert!(rt; life.ended == Ok(length_of(script) as u64));
+    let told = told_in(rt.alloc(), life.written.as_slice());
+    assert!(rt; told.is_some());
+    assert!(rt; told == responses_of(rt.alloc(), script));
+}
+
+/// Asserts what both lives answered, what both files show, and what the database file shows with an empty log.
 fn assert_shown(
     rt: &(impl Abort + AllocGlobal),
     routes: &Routes,
     case: &TwoLives,
-    left: Files<Memory>,
+    (left, lives): (Files<Memory>, Vec<Life>),
 ) {
+    assert_answered(rt, lives.as_slice().first(), FUNDED);
+    assert_answered(rt, lives.as_slice().get(1), PAID);
     let alloc = rt.alloc();
     let whole = case.looks.as_slice().last();
     assert!(rt; whole.is_some());
@@ -74,8 +90,8 @@ fn assert_shown(
 fn lives_that_end_with_a_close(rt: HostRuntime) -> Result<(), Fail> {
     let routes = Routes::new(rt.alloc())?;
     let case = two_lives(&rt, &routes).ok_or("no memory")?;
-    let left = after_closes(rt.alloc(), empty_files(rt.alloc()), &case).ok_or("not closed")?;
-    assert_shown(&rt, &routes, &case, left);
+    let end = after_closes(rt.alloc(), empty_files(rt.alloc()), &case).ok_or("not closed")?;
+    assert_shown(&rt, &routes, &case, end);
     Ok(())
 }
 
@@ -83,7 +99,7 @@ fn lives_that_end_with_a_close(rt: HostRuntime) -> Result<(), Fail> {
 fn lives_that_end_with_a_stop(rt: HostRuntime) -> Result<(), Fail> {
     let routes = Routes::new(rt.alloc())?;
     let case = two_lives(&rt, &routes).ok_or("no memory")?;
-    let left = after_stops(rt.alloc(), empty_files(rt.alloc()), &case).ok_or("not closed")?;
-    assert_shown(&rt, &routes, &case, left);
+    let end = after_stops(rt.alloc(), empty_files(rt.alloc()), &case).ok_or("not closed")?;
+    assert_shown(&rt, &routes, &case, end);
     Ok(())
 }

@@ -88,7 +88,7 @@ fn lived_in<D: Crash + Drop>(
 ) -> Option<Files<D>> {
     let store = connected(alloc, files, frames).ok()?;
     let [first, second] = &case.inputs;
-    let end = live_on(alloc, store, &[first.as_bytes(), second.as_bytes()])?;
+    let (end, _) = live_on(alloc, store, &[first.as_bytes(), second.as_bytes()])?;
     Some(files_of(end))
 }
 

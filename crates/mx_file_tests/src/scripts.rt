@@ -126,6 +126,34 @@ pub(super) fn input_of(alloc: Global, script: &str) -> Option<String> {
     Some(input)
 }
 
+/// The responses of a script in words, a line each. None where there is no memory for them.
+pub(super) fn responses_of(alloc: Global, script: &str) -> Option<String> {
+    let mut words = String::new(alloc);
+    for line in script.lines() {
+        if let Some((_, response)) = line.split_once(" -> ") {
+            words.push_str(response).ok()?;
+            words.push('\n').ok()?;
+        }
+    }
+    Some(words)
+}
+
+/// The responses in some bytes in words, a line each. None where these are no responses, or there is no memory for words.
+pub(super) fn told_in(alloc: Global, written: &[u8]) -> Option<String> {
+    let mut words = String::new(alloc);
+    for response in std::str::from_utf8(written)
+        .ok()?
+        .split("HTTP/1.1 ")
+        .skip(1)
+    {
+        let (head, body) = response.split_once("\r\n\r\n")?;
+        let (status, _) = head.split_once(' ')?;
+        let line = format!(in alloc; "{status} {body}\n").ok()?;
+        words.push_str(line.as_str()).ok()?;
+    }
+    Some(words)
+}
+
 /// Serves an input as a whole, whatever the responses. None where there is no memory for them.
 pub(super) fn run_through(
     alloc: Global,

@@ -1,6 +1,5 @@
 -- Lives, and stops between them.
-use Rattle.std.proofs.Common.{◌≡◌, ◌≤◌, ℕ, Bool, true, false, inl, inr, List, [], ◌∷◌, ◌++◌, Option, Some, None, IfSome, ap, subst, sym, ◌∙◌, arith}
-use Rattle.std.specs.Prelude.{Result}
+use Rattle.std.proofs.Common.{◌≡◌, ◌≤◌, ℕ, Bool, true, false, inl, inr, List, [], ◌∷◌, ◌++◌, Option, Some, Result, ap, subst, sym, ◌∙◌, arith}
 use Rattle.sqlite.specs.Effect.{Database}
 use Rattle.sqlite.specs.State.{State as Connected, HasCleanDisk}
 use Rattle.sqlite_trees.proofs.Doubt.{clean_of}
@@ -16,12 +15,8 @@ use Rattle.mx_tables.specs.Schema.{office_schema}
 use Rattle.mx_tables.specs.States.{IsOurs, worry, worry_at}
 use Rattle.mx_tasks.specs.Runs.{TaskRuns}
 use Rattle.mx_tasks.specs.declared.fault.TaskFault.{TaskFault}
+use Rattle.mx_lives.specs.declared.answered.Life.{Life}
 use Rattle.mx_lives.specs.Lived.{LivedTo, LivesOver, RunsOver, lived, lived_more, unlived}
-
--- what two clauses say of what is there, together
-pub if_some_both : {X : Type 0} (o : Option X) (P Q R : X → Type 0) → ((x : X) → P x → Q x → R x) → IfSome o P → IfSome o Q → IfSome o R
-if_some_both None P Q R f p q = tt
-if_some_both (Some x) P Q R f p q = f x p q
 
 -- up to 1 where the disk told no lie
 low_at : (live : Bool) → worry_at live true ≤ 1
@@ -44,45 +39,44 @@ module _ {fails : StoreFault → Type 0} where
   task_lawful s r ms t (inr runs) = runs.2.leaves.lawful
 
   -- lives over inputs are lives
-  over_lives : (inputs : List (List ℕ)) (w now : World) (ms : List Marked) → LivesOver fails inputs w ms now → Lives w ms now
-  over_lives _ _ _ _ (unlived {w}) = unborn
-  over_lives _ _ _ _ (lived {inputs} {input} {w} {v} {now} {ms} {ns} before run) =
-      ended (over_lives inputs w v ms before) (task_lawful _ _ _ _ run.runs)
-  over_lives _ _ _ _ (lived_more {inputs} {input} {w} {v} {now} {ms} {ns} before run m given_up) =
-      stopped (over_lives inputs w v ms before) (task_lawful _ _ _ _ run.runs) m given_up
+  over_lives : (inputs : List (List ℕ)) (lives : List Life) (w now : World) (ms : List Marked) → LivesOver fails inputs lives w ms now → Lives w ms now
+  over_lives _ _ _ _ _ (unlived {w}) = unborn
+  over_lives _ _ _ _ _ (lived {inputs} {input} {lives} {life} {w} {v} {now} {ms} {ns} before run) =
+      ended (over_lives inputs lives w v ms before) (task_lawful _ _ _ _ run.runs)
+  over_lives _ _ _ _ _ (lived_more {inputs} {input} {lives} {life} {w} {v} {now} {ms} {ns} before run m given_up) =
+      stopped (over_lives inputs lives w v ms before) (task_lawful _ _ _ _ run.runs) m given_up
 
   -- what lives over inputs led to
-  lived_to : (Spelled : World → Type 0) (inputs : List (List ℕ)) (w end : World) (ms : List Marked) → LivesOver fails inputs w ms end → Spelled end → LivedTo fails Spelled inputs w
-  lived_to Spelled inputs w end ms over spelled = record { marked = ms; end = end; over = over; as_one = over_lives inputs w end ms over; spelled = spelled }
+  lived_to : (Spelled : World → Type 0) (inputs : List (List ℕ)) (lives : List Life) (w end : World) (ms : List Marked) → LivesOver fails inputs lives w ms end → Spelled end → LivedTo fails Spelled inputs lives w
+  lived_to Spelled inputs lives w end ms over spelled = record { marked = ms; end = end; over = over; as_one = over_lives inputs lives w end ms over; spelled = spelled }
 
   -- a run over an input
-  pub run_over : {Moves Left : List Marked → World → Type 0} {rest output : Option (List ℕ)} (from written : Option (List ℕ)) (input : List ℕ) (w : World) (result : Result ℕ TaskFault) → from ≡ Some input → written ≡ Some []
-      → ((ms : List Marked) (now : World) → Moves ms now → Left ms now)
-      → Leads (λ ms now. TaskRuns fails (state [] from written w) result ms (state [] rest output now)) Moves → Leads (RunsOver fails w input) Left
-  run_over {Moves} {Left} {rest} {output} from written input w result given empty f led = record {
+  pub run_over : {Moves Left : List Marked → World → Type 0} {rest : Option (List ℕ)} (from empty output : Option (List ℕ)) (input : List ℕ) (w : World) (life : Life) → from ≡ Some input → empty ≡ Some []
+      → output ≡ Some life.written.items → ((ms : List Marked) (now : World) → Moves ms now → Left ms now)
+      → Leads (λ ms now. TaskRuns fails (state [] from empty w) life.ended ms (state [] rest output now)) Moves → Leads (RunsOver fails w input life) Left
+  run_over {Moves} {Left} {rest} from empty output input w life given none wrote f led = record {
     end = led.end;
     marked = led.marked;
     holds = record {
-      result = result;
       rest = rest;
-      output = output;
-      runs = subst (λ (o : Option (List ℕ)). TaskRuns fails (state [] (Some input) o w) result led.marked (state [] rest output led.end)) empty
-          (subst (λ (i : Option (List ℕ)). TaskRuns fails (state [] i written w) result led.marked (state [] rest output led.end)) given led.holds);
+      runs = subst (λ (out : Option (List ℕ)). TaskRuns fails (state [] (Some input) (Some []) w) life.ended led.marked (state [] rest out led.end)) wrote
+          (subst (λ (o : Option (List ℕ)). TaskRuns fails (state [] (Some input) o w) life.ended led.marked (state [] rest output led.end)) none
+          (subst (λ (i : Option (List ℕ)). TaskRuns fails (state [] i empty w) life.ended led.marked (state [] rest output led.end)) given led.holds));
     };
     moves = f led.marked led.end led.moves;
   }
 
   -- before the first
-  pub lived_none : (Spelled : World → Type 0) (w : World) → Spelled w → LivedTo fails Spelled [] w
-  lived_none Spelled w spelled = lived_to Spelled [] w w [] unlived spelled
+  pub lived_none : (Spelled : World → Type 0) (w : World) → Spelled w → LivedTo fails Spelled [] [] w
+  lived_none Spelled w spelled = lived_to Spelled [] [] w w [] unlived spelled
 
   -- one more
-  pub lived_next : (Before After : World → Type 0) (inputs : List (List ℕ)) (input : List ℕ) (w : World) → LivedTo fails Before inputs w
-      → ((v : World) → Before v → Leads (RunsOver fails v input) (Lasts After)) → LivedTo fails After (inputs ++ input ∷ []) w
-  lived_next Before After inputs input w before next = by (next before.end before.spelled) where
-    after : (ns : List Marked) (now : World) → RunsOver fails before.end input ns now → Lasts After ns now → LivedTo fails After (inputs ++ input ∷ []) w
-    after ns now run (inl here) = lived_to After _ w now _ (lived before.over run) here
-    after ns now run (inr more) = lived_to After _ w _ _ (lived_more before.over run more.0 more.1) more.2
+  pub lived_next : (Before After : World → Type 0) (inputs : List (List ℕ)) (input : List ℕ) (lives : List Life) (life : Life) (w : World) → LivedTo fails Before inputs lives w
+      → ((v : World) → Before v → Leads (RunsOver fails v input life) (Lasts After)) → LivedTo fails After (inputs ++ input ∷ []) (lives ++ life ∷ []) w
+  lived_next Before After inputs input lives life w before next = by (next before.end before.spelled) where
+    after : (ns : List Marked) (now : World) → RunsOver fails before.end input life ns now → Lasts After ns now → LivedTo fails After (inputs ++ input ∷ []) (lives ++ life ∷ []) w
+    after ns now run (inl here) = lived_to After _ _ w now _ (lived before.over run) here
+    after ns now run (inr more) = lived_to After _ _ w _ _ (lived_more before.over run more.0 more.1) more.2
 
-    by : Leads (RunsOver fails before.end input) (Lasts After) → LivedTo fails After (inputs ++ input ∷ []) w
+    by : Leads (RunsOver fails before.end input life) (Lasts After) → LivedTo fails After (inputs ++ input ∷ []) (lives ++ life ∷ []) w
     by led = after led.marked led.end led.holds led.moves

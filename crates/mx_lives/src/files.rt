@@ -14,7 +14,7 @@ ghost use Rattle.mx_tables.specs.States.{IsOurs, worry};
 ghost use Rattle.mx_lives.specs.InFiles.{AreClosed, HoldBooks};
 ghost use Rattle.mx_lives.specs.Lived.{LivedTo, RunsOver};
 
-use crate::answered::answered;
+use crate::answered::{Life, answered};
 use crate::lives::live_on;
 use mx_book::Book;
 use mx_files::books::make_in_store;
@@ -84,20 +84,21 @@ fn life_over<S: Alter + Drop>(
     alloc: Global,
     store: Connection<S>,
     input: &[u8],
-) -> Option<Connection<S>>
+) -> Option<(Connection<S>, Life)>
     ensures later { IfSome result
-        (λ left. worry (state S.Store store) ≤ worry (state S.Store left)) }
-    ensures ours { IfSome result (λ left. IsOurs (state S.Store left)) }
+        (λ r. worry (state S.Store store) ≤ worry (state S.Store r.0)) }
+    ensures ours { IfSome result (λ r. IsOurs (state S.Store r.0)) }
     ensures lives { (w : World) → ((state S.Store store).now.schema ≡ office_schema
         → SpellsOne (state S.Store store).now w)
-        → IfSome result (λ left. worry (state S.Store left) ≡ 0
-        → Leads (RunsOver ⟦<Tables<S> as Book>⟧.fails w input.now)
-        (λ _ now. SpellsOne (state S.Store left).now now)) }
+        → IfSome result (λ r. worry (state S.Store r.0) ≡ 0
+        → Leads (RunsOver ⟦<Tables<S> as Book>⟧.fails w input.now r.1)
+        (λ _ now. SpellsOne (state S.Store r.0).now now)) }
 {
     let Ok(book) = Tables::open(alloc, store) else {
         return None;
     };
-    Some(answered(alloc, book, input).into_store())
+    let (left, life) = answered(alloc, book, input);
+    Some((left.into_store(), life))
 }
 
 /// One life: opens the books in two files, answers the requests of an input, and closes the files. None where the files can't be
@@ -107,26 +108,28 @@ fn closed_life<D: Disk + Drop>(
     files: Files<D>,
     options: Options,
     input: &[u8],
-) -> Option<Files<D>>
+) -> Option<(Files<D>, Life)>
     ensures clean { IfSome result
-        (λ left. AreClean D.Disk left.log left.db → AreClean D.Disk files.log files.db) }
+        (λ r. AreClean D.Disk r.0.log r.0.db → AreClean D.Disk files.log files.db) }
     ensures lives { (w : World) → HoldBooks (image_of D.Disk files) w
-        → IfSome result (λ left. AreClean D.Disk left.log left.db
-        → Leads (RunsOver ⟦<Tables<FileStore<D>> as Book>⟧.fails w input.now)
-        (λ _ now. AreClosed D.Disk left now)) }
+        → IfSome result (λ r. AreClean D.Disk r.0.log r.0.db
+        → Leads (RunsOver ⟦<Tables<FileStore<D>> as Book>⟧.fails w input.now r.1)
+        (λ _ now. AreClosed D.Disk r.0 now)) }
 {
     let store = opened(alloc, files, options)?;
-    closed(life_over(alloc, store, input)?)
+    let (left, life) = life_over(alloc, store, input)?;
+    Some((closed(left)?, life))
 }
 
 /// Lives over the books in two files of any disk, a database and its log, one for each input, in order. A life opens the files,
-/// answers the requests of its input, and closes the files. Their responses go to a text that nobody gets. Gives back the
-/// files, and None where they couldn't be opened or closed, or have no books. No task of the program calls this: it says what
+/// answers the requests of its input, and closes the files. Gives back the files, with what came of each life; and None where
+/// they couldn't be opened or closed, or have no books, or there is no memory. No task of the program calls this: it says what
 /// the program's runs over a file come to, of the bytes in the file.
 ///
 /// Where the bytes in the files were those of books that spell a World, all lives together are one list of requests, each life
-/// over exactly the bytes of its input, and the bytes that the files have in the end are those of books that spell the World
-/// after them (`lives`). So by the law `lives` of mx_desk, all that is promised of requests holds of those of all lives.
+/// a run over exactly the bytes of its input, which ended and wrote as is given back. The bytes that the files have in the end
+/// are those of books that spell the World after them (`lives`). So by the law `lives` of mx_desk, all that is promised of
+/// requests holds of those of all lives.
 ///
 /// This holds of files that have returned what was written to them in all lives, and that nobody else wrote (`AreClean`). Of
 /// None nothing is said.
@@ -135,17 +138,20 @@ pub fn closed_lives<D: Disk + Drop>(
     files: Files<D>,
     options: Options,
     inputs: &[&[u8]],
-) -> Option<Files<D>>
+) -> Option<(Files<D>, Vec<Life>)>
     ensures lives { (w : World) → HoldBooks (image_of D.Disk files) w
-        → IfSome result (λ left. AreClean D.Disk left.log left.db
-        → LivedTo ⟦<Tables<FileStore<D>> as Book>⟧.fails (HoldBooks (image_of D.Disk left))
-        (map (λ input. input.now) inputs.now) w) }
+        → IfSome result (λ end. AreClean D.Disk end.0.log end.0.db
+        → LivedTo ⟦<Tables<FileStore<D>> as Book>⟧.fails (HoldBooks (image_of D.Disk end.0))
+        (map (λ input. input.now) inputs.now) end.1.items w) }
 {
     let mut held = files;
+    let mut lives = Vec::new(alloc);
     'inputs: for input in inputs {
-        held = closed_life(alloc, held, options, input)?;
+        let (left, life) = closed_life(alloc, held, options, input)?;
+        held = left;
+        lives.push(life).ok()?;
     }
-    Some(held)
+    Some((held, lives))
 }
 
 /// As `closed_lives`, with a stop in place of each close: the files are opened, each life is ended by a stop behind which the
@@ -159,12 +165,13 @@ pub fn stopped_lives<D: Crash + Drop>(
     files: Files<D>,
     options: Options,
     inputs: &[&[u8]],
-) -> Option<Files<D>>
+) -> Option<(Files<D>, Vec<Life>)>
     ensures lives { (w : World) → HoldBooks (image_of D.Disk files) w
-        → IfSome result (λ left. AreClean D.Disk left.log left.db
-        → LivedTo ⟦<Tables<FileStore<D>> as Book>⟧.fails (AreClosed D.Disk left)
-        (map (λ input. input.now) inputs.now) w) }
+        → IfSome result (λ end. AreClean D.Disk end.0.log end.0.db
+        → LivedTo ⟦<Tables<FileStore<D>> as Book>⟧.fails (AreClosed D.Disk end.0)
+        (map (λ input. input.now) inputs.now) end.1.items w) }
 {
     let store = opened(alloc, files, options)?;
-    closed(live_on(alloc, store, inputs)?)
+    let (end, lives) = live_on(alloc, store, inputs)?;
+    Some((closed(end)?, lives))
 }

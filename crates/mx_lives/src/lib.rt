@@ -7,6 +7,7 @@ pub mod files;
 pub mod lives;
 pub mod tables;
 
+pub use answered::Life;
 pub use files::{closed_lives, new_files, stopped_lives};
 pub use lives::live_on;
 pub use tables::run_memory_tables;

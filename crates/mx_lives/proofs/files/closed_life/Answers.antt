@@ -1,5 +1,4 @@
 use Rattle.std.proofs.Common.{◌≡◌, refl}
-use Rattle.std.proofs.lemmas.Option.{IfSome_then}
 use Rattle.sqlite.specs.Files.{file_state}
 use Rattle.mx_tables.specs.States.{worry}
 use Rattle.mx_tables.proofs.StateLemmas.{no_worry, sure, sure_before}
@@ -7,27 +6,27 @@ use Rattle.mx_lives.proofs.FileLemmas.{books_closed, books_found}
 use Rattle.mx_lives.proofs.files.closed_life.Goals as goal
 
 pub returns-clause-clean : goal.returns-clause-clean
-returns-clause-clean g c = IfSome_then c.closed.result c.closed.ensures (λ left copied clean.
-    let done = copied clean in
+returns-clause-clean g c = λ clean.
+    let done = c.in_ok-closed.ensures clean in
     let first = file_state c.in_ok-store.store in
-    let last = file_state c.in_ok-life_over.field-0 in
-    let start : worry first ≡ 0 = sure_before first last c.in_ok-life_over.ensures.later (no_worry last done.was_open done.was_clean) in
-    (c.in_ok-store.ensures.found (sure first start).1).honest)
+    let last = file_state c.in_ok-left.left in
+    let start : worry first ≡ 0 = sure_before first last c.in_ok-left.ensures.later (no_worry last done.was_open done.was_clean) in
+    (c.in_ok-store.ensures.found (sure first start).1).honest
 
 pub returns-clause-lives : goal.returns-clause-lives
-returns-clause-lives g c = λ w books. IfSome_then c.closed.result c.closed.ensures (λ left copied clean.
-    let done = copied clean in
+returns-clause-lives g c = λ w books clean.
+    let done = c.in_ok-closed.ensures clean in
     let first = file_state c.in_ok-store.store in
-    let last = file_state c.in_ok-life_over.field-0 in
+    let last = file_state c.in_ok-left.left in
     let end : worry last ≡ 0 = no_worry last done.was_open done.was_clean in
-    let start : worry first ≡ 0 = sure_before first last c.in_ok-life_over.ensures.later end in
+    let start : worry first ≡ 0 = sure_before first last c.in_ok-left.ensures.later end in
     let was = (sure first start).1 in
     let finds = c.in_ok-store.ensures.found was in
     let opens = (c.in_ok-store.ensures.opened was).0 in
-    let led = c.in_ok-life_over.ensures.lives w (books_found c.in_ok-store.store c.args.files w first.now books finds opens refl) end in
+    let led = c.in_ok-left.ensures.lives w (books_found c.in_ok-store.store c.args.files w first.now books finds opens refl) end in
     record {
       end = led.end;
       marked = led.marked;
       holds = led.holds;
-      moves = books_closed c.in_ok-life_over.field-0 left led.end (λ _. c.in_ok-life_over.ensures.ours) (λ _. led.moves) done;
-    })
+      moves = books_closed c.in_ok-left.left c.in_ok-closed.field-0 led.end (λ _. c.in_ok-left.ensures.ours) (λ _. led.moves) done;
+    }

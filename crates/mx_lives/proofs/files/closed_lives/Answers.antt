@@ -1,21 +1,25 @@
-use Rattle.std.proofs.Common.{◌≤◌, ◌<◌, [], map, length, arith}
+use Rattle.std.proofs.Common.{◌≡◌, ◌≤◌, ◌<◌, ◌∷◌, ◌++◌, [], map, length, arith, rules}
 use Rattle.std.proofs.lemmas.List.{get_or-map, length-map, take_all, take_more}
+use Rattle.sqlite.specs.Files.{image_of}
+use Rattle.mx_lives.specs.InFiles.{HoldBooks}
 use Rattle.mx_lives.proofs.FileLemmas.{closed_lasts}
 use Rattle.mx_lives.proofs.LifeLemmas.{lived_next, lived_none}
 use Rattle.mx_lives.proofs.files.closed_lives.Goals as goal
 
 pub inputs-init : goal.inputs-init
-inputs-init g c = λ w books clean. lived_none _ w books
+inputs-init g c = λ w books clean. rw c.new-lives.ensures.items (lived_none _ w books)
 
 pub inputs-preserved : goal.inputs-preserved
 inputs-preserved g c =
+    let pushed : c.push.new.self.items ≡ c.inputs.lives.items ++ c.in_ok-left.life ∷ [] = search rules in
     let texts = map (λ input. input.now) c.args.inputs.now in
     let many = length-map c.args.inputs.now (λ input. input.now) in
     let below : c.inputs.input-index < length texts = omega (arith, c.inputs-test.true) in
     let this = get_or-map (λ input. input.now) c.args.inputs.now c.inputs.input-index _ [] c.inputs-test.true in
     λ w books clean.
-    let before = c.inputs.invariant w books (c.in_ok-held.ensures.clean clean) in
-    rw (take_more texts c.inputs.input-index [] below, this) (lived_next _ _ _ _ w before (λ v here. closed_lasts _ (c.in_ok-held.ensures.lives v here clean)))
+    let before = c.inputs.invariant w books (c.in_ok-left.ensures.clean clean) in
+    rw pushed (rw (take_more texts c.inputs.input-index [] below, this)
+    (lived_next _ (HoldBooks (image_of g.D.Disk c.in_ok-left.left)) _ _ _ c.in_ok-left.life w before (λ v here. closed_lasts _ (c.in_ok-left.ensures.lives v here clean))))
 
 pub returns : goal.returns
 returns g c =

@@ -9,4 +9,4 @@ use Rattle.mx_lives.proofs.files.closed_lives.Given as goal
 -- where the files are clean, the lives so far led to what their bytes hold
 abbrev pub invariant-inputs : goal.invariant-inputs
 invariant-inputs g l = (w : World) → HoldBooks (image_of g.D.Disk l.fn.files) w → AreClean g.D.Disk l.held.log l.held.db
-    → LivedTo (λ _. Unit {0}) (HoldBooks (image_of g.D.Disk l.held)) (take l.input-index (map (λ input. input.now) l.fn.inputs)) w
+    → LivedTo (λ _. Unit {0}) (HoldBooks (image_of g.D.Disk l.held)) (take l.input-index (map (λ input. input.now) l.fn.inputs)) l.lives.items w

@@ -1,5 +1,4 @@
 use Rattle.std.proofs.Common.{◌≡◌, refl}
-use Rattle.std.proofs.lemmas.Option.{IfSome_then}
 use Rattle.sqlite.specs.Files.{file_state}
 use Rattle.mx_tables.specs.States.{worry}
 use Rattle.mx_tables.proofs.StateLemmas.{no_worry, sure}
@@ -8,20 +7,20 @@ use Rattle.mx_lives.proofs.files.stopped_lives.Goals as goal
 
 pub returns : goal.returns
 returns g c = record {
-  lives = λ w books. IfSome_then c.closed.result c.closed.ensures (λ left copied clean.
-      let done = copied clean in
+  lives = λ w books clean.
+      let done = c.in_ok-closed.ensures clean in
       let first = file_state c.in_ok-store.store in
-      let last = c.in_ok-live_on.field-0 in
+      let last = c.in_ok-end.end in
       let end : worry (file_state last) ≡ 0 = no_worry (file_state last) done.was_open done.was_clean in
-      let was = (sure first (c.in_ok-live_on.ensures.calm end)).1 in
+      let was = (sure first (c.in_ok-end.ensures.calm end)).1 in
       let finds = c.in_ok-store.ensures.found was in
       let opens = (c.in_ok-store.ensures.opened was).0 in
-      let led = c.in_ok-live_on.ensures.lives w (books_found c.in_ok-store.store c.args.files w first.now books finds opens refl) end in
+      let led = c.in_ok-end.ensures.lives w (books_found c.in_ok-store.store c.args.files w first.now books finds opens refl) end in
       record {
         marked = led.marked;
         end = led.end;
         over = led.over;
         as_one = led.as_one;
-        spelled = books_closed last left led.end (λ _. c.in_ok-live_on.ensures.ours) (λ _. led.spelled) done;
-      });
+        spelled = books_closed last c.in_ok-closed.field-0 led.end (λ _. c.in_ok-end.ensures.ours) (λ _. led.spelled) done;
+      };
 }

@@ -4,7 +4,6 @@ use Rattle.mx_desk.proofs.DurableLemmas.{moves_last}
 use Rattle.mx_tables.specs.Holds.{SpellsOne}
 use Rattle.mx_tables.specs.States.{Leaves}
 use Rattle.mx_tables.specs.Steady.{left_as_is}
-use Rattle.mx_lives.proofs.LifeLemmas.{if_some_both}
 use Rattle.mx_lives.proofs.lives.live.Goals as goal
 
 pub returns-clause-lives : goal.returns-clause-lives
@@ -12,11 +11,12 @@ returns-clause-lives g c = λ w sure spelled.
     let book = state_of g.S.Store c.args.book in
     let stood : (db : Database) → Leaves book db → SpellsOne db w =
     λ db was. rw (left_as_is book (g.met.S.Store.settled c.args.book.store) db sure was) spelled in
-    if_some_both c.stopped.result _ _ _ (λ again calm left h.
-    let led = c.answered.ensures.runs w (calm h) (λ _. spelled) in
+    λ h.
+    let low = c.in_ok-stopped.ensures.calm h in
+    let led = c.answered-left.ensures.runs w low (λ _. spelled) in
     record {
       end = led.end;
       marked = led.marked;
       holds = led.holds;
-      moves = moves_last _ _ w led.end led.marked stood led.moves (calm h) _ (left h);
-    }) c.stopped.ensures.calm c.stopped.ensures.left
+      moves = moves_last _ _ w led.end led.marked stood led.moves low _ (c.in_ok-stopped.ensures.left h);
+    }

@@ -1,6 +1,7 @@
-use Rattle.std.proofs.Common.{◌≤◌, ◌<◌, [], map, length, arith}
+use Rattle.std.proofs.Common.{◌≡◌, ◌≤◌, ◌<◌, ◌∷◌, ◌++◌, [], map, length, arith, rules}
 use Rattle.std.proofs.lemmas.List.{get_or-map, length-map, take_all, take_more}
 use Rattle.sqlite.specs.Held.{state}
+use Rattle.mx_tables.specs.Holds.{SpellsOne}
 use Rattle.mx_tables.proofs.StateLemmas.{sure_before}
 use Rattle.mx_lives.proofs.LifeLemmas.{lived_next, lived_none, opened_spells}
 use Rattle.mx_lives.proofs.lives.live_on.Goals as goal
@@ -9,21 +10,23 @@ pub inputs-init : goal.inputs-init
 inputs-init g c = record {
   awake = c.in-Ok.ensures.live;
   calm = sure_before (state g.S.Store c.args.store) (state g.S.Store c.in-Ok.opened) c.in-Ok.ensures.later;
-  led = λ w spelled sure. lived_none _ w (opened_spells (state g.S.Store c.args.store).now (state g.S.Store c.in-Ok.opened) w c.in-Ok.ensures.ours (c.in-Ok.ensures.same sure) sure spelled);
+  led = λ w spelled sure. rw c.new-lives.ensures.items (lived_none _ w (opened_spells (state g.S.Store c.args.store).now (state g.S.Store c.in-Ok.opened) w c.in-Ok.ensures.ours (c.in-Ok.ensures.same sure) sure spelled));
 }
 
 pub inputs-preserved : goal.inputs-preserved
 inputs-preserved g c =
+    let pushed : c.push.new.self.items ≡ c.inputs.lives.items ++ c.in_ok-again.life ∷ [] = search rules in
     let texts = map (λ input. input.now) c.args.inputs.now in
     let many = length-map c.args.inputs.now (λ input. input.now) in
     let below : c.inputs.input-index < length texts = omega (arith, c.inputs-test.true) in
     let this = get_or-map (λ input. input.now) c.args.inputs.now c.inputs.input-index _ [] c.inputs-test.true in
     record {
-      awake = c.in_ok-book.ensures.awake;
-      calm = λ sure. c.inputs.invariant.calm (c.inputs.invariant.awake (c.in_ok-book.ensures.calm sure));
+      awake = c.in_ok-again.ensures.awake;
+      calm = λ sure. c.inputs.invariant.calm (c.inputs.invariant.awake (c.in_ok-again.ensures.calm sure));
       led = λ w spelled sure.
-          let was = c.inputs.invariant.awake (c.in_ok-book.ensures.calm sure) in
-          rw (take_more texts c.inputs.input-index [] below, this) (lived_next _ _ _ _ w (c.inputs.invariant.led w spelled was) (λ v here. c.in_ok-book.ensures.lives v was here sure));
+          let was = c.inputs.invariant.awake (c.in_ok-again.ensures.calm sure) in
+          rw pushed (rw (take_more texts c.inputs.input-index [] below, this)
+          (lived_next _ (SpellsOne (state g.S.Store c.in_ok-again.again).now) _ _ _ c.in_ok-again.life w (c.inputs.invariant.led w spelled was) (λ v here. c.in_ok-again.ensures.lives v was here sure)));
     }
 
 pub returns : goal.returns
