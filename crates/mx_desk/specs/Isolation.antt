@@ -27,7 +27,7 @@ pub record Own : Type 0 where
   pub body : List ℕ
 
 -- what happens to a holder: a request of the holder's own, or what a command brings the holder: a purse that is issued,
--- a load, or a message that enters an inbox
+-- a load, a settlement, or a message that enters an inbox
 pub data Seen : Type 0 where
   Sent : Own → Seen
   Brought : Event → Seen

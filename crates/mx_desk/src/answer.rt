@@ -129,8 +129,9 @@ fn answer_routed<B: Book>(
 
 /// Answers a request: the response, and the change that goes with it. After a fault nothing is changed, and the request
 /// is one that may be given up, unless a read of the book may fail: it has a route, its token is that of a caller of its
-/// class, and memory is taken for it. Memory is taken for a body, for a list that is read, for edits, and for a response
-/// that is made for its reply. So a request with no body that is refused isn't given up, but for a grant's list.
+/// class, and memory is taken for it. Memory is taken where its route reads a body, for a list that is read, for edits,
+/// and for a response that is made for its reply. So a request whose route reads no body and that is refused isn't
+/// given up.
 #[tactic(auto, unfolding(crate::specs::Respond::respond, crate::specs::Respond::after_route))]
 pub fn answer_request<B: Book>(
     alloc: Global,

@@ -17,8 +17,8 @@ ghost use Rattle.mx_desk.specs.Serve.{Marked};
 ///   and which look the same to the holder, tell the holder the same bytes, and leave the same as the holder's own.
 ///
 /// What a holder sees are the holder's own requests, each with its method, its path and its body, and what commands
-/// brought the holder: purses, loads, and messages. Requests that were given up, and so answered 503, aren't seen; they
-/// changed nothing.
+/// brought the holder: purses, loads, settlements, and messages. Requests that were given up, and so answered 503,
+/// aren't seen; they changed nothing.
 ///
 /// The call does nothing.
 pub fn isolation()
