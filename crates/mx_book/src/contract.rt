@@ -33,7 +33,8 @@ pub enum StoreFault {
 /// doubt is 0. Only a store that works gives an answer.
 ///
 /// A stop, at any moment, leaves what the next opening finds. While doubt is at most 1, no read adds to what a stop
-/// may leave, and `apply` adds the rows after all its edits alone. While doubt is 0 a stop leaves the rows as they are.
+/// may leave, and `apply` adds the rows after all its edits alone. While doubt is 0 a stop leaves nothing but the
+/// rows as they are.
 pub trait Book {
     /// What is kept, however it is kept.
     ghost Rows: { Type 0 };

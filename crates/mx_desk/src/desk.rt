@@ -245,8 +245,8 @@ pub const MOST_READS: u64 = 1_000_000_000;
 /// refused because a purse or a float is full. And the commands that the requests ask are operations of the abstract purses,
 /// in which a payment is one operation, for every choice of losses at the end.
 ///
-/// It holds also where a fault of the store comes on the way: the responses before are as ever, and from then on each request
-/// that asks the book is given up. What a stop leaves, whenever it comes, is the World in the end, or that with one more of the
+/// It holds also where a fault of the store comes on the way: each request is answered by the definitions, or given up, and what
+/// was answered is kept. What a stop leaves, whenever it comes, is the World in the end, or that with one more of the
 /// requests that were given up, behind which nothing was changed (`MovesTo`).
 pub fn run<R: Read, W: Outlet, B: Book>(
     alloc: Global,

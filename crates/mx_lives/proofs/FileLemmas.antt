@@ -1,5 +1,5 @@
 -- What the bytes of files hold, and what a close leaves of them.
-use Rattle.std.proofs.Common.{◌≡◌, List, ap, ap₂, sym, subst, ◌∙◌, inl}
+use Rattle.std.proofs.Common.{◌≡◌, ℕ, List, [], ◌∷◌, ◌++◌, ap, ap₂, sym, subst, ◌∙◌}
 use Rattle.std.proofs.Math.Logic.{∥∥₁_elim}
 use Rattle.sqlite_disk.specs.declared.Disk.{Ghosts}
 use Rattle.sqlite_disk.specs.declared.Files.{Files}
@@ -9,23 +9,32 @@ use Rattle.sqlite_trees.specs.Props.{Trees-set}
 use Rattle.sqlite_trees.specs.Tree.{Trees}
 use Rattle.sqlite_wal.specs.Recovery.{Image}
 use Rattle.sqlite.specs.Closing.{HoldsAlone, IsCopied}
-use Rattle.sqlite.specs.Effect.{Database}
+use Rattle.sqlite.specs.Effect.{Database, IsDatabase}
 use Rattle.sqlite.specs.Files.{Finds, file_state, image_of}
 use Rattle.sqlite.specs.Held.{Held}
 use Rattle.sqlite.specs.State.{Opens}
 use Rattle.mx_book.specs.World.{World}
-use Rattle.mx_desk.specs.Durable.{Lasts}
 use Rattle.mx_desk.specs.Serve.{Marked}
 use Rattle.mx_desk.specs.Steps.{Leads}
 use Rattle.mx_tables.specs.Holds.{SpellsOne}
 use Rattle.mx_tables.specs.Schema.{office_schema}
 use Rattle.mx_tables.specs.States.{IsOurs, worry}
 use Rattle.mx_tables.proofs.StateLemmas.{no_worry}
-use Rattle.mx_lives.specs.InFiles.{AreClosed, HoldBooks, HoldBooksAlone}
+use Rattle.mx_lives.specs.InFiles.{AreClosed, AreLeft, HoldBooks, HoldBooksAlone}
 
--- lives that end with a close are lives
-pub closed_lasts : {D : Type 0} {g : Ghosts D} (files : Files D) {Holds : List Marked → World → Type 0} → Leads Holds (λ _ now. AreClosed g files now) → Leads Holds (Lasts (HoldBooks (image_of g files)))
-closed_lasts files led = record { end = led.end; marked = led.marked; holds = led.holds; moves = inl led.moves.seen.both }
+-- what lives left holds the books
+pub left_hold : {D : Type 0} (g : Ghosts D) (files : Files D) (inputs : List (List ℕ)) (w : World) → AreLeft g files inputs w → HoldBooks (image_of g files) w
+left_hold g files [] w held = held
+left_hold g files (input ∷ inputs) w closed = closed.seen.both
+
+-- files that were closed are left by one life more
+left_closed : {D : Type 0} (g : Ghosts D) (files : Files D) (inputs : List (List ℕ)) (input : List ℕ) (w : World) → AreClosed g files w → AreLeft g files (inputs ++ input ∷ []) w
+left_closed g files [] input w closed = closed
+left_closed g files (first ∷ inputs) input w closed = closed
+
+pub closed_left : {D : Type 0} (g : Ghosts D) (files : Files D) (inputs : List (List ℕ)) (input : List ℕ) {Holds : List Marked → World → Type 0}
+    → Leads Holds (λ _ now. AreClosed g files now) → Leads Holds (λ _ now. AreLeft g files (inputs ++ input ∷ []) now)
+closed_left g files inputs input led = record { end = led.end; marked = led.marked; holds = led.holds; moves = left_closed g files inputs input led.end led.moves }
 
 -- a database of the office with these trees
 is_ours : (db : Database) (trees : Trees) → db.schema ≡ office_schema → db.trees ≡ trees → db ≡ record { schema = office_schema; trees = trees }
@@ -33,8 +42,8 @@ is_ours db trees schema same = ap₂ (λ (s : Schema) (t : Trees). record { sche
 
 module _ {D : Type 0} {g : Ghosts D} where
   -- a close of the books that spell a World leaves their bytes
-  pub books_closed : (c : Held (FileStore D g)) (files : Files D) (w : World) → (worry (file_state c) ≡ 0 → IsOurs (file_state c)) → (worry (file_state c) ≡ 0 → SpellsOne (file_state c).now w) → IsCopied c files → AreClosed g files w
-  books_closed c files w ours spelled copied = record { seen = hold _ copied.seen; left = λ bytes left. hold bytes (copied.left bytes left) } where
+  pub books_closed : (c : Held (FileStore D g)) (files : Files D) (w : World) → (worry (file_state c) ≡ 0 → IsOurs (file_state c)) → (worry (file_state c) ≡ 0 → SpellsOne (file_state c).now w) → IsDatabase (file_state c).now → IsCopied c files → AreClosed g files w
+  books_closed c files w ours spelled listed copied = record { seen = hold _ copied.seen; left = λ bytes left. hold bytes (copied.left bytes left) } where
     sure : worry (file_state c) ≡ 0
     sure = no_worry (file_state c) copied.was_open copied.was_clean
 
@@ -44,10 +53,13 @@ module _ {D : Type 0} {g : Ghosts D} where
     now : SpellsOne (record { schema = office_schema; trees = (file_state c).committed.trees }) w
     now = subst (λ (db : Database). SpellsOne db w) same (spelled sure)
 
+    whole : IsDatabase (record { schema = office_schema; trees = (file_state c).committed.trees })
+    whole = subst IsDatabase same listed
+
     hold : (bytes : Image) → HoldsAlone bytes (file_state c).committed.trees → HoldBooksAlone bytes w
     hold bytes held = record {
-      both = record { trees = (file_state c).committed.trees; held = held.both; spelled = now };
-      alone = record { trees = (file_state c).committed.trees; held = held.alone; spelled = now };
+      both = record { trees = (file_state c).committed.trees; held = held.both; listed = whole; spelled = now };
+      alone = record { trees = (file_state c).committed.trees; held = held.alone; listed = whole; spelled = now };
     }
 
   -- books that are opened in files spell what the bytes say

@@ -1,5 +1,5 @@
 -- Lives, and stops between them.
-use Rattle.std.proofs.Common.{◌≡◌, ◌≤◌, ℕ, Bool, true, false, inl, inr, List, [], ◌∷◌, ◌++◌, Option, Some, Result, ap, subst, sym, ◌∙◌, arith}
+use Rattle.std.proofs.Common.{◌≡◌, ◌≤◌, ℕ, Bool, true, false, inl, inr, List, [], ◌∷◌, ◌++◌, Option, Some, Result, ap, refl, subst, sym, ◌∙◌, arith}
 use Rattle.sqlite.specs.Effect.{Database}
 use Rattle.sqlite.specs.State.{State as Connected, HasCleanDisk}
 use Rattle.sqlite_trees.proofs.Doubt.{clean_of}
@@ -39,15 +39,16 @@ module _ {fails : StoreFault → Type 0} where
   task_lawful s r ms t (inr runs) = runs.2.leaves.lawful
 
   -- lives over inputs are lives
-  over_lives : (inputs : List (List ℕ)) (lives : List Life) (w now : World) (ms : List Marked) → LivesOver fails inputs lives w ms now → Lives w ms now
+  over_lives : {have_stops : Bool} (inputs : List (List ℕ)) (lives : List Life) (w now : World) (ms : List Marked) → LivesOver fails have_stops inputs lives w ms now → Lives w ms now
   over_lives _ _ _ _ _ (unlived {w}) = unborn
   over_lives _ _ _ _ _ (lived {inputs} {input} {lives} {life} {w} {v} {now} {ms} {ns} before run) =
       ended (over_lives inputs lives w v ms before) (task_lawful _ _ _ _ run.runs)
-  over_lives _ _ _ _ _ (lived_more {inputs} {input} {lives} {life} {w} {v} {now} {ms} {ns} before run m given_up) =
+  over_lives _ _ _ _ _ (lived_more {inputs} {input} {lives} {life} {w} {v} {now} {ms} {ns} _ before run m given_up) =
       stopped (over_lives inputs lives w v ms before) (task_lawful _ _ _ _ run.runs) m given_up
 
   -- what lives over inputs led to
-  lived_to : (Spelled : World → Type 0) (inputs : List (List ℕ)) (lives : List Life) (w end : World) (ms : List Marked) → LivesOver fails inputs lives w ms end → Spelled end → LivedTo fails Spelled inputs lives w
+  lived_to : {have_stops : Bool} (Spelled : World → Type 0) (inputs : List (List ℕ)) (lives : List Life) (w end : World) (ms : List Marked) → LivesOver fails have_stops inputs lives w ms end → Spelled end
+      → LivedTo fails have_stops Spelled inputs lives w
   lived_to Spelled inputs lives w end ms over spelled = record { marked = ms; end = end; over = over; as_one = over_lives inputs lives w end ms over; spelled = spelled }
 
   -- a run over an input
@@ -67,16 +68,23 @@ module _ {fails : StoreFault → Type 0} where
   }
 
   -- before the first
-  pub lived_none : (Spelled : World → Type 0) (w : World) → Spelled w → LivedTo fails Spelled [] [] w
+  pub lived_none : {have_stops : Bool} (Spelled : World → Type 0) (w : World) → Spelled w → LivedTo fails have_stops Spelled [] [] w
   lived_none Spelled w spelled = lived_to Spelled [] [] w w [] unlived spelled
 
-  -- one more
-  pub lived_next : (Before After : World → Type 0) (inputs : List (List ℕ)) (input : List ℕ) (lives : List Life) (life : Life) (w : World) → LivedTo fails Before inputs lives w
-      → ((v : World) → Before v → Leads (RunsOver fails v input life) (Lasts After)) → LivedTo fails After (inputs ++ input ∷ []) (lives ++ life ∷ []) w
-  lived_next Before After inputs input lives life w before next = by (next before.end before.spelled) where
-    after : (ns : List Marked) (now : World) → RunsOver fails before.end input life ns now → Lasts After ns now → LivedTo fails After (inputs ++ input ∷ []) (lives ++ life ∷ []) w
-    after ns now run (inl here) = lived_to After _ _ w now _ (lived before.over run) here
-    after ns now run (inr more) = lived_to After _ _ w _ _ (lived_more before.over run more.0 more.1) more.2
+  -- one more, which ended with a close
+  pub closed_next : (Before After : World → Type 0) (inputs : List (List ℕ)) (input : List ℕ) (lives : List Life) (life : Life) (w : World) → LivedTo fails false Before inputs lives w
+      → ((v : World) → Before v → Leads (RunsOver fails v input life) (λ _ now. After now)) → LivedTo fails false After (inputs ++ input ∷ []) (lives ++ life ∷ []) w
+  closed_next Before After inputs input lives life w before next = by (next before.end before.spelled) where
+    by : Leads (RunsOver fails before.end input life) (λ _ now. After now) → LivedTo fails false After (inputs ++ input ∷ []) (lives ++ life ∷ []) w
+    by led = lived_to After _ _ w led.end _ (lived before.over led.holds) led.moves
 
-    by : Leads (RunsOver fails before.end input life) (Lasts After) → LivedTo fails After (inputs ++ input ∷ []) (lives ++ life ∷ []) w
+  -- and one that was ended by a stop
+  pub lived_next : (Before After : World → Type 0) (inputs : List (List ℕ)) (input : List ℕ) (lives : List Life) (life : Life) (w : World) → LivedTo fails true Before inputs lives w
+      → ((v : World) → Before v → Leads (RunsOver fails v input life) (Lasts After)) → LivedTo fails true After (inputs ++ input ∷ []) (lives ++ life ∷ []) w
+  lived_next Before After inputs input lives life w before next = by (next before.end before.spelled) where
+    after : (ns : List Marked) (now : World) → RunsOver fails before.end input life ns now → Lasts After ns now → LivedTo fails true After (inputs ++ input ∷ []) (lives ++ life ∷ []) w
+    after ns now run (inl here) = lived_to After _ _ w now _ (lived before.over run) here
+    after ns now run (inr more) = lived_to After _ _ w _ _ (lived_more refl before.over run more.0 more.1) more.2
+
+    by : Leads (RunsOver fails before.end input life) (Lasts After) → LivedTo fails true After (inputs ++ input ∷ []) (lives ++ life ∷ []) w
     by led = after led.marked led.end led.holds led.moves

@@ -1,5 +1,5 @@
--- Lives over the books in a store: each is a run of requests over an input of its own, and is ended by a stop.
-use Rattle.std.specs.Prelude.{ℕ, List, [], ◌∷◌, ◌++◌, Option, Some}
+-- Lives over the same books: each is a run of requests over an input of its own, and is ended by a stop or a close.
+use Rattle.std.specs.Prelude.{◌≡◌, ℕ, Bool, true, List, [], ◌∷◌, ◌++◌, Option, Some}
 use Rattle.mx_book.specs.World.{World}
 use Rattle.mx_book.specs.declared.contract.StoreFault.{StoreFault}
 use Rattle.mx_desk.specs.Durable.{IsGivenUpOf, Lives, after_all}
@@ -16,25 +16,26 @@ pub record RunsOver (fails : StoreFault → Type 0) (w : World) (input : List �
   pub rest : Option (List ℕ)
   pub runs : TaskRuns fails (state [] (Some input) (Some []) w) life.ended ms (state [] rest (Some life.written.items) now)
 
--- Lives over these inputs, in order, lead from one World to another with these requests. Each begins with the World that the one
--- before left: the World in its end, or that with one of its requests more, which it gave up and which is done after all.
-pub data LivesOver (fails : StoreFault → Type 0) : List (List ℕ) → List Life → World → List Marked → World → Type 0 where
-  unlived : {w : World} → LivesOver fails [] [] w [] w
+-- Lives over these inputs, in order, of which this came, lead from one World to another with these requests. Each begins with the
+-- World that the one before left: the World in its end, or, where lives are ended by stops, that with one of its requests more,
+-- which it gave up and which is done after all.
+pub data LivesOver (fails : StoreFault → Type 0) (have_stops : Bool) : List (List ℕ) → List Life → World → List Marked → World → Type 0 where
+  unlived : {w : World} → LivesOver fails have_stops [] [] w [] w
   lived : {inputs : List (List ℕ)} {input : List ℕ} {lives : List Life} {life : Life} {w v now : World} {ms ns : List Marked}
-      → LivesOver fails inputs lives w ms v → RunsOver fails v input life ns now
-      → LivesOver fails (inputs ++ input ∷ []) (lives ++ life ∷ []) w (ms ++ ns) now
+      → LivesOver fails have_stops inputs lives w ms v → RunsOver fails v input life ns now
+      → LivesOver fails have_stops (inputs ++ input ∷ []) (lives ++ life ∷ []) w (ms ++ ns) now
   lived_more : {inputs : List (List ℕ)} {input : List ℕ} {lives : List Life} {life : Life} {w v now : World} {ms ns : List Marked}
-      → LivesOver fails inputs lives w ms v → RunsOver fails v input life ns now → (m : Marked) → IsGivenUpOf ns m
-      → LivesOver fails (inputs ++ input ∷ []) (lives ++ life ∷ []) w (ms ++ (ns ++ after_all m ∷ [])) (respond now m.request).world
+      → have_stops ≡ true → LivesOver fails have_stops inputs lives w ms v → RunsOver fails v input life ns now → (m : Marked) → IsGivenUpOf ns m
+      → LivesOver fails have_stops (inputs ++ input ∷ []) (lives ++ life ∷ []) w (ms ++ (ns ++ after_all m ∷ [])) (respond now m.request).world
 
 -- lives over these inputs, of which this came, led from the World w to one that the books spell
-pub record LivedTo (fails : StoreFault → Type 0) (Spelled : World → Type 0) (inputs : List (List ℕ)) (lives : List Life) (w : World) : Type 0 where
+pub record LivedTo (fails : StoreFault → Type 0) (have_stops : Bool) (Spelled : World → Type 0) (inputs : List (List ℕ)) (lives : List Life) (w : World) : Type 0 where
   -- the requests of all lives, in order
   pub marked : List Marked
   -- the World after them
   pub end : World
   -- life by life, each tied to the bytes of its input, to how it ended and to what it wrote
-  pub over : LivesOver fails inputs lives w marked end
+  pub over : LivesOver fails have_stops inputs lives w marked end
   -- all lives as one list of requests: what is promised of it is said by the law `lives` of mx_desk
   pub as_one : Lives w marked end
   pub spelled : Spelled end

@@ -1,5 +1,6 @@
 //! Lives over the books in two files of any disk, a database and its log. Each life opens the files and closes them.
-ghost use Rattle.std.specs.Prelude.{◌≡◌, ◌≤◌, IfSome, map};
+ghost use Rattle.std.specs.Prelude.{◌≡◌, ◌≤◌, IfSome, IsTrue, map, false, true};
+ghost use Rattle.sqlite.specs.Effect.{IsDatabase};
 ghost use Rattle.sqlite_wal.specs.Reads.{AreClean};
 ghost use Rattle.sqlite.specs.Closing.{IsCopied};
 ghost use Rattle.sqlite.specs.Files.{Finds, IsOpened, file_state, image_of};
@@ -11,7 +12,7 @@ ghost use Rattle.mx_office.specs.Reachable.{IsReachable};
 ghost use Rattle.mx_tables.specs.Holds.{SpellsOne};
 ghost use Rattle.mx_tables.specs.Schema.{office_schema};
 ghost use Rattle.mx_tables.specs.States.{IsOurs, worry};
-ghost use Rattle.mx_lives.specs.InFiles.{AreClosed, HoldBooks};
+ghost use Rattle.mx_lives.specs.InFiles.{AreClosed, AreLeft, HoldBooks};
 ghost use Rattle.mx_lives.specs.Lived.{LivedTo, RunsOver};
 
 use crate::answered::{Life, answered};
@@ -44,7 +45,8 @@ fn opened<D: Disk + Drop>(
 
 /// Closes the two files of a database, and gives them back. None where they can't be closed.
 fn closed<D: Disk + Drop>(store: Connection<FileStore<D>>) -> Option<Files<D>>
-    ensures { IfSome result (λ files. AreClean D.Disk files.log files.db → IsCopied store files) }
+    ensures sound { IsTrue (file_state store).is_open → IsDatabase (file_state store).now }
+    ensures copied { IfSome result (λ files. AreClean D.Disk files.log files.db → IsCopied store files) }
 {
     match store.close_files() {
         Ok(files) => Some(files),
@@ -128,8 +130,9 @@ fn closed_life<D: Disk + Drop>(
 ///
 /// Where the bytes in the files were those of books that spell a World, all lives together are one list of requests, each life
 /// a run over exactly the bytes of its input, which ended and wrote as is given back. The bytes that the files have in the end
-/// are those of books that spell the World after them (`lives`). So by the law `lives` of mx_desk, all that is promised of
-/// requests holds of those of all lives.
+/// are those of books that spell the World after them; where there was a life, also with the database file alone, and as a
+/// stop may leave them (`lives`). So by the law `lives` of mx_desk, all that is promised of requests holds of those of all
+/// lives. No request that was given up is done after all.
 ///
 /// This holds of files that have returned what was written to them in all lives, and that nobody else wrote (`AreClean`). Of
 /// None nothing is said.
@@ -141,7 +144,8 @@ pub fn closed_lives<D: Disk + Drop>(
 ) -> Option<(Files<D>, Vec<Life>)>
     ensures lives { (w : World) → HoldBooks (image_of D.Disk files) w
         → IfSome result (λ end. AreClean D.Disk end.0.log end.0.db
-        → LivedTo ⟦<Tables<FileStore<D>> as Book>⟧.fails (HoldBooks (image_of D.Disk end.0))
+        → LivedTo ⟦<Tables<FileStore<D>> as Book>⟧.fails false
+        (AreLeft D.Disk end.0 (map (λ input. input.now) inputs.now))
         (map (λ input. input.now) inputs.now) end.1.items w) }
 {
     let mut held = files;
@@ -168,7 +172,7 @@ pub fn stopped_lives<D: Crash + Drop>(
 ) -> Option<(Files<D>, Vec<Life>)>
     ensures lives { (w : World) → HoldBooks (image_of D.Disk files) w
         → IfSome result (λ end. AreClean D.Disk end.0.log end.0.db
-        → LivedTo ⟦<Tables<FileStore<D>> as Book>⟧.fails (AreClosed D.Disk end.0)
+        → LivedTo ⟦<Tables<FileStore<D>> as Book>⟧.fails true (AreClosed D.Disk end.0)
         (map (λ input. input.now) inputs.now) end.1.items w) }
 {
     let store = opened(alloc, files, options)?;

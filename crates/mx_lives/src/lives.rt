@@ -1,5 +1,5 @@
 //! Lives over the books in a store, each ended by a stop.
-ghost use Rattle.std.specs.Prelude.{◌≡◌, ◌≤◌, IfSome, map};
+ghost use Rattle.std.specs.Prelude.{◌≡◌, ◌≤◌, IfSome, map, true};
 ghost use Rattle.sqlite.specs.Held.{state};
 ghost use Rattle.mx_book.specs.World.{World};
 ghost use Rattle.mx_desk.specs.Durable.{Lasts};
@@ -84,7 +84,7 @@ pub fn live_on<S: Alter + Reopen + Drop>(
     ensures lives { (w : World) → ((state S.Store store).now.schema ≡ office_schema
         → SpellsOne (state S.Store store).now w)
         → IfSome result (λ end. worry (state S.Store end.0) ≡ 0
-        → LivedTo ⟦<Tables<S> as Book>⟧.fails (SpellsOne (state S.Store end.0).now)
+        → LivedTo ⟦<Tables<S> as Book>⟧.fails true (SpellsOne (state S.Store end.0).now)
         (map (λ input. input.now) inputs.now) end.1.items w) }
 {
     let Ok(opened) = Tables::open(alloc, store) else {

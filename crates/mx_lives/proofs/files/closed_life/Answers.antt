@@ -7,7 +7,7 @@ use Rattle.mx_lives.proofs.files.closed_life.Goals as goal
 
 pub returns-clause-clean : goal.returns-clause-clean
 returns-clause-clean g c = λ clean.
-    let done = c.in_ok-closed.ensures clean in
+    let done = c.in_ok-closed.ensures.copied clean in
     let first = file_state c.in_ok-store.store in
     let last = file_state c.in_ok-left.left in
     let start : worry first ≡ 0 = sure_before first last c.in_ok-left.ensures.later (no_worry last done.was_open done.was_clean) in
@@ -15,7 +15,7 @@ returns-clause-clean g c = λ clean.
 
 pub returns-clause-lives : goal.returns-clause-lives
 returns-clause-lives g c = λ w books clean.
-    let done = c.in_ok-closed.ensures clean in
+    let done = c.in_ok-closed.ensures.copied clean in
     let first = file_state c.in_ok-store.store in
     let last = file_state c.in_ok-left.left in
     let end : worry last ≡ 0 = no_worry last done.was_open done.was_clean in
@@ -28,5 +28,5 @@ returns-clause-lives g c = λ w books clean.
       end = led.end;
       marked = led.marked;
       holds = led.holds;
-      moves = books_closed c.in_ok-left.left c.in_ok-closed.field-0 led.end (λ _. c.in_ok-left.ensures.ours) (λ _. led.moves) done;
+      moves = books_closed c.in_ok-left.left c.in_ok-closed.field-0 led.end (λ _. c.in_ok-left.ensures.ours) (λ _. led.moves) (c.in_ok-closed.ensures.sound done.was_open) done;
     }

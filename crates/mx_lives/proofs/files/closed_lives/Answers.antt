@@ -1,9 +1,8 @@
-use Rattle.std.proofs.Common.{◌≡◌, ◌≤◌, ◌<◌, ◌∷◌, ◌++◌, [], map, length, arith, rules}
+use Rattle.std.proofs.Common.{◌≡◌, ◌≤◌, ◌<◌, ◌∷◌, ◌++◌, [], map, take, length, arith, rules}
 use Rattle.std.proofs.lemmas.List.{get_or-map, length-map, take_all, take_more}
-use Rattle.sqlite.specs.Files.{image_of}
-use Rattle.mx_lives.specs.InFiles.{HoldBooks}
-use Rattle.mx_lives.proofs.FileLemmas.{closed_lasts}
-use Rattle.mx_lives.proofs.LifeLemmas.{lived_next, lived_none}
+use Rattle.mx_lives.specs.InFiles.{AreLeft}
+use Rattle.mx_lives.proofs.FileLemmas.{closed_left, left_hold}
+use Rattle.mx_lives.proofs.LifeLemmas.{closed_next, lived_none}
 use Rattle.mx_lives.proofs.files.closed_lives.Goals as goal
 
 pub inputs-init : goal.inputs-init
@@ -19,7 +18,8 @@ inputs-preserved g c =
     λ w books clean.
     let before = c.inputs.invariant w books (c.in_ok-left.ensures.clean clean) in
     rw pushed (rw (take_more texts c.inputs.input-index [] below, this)
-    (lived_next _ (HoldBooks (image_of g.D.Disk c.in_ok-left.left)) _ _ _ c.in_ok-left.life w before (λ v here. closed_lasts _ (c.in_ok-left.ensures.lives v here clean))))
+    (closed_next _ (AreLeft g.D.Disk c.in_ok-left.left (take c.inputs.input-index texts ++ _ ∷ [])) _ _ _ c.in_ok-left.life w before
+    (λ v here. closed_left g.D.Disk _ _ _ (c.in_ok-left.ensures.lives v (left_hold g.D.Disk _ _ v here) clean))))
 
 pub returns : goal.returns
 returns g c =

@@ -8,7 +8,7 @@ use Rattle.mx_lives.proofs.files.stopped_lives.Goals as goal
 pub returns : goal.returns
 returns g c = record {
   lives = λ w books clean.
-      let done = c.in_ok-closed.ensures clean in
+      let done = c.in_ok-closed.ensures.copied clean in
       let first = file_state c.in_ok-store.store in
       let last = c.in_ok-end.end in
       let end : worry (file_state last) ≡ 0 = no_worry (file_state last) done.was_open done.was_clean in
@@ -21,6 +21,6 @@ returns g c = record {
         end = led.end;
         over = led.over;
         as_one = led.as_one;
-        spelled = books_closed last c.in_ok-closed.field-0 led.end (λ _. c.in_ok-end.ensures.ours) (λ _. led.spelled) done;
+        spelled = books_closed last c.in_ok-closed.field-0 led.end (λ _. c.in_ok-end.ensures.ours) (λ _. led.spelled) (c.in_ok-closed.ensures.sound done.was_open) done;
       };
 }

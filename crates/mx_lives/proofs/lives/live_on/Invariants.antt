@@ -1,4 +1,4 @@
-use Rattle.std.proofs.Common.{◌≡◌, map, take}
+use Rattle.std.proofs.Common.{◌≡◌, map, take, true}
 use Rattle.sqlite.specs.Held.{state}
 use Rattle.mx_book.specs.World.{World}
 use Rattle.mx_tables.specs.Holds.{SpellsOne}
@@ -13,5 +13,5 @@ invariant-inputs g l = record {
   awake : IsAwake (state g.S.Store l.book);
   calm : worry (state g.S.Store l.book) ≡ 0 → worry (state g.S.Store l.fn.store) ≡ 0;
   led : (w : World) → ((state g.S.Store l.fn.store).now.schema ≡ office_schema → SpellsOne (state g.S.Store l.fn.store).now w) → worry (state g.S.Store l.book) ≡ 0
-      → LivedTo (λ _. Unit {0}) (SpellsOne (state g.S.Store l.book).now) (take l.input-index (map (λ input. input.now) l.fn.inputs)) l.lives.items w;
+      → LivedTo (λ _. Unit {0}) true (SpellsOne (state g.S.Store l.book).now) (take l.input-index (map (λ input. input.now) l.fn.inputs)) l.lives.items w;
 }
