@@ -55,7 +55,7 @@ fn shown_of(
 }
 
 /// Asserts that a life answered each request of a script as that has it.
-fn assert_answered(rt: &(impl Abort + AllocGlobal), life: Option<&Life>, script: &str) {
+pub(super) fn assert_answered(rt: &(impl Abort + AllocGlobal), life: Option<&Life>, script: &str) {
     let Some(life) = life else {
         assert!(rt; false);
         return;

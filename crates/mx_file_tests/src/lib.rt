@@ -20,6 +20,8 @@ mod made;
 #[cfg(test)]
 mod migrated;
 #[cfg(test)]
+mod new_tables;
+#[cfg(test)]
 mod offices;
 #[cfg(test)]
 mod requests;
