@@ -13,7 +13,8 @@ use Rattle.mx_desk.proofs.LawfulLemmas.{lawful_requests}
 use Rattle.mx_tables.specs.Holds.{SpellsOne}
 use Rattle.mx_tables.specs.Schema.{office_schema}
 use Rattle.mx_tables.specs.States.{IsOurs, worry, worry_at}
-use Rattle.mx_tasks.specs.Runs.{TaskRuns}
+use Rattle.std.specs.Prelude.{IfErr}
+use Rattle.mx_tasks.specs.Runs.{IsRunFault, TaskRuns}
 use Rattle.mx_tasks.specs.declared.fault.TaskFault.{TaskFault}
 use Rattle.mx_lives.specs.declared.answered.Life.{Life}
 use Rattle.mx_lives.specs.Lived.{LivedTo, LivesOver, RunsOver, lived, lived_more, unlived}
@@ -53,13 +54,14 @@ module _ {fails : StoreFault → Type 0} where
 
   -- a run over an input
   pub run_over : {Moves Left : List Marked → World → Type 0} {rest : Option (List ℕ)} (from empty output : Option (List ℕ)) (input : List ℕ) (w : World) (life : Life) → from ≡ Some input → empty ≡ Some []
-      → output ≡ Some life.written.items → ((ms : List Marked) (now : World) → Moves ms now → Left ms now)
+      → output ≡ Some life.written.items → IfErr life.ended IsRunFault → ((ms : List Marked) (now : World) → Moves ms now → Left ms now)
       → Leads (λ ms now. TaskRuns fails (state [] from empty w) life.ended ms (state [] rest output now)) Moves → Leads (RunsOver fails w input life) Left
-  run_over {Moves} {Left} {rest} from empty output input w life given none wrote f led = record {
+  run_over {Moves} {Left} {rest} from empty output input w life given none wrote fault f led = record {
     end = led.end;
     marked = led.marked;
     holds = record {
       rest = rest;
+      fault = fault;
       runs = subst (λ (out : Option (List ℕ)). TaskRuns fails (state [] (Some input) (Some []) w) life.ended led.marked (state [] rest out led.end)) wrote
           (subst (λ (o : Option (List ℕ)). TaskRuns fails (state [] (Some input) o w) life.ended led.marked (state [] rest output led.end)) none
           (subst (λ (i : Option (List ℕ)). TaskRuns fails (state [] i empty w) life.ended led.marked (state [] rest output led.end)) given led.holds));

@@ -1,5 +1,5 @@
 -- Lives over the same books: each is a run of requests over an input of its own, and is ended by a stop or a close.
-use Rattle.std.specs.Prelude.{◌≡◌, ℕ, Bool, true, List, [], ◌∷◌, ◌++◌, Option, Some}
+use Rattle.std.specs.Prelude.{◌≡◌, ℕ, Bool, true, List, [], ◌∷◌, ◌++◌, Option, Some, IfErr}
 use Rattle.mx_book.specs.World.{World}
 use Rattle.mx_book.specs.declared.contract.StoreFault.{StoreFault}
 use Rattle.mx_desk.specs.Durable.{IsGivenUpOf, Lives, after_all}
@@ -7,13 +7,15 @@ use Rattle.mx_desk.specs.Respond.{respond}
 use Rattle.mx_desk.specs.Serve.{Marked}
 use Rattle.mx_desk.specs.Steps.{state}
 use Rattle.mx_lives.specs.declared.answered.Life.{Life}
-use Rattle.mx_tasks.specs.Runs.{TaskRuns}
+use Rattle.mx_tasks.specs.Runs.{IsRunFault, TaskRuns}
 
 -- a run over exactly these bytes, from the World w, which ended and wrote as the life says: it answered these requests, which lead
 -- to the World now
 pub record RunsOver (fails : StoreFault → Type 0) (w : World) (input : List ℕ) (life : Life) (ms : List Marked) (now : World) : Type 0 where
   -- the bytes that it left of the input
   pub rest : Option (List ℕ)
+  -- a fault is want of memory, or one of the desk
+  pub fault : IfErr life.ended IsRunFault
   pub runs : TaskRuns fails (state [] (Some input) (Some []) w) life.ended ms (state [] rest (Some life.written.items) now)
 
 -- Lives over these inputs, in order, of which this came, lead from one World to another with these requests. Each begins with the

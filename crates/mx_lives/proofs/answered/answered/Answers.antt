@@ -10,4 +10,4 @@ returns-clause-runs g c = λ w low was.
     let empty : Some c.new-writer.result.device.items ≡ Some [] = rw (c.new-writer.ensures.device, c.new.ensures.items) refl in
     let led = c.run_office-ended.ensures.runs w (rw c.into_book.ensures at low) (rw c.new-office.ensures was) in
     let wrote : Some c.run_office-ended.new.writer.device.items ≡ Some life.written.items = rw c.into_inner-written.ensures refl in
-    rw c.into_book.ensures (rw c.new-office.ensures at (run_over _ _ _ c.args.input.now w life given empty wrote (λ ms now moved. moved) led))
+    rw c.into_book.ensures (rw c.new-office.ensures at (run_over _ _ _ c.args.input.now w life given empty wrote c.run_office-ended.ensures.fault (λ ms now moved. moved) led))
