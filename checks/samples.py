@@ -3,7 +3,7 @@ import os
 import re
 
 TOP = os.path.dirname(os.path.dirname(os.path.abspath(__file__)))
-PROGRAM = os.path.join(TOP, "crates", "mx_cli", "out", "mx_cli")
+PROGRAM = os.path.join(TOP, "out", "purse-office")
 TOKEN = "0" * 31 + "1"
 RUN = ["run", "--memory", "--token", TOKEN]
 

@@ -48,12 +48,13 @@ report_app = with_rule (with_rule (new_app (codes "report")) (word_rule (codes "
 abbrev pub migrate_app : App
 migrate_app = with_rule (new_app (codes "migrate")) (word_rule (codes "FILE") true)
 
--- the program, which is called by its words alone, without its name
+-- the program, which is called by its words alone, without its name, and tells its version
 abbrev pub program_app : App
 program_app = record {
   top = record (new_app (codes "purse-office")).top {
     no_binary_name = true;
     subcommand_required = true;
+    has_version = true;
   };
   subs = [];
 }

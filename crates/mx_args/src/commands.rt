@@ -173,33 +173,38 @@ fn command_of<'a>(alloc: Global, form: &Form) -> Result<Command<'a>, AllocError>
     Ok(command)
 }
 
-// The program, which is called by its words alone. Its name stands before each command in usage.
-fn program_command<'a>(alloc: Global) -> Result<Command<'a>, AllocError>
+// The program of this version, which is called by its words alone. Its name stands before each command in usage.
+fn program_command<'a>(alloc: Global, version: &'a str) -> Result<Command<'a>, AllocError>
     ensures { IfOk result (λ c. app_of c ≡ program_app) }
 {
     Command::new(alloc, "purse-office")
         .about("The scheme office of an electronic purse")
+        .version(version)
         .no_binary_name(true)
         .subcommand_required(true)
         .bin_name("purse-office")
 }
 
 // The program with the commands of these forms.
-fn program_of<'a>(alloc: Global, forms: &[Form]) -> Result<Command<'a>, AllocError>
+fn program_of<'a>(
+    alloc: Global,
+    version: &'a str,
+    forms: &[Form],
+) -> Result<Command<'a>, AllocError>
     ensures { IfOk result (λ c. app_of c ≡ app_with_forms program_app forms.now) }
 {
-    let mut program = program_command(alloc)?;
+    let mut program = program_command(alloc, version)?;
     for form in forms {
         program = program.subcommand(command_of(alloc, form)?)?;
     }
     Ok(program)
 }
 
-/// The program with its commands.
-pub(crate) fn line_command<'a>(alloc: Global) -> Result<Command<'a>, AllocError>
+/// The program of this version with its commands.
+pub(crate) fn line_command<'a>(alloc: Global, version: &'a str) -> Result<Command<'a>, AllocError>
     ensures { IfOk result (λ c. app_of c ≡ line_app) }
 {
-    program_of(alloc, &FORMS)
+    program_of(alloc, version, &FORMS)
 }
 
 // The form of the command of this name.
@@ -212,10 +217,10 @@ fn form_named(name: &str) -> Option<&'static Form> {
     None
 }
 
-/// The command of this name, by itself, for its usage; the program where it has no such command.
+/// The command of this name, by itself, for its usage; the program's name alone where it has no such command.
 pub(crate) fn command_named<'a>(alloc: Global, name: &str) -> Result<Command<'a>, AllocError> {
     match form_named(name) {
         Some(form) => command_of(alloc, form)?.bin_name(form.full_name),
-        None => line_command(alloc),
+        None => Command::new(alloc, "purse-office").bin_name("purse-office"),
     }
 }

@@ -224,6 +224,7 @@ fn line_fault(alloc: Global, error: clap::Error) -> LineFault
         return LineFault::Memory;
     }
     match error.to_string(alloc) {
+        Ok(text) if error.kind() == ErrorKind::DisplayVersion => LineFault::Version(text),
         Ok(text) => LineFault::Bad(text),
         Err(_) => LineFault::Memory,
     }
@@ -257,19 +258,24 @@ fn found_task<'a>(alloc: Global, matches: &ArgMatches<'a>) -> Result<Task<'a>, L
     }
 }
 
-/// Reads a command line: the words after the program's name. Answers the task that they name.
+/// Reads a command line of the program of this version: the words after its name. Answers the task that they name.
 ///
 /// # Errors
 ///
-/// `Bad` where they name none, as where they ask for help. `Memory` where memory ran out.
-pub fn read_line<'a>(alloc: Global, words: &'a [&'a str]) -> Result<Task<'a>, LineFault>
+/// `Version` where they ask for the version; `Bad` where they name no task otherwise, as where they ask for help. `Memory`
+/// where memory ran out.
+pub fn read_line<'a>(
+    alloc: Global,
+    version: &'a str,
+    words: &'a [&'a str],
+) -> Result<Task<'a>, LineFault>
     ensures named { IfOk result (IsNamedBy (map (λ w. w.now) words.entry.now)) }
 
     // A line that names a task is answered with it, or with want of memory.
     ensures answered { (task : Task) → IsNamedBy (map (λ w. w.now) words.entry.now) task
         → (result ≡ Ok task) ⊎ (result ≡ Err LineFault.Memory) }
 {
-    match line_command(alloc)?.try_get_matches_from(words) {
+    match line_command(alloc, version)?.try_get_matches_from(words) {
         Ok(matches) => found_task(alloc, &matches),
         Err(error) => Err(line_fault(alloc, error)),
     }

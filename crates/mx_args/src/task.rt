@@ -84,6 +84,8 @@ pub enum LineFault {
     /// The line names no task. The text says why, or is the help that was asked for; it is printed on
     /// standard error.
     Bad(String),
+    /// The line asks for the version, which the text tells; it is printed on standard output.
+    Version(String),
     /// Memory ran out.
     Memory,
 }

@@ -7,12 +7,16 @@
 use mx_args::{LineFault, Task, read_line};
 use mx_desk::Counted;
 use mx_files::perform::perform;
-use mx_tasks::exits::{fail, refuse};
+use mx_tasks::exits::{fail, refuse, show};
 use mx_tasks::{Alarm, Alarmed, TaskFault};
 use std::alloc::{AllocError, Global};
 use std::io;
 use std::io::BufWriter;
 use std::process::ExitCode;
+
+/// What `--version` tells: the version, the schema of files, and the first digits of the sum of the sources, which
+/// `./purse-office --sources` prints and which leaves out this line. The sources are `unreleased` until there is a release of them.
+const VERSION: &str = "1.0.0 (schema 2, sources unreleased)";
 
 /// Does a task over standard input and output. Each read is one call, unbuffered, since the desk has an array of its own.
 /// What is written stands in a buffer until it is passed on; but in a run over a file each response is written at once, so
@@ -43,12 +47,13 @@ fn run_line(rt: &HostRuntime, args: &[String]) -> ExitCode {
     let Ok(words) = words_of(rt.alloc(), args) else {
         return fail(rt, TaskFault::Memory);
     };
-    match read_line(rt.alloc(), words.as_slice()) {
+    match read_line(rt.alloc(), VERSION, words.as_slice()) {
         Ok(task) => match do_task(rt, &task) {
             Ok(()) => ExitCode::SUCCESS,
             Err(fault) => fail(rt, fault),
         },
         Err(LineFault::Bad(text)) => refuse(rt, text.as_str()),
+        Err(LineFault::Version(text)) => show(rt, text.as_str()),
         Err(LineFault::Memory) => fail(rt, TaskFault::Memory),
     }
 }

@@ -18,6 +18,7 @@ migrate book.db -> migrate book.db
 run -> error: run takes FILE, or --memory and --token||Usage: purse-office run [OPTIONS] [FILE]||For more information, try '--help'.|
 serve book.db --port 0 --count 3 -> error: the value of --port has to be a number from 1 to 65535, without leading zeros||Usage: purse-office serve --port <N> --count <K> <FILE>||For more information, try '--help'.|
 report book.db --purse P1 -> error: the value of --purse has to be 1 to 24 of a to z, 0 to 9 and -, the first a letter||Usage: purse-office report [OPTIONS] <FILE>||For more information, try '--help'.|
+--version -> purse-office 1.0.0|
 migrate -> error: the following required arguments were not provided:|  <FILE>||Usage: purse-office migrate <FILE>||For more information, try '--help'.|
 ";
 
@@ -54,9 +55,9 @@ fn task_words(alloc: Global, task: &Task<'_>) -> Result<String, AllocError> {
 /// What a line is read as.
 fn read_once(alloc: Global, line: &str) -> Result<String, AllocError> {
     let words: Vec<&str> = line.split(' ').collect(alloc)?;
-    match read_line(alloc, words.as_slice()) {
+    match read_line(alloc, "1.0.0", words.as_slice()) {
         Ok(task) => task_words(alloc, &task),
-        Err(LineFault::Bad(text)) => Ok(text),
+        Err(LineFault::Bad(text) | LineFault::Version(text)) => Ok(text),
         Err(LineFault::Memory) => Err(AllocError),
     }
 }

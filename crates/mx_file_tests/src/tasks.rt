@@ -99,7 +99,7 @@ fn told(rt: &HostRuntime, task: &Task<'_>) -> Result<String, Fail> {
 fn printed(rt: &HostRuntime, folder: &str, line: &str) -> Result<String, Fail> {
     let owned = words_of(rt.alloc(), folder, line)?;
     let words: Vec<&str> = owned.iter().map(|word| word.as_str()).collect(rt.alloc())?;
-    let task = read_line(rt.alloc(), words.as_slice())?;
+    let task = read_line(rt.alloc(), "1.0.0", words.as_slice())?;
     told(rt, &task)
 }
 

@@ -1,16 +1,15 @@
 //! The files of books.
 
 use crate::closing::{make_and_close, migrate_and_close, work_and_close};
+use crate::unopened::unopened;
 use mx_desk::{Counted, Outlet};
 use mx_pay::Token;
 use mx_tables::Migrated;
-use mx_tasks::rolls::file_fault;
-use mx_tasks::{Done, TaskFault, Work};
-use sqlite::{Connection, Error, ErrorCode, File, FileStore};
+use mx_tasks::{Cause, Done, TaskFault, Work};
+use sqlite::{Connection, File, FileStore};
 use std::fs::{Metadata, OpenOptions};
 use std::io::{ErrorKind, Read};
 use std::os::unix::fs::{MetadataExt, OpenOptionsExt};
-use std::path::PathBuf;
 use std::{fs, io};
 
 /// A store in a file, with its log in a file beside it.
@@ -19,14 +18,6 @@ pub type Store = FileStore<File>;
 /// The most bytes of a log with no change in it.
 const MOST_OF_AN_EMPTY_LOG: u64 = 56;
 
-/// What an error of a store that is opened is: `Memory` or `File`.
-fn unopened(error: Error) -> TaskFault {
-    match error {
-        Error::SqliteFailure(ErrorCode::OutOfMemory) => TaskFault::Memory,
-        _ => TaskFault::File,
-    }
-}
-
 /// Whether a file is there, and has no byte.
 fn is_empty(found: &Metadata) -> bool {
     found.is_file() && found.len() == 0
@@ -34,10 +25,10 @@ fn is_empty(found: &Metadata) -> bool {
 
 /// Opens the database in a file, which makes one where there is none. A file that another process has open is refused at
 /// once.
-fn open(rt: &HostRuntime, path: &str) -> Result<Connection<Store>, TaskFault> {
+fn open(rt: &HostRuntime, path: &str) -> Result<Connection<Store>, Cause> {
     match Connection::open(rt, path) {
         Ok(store) => Ok(store),
-        Err(error) => Err(unopened(error)),
+        Err(error) => unopened(rt, path, error),
     }
 }
 
@@ -50,7 +41,7 @@ fn may_begin_log(head: &[u8]) -> bool {
 }
 
 /// The first bytes of a file, and none where it isn't there.
-fn head_of(rt: &HostRuntime, path: &str) -> io::Result<Vec<u8>> {
+pub(crate) fn head_of(rt: &HostRuntime, path: &str) -> io::Result<Vec<u8>> {
     let mut head = Vec::new(rt.alloc());
     match fs::open(rt, path) {
         Ok(file) => {
@@ -67,80 +58,65 @@ fn head_of(rt: &HostRuntime, path: &str) -> io::Result<Vec<u8>> {
 ///
 /// # Errors
 ///
-/// `File` where another file stands there, which an opening would overwrite, or where it can't be read; `Memory`.
-fn has_log(rt: &HostRuntime, path: &str) -> Result<bool, TaskFault> {
+/// `OtherLog` where another file stands there, which an opening would overwrite; `System` where it can't be read.
+fn has_log(rt: &HostRuntime, path: &str) -> Result<bool, Cause> {
     let log = format!(in rt.alloc(); "{path}-wal")?;
-    match head_of(rt, log.as_str()) {
-        Ok(head) if may_begin_log(head.as_slice()) => {
-            Ok(head.len() as u64 > MOST_OF_AN_EMPTY_LOG)
-        }
-        Ok(_) => Err(TaskFault::File),
-        Err(error) => Err(file_fault(&error)),
+    let head = head_of(rt, log.as_str())?;
+    if !may_begin_log(head.as_slice()) {
+        return Err(Cause::OtherLog);
     }
+    Ok(head.len() as u64 > MOST_OF_AN_EMPTY_LOG)
 }
 
-/// The path of a file that is there, with no link in it: the log is beside the file that a link leads to.
-fn resolved(rt: &HostRuntime, path: &str) -> Result<PathBuf, TaskFault> {
-    match fs::canonicalize(rt, path) {
-        Ok(real) => Ok(real),
-        Err(error) => Err(file_fault(&error)),
-    }
-}
-
-/// Opens the database in a file that is there; none is made, and an empty one is left as it is.
+/// Opens the database in a file that is there; none is made, and an empty one is left as it is. Its log is beside the file
+/// that a link leads to.
 ///
 /// # Errors
 ///
-/// `File` where the file isn't there, isn't a database, can't be opened, another process has it open, or another file stands
-/// where its log belongs; `NotThisSchema` where it is empty; `Memory`.
-fn open_found(rt: &HostRuntime, path: &str) -> Result<Connection<Store>, TaskFault> {
-    match fs::metadata(rt, path) {
-        Ok(found) if is_empty(&found) => Err(TaskFault::NotThisSchema),
-        Ok(_) => {
-            has_log(rt, resolved(rt, path)?.as_str())?;
-            open(rt, path)
-        }
-        Err(error) => Err(file_fault(&error)),
+/// `Empty`; `OtherLog` where another file stands where its log belongs; those of `unopened`.
+fn open_found(rt: &HostRuntime, path: &str) -> Result<Connection<Store>, Cause> {
+    if is_empty(&fs::metadata(rt, path)?) {
+        return Err(Cause::Empty);
     }
+    has_log(rt, fs::canonicalize(rt, path)?.as_str())?;
+    open(rt, path)
 }
 
 /// The path at which new books may be put, in place of the file of this path, with no link in it.
 ///
 /// # Errors
 ///
-/// `FileExists` where it is there and isn't empty; `File` where that can't be told, or where its log belongs another file
-/// stands, or a log with changes, which would go into the new books; `Memory`.
-fn place_for(rt: &HostRuntime, path: &str) -> Result<String, TaskFault> {
+/// `NotEmpty` where it is there and isn't empty; `FullLog` where a log with changes is where its log belongs, which would go
+/// into the new books; `OtherLog` where another file is there; `System` where that can't be told.
+fn place_for(rt: &HostRuntime, path: &str) -> Result<String, Cause> {
     let place = match fs::metadata(rt, path) {
         Ok(found) if is_empty(&found) => {
-            format!(in rt.alloc(); "{}", resolved(rt, path)?.as_str())?
+            format!(in rt.alloc(); "{}", fs::canonicalize(rt, path)?.as_str())?
         }
-        Ok(_) => return Err(TaskFault::FileExists),
+        Ok(_) => return Err(Cause::NotEmpty),
         Err(error) if error.kind() == ErrorKind::NotFound => format!(in rt.alloc(); "{path}")?,
-        Err(error) => return Err(file_fault(&error)),
+        Err(error) => return Err(Cause::System(error)),
     };
     if has_log(rt, place.as_str())? {
-        return Err(TaskFault::File);
+        return Err(Cause::FullLog);
     }
     Ok(place)
 }
 
 /// Removes what an `init` that was broken off has left, where it left something. What is no database, or no log of one, isn't
 /// that, and stays.
-fn clear(rt: &HostRuntime, path: &str) -> Result<(), TaskFault> {
+fn clear(rt: &HostRuntime, path: &str) -> Result<(), Cause> {
     has_log(rt, path)?;
     if let Err(error) = fs::metadata(rt, path) {
         if error.kind() == ErrorKind::NotFound {
             return Ok(());
         }
-        return Err(file_fault(&error));
+        return Err(Cause::System(error));
     }
     let left = open(rt, path)?;
     let _ = left.close();
-    match fs::remove_file(rt, path) {
-        Ok(()) => Ok(()),
-        Err(error) => Err(file_fault(&error)),
-    }
+    fs::remove_file(rt, path)?;
+    Ok(())
 }
 
 /// Makes an empty file that only its owner may read and write, where none is. Gives its number in the file system.
@@ -161,10 +137,10 @@ fn is_there(rt: &HostRuntime, path: &str, number: u64) -> bool {
 
 /// Opens an empty file as a new database. Each of its pages ends in SQLite's page checksum, by which an opening finds most of
 /// what changed in the file since it was closed.
-fn open_new(rt: &HostRuntime, path: &str) -> Result<Connection<Store>, TaskFault> {
+fn open_new(rt: &HostRuntime, path: &str) -> Result<Connection<Store>, Cause> {
     match Connection::open_with_sums(rt, path) {
         Ok(store) => Ok(store),
-        Err(error) => Err(unopened(error)),
+        Err(error) => unopened(rt, path, error),
     }
 }
 
@@ -175,30 +151,23 @@ fn put_books(
     number: u64,
     place: &str,
     operator: Token,
-) -> Result<(), TaskFault> {
+) -> Result<(), Cause> {
     make_and_close(rt.alloc(), open_new(rt, made)?, operator)?;
     if !is_there(rt, made, number) {
-        return Err(TaskFault::File);
+        return Err(Cause::Rival);
     }
-    match fs::rename(rt, made, place) {
-        Ok(()) => Ok(()),
-        Err(error) => Err(file_fault(&error)),
-    }
+    fs::rename(rt, made, place)?;
+    Ok(())
 }
 
 /// Makes new books in a file of its own, and puts it in the place of another. Its log is removed then, and where that fails,
 /// the file too.
-fn make_beside(
-    rt: &HostRuntime,
-    made: &str,
-    place: &str,
-    operator: Token,
-) -> Result<(), TaskFault> {
+fn make_beside(rt: &HostRuntime, made: &str, place: &str, operator: Token) -> Result<(), Cause> {
     let log = format!(in rt.alloc(); "{made}-wal")?;
-    clear(rt, made)?;
     let number = match make_private(rt, made) {
         Ok(number) => number,
-        Err(error) => return Err(file_fault(&error)),
+        Err(error) if error.kind() == ErrorKind::AlreadyExists => return Err(Cause::Rival),
+        Err(error) => return Err(Cause::System(error)),
     };
     let answer = put_books(rt, made, number, place, operator);
     if answer.is_ok() || is_there(rt, made, number) {
@@ -210,6 +179,24 @@ fn make_beside(
     answer
 }
 
+/// What is said of a file FILE-init that can't be removed.
+fn left_over(cause: &Cause) -> Cause {
+    match cause.fault() {
+        TaskFault::File => Cause::Leftover,
+        fault => Cause::Fault(fault),
+    }
+}
+
+/// Makes new books in a file beside that of this path, and puts it in its place.
+fn make(rt: &HostRuntime, path: &str, operator: Token) -> Result<(), Cause> {
+    let place = place_for(rt, path)?;
+    let made = format!(in rt.alloc(); "{place}-init")?;
+    if let Err(cause) = clear(rt, made.as_str()) {
+        return Err(left_over(&cause));
+    }
+    make_beside(rt, made.as_str(), place.as_str(), operator)
+}
+
 /// Makes new books, in which nothing is but the operator's token, in a file that isn't there or is empty. Only its owner may
 /// read and write it. They are made in a file beside it, FILE-init, and are put in its place once they are whole: whatever
 /// breaks that off, the file is as it was or has whole books, and what is left of FILE-init is replaced the next time.
@@ -218,11 +205,12 @@ fn make_beside(
 ///
 /// `FileExists` where the file is there and isn't empty; `File` where it can't be made, there is no room for its log, another
 /// process makes it, or another file stands where its log, FILE-init or the log of that belongs; `Memory` or `Store` where the
-/// database refuses a statement or can't be closed. Then no file is left.
+/// database refuses a statement or can't be closed. Then no file is left, and a terminal is told why.
 pub fn make_file(rt: &HostRuntime, path: &str, operator: Token) -> Result<(), TaskFault> {
-    let place = place_for(rt, path)?;
-    let made = format!(in rt.alloc(); "{place}-init")?;
-    make_beside(rt, made.as_str(), place.as_str(), operator)
+    match make(rt, path, operator) {
+        Ok(()) => Ok(()),
+        Err(cause) => Err(cause.tell(rt, path)),
+    }
 }
 
 /// Does a piece of work over the books in a file that is there, closes the file, and gives what came of it.
@@ -230,9 +218,9 @@ pub fn make_file(rt: &HostRuntime, path: &str, operator: Token) -> Result<(), Ta
 /// # Errors
 ///
 /// The first that is met, in this order. `File` where the file isn't there, isn't a database, can't be opened, another process
-/// has it open, or another file stands where its log belongs; `NotThisSchema` where it is empty or has no books of this
-/// version; `Store` where it has other tables, or refuses a statement; those of the work; `Store` where the file can't be
-/// closed. `Memory` comes at any step.
+/// has it open, or another file stands where its log belongs, and a terminal is told which; `NotThisSchema` where it is empty
+/// or has no books of this version; `Store` where it has other tables, or refuses a statement; those of the work; `Store`
+/// where the file can't be closed. `Memory` comes at any step.
 pub fn over_file<R: Read, W: Outlet>(
     rt: &HostRuntime,
     path: &str,
@@ -240,7 +228,10 @@ pub fn over_file<R: Read, W: Outlet>(
     reader: &mut Counted<R>,
     writer: &mut Counted<W>,
 ) -> Result<Done, TaskFault> {
-    work_and_close(rt, open_found(rt, path)?, work, reader, writer)
+    match open_found(rt, path) {
+        Ok(store) => work_and_close(rt, store, work, reader, writer),
+        Err(cause) => Err(cause.tell(rt, path)),
+    }
 }
 
 /// Brings the books in a file that is there to the schema of this version.
@@ -248,8 +239,11 @@ pub fn over_file<R: Read, W: Outlet>(
 /// # Errors
 ///
 /// `File` where the file isn't there, isn't a database, can't be opened, another process has it open, or another file stands
-/// where its log belongs; `NotThisSchema` where it is empty or has no books of this version or the one before; `Store` where
-/// it has other tables, refuses a statement or can't be closed; `Memory`.
+/// where its log belongs, and a terminal is told which; `NotThisSchema` where it is empty or has no books of this version or
+/// the one before; `Store` where it has other tables, refuses a statement or can't be closed; `Memory`.
 pub fn migrate_file(rt: &HostRuntime, path: &str) -> Result<Migrated, TaskFault> {
-    migrate_and_close(rt.alloc(), open_found(rt, path)?)
+    match open_found(rt, path) {
+        Ok(store) => migrate_and_close(rt.alloc(), store),
+        Err(cause) => Err(cause.tell(rt, path)),
+    }
 }

@@ -5,3 +5,4 @@ pub mod books;
 mod closing;
 pub mod files;
 pub mod perform;
+mod unopened;

@@ -14,6 +14,14 @@ pub fn fail(rt: &HostRuntime, fault: TaskFault) -> ExitCode
     ExitCode::from(1)
 }
 
+/// Prints a text that was asked for on standard output, and gives status 0; a fault where it can't be printed.
+pub fn show(rt: &HostRuntime, text: &str) -> ExitCode {
+    if print!(rt; "{text}").is_err() {
+        return fail(rt, TaskFault::Write);
+    }
+    ExitCode::SUCCESS
+}
+
 /// Prints why a command line is bad, and gives status 2.
 pub fn refuse(rt: &HostRuntime, text: &str) -> ExitCode
     ensures { exit_status result ≡ 2 }

@@ -2,6 +2,7 @@
 #![tactic(auto)]
 
 pub mod alarm;
+pub mod cause;
 pub mod connections;
 pub mod exits;
 pub mod fault;
@@ -13,5 +14,6 @@ pub mod timed;
 pub mod work;
 
 pub use alarm::{Alarm, Alarmed};
+pub use cause::Cause;
 pub use fault::TaskFault;
 pub use work::{Done, Work, do_work, work_over};

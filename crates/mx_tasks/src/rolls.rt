@@ -4,6 +4,7 @@ ghost use Rattle.mx_book.specs.World.{World};
 ghost use Rattle.mx_office.specs.Reachable.{IsReachable, StandsBalanced};
 ghost use Rattle.mx_tasks.specs.Works.{Imports, ImportsFile, IsText};
 
+use crate::cause::Cause;
 use crate::fault::TaskFault;
 use crate::teller::Teller;
 use crate::texts::import_text;
@@ -11,39 +12,25 @@ use mx_book::Book;
 use mx_office::Office;
 use mx_report::{Progress, import_roll_telling};
 use std::alloc::Global;
-use std::io::{ErrorKind, Read};
-use std::{fs, io};
+use std::fs;
+use std::io::Read;
 
 /// The most bytes of a roll.
 pub const MOST_OF_A_ROLL: u64 = 1_048_576;
-
-/// What an error of the system is to the program: `Memory` or `File`.
-pub fn file_fault(error: &io::Error) -> TaskFault {
-    if error.kind() == ErrorKind::OutOfMemory {
-        TaskFault::Memory
-    } else {
-        TaskFault::File
-    }
-}
 
 /// The bytes of a roll.
 ///
 /// # Errors
 ///
-/// `File` where the file isn't there or can't be read; `RollTooLarge` where it has more than 1,048,576 bytes; `Memory`.
-pub fn read_roll(rt: &HostRuntime, path: &str) -> Result<Vec<u8>, TaskFault>
+/// `System` where the file isn't there or can't be read; `TooLarge` where it has more than 1,048,576 bytes.
+pub fn read_roll(rt: &HostRuntime, path: &str) -> Result<Vec<u8>, Cause>
     ensures { IfOk result (λ bytes. vec_len bytes ≤ 1048576) }
 {
     let mut bytes = Vec::new(rt.alloc());
-    let read = match fs::open(rt, path) {
-        Ok(file) => file.take(MOST_OF_A_ROLL + 1).read_to_end(&mut bytes),
-        Err(error) => Err(error),
-    };
-    if let Err(error) = read {
-        return Err(file_fault(&error));
-    }
+    let file = fs::open(rt, path)?;
+    file.take(MOST_OF_A_ROLL + 1).read_to_end(&mut bytes)?;
     if bytes.len() as u64 > MOST_OF_A_ROLL {
-        return Err(TaskFault::RollTooLarge);
+        return Err(Cause::TooLarge);
     }
     Ok(bytes)
 }
@@ -71,11 +58,20 @@ pub fn import_over<B: Book, P: Progress>(
     Ok(lines)
 }
 
-/// Imports the roll in a file, and gives the lines that report it. While it is under way, a terminal is told how far it is.
+/// Tells a terminal why an import has ended at a fault, if it has.
+fn tell_end(rt: &HostRuntime, path: &str, answer: &Result<String, TaskFault>, done: u64) {
+    if let Err(fault) = answer {
+        Cause::of_import(*fault, done).tell(rt, path);
+    }
+}
+
+/// Imports the roll in a file, and gives the lines that report it. A terminal is told how far it is while it is under way, and
+/// at a fault what is wrong with the roll and how many rows are done.
 ///
 /// # Errors
 ///
-/// Those of `read_roll`, and then nothing is imported; and those of `import_over`.
+/// `File` where the file isn't there or can't be read; `RollTooLarge` where it has more than 1,048,576 bytes; `Memory`: then
+/// nothing is imported. And those of `import_over`.
 pub fn import_from<B: Book>(
     rt: &HostRuntime,
     path: &str,
@@ -85,9 +81,13 @@ pub fn import_from<B: Book>(
     ensures imports { (w : World) → B.doubt office.new.book ≡ 0 → B.spells (B.rows office.old.book) w
         → ImportsFile (B.spells (B.rows office.new.book)) w IsText result }
 {
-    let bytes = read_roll(rt, path)?;
+    let bytes = match read_roll(rt, path) {
+        Ok(bytes) => bytes,
+        Err(cause) => return Err(cause.tell(rt, path)),
+    };
     let mut teller = Teller::new(rt);
     let answer = import_over(rt.alloc(), office, bytes.as_slice(), &mut teller);
     teller.end();
+    tell_end(rt, path, &answer, teller.rows());
     answer
 }

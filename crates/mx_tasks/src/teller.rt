@@ -12,6 +12,8 @@ pub struct Teller<'a> {
     due: Option<Instant>,
     /// Whether something was told.
     has_told: bool,
+    /// How many rows are done.
+    rows: u64,
 }
 
 /// A second from now, or None where no clock tells.
@@ -40,7 +42,13 @@ impl<'a> Teller<'a> {
             rt,
             due,
             has_told: false,
+            rows: 0,
         }
+    }
+
+    /// How many rows are done.
+    pub fn rows(&self) -> u64 {
+        self.rows
     }
 
     /// Ends the line of what was told, if something was.
@@ -53,6 +61,7 @@ impl<'a> Teller<'a> {
 
 impl Progress for Teller<'_> {
     fn done(&mut self, rows: u64) {
+        self.rows = rows;
         if has_come(self.rt, self.due) {
             let _ = eprint!(self.rt; "\r{rows} rows");
             self.has_told = true;

@@ -1,0 +1,128 @@
+//! Why a file that the command line names isn't used, or not to its end.
+use crate::fault::TaskFault;
+use std::alloc::AllocError;
+use std::io;
+use std::io::{ErrorKind, IsTerminal};
+use thiserror::Error;
+
+/// Why a file of books or of a roll isn't used, or not to its end. A terminal is told its words.
+#[derive(Debug, Drop, Error)]
+pub enum Cause {
+    /// An error of the system.
+    #[error("{0}")]
+    System(#[from] io::Error),
+    /// Another process has it open.
+    #[error("another process has it open")]
+    Busy,
+    /// It is a folder, a device or the like.
+    #[error("it isn't a regular file")]
+    Irregular,
+    /// It has a second name.
+    #[error("it has a second name (a hard link)")]
+    SecondName,
+    /// New books are to be made in it, and it has a byte.
+    #[error("it is there, and isn't empty")]
+    NotEmpty,
+    /// Books are to be opened in it, and it has no byte.
+    #[error("it is empty")]
+    Empty,
+    /// It doesn't begin as a database of SQLite does.
+    #[error("it isn't a database of SQLite")]
+    NotADatabase,
+    /// Its pages aren't those of a database that was closed.
+    #[error("it is damaged, or another program wrote it: a page doesn't match its checksum or the others")]
+    Damaged,
+    /// It has what this program doesn't read, or rows that break their own rules.
+    #[error("it has tables that this program doesn't read, or rows that break the tables' rules")]
+    OtherTables,
+    /// What is at `FILE-wal` is no log.
+    #[error("the file beside it that ends in -wal isn't a log of SQLite")]
+    OtherLog,
+    /// New books are to be made, and what is at `FILE-wal` would go into them.
+    #[error("the log beside it, which ends in -wal, has changes of other books")]
+    FullLog,
+    /// The log can't be opened or made.
+    #[error("its log, the file beside it that ends in -wal, can't be opened or made")]
+    NoLog,
+    /// SQLite has left a rollback journal.
+    #[error("a rollback journal of SQLite is beside it, which ends in -journal")]
+    Journal,
+    /// What is at `FILE-init` can't be removed.
+    #[error("the file beside it that ends in -init is no database, or can't be removed")]
+    Leftover,
+    /// Another `init` makes the same books.
+    #[error("another init makes it at the same time")]
+    Rival,
+    /// The disk is full.
+    #[error("the disk is full")]
+    DiskFull,
+    /// The disk failed.
+    #[error("the disk failed at a read or a write")]
+    DiskFailed,
+    /// A roll has too many bytes.
+    #[error("it has more than 1048576 bytes")]
+    TooLarge,
+    /// A roll has another header or none, or a first row with another number of fields.
+    #[error("its header isn't kind,name,of,token, or row 1 hasn't four fields; 0 rows are done")]
+    NoRoll,
+    /// A row of a roll has another number of fields.
+    #[error("row {row} hasn't four fields; the {done} rows before it are done")]
+    BadRow {
+        /// The number of the row, counted from 1 after the header.
+        row: u64,
+        /// How many rows come before it.
+        done: u64,
+    },
+    /// The import of a roll ended at a fault that isn't the roll's.
+    #[error("{done} rows are done")]
+    Unfinished {
+        /// The fault.
+        fault: TaskFault,
+        /// How many rows are done.
+        done: u64,
+    },
+    /// A fault that says all.
+    #[error("{}", .0.text())]
+    Fault(#[from] TaskFault),
+}
+
+impl Cause {
+    /// Why the import of a roll ended at a fault, once so many rows were done.
+    pub fn of_import(fault: TaskFault, done: u64) -> Cause {
+        match (fault, done) {
+            (TaskFault::Roll, 0) => Cause::NoRoll,
+            (TaskFault::Roll, done) => Cause::BadRow {
+                row: done.saturating_add(1),
+                done,
+            },
+            (fault, done) => Cause::Unfinished { fault, done },
+        }
+    }
+
+    /// The fault with which the task ends.
+    pub fn fault(&self) -> TaskFault {
+        match self {
+            Cause::System(error) if error.kind() == ErrorKind::OutOfMemory => TaskFault::Memory,
+            Cause::NotEmpty => TaskFault::FileExists,
+            Cause::Empty => TaskFault::NotThisSchema,
+            Cause::TooLarge => TaskFault::RollTooLarge,
+            Cause::NoRoll | Cause::BadRow { .. } => TaskFault::Roll,
+            Cause::Unfinished { fault, .. } | Cause::Fault(fault) => *fault,
+            _ => TaskFault::File,
+        }
+    }
+
+    /// Tells it of the file at a path, where standard error is a terminal, and gives the fault.
+    pub fn tell(&self, rt: &HostRuntime, path: &str) -> TaskFault {
+        if rt.stderr().is_terminal() {
+            let _ = eprintln!(rt; "{path}: {self}");
+        }
+        self.fault()
+    }
+}
+
+impl From<AllocError> for Cause {
+    fn from(_error: AllocError) -> Cause {
+        Cause::Fault(TaskFault::Memory)
+    }
+}
