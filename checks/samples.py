@@ -21,11 +21,17 @@ def done(word):
 
 STARTED = response('{"details":"p1,q1,60,0,0","done":"started"}')
 
+
+def handled(word):
+    """The two responses where a message is handled, with this word, and discarded."""
+    return [done(word), done("discarded")]
+
+
 FIRST_PATH = 3 * [done("added")] + [response('{"balance":0,"next":0,"purse":"p1","status":"eaFrom"}')]
 PAYMENT = (
     [done("added"), done("granted")]
     + 4 * [done("added")]
-    + [done("loaded"), STARTED, STARTED, done("value-sent"), done("received"), done("finished")]
+    + [done("loaded"), STARTED, STARTED] + handled("value-sent") + handled("received") + handled("finished")
     + [response('{"balance":40,"next":1,"purse":"p1","status":"eaFrom"}')]
     + [response('{"balance":60,"next":1,"purse":"q1","status":"eaTo"}')]
 )
@@ -47,9 +53,10 @@ def lines(*all_lines):
 LOST_PAYMENT = (
     [done("added"), done("granted")]
     + 4 * [done("added")]
-    + [done("loaded"), STARTED, response('{"done":"aborted","logged":true}'), STARTED, done("value-sent"), done("ignored")]
-    + [response('{"done":"read","entry":"p1,q1,60,0,0"}'), response('{"archived":1}'), done("sent"), done("cleared")]
-    + [response('{"done":"read","entry":null}')]
+    + [done("loaded"), STARTED, response('{"done":"aborted","logged":true}'), STARTED]
+    + handled("value-sent") + handled("ignored")
+    + [response('{"done":"read","entry":"p1,q1,60,0,0"}'), response('{"archived":1}'), done("sent")]
+    + handled("cleared") + [response('{"done":"read","entry":null}')]
     + [response('{"balance":40,"next":1,"purse":"p1","status":"eaFrom"}')]
     + [response('{"done":"read","entry":"p1,q1,60,0,0"}'), response('{"archived":1}'), done("settled")]
     + [response('{"balance":100,"next":1,"purse":"p1","status":"eaFrom"}'), sums()]
@@ -57,7 +64,8 @@ LOST_PAYMENT = (
 STATEMENTS = (
     [done("added"), done("granted")]
     + 4 * [done("added")]
-    + [done("loaded"), STARTED, STARTED, done("value-sent"), sums(balances=40, transit=60), done("received"), done("finished")]
+    + [done("loaded"), STARTED, STARTED] + handled("value-sent") + [sums(balances=40, transit=60)]
+    + handled("received") + handled("finished")
     + [lines(("loaded", 100, 100, "a1"), ("sent", 60, 40, "p1,q1,60,0,0")), lines()]
     + [lines(("received", 60, 60, "p1,q1,60,0,0")), sums()]
 )
