@@ -1,10 +1,10 @@
 //! Books in a store, wherever that keeps them.
-ghost use Rattle.std.specs.Prelude.{◌≡◌, ◌≤◌, [], IfOk, IsErr};
+ghost use Rattle.std.specs.Prelude.{◌≡◌, ◌≤◌, [], false, IfOk, IsErr};
 ghost use Rattle.sqlite.specs.Held.{state as state_of};
 ghost use Rattle.mx_book.specs.World.{World, opening};
 ghost use Rattle.mx_desk.specs.Steps.{state};
 ghost use Rattle.mx_tables.specs.Holds.{SpellsOne};
-ghost use Rattle.mx_tables.specs.States.{Leaves, worry};
+ghost use Rattle.mx_tables.specs.States.{IsOurs, Leaves, worry};
 ghost use Rattle.mx_tasks.specs.Faults.{Untouched};
 ghost use Rattle.mx_tasks.specs.Works.{Works};
 ghost use Rattle.mx_files.specs.Durable.{Endures};
@@ -43,6 +43,7 @@ pub fn make_in_store<S: Alter + Drop>(
 ) -> Result<Connection<S>, TaskFault>
     ensures made { IfOk result (λ c. worry (state_of S.Store c) ≡ 0
         → SpellsOne (state_of S.Store c).now (opening operator)) }
+    ensures ours { IfOk result (λ c. IsOurs false (state_of S.Store c)) }
     ensures lasts { IfOk result (λ c. worry (state_of S.Store c) ≡ 0
         → Leaves (state_of S.Store c) (state_of S.Store c).now) }
 {

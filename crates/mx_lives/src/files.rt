@@ -7,7 +7,7 @@ ghost use Rattle.sqlite.specs.Files.{Finds, IsOpened, file_state, image_of};
 ghost use Rattle.sqlite.specs.Held.{state};
 ghost use Rattle.sqlite.specs.State.{HasCleanDisk};
 ghost use Rattle.mx_book.specs.World.{World, opening};
-ghost use Rattle.mx_desk.specs.Steps.{Leads};
+ghost use Rattle.mx_desk.specs.Rounds.{Leads};
 ghost use Rattle.mx_office.specs.Reachable.{IsReachable};
 ghost use Rattle.mx_tables.specs.Holds.{SpellsOne};
 ghost use Rattle.mx_tables.specs.Schema.{office_schema};
@@ -89,7 +89,7 @@ fn life_over<S: Alter + Drop>(
 ) -> Option<(Connection<S>, Life)>
     ensures later { IfSome result
         (λ r. worry (state S.Store store) ≤ worry (state S.Store r.0)) }
-    ensures ours { IfSome result (λ r. IsOurs (state S.Store r.0)) }
+    ensures ours { IfSome result (λ r. IsOurs false (state S.Store r.0)) }
     ensures lives { (w : World) → ((state S.Store store).now.schema ≡ office_schema
         → SpellsOne (state S.Store store).now w)
         → IfSome result (λ r. worry (state S.Store r.0) ≡ 0

@@ -1,10 +1,11 @@
 //! Lives over the books in a store, each ended by a stop.
-ghost use Rattle.std.specs.Prelude.{◌≡◌, ◌≤◌, IfSome, map, true};
+ghost use Rattle.std.specs.Prelude.{◌≡◌, ◌≤◌, IfSome, false, map, true};
 ghost use Rattle.sqlite.specs.Held.{state};
 ghost use Rattle.mx_book.specs.World.{World};
 ghost use Rattle.mx_desk.specs.Durable.{Lasts};
-ghost use Rattle.mx_desk.specs.Steps.{Leads};
+ghost use Rattle.mx_desk.specs.Rounds.{Leads};
 ghost use Rattle.mx_tables.specs.Holds.{SpellsOne};
+ghost use Rattle.mx_tables.specs.Rounds.{IsSettled};
 ghost use Rattle.mx_tables.specs.Schema.{office_schema};
 ghost use Rattle.mx_tables.specs.States.{IsAwake, IsOurs, Leaves, worry};
 ghost use Rattle.mx_lives.specs.Lived.{LivedTo, RunsOver};
@@ -18,11 +19,12 @@ use std::alloc::Global;
 
 /// Stops at this moment, and opens the books again. They are found as a stop may leave them. None where they can't be opened.
 fn stopped<S: Alter + Reopen + Drop>(alloc: Global, book: Tables<S>) -> Option<Tables<S>>
-    ensures calm { IfSome result (λ again. worry (state S.Store again) ≡ 0
-        → worry (state S.Store book) ≤ 1) }
-    ensures left { IfSome result (λ again. worry (state S.Store again) ≡ 0
-        → Leaves (state S.Store book) (state S.Store again).now) }
-    ensures awake { IfSome result (λ again. IsAwake (state S.Store again)) }
+    ensures calm { IfSome result (λ again. worry (state S.Store again.0) ≡ 0
+        → worry (state S.Store book.0) ≤ 1) }
+    ensures left { IsSettled S.Store book → IfSome result (λ again. worry (state S.Store again.0) ≡ 0
+        → Leaves (state S.Store book.0) (state S.Store again.0).now) }
+    ensures settled { IfSome result (IsSettled S.Store) }
+    ensures awake { IfSome result (λ again. IsAwake (state S.Store again.0)) }
 {
     let mut store = book.into_store().into_store();
     let Ok(()) = store.crash_and_reopen() else {
@@ -44,14 +46,15 @@ fn live<S: Alter + Reopen + Drop>(
     book: Tables<S>,
     input: &[u8],
 ) -> Option<(Tables<S>, Life)>
-    ensures calm { IfSome result (λ r. worry (state S.Store r.0) ≡ 0
-        → worry (state S.Store book) ≤ 1) }
-    ensures lives { (w : World) → worry (state S.Store book) ≡ 0
-        → SpellsOne (state S.Store book).now w
-        → IfSome result (λ r. worry (state S.Store r.0) ≡ 0
+    ensures calm { IsSettled S.Store book → IfSome result (λ r. worry (state S.Store r.0.0) ≡ 0
+        → worry (state S.Store book.0) ≤ 1) }
+    ensures lives { (w : World) → IsSettled S.Store book → worry (state S.Store book.0) ≡ 0
+        → SpellsOne (state S.Store book.0).now w
+        → IfSome result (λ r. worry (state S.Store r.0.0) ≡ 0
         → Leads (RunsOver ⟦<Tables<S> as Book>⟧.fails w input.now r.1)
-        (Lasts (SpellsOne (state S.Store r.0).now))) }
-    ensures awake { IfSome result (λ r. IsAwake (state S.Store r.0)) }
+        (Lasts (SpellsOne (state S.Store r.0.0).now))) }
+    ensures settled { IfSome result (λ r. IsSettled S.Store r.0) }
+    ensures awake { IfSome result (λ r. IsAwake (state S.Store r.0.0)) }
 {
     let (left, life) = answered(alloc, book, input);
     Some((stopped(alloc, left)?, life))
@@ -80,7 +83,7 @@ pub fn live_on<S: Alter + Reopen + Drop>(
 ) -> Option<(Connection<S>, Vec<Life>)>
     ensures calm { IfSome result (λ end. worry (state S.Store end.0) ≡ 0
         → worry (state S.Store store) ≡ 0) }
-    ensures ours { IfSome result (λ end. IsOurs (state S.Store end.0)) }
+    ensures ours { IfSome result (λ end. IsOurs false (state S.Store end.0)) }
     ensures lives { (w : World) → ((state S.Store store).now.schema ≡ office_schema
         → SpellsOne (state S.Store store).now w)
         → IfSome result (λ end. worry (state S.Store end.0) ≡ 0

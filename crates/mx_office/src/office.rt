@@ -3,8 +3,8 @@ ghost use Rattle.std.specs.Borrow.{sem};
 ghost use Rattle.std.specs.List.{AllByRecursion};
 ghost use Rattle.std.specs.Prelude.{◌≡◌, ◌≤◌, ◌⊎◌, [], false, length, IfOk, IfErr, IsTrue, OnOk, OnErr};
 ghost use Rattle.mx_book.specs.Edits.{Fits, all_edited};
-ghost use Rattle.mx_book.specs.Keeps.{Keeps};
-ghost use Rattle.mx_book.specs.Stands.{Attempts, IsWorking, MovesTo};
+ghost use Rattle.mx_book.specs.Keeps.{Bides, Keeps};
+ghost use Rattle.mx_book.specs.Stands.{Attempts, MovesTo, RestsAt, Settles};
 ghost use Rattle.mx_book.specs.World.{World, Name as HolderName};
 ghost use Rattle.mx_book.specs.declared.contract.StoreFault.TheVariants.{Memory};
 ghost use Rattle.mx_command.specs.declared.values.Refusal.{Refusal};
@@ -13,7 +13,7 @@ ghost use Rattle.mx_office.specs.Abstract.{Refines};
 ghost use Rattle.mx_office.specs.Calls.{TellsOf};
 ghost use Rattle.mx_command.specs.Commands.{IsAsked};
 ghost use Rattle.mx_office.specs.Conservation.{IsNeverFullOutcome};
-ghost use Rattle.mx_office.specs.Decides.{Decides, IsForAnother};
+ghost use Rattle.mx_office.specs.Decides.{Decides};
 ghost use Rattle.mx_office.specs.Faults.{FailsFor, MayFail, MayNotDecide, is_read, lists, makes_edits};
 ghost use Rattle.mx_office.specs.Isolation.{cut, for_holder, local, told_to, view, view_of};
 ghost use Rattle.mx_office.specs.Lends.{LendsBook};
@@ -78,8 +78,7 @@ impl<B: Book> Office<B> {
         caller: Caller,
         command: &Command,
     ) -> Result<Decided, StoreFault>
-        ensures keeps { Keeps B.doubt B.rows B.leaves self.old.book self.new.book }
-        ensures answered { IfOk result (λ d. IsWorking B.doubt self.new.book ⊎ IsForAnother caller command.now d) }
+        ensures keeps { Keeps B.doubt B.rows B.harm B.base B.defers B.settled B.leaves self.old.book self.new.book }
         ensures decides { (w : World) → B.doubt self.new.book ≡ 0 → B.spells (B.rows self.old.book) w → IfOk result (Decides w (base w caller command.now)) }
         ensures reads { IfOk result (λ d. IsTrue (is_read command.now) → d.edits ≡ []) }
         ensures edits { (w : World) → B.doubt self.new.book ≡ 0 → B.spells (B.rows self.old.book) w
@@ -104,8 +103,7 @@ impl<B: Book> Office<B> {
         command: &Command,
         decided: &mut Decided,
     ) -> Result<(), StoreFault>
-        ensures keeps { Keeps B.doubt B.rows B.leaves self.old.book self.new.book }
-        ensures answered { OnOk result (IsWorking B.doubt self.new.book ⊎ IsForAnother caller command.now decided.new) }
+        ensures keeps { Keeps B.doubt B.rows B.harm B.base B.defers B.settled B.leaves self.old.book self.new.book }
         ensures decides { (w : World) → B.doubt self.new.book ≡ 0 → B.spells (B.rows self.old.book) w → OnOk result (Decides w (base w caller command.now) decided.new) }
         ensures reads { OnOk result (IsTrue (is_read command.now) → decided.new.edits ≡ []) }
         ensures edits { (w : World) → B.doubt self.new.book ≡ 0 → B.spells (B.rows self.old.book) w
@@ -127,15 +125,13 @@ impl<B: Book> Office<B> {
 
     /// Makes the edits of a decision, all of them, or none where it answers a fault. They have to fit the
     /// World, as they do when nothing has changed the book since `decide` gave them. A fault is `Memory` or one of the
-    /// book's. Where there are no edits the book isn't asked, and there is no fault.
+    /// book's. Where there are no edits the book isn't asked, and there is no fault. What is made waits for `settle`.
     pub fn commit(&mut self, decided: &Decided) -> Result<(), StoreFault>
         requires { (w : World) → B.doubt self.old.book ≡ 0 → B.spells (B.rows self.old.book) w → Fits w decided.now.edits }
         ensures later { B.doubt self.old.book ≤ B.doubt self.new.book }
         ensures ok { (w : World) → B.doubt self.new.book ≡ 0 → B.spells (B.rows self.old.book) w → OnOk result (B.spells (B.rows self.new.book) (all_edited w decided.now.edits)) }
         ensures err { B.doubt self.new.book ≡ 0 → OnErr result (B.rows self.new.book ≡ B.rows self.old.book) }
-        ensures attempts { (w : World) → (B.doubt self.old.book ≡ 0 → B.spells (B.rows self.old.book) w)
-            → Attempts B.doubt B.rows B.spells B.leaves self.old.book self.new.book result w
-            (λ v. all_edited v decided.now.edits) }
+        ensures bides { Bides B.harm B.base B.defers B.leaves self.old.book self.new.book }
         ensures nothing { decided.now.edits ≡ [] → IfErr result (λ _. ⊥) }
         ensures fault { IfErr result (λ e. (e ≡ Memory) ⊎ B.fails e) }
     {
@@ -146,33 +142,26 @@ impl<B: Book> Office<B> {
         self.book.apply(edits)
     }
 
-    /// Answers a command of a caller: decides, and makes the edits. After a fault and after a refusal nothing is
-    /// changed, whatever the book holds. A fault is one of the book's reads, or `Memory` where the command takes some: it
-    /// reads a list, or makes edits and isn't refused. What is refused for its caller, its purse or its member takes none,
-    /// nor does a load or a redemption that is repeated, an archive of nothing, or a clear that finds no place. `asked` says
-    /// the same as at `decide`.
+    /// Answers a command of a caller in a round: decides, and makes the edits, which wait for `settle`. The answer is so only
+    /// where that answers. After a fault and after a refusal nothing is changed, whatever the book holds, but a fault may undo
+    /// what waits, and then `settle` is a fault too. A fault is one of the book's reads, or `Memory` where the command takes
+    /// some: it reads a list, or makes edits and isn't refused. What is refused for its caller, its purse or its member takes
+    /// none, nor does a load or a redemption that is repeated, an archive of nothing, or a clear that finds no place. `asked`
+    /// says the same as at `decide`.
     ///
     /// It keeps holders apart: after an answer that succeeds, and for every holder, what is the holder's own of each of
     /// the holder's purses is what the holder's view of that one command makes of what it was (`accounts`), and the reply,
     /// where it is given to that holder, is the one that this view gives (`told`). What a view is stands at `isolation`.
-    ///
-    /// A stop leaves the World after a command that was answered. After one that wasn't it leaves the World before the command
-    /// or that after it (`attempts`).
-    pub fn answer(
+    pub fn answer_in_round(
         &mut self,
         alloc: Global,
         caller: Caller,
         command: &Command,
     ) -> Result<Reply, StoreFault>
         ensures later { B.doubt self.old.book ≤ B.doubt self.new.book }
+        ensures bides { Bides B.harm B.base B.defers B.leaves self.old.book self.new.book }
         ensures ok { (w : World) → B.doubt self.new.book ≡ 0 → B.spells (B.rows self.old.book) w → OnOk result (B.spells (B.rows self.new.book) (step w caller command.now).world) }
-        ensures attempts { (w : World) → B.doubt self.new.book ≤ 1
-            → (B.doubt self.old.book ≡ 0 → B.spells (B.rows self.old.book) w)
-            → Attempts B.doubt B.rows B.spells B.leaves self.old.book self.new.book result w
-            (λ v. (step v caller command.now).world) }
-        ensures reply { (w : World) → B.doubt self.new.book ≤ 1
-            → (B.doubt self.old.book ≡ 0 → B.spells (B.rows self.old.book) w)
-            → IfOk result (λ r. r ≡ (step w caller command.now).reply) }
+        ensures reply { (w : World) → B.doubt self.new.book ≡ 0 → B.spells (B.rows self.old.book) w → IfOk result (λ r. r ≡ (step w caller command.now).reply) }
         ensures accounts { (w v : World) → B.doubt self.new.book ≡ 0 → B.spells (B.rows self.old.book) w → B.spells (B.rows self.new.book) v → OnOk result ((h : HolderName) → cut v h ≡ (local (cut w h) (view_of w h caller command.now)).end) }
         ensures told { (w : World) → B.doubt self.new.book ≡ 0 → B.spells (B.rows self.old.book) w → IfOk result (λ r. (h : HolderName) → for_holder h caller r ≡ (local (cut w h) (view_of w h caller command.now)).replies) }
         ensures refused { B.doubt self.new.book ≡ 0 → IfOk result (λ r. (refusal : Refusal) → r ≡ Refused refusal → B.rows self.new.book ≡ B.rows self.old.book) }
@@ -187,6 +176,51 @@ impl<B: Book> Office<B> {
         }
         self.commit(&decided)?;
         Ok(decided.reply)
+    }
+
+    /// Settles what was changed in the round: all of it stands, or none where it answers a fault. Only where all that was
+    /// answered in the round is so, and the store works, is there no fault.
+    pub fn settle(&mut self) -> Result<(), StoreFault>
+        ensures settles { Settles B.doubt B.rows B.harm B.base B.defers B.settled B.leaves self.old.book self.new.book result }
+        ensures fault { IfErr result B.fails }
+    {
+        self.book.settle()
+    }
+
+    /// Answers a command of a caller in a round of its own, as `answer_in_round` says, and settles it.
+    ///
+    /// A stop leaves the World after a command that was answered. After one that wasn't it leaves the World before the command
+    /// or that after it (`attempts`).
+    pub fn answer(
+        &mut self,
+        alloc: Global,
+        caller: Caller,
+        command: &Command,
+    ) -> Result<Reply, StoreFault>
+        ensures settled { B.settled self.new.book }
+        ensures later { B.settled self.old.book → B.doubt self.old.book ≤ B.doubt self.new.book }
+        ensures ok { (w : World) → B.doubt self.new.book ≡ 0 → B.spells (B.rows self.old.book) w → OnOk result (B.spells (B.rows self.new.book) (step w caller command.now).world) }
+        ensures attempts { (w : World) → B.doubt self.new.book ≤ 1
+            → RestsAt B.doubt B.rows B.spells B.settled self.old.book w
+            → Attempts B.doubt B.rows B.spells B.settled B.leaves self.old.book self.new.book result w
+            (λ v. (step v caller command.now).world) }
+        ensures reply { (w : World) → B.doubt self.new.book ≤ 1
+            → RestsAt B.doubt B.rows B.spells B.settled self.old.book w
+            → IfOk result (λ r. r ≡ (step w caller command.now).reply) }
+        ensures accounts { (w v : World) → B.doubt self.new.book ≡ 0 → B.spells (B.rows self.old.book) w → B.spells (B.rows self.new.book) v → OnOk result ((h : HolderName) → cut v h ≡ (local (cut w h) (view_of w h caller command.now)).end) }
+        ensures told { (w : World) → B.doubt self.new.book ≡ 0 → B.spells (B.rows self.old.book) w → IfOk result (λ r. (h : HolderName) → for_holder h caller r ≡ (local (cut w h) (view_of w h caller command.now)).replies) }
+        ensures refused { B.doubt self.new.book ≡ 0 → IfOk result (λ r. (refusal : Refusal) → r ≡ Refused refusal → B.rows self.new.book ≡ B.rows self.old.book) }
+        ensures err { B.settled self.old.book → B.doubt self.new.book ≡ 0
+            → OnErr result (B.rows self.new.book ≡ B.rows self.old.book) }
+        ensures fault { IfErr result (λ e. (e ≡ Memory) ⊎ B.fails e) }
+        ensures memory { (w : World) → B.doubt self.new.book ≡ 0 → B.spells (B.rows self.old.book) w → IfErr result (MayFail B.fails w caller command.now) }
+        ensures asked { IsAsked (caller, command.now) }
+    {
+        let answered = self.answer_in_round(alloc, caller, command);
+        let settled = self.settle();
+        let reply = answered?;
+        settled?;
+        Ok(reply)
     }
 
     /// Answers commands in order: one outcome a command, its reply, or `Unavailable` where `answer` gives a fault. An
@@ -209,19 +243,20 @@ impl<B: Book> Office<B> {
         alloc: Global,
         commands: &[(Caller, Command)],
     ) -> Result<Vec<Outcome>, AllocError>
-        ensures later { B.doubt self.old.book ≤ B.doubt self.new.book }
+        ensures later { B.settled self.old.book → B.doubt self.old.book ≤ B.doubt self.new.book }
+        ensures still { B.settled self.old.book → B.settled self.new.book }
         ensures run { (w : World) → B.doubt self.new.book ≤ 1
-            → (B.doubt self.old.book ≡ 0 → B.spells (B.rows self.old.book) w)
-            → IfOk result (λ outcomes. Leads B.fails (MovesTo B.doubt B.rows B.spells B.leaves
+            → RestsAt B.doubt B.rows B.spells B.settled self.old.book w
+            → IfOk result (λ outcomes. Leads B.fails (MovesTo B.doubt B.rows B.spells B.settled B.leaves
             self.old.book self.new.book w (attempts commands.now outcomes.items)) w commands.now outcomes.items) }
-        ensures reachable { (w : World) → B.doubt self.new.book ≡ 0 → B.spells (B.rows self.old.book) w → IsReachable w → IfOk result (λ _. StandsBalanced (B.spells (B.rows self.new.book))) }
-        ensures never_full { (w : World) → B.doubt self.new.book ≡ 0 → B.spells (B.rows self.old.book) w → IsReachable w → IfOk result (λ outcomes. AllByRecursion IsNeverFullOutcome outcomes.items) }
-        ensures accounts { (w v : World) → B.doubt self.new.book ≡ 0 → B.spells (B.rows self.old.book) w → B.spells (B.rows self.new.book) v → IfOk result (λ outcomes. (h : HolderName) → cut v h ≡ (local (cut w h) (view h w (answered commands.now outcomes.items))).end) }
-        ensures told { (w : World) → B.doubt self.new.book ≡ 0 → B.spells (B.rows self.old.book) w → IfOk result (λ outcomes. (h : HolderName) → told_to h (replies commands.now outcomes.items) ≡ (local (cut w h) (view h w (answered commands.now outcomes.items))).replies) }
-        ensures refines { (w v : World) → B.doubt self.new.book ≡ 0 → B.spells (B.rows self.old.book) w
+        ensures reachable { (w : World) → B.doubt self.new.book ≡ 0 → RestsAt B.doubt B.rows B.spells B.settled self.old.book w → IsReachable w → IfOk result (λ _. StandsBalanced (B.spells (B.rows self.new.book))) }
+        ensures never_full { (w : World) → B.doubt self.new.book ≡ 0 → RestsAt B.doubt B.rows B.spells B.settled self.old.book w → IsReachable w → IfOk result (λ outcomes. AllByRecursion IsNeverFullOutcome outcomes.items) }
+        ensures accounts { (w v : World) → B.doubt self.new.book ≡ 0 → RestsAt B.doubt B.rows B.spells B.settled self.old.book w → B.spells (B.rows self.new.book) v → IfOk result (λ outcomes. (h : HolderName) → cut v h ≡ (local (cut w h) (view h w (answered commands.now outcomes.items))).end) }
+        ensures told { (w : World) → B.doubt self.new.book ≡ 0 → RestsAt B.doubt B.rows B.spells B.settled self.old.book w → IfOk result (λ outcomes. (h : HolderName) → told_to h (replies commands.now outcomes.items) ≡ (local (cut w h) (view h w (answered commands.now outcomes.items))).replies) }
+        ensures refines { (w v : World) → B.doubt self.new.book ≡ 0 → RestsAt B.doubt B.rows B.spells B.settled self.old.book w
             → B.spells (B.rows self.new.book) v → IsReachable w
             → IfOk result (λ outcomes. Refines w (answered commands.now outcomes.items) v) }
-        ensures undone { B.doubt self.new.book ≡ 0 → IfOk result (λ outcomes.
+        ensures undone { B.settled self.old.book → B.doubt self.new.book ≡ 0 → IfOk result (λ outcomes.
             AllByRecursion IsUndone outcomes.items → B.rows self.new.book ≡ B.rows self.old.book) }
         ensures each { IfOk result (λ outcomes. length outcomes.items ≡ length commands.now) }
         ensures err { OnErr result (self.new ≡ self.old) }

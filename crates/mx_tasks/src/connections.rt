@@ -1,9 +1,8 @@
 //! Connections, one after another.
 ghost use Rattle.std.specs.Prelude.{◌≡◌, ◌≤◌, IfOk};
-ghost use Rattle.mx_book.specs.Stands.{MovesTo};
+ghost use Rattle.mx_book.specs.Stands.{MovesTo, RestsAt};
 ghost use Rattle.mx_book.specs.World.{World};
-ghost use Rattle.mx_desk.specs.Serve.{attempts};
-ghost use Rattle.mx_desk.specs.Steps.{Leads};
+ghost use Rattle.mx_desk.specs.Rounds.{Leads, attempts};
 ghost use Rattle.mx_tasks.specs.Connections.{Connects, ServesConnections};
 
 use crate::alarm::{Alarm, Alarmed};
@@ -50,10 +49,11 @@ fn serve_connection<B: Book>(
     alarm: &mut Alarm<'_>,
     office: &mut Office<B>,
 )
-    ensures later { B.doubt office.old.book ≤ B.doubt office.new.book }
-    ensures serves { (w : World) → B.doubt office.new.book ≤ 1 → (B.doubt office.old.book ≡ 0 → B.spells (B.rows office.old.book) w)
+    ensures later { B.settled office.old.book → B.doubt office.old.book ≤ B.doubt office.new.book }
+    ensures still { B.settled office.old.book → B.settled office.new.book }
+    ensures serves { (w : World) → B.doubt office.new.book ≤ 1 → RestsAt B.doubt B.rows B.spells B.settled office.old.book w
         → Leads (Connects B.fails w)
-        (λ ms. MovesTo B.doubt B.rows B.spells B.leaves office.old.book office.new.book w (attempts ms)) }
+        (λ rs. MovesTo B.doubt B.rows B.spells B.settled B.leaves office.old.book office.new.book w (attempts rs)) }
 {
     let mut reader = Counted::new(Timed::new(rt, stream));
     let mut writer = Counted::new(Alarmed::new(Timed::new(rt, stream), alarm));
@@ -91,10 +91,11 @@ pub fn serve_connections<B: Book>(
     office: &mut Office<B>,
 ) -> io::Result<u64>
     ensures all { IfOk result (λ served. served ≡ count) }
-    ensures later { B.doubt office.old.book ≤ B.doubt office.new.book }
-    ensures serves { (w : World) → B.doubt office.new.book ≤ 1 → (B.doubt office.old.book ≡ 0 → B.spells (B.rows office.old.book) w)
+    ensures later { B.settled office.old.book → B.doubt office.old.book ≤ B.doubt office.new.book }
+    ensures still { B.settled office.old.book → B.settled office.new.book }
+    ensures serves { (w : World) → B.doubt office.new.book ≤ 1 → RestsAt B.doubt B.rows B.spells B.settled office.old.book w
         → Leads (ServesConnections B.fails w count result)
-        (λ ms. MovesTo B.doubt B.rows B.spells B.leaves office.old.book office.new.book w (attempts ms)) }
+        (λ rs. MovesTo B.doubt B.rows B.spells B.settled B.leaves office.old.book office.new.book w (attempts rs)) }
 {
     let mut alarm = Alarm::new(rt);
     'connections: for _ in 0..count {

@@ -1,5 +1,6 @@
 //! Rolls: the file, and its import into the books.
 ghost use Rattle.std.specs.Prelude.{◌≡◌, ◌≤◌, IfOk, vec_len};
+ghost use Rattle.mx_book.specs.Stands.{RestsAt};
 ghost use Rattle.mx_book.specs.World.{World};
 ghost use Rattle.mx_office.specs.Reachable.{IsReachable, StandsBalanced};
 ghost use Rattle.mx_tasks.specs.Works.{Imports, ImportsFile, IsText};
@@ -47,10 +48,13 @@ pub fn import_over<B: Book, P: Progress>(
     bytes: &[u8],
     progress: &mut P,
 ) -> Result<String, TaskFault>
-    ensures later { B.doubt office.old.book ≤ B.doubt office.new.book }
-    ensures imports { (w : World) → B.doubt office.new.book ≡ 0 → B.spells (B.rows office.old.book) w
+    ensures later { B.settled office.old.book → B.doubt office.old.book ≤ B.doubt office.new.book }
+    ensures still { B.settled office.old.book → B.settled office.new.book }
+    ensures imports { (w : World) → B.doubt office.new.book ≡ 0
+        → RestsAt B.doubt B.rows B.spells B.settled office.old.book w
         → Imports (B.spells (B.rows office.new.book)) w bytes.now IsText result }
-    ensures reachable { (w : World) → B.doubt office.new.book ≡ 0 → B.spells (B.rows office.old.book) w
+    ensures reachable { (w : World) → B.doubt office.new.book ≡ 0
+        → RestsAt B.doubt B.rows B.spells B.settled office.old.book w
         → IsReachable w → StandsBalanced (B.spells (B.rows office.new.book)) }
 {
     let report = import_roll_telling(alloc, office, bytes, progress)?;
@@ -77,8 +81,10 @@ pub fn import_from<B: Book>(
     path: &str,
     office: &mut Office<B>,
 ) -> Result<String, TaskFault>
-    ensures later { B.doubt office.old.book ≤ B.doubt office.new.book }
-    ensures imports { (w : World) → B.doubt office.new.book ≡ 0 → B.spells (B.rows office.old.book) w
+    ensures later { B.settled office.old.book → B.doubt office.old.book ≤ B.doubt office.new.book }
+    ensures still { B.settled office.old.book → B.settled office.new.book }
+    ensures imports { (w : World) → B.doubt office.new.book ≡ 0
+        → RestsAt B.doubt B.rows B.spells B.settled office.old.book w
         → ImportsFile (B.spells (B.rows office.new.book)) w IsText result }
 {
     let bytes = match read_roll(rt, path) {

@@ -1,9 +1,10 @@
 //! What the program does for a run: requests from a reader, responses to a writer.
 ghost use Rattle.std.specs.Prelude.{◌≡◌, ◌≤◌, List, [], Err, IfErr};
-ghost use Rattle.mx_book.specs.Stands.{MovesTo};
+ghost use Rattle.mx_book.specs.Stands.{MovesTo, RestsAt};
 ghost use Rattle.mx_book.specs.World.{World, opening};
-ghost use Rattle.mx_desk.specs.Serve.{Marked, attempts};
-ghost use Rattle.mx_desk.specs.Steps.{state, Leads};
+ghost use Rattle.mx_desk.specs.Rounds.{Leads, attempts};
+ghost use Rattle.mx_desk.specs.Serve.{Marked};
+ghost use Rattle.mx_desk.specs.Steps.{state};
 ghost use Rattle.mx_office.specs.Reachable.{IsReachable};
 ghost use Rattle.mx_tasks.specs.Faults.{Untouched};
 ghost use Rattle.mx_tasks.specs.Runs.{IsRunFault, TaskRuns};
@@ -35,15 +36,16 @@ pub fn run_office<R: Read, W: Outlet, B: Book>(
     reader: &mut Counted<R>,
     writer: &mut Counted<W>,
 ) -> Result<u64, TaskFault>
-    ensures later { B.doubt office.old.book ≤ B.doubt office.new.book }
+    ensures later { B.settled office.old.book → B.doubt office.old.book ≤ B.doubt office.new.book }
+    ensures still { B.settled office.old.book → B.settled office.new.book }
     ensures unbegun { result ≡ Err TaskFault.Memory → (office.new ≡ office.old)
         × Untouched reader.old reader.new writer.old writer.new }
     ensures fault { IfErr result IsRunFault }
-    ensures runs { (w : World) → B.doubt office.new.book ≤ 1 → (B.doubt office.old.book ≡ 0 → B.spells (B.rows office.old.book) w)
+    ensures runs { (w : World) → B.doubt office.new.book ≤ 1 → RestsAt B.doubt B.rows B.spells B.settled office.old.book w
         → Leads (λ ms now. TaskRuns B.fails
         (state [] (R.remaining reader.old.device) (W.contents writer.old.device) w) result ms
         (state [] (R.remaining reader.new.device) (W.contents writer.new.device) now))
-        (λ ms. MovesTo B.doubt B.rows B.spells B.leaves office.old.book office.new.book w (attempts ms)) }
+        (λ rs. MovesTo B.doubt B.rows B.spells B.settled B.leaves office.old.book office.new.book w (attempts rs)) }
 {
     let routes = Routes::new(alloc)?;
     let count = run(alloc, reader, writer, &routes, office)?;
@@ -61,12 +63,12 @@ fn run_over<R: Read, W: Outlet, B: Book + Drop>(
     ensures unbegun { result ≡ Err TaskFault.Memory
         → Untouched reader.old reader.new writer.old writer.new }
     ensures fault { IfErr result IsRunFault }
-    ensures runs { (w : World) → (B.doubt book ≡ 0 → B.spells (B.rows book) w)
+    ensures runs { (w : World) → RestsAt B.doubt B.rows B.spells B.settled book w
         → (left : B) × (B.doubt left ≤ 1
         → Leads (λ ms now. TaskRuns B.fails
         (state [] (R.remaining reader.old.device) (W.contents writer.old.device) w) result ms
         (state [] (R.remaining reader.new.device) (W.contents writer.new.device) now))
-        (λ ms. MovesTo B.doubt B.rows B.spells B.leaves book left w (attempts ms))) }
+        (λ rs. MovesTo B.doubt B.rows B.spells B.settled B.leaves book left w (attempts rs))) }
 {
     let mut office = Office::new(book);
     run_office(alloc, &mut office, reader, writer)

@@ -170,7 +170,7 @@ fn reader_that_fails_at_each_read(rt: HostRuntime) -> Result<(), Fail> {
 }
 
 /// A run whose page is full at this byte of a response: its request stands, and those behind it don't, since they are answered
-/// as usual when they are sent again.
+/// as usual when they are sent again. Its bytes come one at a time, so that each request is a round of its own.
 fn written_up_to<'a>(
     exchange: &'a Exchange,
     place: &Place,
@@ -184,7 +184,7 @@ fn written_up_to<'a>(
     Some(Broken {
         fault: DeskFault::Write,
         input,
-        size: 4096,
+        size: 1,
         reads: None,
         room,
         takes_none,
