@@ -1,9 +1,10 @@
 /* The SQL statements of payments between purses, as an office over tables executes them, by the C library of SQLite: prepared
-   once, foreign keys on, over a database in memory. It is what checks/cost-over-tables compares the office with.
+   once, foreign keys on. It is what checks/cost-over-tables and checks/rounds compare the office with.
 
-   statements PAIRS PAYMENTS makes the tables with PAIRS pairs of purses, and then PAYMENTS payments of 1 by the pairs in turn,
-   eight requests each: two starts, three messages that are handled, three that are discarded. A request that writes is one
-   transaction. At the end it prints how many messages are left in the inboxes, which are none, and what the purses hold. */
+   statements PAIRS PAYMENTS [FILE TOGETHER] makes the tables with PAIRS pairs of purses, in memory or in a new FILE with a log
+   that is synced at each commit, and then PAYMENTS payments of 1 by the pairs in turn, eight requests each: two starts, three
+   messages that are handled, three that are discarded. TOGETHER requests that write are one transaction, and without it each
+   one. At the end it prints how many messages are left in the inboxes, which are none, and what the purses hold. */
 #include <sqlite3.h>
 #include <stdarg.h>
 #include <stdio.h>
@@ -83,6 +84,19 @@ static sqlite3_int64 ask(int statement, const char *kinds, ...) {
     return found;
 }
 
+/* How many requests are one transaction, and how many wait for its commit. */
+static int together = 1, waiting;
+
+static void begin(void) {
+    if (!waiting) ask(BEGIN, "");
+}
+
+static void commit(void) {
+    if (++waiting < together) return;
+    ask(COMMIT, "");
+    waiting = 0;
+}
+
 struct purse {
     char name[32];
     sqlite3_int64 balance, next, lines, next_message;
@@ -114,10 +128,10 @@ static void start(struct purse *p, const char *status, const char *details, stru
     ask(OWN, "s", p->name);
     sqlite3_int64 number = to ? place_of(to) : 0;
     p->next++;
-    ask(BEGIN, "");
+    begin();
     set_purse(p, status, details);
     if (to) add_message(to, number, "req", details);
-    ask(COMMIT, "");
+    commit();
 }
 
 /* A message is handled: money moves by so much, and an answer goes to the other purse, if one does. */
@@ -128,20 +142,20 @@ static void handle(struct purse *p, sqlite3_int64 message, int moved, const char
     sqlite3_int64 number = to ? place_of(to) : 0;
     p->balance += moved;
     p->lines += moved != 0;
-    ask(BEGIN, "");
+    begin();
     set_purse(p, status, strcmp(status, "epa") ? "" : details);
     p->lines -= moved != 0;
     if (moved) add_line(p, moved < 0 ? "sent" : "received", details);
     if (to) add_message(to, number, kind, details);
-    ask(COMMIT, "");
+    commit();
 }
 
 static void discard(struct purse *p, sqlite3_int64 message) {
     ask(OWNER, "s", p->name);
     ask(HAS_MESSAGE, "sn", p->name, message);
-    ask(BEGIN, "");
+    begin();
     ask(DROP_MESSAGE, "sn", p->name, message);
-    ask(COMMIT, "");
+    commit();
 }
 
 static void pay(struct purse *p, struct purse *q) {
@@ -163,14 +177,18 @@ static void new_purse(struct purse *p, const char *side, int pair, sqlite3_int64
     snprintf(holder, sizeof holder, "%s%d", *side == 'p' ? "a" : "b", pair);
     *p = (struct purse){.balance = balance};
     snprintf(p->name, sizeof p->name, "%s%d", side, pair);
-    ask(BEGIN, "");
+    begin();
     ask(NEW_HOLDER, "s", holder);
     ask(NEW_PURSE, "ssn", p->name, holder, balance);
-    ask(COMMIT, "");
+    commit();
 }
 
-static void make_tables(void) {
-    check(sqlite3_open(":memory:", &books) == SQLITE_OK);
+static void make_tables(const char *file) {
+    check(sqlite3_open(file ? file : ":memory:", &books) == SQLITE_OK);
+    if (file) {
+        check(sqlite3_exec(books, "PRAGMA journal_mode = WAL", NULL, NULL, NULL) == SQLITE_OK);
+        check(sqlite3_exec(books, "PRAGMA synchronous = FULL", NULL, NULL, NULL) == SQLITE_OK);
+    }
     check(sqlite3_exec(books, "PRAGMA foreign_keys = ON", NULL, NULL, NULL) == SQLITE_OK);
     for (size_t i = 0; i < sizeof TABLES / sizeof *TABLES; i++) {
         check(sqlite3_exec(books, TABLES[i], NULL, NULL, NULL) == SQLITE_OK);
@@ -192,16 +210,18 @@ static sqlite3_int64 count(const char *text) {
 int main(int words, char **word) {
     int pairs = words > 2 ? atoi(word[1]) : 0, payments = words > 2 ? atoi(word[2]) : 0;
     if (pairs < 1) {
-        fprintf(stderr, "statements PAIRS PAYMENTS\n");
+        fprintf(stderr, "statements PAIRS PAYMENTS [FILE TOGETHER]\n");
         return 2;
     }
     struct purse *purses = calloc(2 * (size_t)pairs, sizeof *purses);
-    make_tables();
+    make_tables(words > 3 ? word[3] : NULL);
+    if (words > 4) together = atoi(word[4]);
     for (int i = 0; i < pairs; i++) {
         new_purse(&purses[2 * i], "p", i, 1000000);
         new_purse(&purses[2 * i + 1], "q", i, 0);
     }
     for (int i = 0; i < payments; i++) pay(&purses[2 * (i % pairs)], &purses[2 * (i % pairs) + 1]);
+    if (waiting) ask(COMMIT, "");
     printf("%lld messages, %lld\n", (long long)count("SELECT count(*) FROM inbox"),
            (long long)count("SELECT sum(balance) FROM purse"));
     return 0;

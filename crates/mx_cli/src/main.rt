@@ -16,11 +16,11 @@ use std::process::ExitCode;
 
 /// What `--version` tells: the version, the schema of files, and the first digits of the sum of the sources, which
 /// `./purse-office --sources` prints and which leaves out this line. The sources are `unreleased` until there is a release of them.
-const VERSION: &str = "1.0.0 (schema 2, sources 66572ce12f420b26)";
+const VERSION: &str = "1.1.0 (schema 2, sources unreleased)";
 
 /// Does a task over standard input and output. Each read is one call, unbuffered, since the desk has an array of its own.
 /// What is written stands in a buffer until it is passed on; but in a run over a file each response is written at once, so
-/// that whoever reads them knows of each change but one, should the program be killed.
+/// that whoever reads them knows of each round but one, should the program be killed.
 fn do_task(rt: &HostRuntime, task: &Task<'_>) -> Result<(), TaskFault> {
     let mut reader = Counted::new(rt.stdin());
     if let Task::RunFile(_) = task {

@@ -1,55 +1,49 @@
--- What a stop leaves of requests, and lives with stops between them.
+-- What a stop leaves of rounds, and lives with stops between them.
 use Rattle.std.proofs.Common.{◌≡◌, ◌≤◌, ℕ, inl, inr, List, [], ◌∷◌, ◌++◌, refl, sym, ◌∙◌, ap, subst}
-use Rattle.mx_book.specs.Stands.{attempt_all, IsLeft, MovesTo, OneMore}
+use Rattle.mx_book.specs.Stands.{attempt_all, attempt_one, IsLeft, MovesTo, OneMore}
 use Rattle.mx_book.specs.World.{World}
-use Rattle.mx_desk.specs.Durable.{IsGivenUpOf, Lasts, Lives, after_all, ended, stopped, unborn}
+use Rattle.mx_desk.specs.Durable.{IsGivenUpOf, Lasts, Lives, ended, stopped, unborn}
 use Rattle.mx_desk.specs.Leaves.{Lawful}
-use Rattle.mx_desk.specs.Respond.{respond}
-use Rattle.mx_desk.specs.Serve.{Marked, attempts, world_after, world_after_one}
+use Rattle.mx_desk.specs.Rounds.{Round, all_of, attempts}
+use Rattle.mx_desk.specs.Serve.{Marked, world_after}
 use Rattle.mx_desk.proofs.LawfulLemmas.{lawful_requests, lawful_then}
+use Rattle.mx_desk.proofs.RoundLemmas.{attempts_lead}
 
--- the World after requests is that after their attempts
-pub attempts_lead : (w : World) (ms : List Marked) → attempt_all w (attempts ms) ≡ world_after w ms
-attempts_lead w [] = refl
-attempts_lead w (m ∷ ms) = attempts_lead (world_after_one w m) ms
-
--- what was made after all is what a request does that was given up, to the World at the end
-more_requests : (w : World) (ms : List Marked) (v : World) → OneMore w (attempts ms) v → (m : Marked) × IsGivenUpOf ms m × (v ≡ (respond (world_after w ms) m.request).world)
-more_requests w [] v one = absurd one
-more_requests w (m ∷ ms) v (inl one) =
-    let here : world_after_one w m ≡ w = rw one.0 refl in
-    let still : world_after (world_after_one w m) ms ≡ w = ap (λ u. world_after u ms) here ∙ sym (attempts_lead w ms) ∙ one.1 in
-    (m, ([], ms, refl, one.0), one.2 ∙ ap (λ u. (respond u m.request).world) (sym still))
-more_requests w (n ∷ ms) v (inr one) =
-    let more = more_requests (world_after_one w n) ms v one in
+-- what was made after all is what a round does that was given up, to the World at the end
+more_rounds : (w : World) (rs : List Round) (v : World) → OneMore w (attempts rs) v → (r : Round) × IsGivenUpOf rs r × (v ≡ world_after (world_after w (all_of rs)) r.held)
+more_rounds w [] v one = absurd one
+more_rounds w (r ∷ rs) v (inl one) =
+    let here : attempt_one w (record { given_up = r.given_up; change = λ u. world_after u r.held }) ≡ w = rw one.0 refl in
+    let still : world_after w (all_of (r ∷ rs)) ≡ w = sym (attempts_lead w (r ∷ rs)) ∙ ap (λ u. attempt_all u (attempts rs)) here ∙ one.1 in
+    (r, ([], rs, refl, one.0), one.2 ∙ ap (λ u. world_after u r.held) (sym still))
+more_rounds w (q ∷ rs) v (inr one) =
+    let after = attempt_one w (record { given_up = q.given_up; change = λ u. world_after u q.held }) in
+    let more = more_rounds after rs v one in
     let place = more.1 in
-    (more.0, (n ∷ place.0, place.1, ap (λ l. n ∷ l) place.2, place.3), more.2)
+    let same : world_after after (all_of rs) ≡ world_after w (all_of (q ∷ rs)) = sym (attempts_lead after rs) ∙ attempts_lead w (q ∷ rs) in
+    (more.0, (q ∷ place.0, place.1, ap (λ l. q ∷ l) place.2, place.3), more.2 ∙ ap (λ u. world_after u more.0.held) same)
 
-module _ {B R : Type 0} {doubt : B → ℕ} {rows : B → R} {spells : R → World → Type 0} {leaves : B → R → Type 0} where
+module _ {B R : Type 0} {doubt : B → ℕ} {rows : B → R} {spells : R → World → Type 0} {settled : B → Type 0} {leaves : B → R → Type 0} where
   -- of a book that was sure, a stop leaves nothing else
-  pub moves_last : (old new : B) (w now : World) (ms : List Marked) → ((r : R) → leaves old r → spells r w) → MovesTo doubt rows spells leaves old new w (attempts ms) now
-      → doubt new ≤ 1 → (r : R) → leaves new r → Lasts (spells r) ms now
-  moves_last old new w now ms was moved low r left = by (moved.left low r left) where
-    is : now ≡ world_after w ms
-    is = moved.world ∙ attempts_lead w ms
+  pub moves_last : (old new : B) (w now : World) (rs : List Round) → ((r : R) → leaves old r → spells r w) → MovesTo doubt rows spells settled leaves old new w (attempts rs) now
+      → doubt new ≤ 1 → (r : R) → leaves new r → Lasts (spells r) rs now
+  moves_last old new w now rs was moved low r left = by (moved.left low r left) where
+    is : now ≡ world_after w (all_of rs)
+    is = moved.world ∙ attempts_lead w rs
 
-    by : IsLeft (leaves old r) (spells r) w (attempts ms) now → Lasts (spells r) ms now
+    by : IsLeft (leaves old r) (spells r) w (attempts rs) now → Lasts (spells r) rs now
     by (inl before) = inl (rw before.1 (was r before.0))
     by (inr (inl here)) = inl here
     by (inr (inr more)) =
-        let one = more_requests w ms more.0 more.1 in
-        let there : spells r (respond (world_after w ms) one.0.request).world = subst (spells r) one.2 more.2 in
-        inr (one.0, one.1, subst (λ u. spells r (respond u one.0.request).world) (sym is) there)
+        let one = more_rounds w rs more.0 more.1 in
+        let there : spells r (world_after (world_after w (all_of rs)) one.0.held) = subst (spells r) one.2 more.2 in
+        inr (one.0, one.1, subst (λ u. spells r (world_after u one.0.held)) (sym is) there)
 
 -- ---- lives
-
--- a request that is done is lawful
-done_lawful : (w : World) (m : Marked) → Lawful w (after_all m ∷ []) (respond w m.request).world
-done_lawful w m = lawful_requests w (respond w m.request).world (after_all m ∷ []) refl
 
 -- what is promised of requests holds of those of lives
 pub lives_lawful : (w now : World) (ms : List Marked) → Lives w ms now → Lawful w ms now
 lives_lawful _ _ _ (unborn {w}) = lawful_requests w w [] refl
 lives_lawful _ _ _ (ended {w} {v} {now} {ms} {ns} before life) = lawful_then w v now ms ns (lives_lawful w v ms before) life
-lives_lawful _ _ _ (stopped {w} {v} {now} {ms} {ns} before life m given_up) =
-    lawful_then w v _ ms (ns ++ after_all m ∷ []) (lives_lawful w v ms before) (lawful_then v now _ ns (after_all m ∷ []) life (done_lawful now m))
+lives_lawful _ _ _ (stopped {w} {v} {now} {ms} {rs} before life r given_up) =
+    lawful_then w v _ ms (all_of rs ++ r.held) (lives_lawful w v ms before) (lawful_then v now _ (all_of rs) r.held life (lawful_requests now _ r.held refl))

@@ -1,8 +1,7 @@
 -- What is given up takes memory, or a read of the book may fail.
-use Rattle.std.proofs.Common.{◌≡◌, Bool, true, false, List, Option, Some, refl, ap, subst, ◌∙◌, inl, inr, Result, Ok, Err}
+use Rattle.std.proofs.Common.{◌≡◌, Bool, true, false, Option, Some, refl, ap, subst, ◌∙◌, inl, inr, Result, Ok, Err}
 use Rattle.std.specs.Option.{option_map_or}
 use Rattle.std.specs.Prelude.{◌⊎◌, ◌&&◌, ◌||◌, IsTrue}
-use Rattle.mx_book.specs.Stands.{Attempt}
 use Rattle.mx_book.specs.World.{World}
 use Rattle.mx_book.specs.declared.contract.StoreFault.{StoreFault}
 use Rattle.mx_book.specs.declared.contract.StoreFault.TheVariants.{Memory}
@@ -68,12 +67,11 @@ body_given_up fails w r route caller class has = inl (
     (either (has_body route) (option_map_or (command_takes w caller) (command_of route r.body) false) has))
 
 -- the answer to a request is that to its command
-pub answer_of_command : (fails : StoreFault → Type 0) (Moves : List Attempt → World → Type 0) (w : World) (r : Request) (route : Route) (caller : Caller) (command : Command) (found : Option Caller) (result : Result Response StoreFault)
+pub answer_of_command : (fails : StoreFault → Type 0) (Has : World → Type 0) (w : World) (r : Request) (route : Route) (caller : Caller) (command : Command) (found : Option Caller) (result : Result Response StoreFault)
     → found ≡ Some caller → IsTrue (is_of_class caller (class_of route)) → command_of route r.body ≡ Some command
-    → IsAnswer Moves w (after_body w caller (Some command)) (IsGivenUpFor fails (command_takes w caller command)) result
-    → IsAnswer Moves w (after_caller w r route found) (IsGivenUpFor fails (caller_takes w r route found)) result
+    → IsAnswer Has w (after_body w caller (Some command)) (IsGivenUpFor fails (command_takes w caller command)) result
+    → IsAnswer Has w (after_caller w r route found) (IsGivenUpFor fails (caller_takes w r route found)) result
 unfolding after_caller
-answer_of_command fails Moves w r route caller command found (Ok x) is class body answer = rw (is, class, body) answer
-answer_of_command fails Moves w r route caller command found (Err e) is class body answer =
-    let moves = answer.1 in
-    rw is (command_given_up fails w r route caller command class body answer.0, rw (class, body) moves)
+answer_of_command fails Has w r route caller command found (Ok x) is class body answer = rw (is, class, body) answer
+answer_of_command fails Has w r route caller command found (Err e) is class body answer =
+    rw is (command_given_up fails w r route caller command class body answer.0, answer.1)

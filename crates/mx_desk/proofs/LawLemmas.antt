@@ -3,12 +3,21 @@ use Rattle.std.proofs.Common.{◌≡◌, List, [], ◌∷◌, ◌++◌, refl, sy
 use Rattle.mx_book.specs.World.{World, Name}
 use Rattle.mx_office.specs.Step.{ends}
 use Rattle.mx_office.specs.Isolation.{cut}
-use Rattle.mx_desk.specs.Serve.{Marked, world_after, world_after_one}
+use Rattle.mx_book.specs.declared.contract.StoreFault.{StoreFault}
+use Rattle.mx_desk.specs.Serve.{Marked, AllMayBeMarked, outputs, response_to, world_after, world_after_one}
 use Rattle.mx_desk.specs.Isolation.{alone, seen_of, seen, told_one, told, IsApart}
 
 pub world_after-append : (w : World) (xs ys : List Marked) → world_after w (xs ++ ys) ≡ world_after (world_after w xs) ys
 world_after-append w [] ys = refl
 world_after-append w (x ∷ xs) ys = world_after-append (world_after_one w x) xs ys
+
+pub outputs-append : (w : World) (xs ys : List Marked) → outputs w (xs ++ ys) ≡ outputs w xs ++ outputs (world_after w xs) ys
+outputs-append w [] ys = refl
+outputs-append w (x ∷ xs) ys = ap (λ l. response_to w x ++ l) (outputs-append (world_after_one w x) xs ys) ∙ sym (append_assoc (response_to w x) (outputs (world_after_one w x) xs) _)
+
+pub marks-append : (fails : StoreFault → Type 0) (w : World) (xs ys : List Marked) → AllMayBeMarked fails w xs → AllMayBeMarked fails (world_after w xs) ys → AllMayBeMarked fails w (xs ++ ys)
+marks-append fails w [] ys one two = two
+marks-append fails w (x ∷ xs) ys one two = (one.0, marks-append fails (world_after_one w x) xs ys one.1 two)
 
 seen-append : (h : Name) (w : World) (xs ys : List Marked) → seen h w (xs ++ ys) ≡ seen h w xs ++ seen h (world_after w xs) ys
 seen-append h w [] ys = refl

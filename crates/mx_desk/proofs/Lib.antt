@@ -4,11 +4,13 @@ pub mod UniqueLemmas
 pub mod RequestLemmas
 pub mod Lists
 pub mod KnowsLemmas
+pub mod LawLemmas
+pub mod RoundLemmas
+pub mod TurnLemmas
 pub mod MoveLemmas
 pub mod StepLemmas
 pub mod RunLemmas
 pub mod ApartLemmas
-pub mod LawLemmas
 pub mod ConservationLemmas
 pub mod RefinedLemmas
 pub mod LawfulLemmas

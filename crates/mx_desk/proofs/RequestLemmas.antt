@@ -1,5 +1,5 @@
 -- What comes first is one thing, and stays where more follows.
-use Rattle.std.proofs.Common.{◌≡◌, ℕ, ◌<◌, ◌≤◌, Bool, true, false, List, [], ◌∷◌, ◌++◌, length, refl, sym, ap, ◌∙◌, arith, length-append, length-drop}
+use Rattle.std.proofs.Common.{◌≡◌, ℕ, ◌+◌, ◌<◌, ◌≤◌, Bool, true, false, List, [], ◌∷◌, ◌++◌, length, refl, sym, ap, ◌∙◌, arith, length-append, length-drop}
 use Rattle.std.specs.Prelude.{Result, Ok, Err, nat_le, if◌then◌else◌}
 use Rattle.std.proofs.lemmas.List.{take-append-le, drop-append-le}
 use Rattle.std.proofs.lemmas.Bool.{leb-true, le-leb}
@@ -68,10 +68,10 @@ Begins-append b tail rs rest none = none
 Begins-append b tail (r ∷ rs) rest (more {mid = mid} first begins) =
     more (First-append b tail r mid first) (Begins-append mid tail rs rest begins)
 
-pub Begins-snoc : (b : List ℕ) (rs : List Request) (mid : List ℕ) (r : Request) (rest : List ℕ)
-    → Begins b rs mid → First mid (Whole r rest) → Begins b (rs ++ r ∷ []) rest
-Begins-snoc b [] mid r rest none first = more first none
-Begins-snoc b (q ∷ rs) mid r rest (more first' begins) first = more first' (Begins-snoc _ rs mid r rest begins first)
+pub Begins-then : (b : List ℕ) (rs : List Request) (mid : List ℕ) (ss : List Request) (rest : List ℕ)
+    → Begins b rs mid → Begins mid ss rest → Begins b (rs ++ ss) rest
+Begins-then b [] mid ss rest none begins = begins
+Begins-then b (r ∷ rs) mid ss rest (more first one) two = more first (Begins-then _ rs mid ss rest one two)
 
 after_head_shorter : (f : Result ℕ Reason) (h : RequestHead) (rest : List ℕ) (r : Request) (mid : List ℕ)
     → after_head f h rest ≡ Whole r mid → length mid ≤ length rest
@@ -84,4 +84,12 @@ pub Whole-shorter : (b : List ℕ) (r : Request) (mid : List ℕ) → First b (W
 Whole-shorter b r mid (a_head {rest = rest} {h = h} is e) =
     let x = head_length b h rest is.reads in
     let y = after_head_shorter (framing (fields_of h)) h rest r mid e in
+    omega arith
+
+-- each request has a byte at least
+pub Begins-shorter : (b : List ℕ) (rs : List Request) (rest : List ℕ) → Begins b rs rest → length rs + length rest ≤ length b
+Begins-shorter b [] rest none = omega arith
+Begins-shorter b (r ∷ rs) rest (more {mid = mid} first begins) =
+    let one = Whole-shorter b r mid first in
+    let two = Begins-shorter mid rs rest begins in
     omega arith

@@ -1,31 +1,17 @@
 -- Turns of the desk one after another.
-use Rattle.std.proofs.Common.{◌≡◌, ℕ, ◌+◌, List, [], ◌∷◌, ◌++◌, length, Option, Some, None, refl, sym, ap, subst, ◌∙◌, inl, append_assoc, arith}
+use Rattle.std.proofs.Common.{◌≡◌, ◌≤◌, ℕ, ◌+◌, List, [], ◌∷◌, ◌++◌, length, Option, Some, None, refl, sym, ap, subst, ◌∙◌, inl, append_assoc, arith}
 use Rattle.std.specs.Prelude.{Ok, Err, IfSome}
 use Rattle.std.proofs.lemmas.List.{append-nil, map-append, take_all}
 use Rattle.std.specs.Io.KnownBytes.{Consumes, Keeps, IsAtEnd}
-use Rattle.mx_book.specs.World.{World}
 use Rattle.mx_book.specs.declared.contract.StoreFault.{StoreFault}
 use Rattle.mx_desk.specs.declared.desk.Served.TheVariants as served
 use Rattle.mx_desk.specs.declared.fault.DeskFault.TheVariants as fault
 use Rattle.mx_desk.specs.Requests.{Begins, Nothing, Stops, First, none, nothing}
-use Rattle.mx_desk.specs.Serve.{Marked, MayBeMarked, AllMayBeMarked, world_after_one, response_to, stop_text, world_after, outputs, requests_of, ServedAll}
+use Rattle.mx_desk.specs.Serve.{Marked, outputs, requests_of, stop_text, ServedAll}
 use Rattle.mx_desk.specs.Steps.{State, Steps, Ran, Turns}
 use Rattle.std.proofs.KnownBytes.{Appends-nil, Appends-trans, Appends-kept, Consumes-nil, Consumes-trans}
-use Rattle.mx_desk.proofs.RequestLemmas.{Begins-append, Begins-snoc}
-
-pub world_after-snoc : (w : World) (ms : List Marked) (m : Marked) → world_after w (ms ++ m ∷ []) ≡ world_after_one (world_after w ms) m
-world_after-snoc w [] m = refl
-world_after-snoc w (n ∷ ms) m = world_after-snoc (world_after_one w n) ms m
-
-pub outputs-snoc : (w : World) (ms : List Marked) (m : Marked) → outputs w (ms ++ m ∷ []) ≡ outputs w ms ++ response_to (world_after w ms) m
-outputs-snoc w [] m = append-nil _
-outputs-snoc w (n ∷ ms) m =
-    ap (λ t. response_to w n ++ t) (outputs-snoc (world_after_one w n) ms m)
-    ∙ sym (append_assoc (response_to w n) (outputs (world_after_one w n) ms) _)
-
-pub marks-snoc : (fails : StoreFault → Type 0) (w : World) (ms : List Marked) (m : Marked) → AllMayBeMarked fails w ms → MayBeMarked fails (world_after w ms) m → AllMayBeMarked fails w (ms ++ m ∷ [])
-marks-snoc fails w [] m all one = (one, tt)
-marks-snoc fails w (n ∷ ms) m all one = (all.0, marks-snoc fails (world_after_one w n) ms m all.1 one)
+use Rattle.mx_desk.proofs.LawLemmas.{marks-append, outputs-append, world_after-append}
+use Rattle.mx_desk.proofs.RequestLemmas.{Begins-append, Begins-then}
 
 module _ (fails : StoreFault → Type 0) where
   pub Ran-none : (s : State) → Ran fails s [] s
@@ -37,30 +23,33 @@ module _ (fails : StoreFault → Type 0) where
     answered = record { begins = rw (append-nil s.pending) none; marks = tt; out_is = refl; world_is = refl };
   }
 
-  pub Ran-step : (s u t : State) (ms : List Marked) → Ran fails s ms u → (ns : List Marked) → Turns fails u (Ok served.Answered) ns t → Ran fails s (ms ++ ns) t
-  Ran-step s u t ms ran ns turns = subst (λ ns. Ran fails s (ms ++ ns) t) turns.answered (more turns.turn) where
-    more : (step : Steps fails u (Ok served.Answered) t) → Ran fails s (ms ++ step.then.marked ∷ []) t
+  pub Ran-step : (s u t : State) (ms : List Marked) (n : ℕ) → Ran fails s ms u → (ns : List Marked) → Turns fails u (Ok (served.Answered n)) ns t → Ran fails s (ms ++ ns) t × (n ≡ length ns)
+  Ran-step s u t ms n ran ns turns = subst (λ ns. Ran fails s (ms ++ ns) t × (n ≡ length ns)) turns.answered (more turns.turn) where
+    more : (step : Steps fails u (Ok (served.Answered n)) t) → Ran fails s (ms ++ step.then.marked) t × (n ≡ length step.then.marked)
     more step =
         let a = step.then in
         let m = a.marked in
         let out_is = ran.answered.out_is in
         let world_is = ran.answered.world_is in
-        let marked = a.marks in record {
-          came = ran.came ++ step.came;
-          out = ran.out ++ response_to u.world m;
-          consumed = Consumes-trans _ _ _ ran.came step.came ran.consumed step.consumed;
-          wrote = Appends-trans _ _ _ ran.out (response_to u.world m) ran.wrote a.wrote;
-          answered = record {
-            begins =
-                rw (sym (append_assoc s.pending ran.came step.came), map-append) (
-                Begins-snoc _ (requests_of ms) (u.pending ++ step.came) m.request t.pending
-                (Begins-append (s.pending ++ ran.came) step.came (requests_of ms) u.pending ran.answered.begins)
-                a.first);
-            marks = marks-snoc fails s.world ms m ran.answered.marks (rw world_is at marked);
-            out_is = rw (outputs-snoc, out_is, world_is) refl;
-            world_is = a.world ∙ rw (world_after-snoc, world_is) refl;
-          };
-        }
+        let marked = a.marks in (
+          record {
+            came = ran.came ++ step.came;
+            out = ran.out ++ outputs u.world m;
+            consumed = Consumes-trans _ _ _ ran.came step.came ran.consumed step.consumed;
+            wrote = Appends-trans _ _ _ ran.out (outputs u.world m) ran.wrote a.wrote;
+            answered = record {
+              begins =
+                  rw (sym (append_assoc s.pending ran.came step.came), map-append) (
+                  Begins-then _ (requests_of ms) (u.pending ++ step.came) (requests_of m) t.pending
+                  (Begins-append (s.pending ++ ran.came) step.came (requests_of ms) u.pending ran.answered.begins)
+                  a.begins);
+              marks = marks-append fails s.world ms m ran.answered.marks (rw world_is at marked);
+              out_is = rw (outputs-append, out_is, world_is) refl;
+              world_is = a.world ∙ rw (world_after-append, world_is) refl;
+            };
+          },
+          a.count,
+        )
 
   append_nil_parts : (a b : List ℕ) → a ++ b ≡ [] → (a ≡ []) × (b ≡ [])
   append_nil_parts [] b e = (refl, e)
@@ -101,35 +90,36 @@ module _ (fails : StoreFault → Type 0) where
           let all : b ≡ (s.pending ++ ran.came) ++ (step.came ++ rest) = e ∙ rw (fresh, append_assoc) refl in
           (u.pending ++ (step.came ++ rest), rw all (Begins-append (s.pending ++ ran.came) (step.came ++ rest) (requests_of ms) u.pending ran.answered.begins), rw append_assoc at f)
 
-  -- ---- an answered request, and then a flush
+  -- ---- answered requests, and then a flush
 
-  pub flushed : (s t : State) (ms : List Marked) (output : Option (List ℕ)) → Turns fails s (Ok served.Answered) ms t → Keeps t.output output → Turns fails s (Ok served.Answered) ms (record t { output = output })
-  flushed s t ms output turns kept =
+  pub flushed : (s t : State) (ms : List Marked) (n : ℕ) (output : Option (List ℕ)) → Turns fails s (Ok (served.Answered n)) ms t → Keeps t.output output → Turns fails s (Ok (served.Answered n)) ms (record t { output = output })
+  flushed s t ms n output turns kept =
       let step = turns.turn in
       let a = step.then in record {
         turn = record {
           came = step.came;
           consumed = step.consumed;
-          then = record { marked = a.marked; marks = a.marks; first = a.first; wrote = Appends-kept _ _ _ (response_to s.world a.marked) a.wrote kept; world = a.world };
+          then = record { marked = a.marked; marks = a.marks; begins = a.begins; count = a.count; some = a.some; wrote = Appends-kept _ _ _ (outputs s.world a.marked) a.wrote kept; world = a.world };
         };
         answered = turns.answered;
       }
 
-  pub unflushed : (s t : State) (ms : List Marked) (output : Option (List ℕ)) → Turns fails s (Ok served.Answered) ms t → Keeps t.output output → Turns fails s (Err fault.Write) ms (record t { output = output })
-  unflushed s t ms output turns kept =
+  pub unflushed : (s t : State) (ms : List Marked) (n : ℕ) (output : Option (List ℕ)) → length ms ≤ 64 → Turns fails s (Ok (served.Answered n)) ms t → Keeps t.output output → Turns fails s (Err fault.Write) ms (record t { output = output })
+  unflushed s t ms n output few turns kept =
       let step = turns.turn in
       let a = step.then in
-      let text : List ℕ = response_to s.world a.marked in
+      let text : List ℕ = outputs s.world a.marked in
       let wrote = Appends-kept _ _ _ text a.wrote kept in record {
         turn = record {
           came = step.came;
           consumed = step.consumed;
           then = inl (record {
             marked = a.marked;
+            few = subst (λ l. length l ≤ 64) (sym turns.answered) few;
             marks = a.marks;
             rest = t.pending;
             count = length text;
-            first = a.first;
+            begins = a.begins;
             cut = omega arith;
             wrote = rw (take_all (length text) text (omega arith)) wrote;
             world = a.world;

@@ -1,5 +1,5 @@
 -- The ways that a turn of the desk ends.
-use Rattle.std.proofs.Common.{◌≡◌, ℕ, zero, suc, ◌*◌, ◌^◌, ◌+◌, ◌<◌, ◌≤◌, inl, inr, List, [], ◌∷◌, ◌++◌, length, take, drop, Option, Some, None, refl, sym, ◌∙◌, arith}
+use Rattle.std.proofs.Common.{◌≡◌, ℕ, zero, suc, ◌*◌, ◌^◌, ◌+◌, ◌<◌, ◌≤◌, inl, inr, List, [], ◌++◌, length, take, drop, Option, Some, None, refl, sym, ◌∙◌, arith}
 use Rattle.std.specs.Prelude.{Ok, Err, IfSome}
 use Rattle.std.proofs.lemmas.List.{append-nil}
 use Rattle.std.specs.Io.KnownBytes.{Appends, Consumes, IsAtEnd}
@@ -8,9 +8,9 @@ use Rattle.mx_desk.specs.declared.head.Stop.{Stop}
 use Rattle.mx_desk.specs.declared.desk.Served.TheVariants as served
 use Rattle.mx_desk.specs.declared.fault.DeskFault.TheVariants as fault
 use Rattle.mx_desk.specs.Devices.{capped}
-use Rattle.mx_desk.specs.Requests.{Request, Next, Nothing, Stops, Whole, First, IsEnd, nothing}
+use Rattle.mx_desk.specs.Requests.{Request, Next, Nothing, Stops, Whole, Begins, First, IsEnd, nothing}
 use Rattle.mx_desk.specs.Found.{IsOpen}
-use Rattle.mx_desk.specs.Serve.{Marked, MayBeMarked, world_after_one, response_to, stop_text}
+use Rattle.mx_desk.specs.Serve.{Marked, AllMayBeMarked, outputs, requests_of, stop_text, world_after}
 use Rattle.mx_desk.specs.Steps.{State, Turns, Waits}
 
 pub first_now : (b : List ℕ) (r : Request) (n : ℕ)
@@ -24,47 +24,28 @@ pub record Came (s t : State) (pending : List ℕ) : Type 0 where
   pub pending_is : pending ≡ s.pending ++ came
 
 module _ (fails : StoreFault → Type 0) where
-  pub answered_step : (s t : State) (pending : List ℕ) (r : Request) (n : ℕ) (m : Marked)
-      → Came s t pending
-      → ((more : List ℕ) → First (pending ++ more) (Whole r (drop n pending ++ more)))
-      → t.pending ≡ drop n pending
-      → m.request ≡ r → MayBeMarked fails s.world m → Appends s.output t.output (response_to s.world m) → t.world ≡ world_after_one s.world m
-      → Turns fails s (Ok served.Answered) (m ∷ []) t
-  answered_step s t pending r n m c f left same marks wrote world = record {
+  pub answered_step : (s t : State) (pending : List ℕ) (n : ℕ) (ms : List Marked)
+      → Came s t pending → Begins pending (requests_of ms) t.pending → n ≡ length ms → 0 < n → AllMayBeMarked fails s.world ms
+      → Appends s.output t.output (outputs s.world ms) → t.world ≡ world_after s.world ms
+      → Turns fails s (Ok (served.Answered n)) ms t
+  answered_step s t pending n ms c begins count some marks wrote world = record {
     turn = record {
       came = c.came;
       consumed = c.consumed;
-      then = record {
-        marked = m;
-        marks = marks;
-        first = rw (sym c.pending_is, left, same) (first_now pending r n f);
-        wrote = wrote;
-        world = world;
-      };
+      then = record { marked = ms; marks = marks; begins = rw (sym c.pending_is) begins; count = count; some = some; wrote = wrote; world = world };
     };
     answered = refl;
   }
 
-  pub cut_step : (s t : State) (pending : List ℕ) (r : Request) (n : ℕ) (m : Marked) (count : ℕ)
-      → Came s t pending
-      → ((more : List ℕ) → First (pending ++ more) (Whole r (drop n pending ++ more)))
-      → m.request ≡ r → MayBeMarked fails s.world m → count ≤ length (response_to s.world m)
-      → Appends s.output t.output (take count (response_to s.world m)) → t.world ≡ world_after_one s.world m
-      → Turns fails s (Err fault.Write) (m ∷ []) t
-  cut_step s t pending r n m count c f same marks cut wrote world = record {
+  pub cut_step : (s t : State) (pending rest : List ℕ) (ms : List Marked) (count : ℕ)
+      → Came s t pending → Begins pending (requests_of ms) rest → length ms ≤ 64 → AllMayBeMarked fails s.world ms
+      → count ≤ length (outputs s.world ms) → Appends s.output t.output (take count (outputs s.world ms)) → t.world ≡ world_after s.world ms
+      → Turns fails s (Err fault.Write) ms t
+  cut_step s t pending rest ms count c begins few marks cut wrote world = record {
     turn = record {
       came = c.came;
       consumed = c.consumed;
-      then = inl (record {
-        marked = m;
-        marks = marks;
-        rest = drop n pending;
-        count = count;
-        first = rw (sym c.pending_is, same) (first_now pending r n f);
-        cut = cut;
-        wrote = wrote;
-        world = world;
-      });
+      then = inl (record { marked = ms; few = few; marks = marks; rest = rest; count = count; begins = rw (sym c.pending_is) begins; cut = cut; wrote = wrote; world = world });
     };
     answered = refl;
   }
@@ -193,9 +174,9 @@ module _ (fails : StoreFault → Type 0) where
     answered = refl;
   }
 
-pub smaller : (t0 t r p0 p q : ℕ) → t0 ≡ t + r → (r ≡ 0 → p ≡ p0) → p ≤ 12288 → q < p → 12289 * t + q < 12289 * t0 + p0
-smaller t0 t zero p0 p q e same fits less = let s : p ≡ p0 = same refl in omega arith
-smaller t0 t (suc r) p0 p q e same fits less = omega arith
+pub smaller : (t0 t r p0 p q n : ℕ) → t0 ≡ t + r → (r ≡ 0 → p ≡ p0) → p ≤ 12288 → n + q ≤ p → n + (12289 * t + q) ≤ 12289 * t0 + p0
+smaller t0 t zero p0 p q n e same fits less = let s : p ≡ p0 = same refl in omega arith
+smaller t0 t (suc r) p0 p q n e same fits less = omega arith
 
 pub open_room : (b : List ℕ) (o : Option Stop) → IsOpen b o → length b < 12288
 open_room b None e = rw e (omega arith)

@@ -1,5 +1,5 @@
 -- What a call of the desk leaves. All that is promised of it is said of one list of requests.
-use Rattle.std.specs.Prelude.{◌≡◌, ◌⊎◌, ℕ, List, [], ◌∷◌, ◌++◌, take, Result, Ok, Err}
+use Rattle.std.specs.Prelude.{◌≡◌, ◌⊎◌, ◌≤◌, ℕ, List, ◌++◌, length, take, Result, Ok, Err}
 use Rattle.std.specs.Io.KnownBytes.{Appends, Consumes}
 use Rattle.mx_book.specs.World.{World, Name, Token, opening}
 use Rattle.mx_book.specs.declared.contract.StoreFault.{StoreFault}
@@ -12,7 +12,7 @@ use Rattle.mx_desk.specs.Conservation.{NeverFull}
 use Rattle.mx_desk.specs.Isolation.{IsApart}
 use Rattle.mx_desk.specs.Refinement.{commands_of}
 use Rattle.mx_desk.specs.Requests.{Begins}
-use Rattle.mx_desk.specs.Serve.{Marked, AllMayBeMarked, ServedAll, outputs, requests_of, response_to, stop_text, world_after}
+use Rattle.mx_desk.specs.Serve.{Marked, AllMayBeMarked, ServedAll, outputs, requests_of, stop_text, world_after}
 use Rattle.mx_desk.specs.Steps.{State, Turns, Faults}
 
 -- Requests lead from one World to another. They keep each holder apart. From a World that commands lead to, they lead to such
@@ -27,12 +27,12 @@ pub record Lawful (w : World) (ms : List Marked) (now : World) : Type 0 where
   pub from_none : (operator : Token) → w ≡ opening operator → RefinesFromNone operator (commands_of w ms) now
 
 -- what was written: the responses to these requests; and then the response to a fault of the input, whole or cut; or the
--- last of their responses was cut
+-- responses to the last of them, which one round answered, were cut
 abbrev pub IsWritten : World → List Marked → List ℕ → Type 0
 IsWritten w ms out =
     (out ≡ outputs w ms)
     ⊎ ((stop : Stop) × (count : ℕ) × (out ≡ outputs w ms ++ take count (stop_text stop)))
-    ⊎ ((before : List Marked) × (last : Marked) × (count : ℕ) × (ms ≡ before ++ last ∷ []) × (out ≡ outputs w before ++ take count (response_to (world_after w before) last)))
+    ⊎ ((before : List Marked) × (last : List Marked) × (count : ℕ) × (length last ≤ 64) × (ms ≡ before ++ last) × (out ≡ outputs w before ++ take count (outputs (world_after w before) last)))
 
 -- the first requests of what came in were answered, or given up where they may be; what was written are their responses
 pub record Leaves (fails : StoreFault → Type 0) (s : State) (ms : List Marked) (out : List ℕ) (t : State) : Type 0 where
@@ -47,6 +47,7 @@ pub record Leaves (fails : StoreFault → Type 0) (s : State) (ms : List Marked)
 
 -- the first request alone: one turn, and what that leaves of the request that it answered
 pub record Serves (fails : StoreFault → Type 0) (s : State) (r : Result Served DeskFault) (ms : List Marked) (t : State) : Type 0 where
+  pub alone : length ms ≤ 1
   pub left : List ℕ
   pub turns : Turns fails s r ms (record t { pending = left })
   pub out : List ℕ

@@ -3,9 +3,11 @@ pub mod Fields
 pub mod Found
 pub mod Devices
 pub mod Respond
+pub mod Rounds
 pub mod Serve
 pub mod Steps
 pub mod Answers
+pub mod Held
 pub mod Knows
 pub mod Isolation
 pub mod Conservation

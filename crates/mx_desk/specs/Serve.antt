@@ -1,6 +1,5 @@
 -- What is written for a text, from a World.
 use Rattle.std.specs.Prelude.{◌≡◌, ℕ, ◌+◌, Bool, true, List, [], ◌∷◌, ◌++◌, length, map, if◌then◌else◌, Option, IfSome}
-use Rattle.mx_book.specs.Stands.{Attempt}
 use Rattle.mx_book.specs.World.{World}
 use Rattle.mx_book.specs.declared.contract.StoreFault.{StoreFault}
 use Rattle.mx_wire.specs.Replies.{sent, unavailable, fixed_parts}
@@ -42,10 +41,6 @@ response_to w m = if m.given_up then unavailable else sent (is_head m.request.me
 abbrev pub world_after : World → List Marked → World
 world_after w [] = w
 world_after w (m ∷ ms) = world_after (world_after_one w m) ms
-
--- requests as attempts to change the World
-abbrev pub attempts : List Marked → List Attempt
-attempts ms = map (λ (m : Marked). record { given_up = m.given_up; change = λ w. (respond w m.request).world }) ms
 
 -- each of these requests is given up only where it may be, in the World that the ones before left
 abbrev pub AllMayBeMarked : (StoreFault → Type 0) → World → List Marked → Type 0

@@ -1,8 +1,7 @@
 -- One turn of the desk, and what a fault leaves.
-use Rattle.std.specs.Prelude.{◌≡◌, ℕ, ◌<◌, ◌≤◌, ◌⊎◌, List, [], ◌∷◌, ◌++◌, length, take, Option, IfSome, Result, Ok, Err}
+use Rattle.std.specs.Prelude.{◌≡◌, ℕ, ◌<◌, ◌≤◌, ◌⊎◌, List, [], ◌++◌, length, take, Option, IfSome, Result, Ok, Err}
 use mathlib.Core.Logic.{inl}
 use Rattle.std.specs.Io.KnownBytes.{Appends, Consumes, IsAtEnd}
-use Rattle.mx_book.specs.Stands.{Attempt}
 use Rattle.mx_book.specs.World.{World}
 use Rattle.mx_book.specs.declared.contract.StoreFault.{StoreFault}
 use Rattle.mx_desk.specs.declared.head.Stop.{Stop}
@@ -10,8 +9,8 @@ use Rattle.mx_desk.specs.declared.desk.Served.{Served}
 use Rattle.mx_desk.specs.declared.desk.Served.TheVariants as served
 use Rattle.mx_desk.specs.declared.fault.DeskFault.{DeskFault}
 use Rattle.mx_desk.specs.declared.fault.DeskFault.TheVariants as fault
-use Rattle.mx_desk.specs.Requests.{Request, Next, Stops, Whole, First, IsEnd}
-use Rattle.mx_desk.specs.Serve.{Marked, attempts, MayBeMarked, world_after_one, response_to, stop_text, Answered}
+use Rattle.mx_desk.specs.Requests.{Next, Stops, Begins, First, IsEnd}
+use Rattle.mx_desk.specs.Serve.{Marked, AllMayBeMarked, outputs, requests_of, stop_text, world_after, Answered}
 
 -- where a run stands: the bytes read and not used, what the reader has left, what was written, and the World
 pub record State : Type 0 where
@@ -32,13 +31,15 @@ pub record Waits (s : State) (b : List ℕ) (t : State) : Type 0 where
   pub wrote : Appends s.output t.output []
   pub world : t.world ≡ s.world
 
--- the first request of b was answered
-pub record Answers (fails : StoreFault → Type 0) (s : State) (b : List ℕ) (t : State) : Type 0 where
-  pub marked : Marked
-  pub marks : MayBeMarked fails s.world marked
-  pub first : First b (Whole marked.request t.pending)
-  pub wrote : Appends s.output t.output (response_to s.world marked)
-  pub world : t.world ≡ world_after_one s.world marked
+-- the first requests of b were answered, so many, and one at least
+pub record Answers (fails : StoreFault → Type 0) (s : State) (b : List ℕ) (n : ℕ) (t : State) : Type 0 where
+  pub marked : List Marked
+  pub marks : AllMayBeMarked fails s.world marked
+  pub begins : Begins b (requests_of marked) t.pending
+  pub count : n ≡ length marked
+  pub some : 0 < n
+  pub wrote : Appends s.output t.output (outputs s.world marked)
+  pub world : t.world ≡ world_after s.world marked
 
 -- a fault of the input ends the run, whatever the reader would still give
 pub record Stopping (s : State) (b : List ℕ) (t : State) : Type 0 where
@@ -47,16 +48,17 @@ pub record Stopping (s : State) (b : List ℕ) (t : State) : Type 0 where
   pub wrote : Appends s.output t.output (stop_text stop)
   pub world : t.world ≡ s.world
 
--- the response to the first request of b was cut, or is whole and wasn't flushed
+-- the responses to the first requests of b, which one round answered, were cut, or are whole and weren't flushed
 pub record CutAnswer (fails : StoreFault → Type 0) (s : State) (b : List ℕ) (t : State) : Type 0 where
-  pub marked : Marked
-  pub marks : MayBeMarked fails s.world marked
+  pub marked : List Marked
+  pub few : length marked ≤ 64
+  pub marks : AllMayBeMarked fails s.world marked
   pub rest : List ℕ
   pub count : ℕ
-  pub first : First b (Whole marked.request rest)
-  pub cut : count ≤ length (response_to s.world marked)
-  pub wrote : Appends s.output t.output (take count (response_to s.world marked))
-  pub world : t.world ≡ world_after_one s.world marked
+  pub begins : Begins b (requests_of marked) rest
+  pub cut : count ≤ length (outputs s.world marked)
+  pub wrote : Appends s.output t.output (take count (outputs s.world marked))
+  pub world : t.world ≡ world_after s.world marked
 
 -- the response to a fault of the input was cut, or is whole and wasn't flushed
 pub record CutStop (s : State) (b : List ℕ) (t : State) : Type 0 where
@@ -74,13 +76,13 @@ pub record Ends (s : State) (b : List ℕ) (t : State) : Type 0 where
   pub wrote : Appends s.output t.output []
   pub world : t.world ≡ s.world
 
--- a write or a flush that failed: at the response to a request, at that to a fault of the input, or before a read
+-- a write or a flush that failed: at the responses to requests, at that to a fault of the input, or before a read
 abbrev pub WriteFailed : (StoreFault → Type 0) → State → List ℕ → State → Type 0
 WriteFailed fails s b t = CutAnswer fails s b t ⊎ (CutStop s b t ⊎ Waits s b t)
 
 abbrev pub StepCase : (StoreFault → Type 0) → State → List ℕ → Result Served DeskFault → State → Type 0
 StepCase fails s b (Ok served.Nothing) t = Ends s b t
-StepCase fails s b (Ok served.Answered) t = Answers fails s b t
+StepCase fails s b (Ok (served.Answered n)) t = Answers fails s b n t
 StepCase fails s b (Ok served.Stopped) t = Stopping s b t
 StepCase fails s b (Err fault.Read) t = Waits s b t
 StepCase fails s b (Err fault.Turns) t = Waits s b t
@@ -100,10 +102,10 @@ pub record Ran (fails : StoreFault → Type 0) (s : State) (marked : List Marked
   pub wrote : Appends s.output t.output out
   pub answered : Answered fails s.world (s.pending ++ came) marked t.pending out t.world
 
--- the request that a turn answered, be the response whole or cut
+-- the requests that a turn answered, be their responses whole or cut
 abbrev pub answered_by : (fails : StoreFault → Type 0) (s : State) (b : List ℕ) (t : State) (r : Result Served DeskFault) → StepCase fails s b r t → List Marked
-answered_by fails s b t (Ok served.Answered) c = c.marked ∷ []
-answered_by fails s b t (Err fault.Write) (inl c) = c.marked ∷ []
+answered_by fails s b t (Ok (served.Answered n)) c = c.marked
+answered_by fails s b t (Err fault.Write) (inl c) = c.marked
 answered_by fails s b t r c = []
 
 abbrev pub answered_in : {fails : StoreFault → Type 0} {s : State} {r : Result Served DeskFault} {t : State} → Steps fails s r t → List Marked
@@ -122,28 +124,3 @@ pub record Faults (fails : StoreFault → Type 0) (s : State) (ms : List Marked)
   pub left : List ℕ
   pub turn : Steps fails at (Err e) (record t { pending = left })
   pub all : ms ≡ before ++ answered_in turn
-
--- these requests were answered, of which and of the World then this holds, and the book moved so
-pub record Leads (Holds Moves : List Marked → World → Type 0) : Type 0 where
-  pub end : World
-  pub marked : List Marked
-  pub holds : Holds marked end
-  pub moves : Moves marked end
-
--- a request was answered with a mark that it may have, and the book moved to the World that goes with it
-pub record IsReplied (fails : StoreFault → Type 0) (Moves : List Attempt → World → Type 0) (w : World) (r : Request) (old new : Option (List ℕ)) : Type 0 where
-  pub marked : Marked
-  pub request : marked.request ≡ r
-  pub marks : MayBeMarked fails w marked
-  pub wrote : Appends old new (response_to w marked)
-  pub moves : Moves (attempts (marked ∷ [])) (world_after_one w marked)
-
--- the same, but that the response was cut
-pub record IsCut (fails : StoreFault → Type 0) (Moves : List Attempt → World → Type 0) (w : World) (r : Request) (old new : Option (List ℕ)) : Type 0 where
-  pub marked : Marked
-  pub count : ℕ
-  pub request : marked.request ≡ r
-  pub marks : MayBeMarked fails w marked
-  pub cut : count < length (response_to w marked)
-  pub wrote : Appends old new (take count (response_to w marked))
-  pub moves : Moves (attempts (marked ∷ [])) (world_after_one w marked)

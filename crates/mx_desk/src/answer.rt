@@ -1,11 +1,12 @@
 //! One request: who sent it, what it asks, and the response.
-ghost use Rattle.std.specs.Prelude.{◌≡◌, ◌≤◌, Some, IfOk, IfErr, OnErr, option_map};
-ghost use Rattle.mx_book.specs.Keeps.{Keeps};
+ghost use Rattle.std.specs.Prelude.{◌≡◌, ◌≤◌, Some, None, Ok, IfOk, IfErr, OnErr, option_map};
+ghost use Rattle.mx_book.specs.Keeps.{Bides, Keeps};
 ghost use Rattle.mx_book.specs.World.{World};
 ghost use Rattle.mx_desk.specs.Answers.{IsAnswer};
 ghost use Rattle.mx_desk.specs.Found.{request_view};
-ghost use Rattle.mx_desk.specs.Knows.{KeptAt, Knows, Moves};
+ghost use Rattle.mx_desk.specs.Knows.{KeptAt, Knows};
 ghost use Rattle.mx_desk.specs.Respond.{is_of_class, caller_of, after_body, after_caller, caller_takes, command_takes, respond, IsGivenUpFor, MayBeGivenUp};
+ghost use Rattle.mx_wire.specs.Routes.{route_of};
 
 use crate::callers::Callers;
 use crate::head::Received;
@@ -17,7 +18,7 @@ use mx_command::{Refusal, Reply};
 use mx_office::Office;
 use mx_pay::Token;
 use mx_wire::bodies::read_body_into;
-use mx_wire::{Class, Fixed, Response, Route, Routes, WireFault, render};
+use mx_wire::{Class, Fixed, Response, Route, WireFault, render};
 use std::alloc::Global;
 
 fn is_of_class(caller: &Caller, class: Class) -> bool
@@ -38,11 +39,11 @@ fn caller_of<B: Book>(
     office: &mut Office<B>,
     field: Option<&[u8]>,
 ) -> Result<Option<Caller>, StoreFault>
-    ensures keeps { Keeps B.doubt B.rows B.leaves office.old.book office.new.book }
-    ensures value { (w : World) → B.doubt office.new.book ≤ 1
+    ensures keeps { Keeps B.doubt B.rows B.harm B.base B.defers B.settled B.leaves office.old.book office.new.book }
+    ensures value { (w : World) → B.doubt office.new.book ≡ 0
         → KeptAt B.doubt B.rows B.spells office.old.book callers.old w
         → IfOk result (λ r. r ≡ caller_of w (option_map (λ x. x.now) field.entry)) }
-    ensures known { (w : World) → B.doubt office.new.book ≤ 1
+    ensures known { (w : World) → B.doubt office.new.book ≡ 0
         → KeptAt B.doubt B.rows B.spells office.old.book callers.old w → Knows w callers.new }
     ensures fault { IfErr result B.fails }
 {
@@ -71,9 +72,11 @@ fn answer_command<B: Book>(
     caller: Caller,
 ) -> Result<Response, StoreFault>
     ensures later { B.doubt office.old.book ≤ B.doubt office.new.book }
-    ensures answers { (w : World) → B.doubt office.new.book ≤ 1
+    ensures bides { Bides B.harm B.base B.defers B.leaves office.old.book office.new.book }
+    ensures round { workspace.new.round ≡ workspace.old.round }
+    ensures answers { (w : World) → B.doubt office.new.book ≡ 0
         → KeptAt B.doubt B.rows B.spells office.old.book workspace.old.callers w
-        → IsAnswer (Moves B.doubt B.rows B.spells B.leaves office.old.book office.new.book workspace.new.callers w) w
+        → IsAnswer (KeptAt B.doubt B.rows B.spells office.new.book workspace.new.callers) w
         (after_body w caller (Some workspace.old.command))
         (IsGivenUpFor B.fails (command_takes w caller workspace.old.command)) result }
     ensures err { B.doubt office.new.book ≡ 0 → OnErr result (B.rows office.new.book ≡ B.rows office.old.book) }
@@ -100,9 +103,11 @@ fn answer_routed<B: Book>(
     request: &Received<'_>,
 ) -> Result<Response, StoreFault>
     ensures later { B.doubt office.old.book ≤ B.doubt office.new.book }
-    ensures answers { (w : World) → B.doubt office.new.book ≤ 1
+    ensures bides { Bides B.harm B.base B.defers B.leaves office.old.book office.new.book }
+    ensures round { workspace.new.round ≡ workspace.old.round }
+    ensures answers { (w : World) → B.doubt office.new.book ≡ 0
         → KeptAt B.doubt B.rows B.spells office.old.book workspace.old.callers w
-        → IsAnswer (Moves B.doubt B.rows B.spells B.leaves office.old.book office.new.book workspace.new.callers w) w
+        → IsAnswer (KeptAt B.doubt B.rows B.spells office.new.book workspace.new.callers) w
         (after_caller w (request_view request.now) route.now (caller_of w (request_view request.now).token))
         (IsGivenUpFor B.fails (caller_takes w (request_view request.now) route.now
         (caller_of w (request_view request.now).token))) result }
@@ -127,28 +132,33 @@ fn answer_routed<B: Book>(
     }
 }
 
-/// Answers a request: the response, and the change that goes with it. After a fault nothing is changed, and the request
-/// is one that may be given up, unless a read of the book may fail: it has a route, its token is that of a caller of its
-/// class, and memory is taken for it. Memory is taken where its route reads a body, for a list that is read, for edits,
-/// and for a response that is made for its reply. So a request whose route reads no body and that is refused isn't
-/// given up.
+/// Answers a request in a round, by its route: the response, and the change that goes with it, which waits for the
+/// settle. After a fault nothing is changed.
+///
+/// A fault comes only where the request has a route. Unless a call of the book that takes no memory may fail, its token
+/// is that of a caller of its class, and memory is taken: where its route reads a body, for a list that is read, for
+/// edits, and for a response that is made for its reply.
 #[tactic(auto, unfolding(crate::specs::Respond::respond, crate::specs::Respond::after_route))]
 pub fn answer_request<B: Book>(
     alloc: Global,
     workspace: &mut Workspace,
-    routes: &Routes,
     office: &mut Office<B>,
+    route: &Option<Route>,
     request: &Received<'_>,
 ) -> Result<Response, StoreFault>
     ensures later { B.doubt office.old.book ≤ B.doubt office.new.book }
-    ensures answers { (w : World) → B.doubt office.new.book ≤ 1
+    ensures bides { Bides B.harm B.base B.defers B.leaves office.old.book office.new.book }
+    ensures round { workspace.new.round ≡ workspace.old.round }
+    ensures answers { (w : World) → B.doubt office.new.book ≡ 0
         → KeptAt B.doubt B.rows B.spells office.old.book workspace.old.callers w
-        → IsAnswer (Moves B.doubt B.rows B.spells B.leaves office.old.book office.new.book workspace.new.callers w) w
+        → route.now ≡ route_of (request_view request.now).method (request_view request.now).path
+        → IsAnswer (KeptAt B.doubt B.rows B.spells office.new.book workspace.new.callers) w
         (respond w (request_view request.now)) (MayBeGivenUp B.fails w (request_view request.now)) result }
     ensures err { B.doubt office.new.book ≡ 0 → OnErr result (B.rows office.new.book ≡ B.rows office.old.book) }
+    ensures no_route { route.now ≡ None → result ≡ Ok (Response.Always Fixed.NoRoute) }
 {
-    match routes.route(request.method, request.path) {
-        Some(route) => answer_routed(alloc, workspace, office, &route, request),
+    match route {
+        Some(route) => answer_routed(alloc, workspace, office, route, request),
         None => Ok(Response::Always(Fixed::NoRoute)),
     }
 }

@@ -1,40 +1,38 @@
 //! Requests one after another.
-ghost use Rattle.std.specs.Prelude.{◌≡◌, ◌+◌, ◌*◌, ◌<◌, ◌≤◌, ℕ, List, [], Ok, Err, IfOk, OnOk, OnErr, IfErr, IfSome, ◌≢◌, length, take};
+ghost use Rattle.std.specs.Prelude.{◌≡◌, ◌+◌, ◌*◌, ◌<◌, ◌≤◌, ℕ, [], true, Ok, Err, OnOk, OnErr, IfErr, ◌≢◌, length, take};
 ghost use Rattle.std.specs.Io.KnownBytes.{Appends, Keeps};
-ghost use Rattle.mx_book.specs.Stands.{MovesTo};
+ghost use Rattle.mx_book.specs.Stands.{MovesTo, RestsAt};
 ghost use Rattle.mx_book.specs.World.{World};
-ghost use Rattle.mx_wire.specs.Replies.{unavailable};
 ghost use Rattle.mx_desk.specs.Devices.{capped};
-ghost use Rattle.mx_desk.specs.Found.{request_view};
-ghost use Rattle.mx_desk.specs.Knows.{KeptAt, Moves};
+ghost use Rattle.mx_desk.specs.Knows.{Moves, RestsKnown};
 ghost use Rattle.mx_desk.specs.Leaves.{Runs, Serves};
-ghost use Rattle.mx_desk.specs.Serve.{attempts, stop_text, stop_fixed};
-ghost use Rattle.mx_desk.specs.Steps.{state, Leads, Turns, IsReplied, IsCut};
+ghost use Rattle.mx_desk.specs.Rounds.{Leads, attempts};
+ghost use Rattle.mx_desk.specs.Serve.{stop_text, stop_fixed};
+ghost use Rattle.mx_desk.specs.Steps.{state, Turns};
 
-use crate::answer::answer_request;
 use crate::callers::Callers;
 use crate::counted::Counted;
 use crate::fault::DeskFault;
 use crate::first::first;
-use crate::head::{Found, Reason, Received, Stop};
+use crate::head::{Found, Reason, Stop};
 use crate::input::Input;
 use crate::outlet::Outlet;
 use crate::output::{flush_out, write_out};
+use crate::rounds::{hold, hold_more, respond};
 use crate::workspace::Workspace;
 use mx_book::Book;
-use mx_book::contract::StoreFault;
 use mx_office::Office;
-use mx_wire::{Fixed, Routes, fixed_text, unavailable_text};
+use mx_wire::{Fixed, Routes, fixed_text};
 use std::alloc::Global;
 use std::io::{Read, Write};
 
-/// What became of the first request.
+/// What became of the first requests.
 #[derive(Clone, Copy, Debug, PartialEq, Eq)]
 pub enum Served {
     /// The input ended before its first byte.
     Nothing,
-    /// The request was answered.
-    Answered,
+    /// So many requests were answered.
+    Answered(u64),
     /// A fault of the input was answered: a bad head, a transfer coding, a bad content length, a body that is too large
     /// or cut.
     Stopped,
@@ -60,51 +58,6 @@ fn text_of_stop(stop: Stop) -> &'static [u8]
     fixed_text(stop_fixed(stop.reason), stop.is_head)
 }
 
-/// Writes the response to a request that is given up, which is 503. Where the store failed, the writer learns of it first.
-fn give_up<W: Outlet>(writer: &mut Counted<W>, fault: StoreFault) -> Result<(), DeskFault>
-    ensures ok { OnOk result (Appends (W.contents writer.old.device) (W.contents writer.new.device) unavailable
-        × (writer.new.failures ≡ writer.old.failures)) }
-    ensures err { OnErr result ((count : ℕ) × (count < length unavailable)
-        × Appends (W.contents writer.old.device) (W.contents writer.new.device) (take count unavailable)
-        × (writer.new.failures ≡ capped (writer.old.failures + 1))) }
-    ensures fault { IfErr result (λ e. e ≡ DeskFault.Write) }
-{
-    if fault == StoreFault::Store {
-        writer.store_failed();
-    }
-    write_out(writer, unavailable_text())
-}
-
-/// Answers a request, and writes the response: 503 where the office could not do it.
-fn reply<W: Outlet, B: Book>(
-    alloc: Global,
-    workspace: &mut Workspace,
-    request: &Received<'_>,
-    writer: &mut Counted<W>,
-    routes: &Routes,
-    office: &mut Office<B>,
-) -> Result<(), DeskFault>
-    ensures later { B.doubt office.old.book ≤ B.doubt office.new.book }
-    ensures ok { (w : World) → B.doubt office.new.book ≤ 1
-        → KeptAt B.doubt B.rows B.spells office.old.book workspace.old.callers w
-        → OnOk result (IsReplied B.fails
-        (Moves B.doubt B.rows B.spells B.leaves office.old.book office.new.book workspace.new.callers w) w
-        (request_view request.now) (W.contents writer.old.device) (W.contents writer.new.device)) }
-    ensures err { (w : World) → B.doubt office.new.book ≤ 1
-        → KeptAt B.doubt B.rows B.spells office.old.book workspace.old.callers w
-        → OnErr result (IsCut B.fails
-        (Moves B.doubt B.rows B.spells B.leaves office.old.book office.new.book workspace.new.callers w) w
-        (request_view request.now) (W.contents writer.old.device) (W.contents writer.new.device)) }
-    ensures fault { IfErr result (λ e. (e ≡ DeskFault.Write) × (writer.new.failures ≡ capped (writer.old.failures + 1))) }
-    ensures whole { OnOk result (writer.new.failures ≡ writer.old.failures) }
-{
-    let head_only = request.method == b"HEAD".as_slice();
-    match answer_request(alloc, workspace, routes, office, request) {
-        Ok(response) => write_out(writer, response.text(head_only)),
-        Err(fault) => give_up(writer, fault),
-    }
-}
-
 /// Writes the response to a fault of the input, and passes it on.
 fn write_stop<W: Write>(writer: &mut Counted<W>, stop: Stop) -> Result<(), DeskFault>
     ensures ok { OnOk result (Appends (W.contents writer.old.device) (W.contents writer.new.device) (stop_text stop)
@@ -118,8 +71,8 @@ fn write_stop<W: Write>(writer: &mut Counted<W>, stop: Stop) -> Result<(), DeskF
     flush_out(writer)
 }
 
-/// Answers the first request of what is pending and what is still read, with so many reads at most. What the writer holds
-/// is passed on before each read.
+/// Answers in one round the first request of what is pending and what is still read, with so many reads at most, and the whole
+/// ones that are pending behind it. What the writer holds is passed on before each read.
 fn serve_next<R: Read, W: Outlet, B: Book>(
     alloc: Global,
     workspace: &mut Workspace,
@@ -130,18 +83,20 @@ fn serve_next<R: Read, W: Outlet, B: Book>(
     routes: &Routes,
     office: &mut Office<B>,
 ) -> Result<Served, DeskFault>
-    ensures later { B.doubt office.old.book ≤ B.doubt office.new.book }
+    ensures later { B.settled office.old.book → B.doubt office.old.book ≤ B.doubt office.new.book }
+    ensures still { B.settled office.old.book → B.settled office.new.book }
     ensures steps { (w : World) → B.doubt office.new.book ≤ 1
-        → KeptAt B.doubt B.rows B.spells office.old.book workspace.old.callers w
+        → RestsKnown B.doubt B.rows B.spells B.settled office.old.book workspace.old.callers w
         → Leads (λ ms v. Turns B.fails
         (state input.old (R.remaining reader.old.device) (W.contents writer.old.device) w) result ms
-        (state input.new (R.remaining reader.new.device) (W.contents writer.new.device) v))
-        (λ ms. Moves B.doubt B.rows B.spells B.leaves office.old.book office.new.book workspace.new.callers w (attempts ms)) }
+        (state input.new (R.remaining reader.new.device) (W.contents writer.new.device) v)
+        × (workspace.old.round.alone ≡ true → length ms ≤ 1))
+        (λ rs. Moves B.doubt B.rows B.spells B.settled B.leaves office.old.book office.new.book workspace.new.callers w (attempts rs)) }
     ensures reads { (reads : ℕ) × (turns.old ≡ turns.new + reads) × (0 < reads → reads + length input.old ≤ 12288)
         × (reader.new.calls ≡ capped (reader.old.calls + reads)) }
     ensures turns { result ≡ Err DeskFault.Turns → (turns.new ≡ 0) × (turns.old + length input.old < 12288) }
-    ensures smaller { result ≡ Ok Served.Answered
-        → 12289 * turns.new + length input.new < 12289 * turns.old + length input.old }
+    ensures smaller { (n : ℕ) → result ≡ Ok (Served.Answered n) → (0 < n)
+        × (n + (12289 * turns.new + length input.new) ≤ 12289 * turns.old + length input.old) }
     ensures read_failed { result ≡ Err DeskFault.Read → reader.new.failures ≡ capped (reader.old.failures + 1) }
     ensures write_failed { result ≡ Err DeskFault.Write → writer.new.failures ≡ capped (writer.old.failures + 1) }
     ensures whole { OnOk result ((reader.new.failures ≡ reader.old.failures) × (writer.new.failures ≡ writer.old.failures)) }
@@ -149,11 +104,15 @@ fn serve_next<R: Read, W: Outlet, B: Book>(
     let _calls = reader.calls();
     let mut ended = false;
     'pieces: loop {
-        match first(input.pending()) {
+        match first(input.pending(), &mut workspace.fields) {
             Found::Whole(request, end) => {
-                reply(alloc, workspace, &request, writer, routes, office)?;
+                workspace.round.held.clear();
+                let goes_on = hold(alloc, workspace, routes, office, &request);
                 input.forget(end);
-                return Ok(Served::Answered);
+                hold_more(alloc, workspace, input, routes, office, goes_on);
+                let count = workspace.round.held.len();
+                respond(alloc, workspace, writer, office)?;
+                return Ok(Served::Answered(count as u64));
             }
             Found::Stopped(stop) => {
                 write_stop(writer, stop)?;
@@ -178,19 +137,11 @@ fn serve_next<R: Read, W: Outlet, B: Book>(
 }
 
 /// Answers the first request of the input alone, by at most 12,288 reads, and passes the response on. `Nothing` where
-/// the input ends before its first byte; `Stopped` where the response is that to a fault of the input. A fault is `Read`
-/// where a read failed, and then nothing was answered; or `Write` where a write or a flush failed or a write took nothing,
-/// and then the request stands as its response says, which may be cut.
+/// the input ends before its first byte; `Stopped` where the response is that to a fault of the input. A fault is
+/// `Read` where a read failed, and then nothing was answered; or `Write` where a write or a flush failed or a write
+/// took nothing, and then the request stands as its response says, which may be cut.
 ///
-/// However it ends, the request that it answered, if it answered one, is lawful (`serves`). It keeps holders apart: for every
-/// holder, the bytes of the response, where the request is the holder's own, and what is the holder's own then, are those
-/// that what the holder sees of the request gives. A request that is given up is seen by nobody. From a World that commands
-/// lead to it ends in such a World, and no command that the request asks is refused because a purse or a float is full. And
-/// the command that it asks is an operation of the abstract purses, in which a payment is one operation, for every choice of
-/// losses at the end.
-///
-/// It holds also where a fault of the store comes on the way. What a stop leaves then is the World in the end, or, where the
-/// request was given up, the World after it (`MovesTo`).
+/// What is promised of the request is one clause (`serves`).
 pub fn serve_one<R: Read, W: Outlet, B: Book>(
     alloc: Global,
     reader: &mut Counted<R>,
@@ -198,19 +149,20 @@ pub fn serve_one<R: Read, W: Outlet, B: Book>(
     routes: &Routes,
     office: &mut Office<B>,
 ) -> Result<Served, DeskFault>
-    ensures later { B.doubt office.old.book ≤ B.doubt office.new.book }
+    ensures later { B.settled office.old.book → B.doubt office.old.book ≤ B.doubt office.new.book }
+    ensures still { B.settled office.old.book → B.settled office.new.book }
     ensures serves { (w : World) → B.doubt office.new.book ≤ 1
-        → (B.doubt office.old.book ≡ 0 → B.spells (B.rows office.old.book) w)
+        → RestsAt B.doubt B.rows B.spells B.settled office.old.book w
         → Leads (λ ms now. Serves B.fails
         (state [] (R.remaining reader.old.device) (W.contents writer.old.device) w) result ms
         (state [] (R.remaining reader.new.device) (W.contents writer.new.device) now))
-        (λ ms. MovesTo B.doubt B.rows B.spells B.leaves office.old.book office.new.book w (attempts ms)) }
+        (λ rs. MovesTo B.doubt B.rows B.spells B.settled B.leaves office.old.book office.new.book w (attempts rs)) }
     ensures reads { (reads : ℕ) × (reads ≤ 12288) × (reader.new.calls ≡ capped (reader.old.calls + reads)) }
     ensures never { result ≢ Err DeskFault.Turns }
     ensures read_failed { result ≡ Err DeskFault.Read → reader.new.failures ≡ capped (reader.old.failures + 1) }
     ensures write_failed { result ≡ Err DeskFault.Write → writer.new.failures ≡ capped (writer.old.failures + 1) }
 {
-    let mut workspace = Workspace::new(alloc, Callers::none(alloc));
+    let mut workspace = Workspace::new(alloc, Callers::none(alloc), true);
     let mut input = Input::new();
     let mut turns = 12288;
     let served = serve_next(
@@ -223,7 +175,7 @@ pub fn serve_one<R: Read, W: Outlet, B: Book>(
         routes,
         office,
     )?;
-    if let Served::Answered = served {
+    if let Served::Answered(_) = served {
         flush_out(writer)?;
     }
     Ok(served)
@@ -232,22 +184,12 @@ pub fn serve_one<R: Read, W: Outlet, B: Book>(
 /// The most reads of one run.
 pub const MOST_READS: u64 = 1_000_000_000;
 
-/// Answers the requests of the input one after another, until it ends or a fault of the input ends the run, and says how
-/// many responses were written. What the writer holds is passed on before each read and at the end. A fault is `Read`
-/// where a read failed, `Turns` where 1,000,000,000 reads didn't reach the end, and then the requests that were whole are
-/// answered; or `Write` where a write or a flush failed or a write took nothing, and then the last request stands as its
-/// response says, which may be cut.
+/// Answers the requests of the input in rounds, until it ends or a fault of the input ends the run, and says how many
+/// responses were written. What is promised is one clause (`runs`).
 ///
-/// However it ends, the requests that it answered are lawful (`runs`). They keep holders apart: for every holder, the
-/// responses to the holder's own requests, in order and byte for byte, and what is the holder's own in the end, are those
-/// that what the holder sees of the requests gives. Requests that are given up are seen by nobody; after `Write` the last
-/// response may be cut. From a World that commands lead to they lead to such a World, and no command that a request asks is
-/// refused because a purse or a float is full. And the commands that the requests ask are operations of the abstract purses,
-/// in which a payment is one operation, for every choice of losses at the end.
-///
-/// It holds also where a fault of the store comes on the way: each request is answered by the definitions, or given up, and what
-/// was answered is kept. What a stop leaves, whenever it comes, is the World in the end, or that with one more of the
-/// requests that were given up, behind which nothing was changed (`MovesTo`).
+/// A fault is `Read` where a read failed, `Turns` where 1,000,000,000 reads didn't reach the end, and then the whole
+/// requests are answered; or `Write` where a write or a flush failed or a write took nothing, and then the last round
+/// stands as its responses say, which may be cut.
 pub fn run<R: Read, W: Outlet, B: Book>(
     alloc: Global,
     reader: &mut Counted<R>,
@@ -255,20 +197,21 @@ pub fn run<R: Read, W: Outlet, B: Book>(
     routes: &Routes,
     office: &mut Office<B>,
 ) -> Result<u64, DeskFault>
-    ensures later { B.doubt office.old.book ≤ B.doubt office.new.book }
+    ensures later { B.settled office.old.book → B.doubt office.old.book ≤ B.doubt office.new.book }
+    ensures still { B.settled office.old.book → B.settled office.new.book }
     ensures runs { (w : World) → B.doubt office.new.book ≤ 1
-        → (B.doubt office.old.book ≡ 0 → B.spells (B.rows office.old.book) w)
+        → RestsAt B.doubt B.rows B.spells B.settled office.old.book w
         → Leads (λ ms now. Runs B.fails
         (state [] (R.remaining reader.old.device) (W.contents writer.old.device) w) result ms
         (state [] (R.remaining reader.new.device) (W.contents writer.new.device) now))
-        (λ ms. MovesTo B.doubt B.rows B.spells B.leaves office.old.book office.new.book w (attempts ms)) }
+        (λ rs. MovesTo B.doubt B.rows B.spells B.settled B.leaves office.old.book office.new.book w (attempts rs)) }
     ensures reads { (reads : ℕ) × (reads ≤ 1000000000) × (reader.new.calls ≡ capped (reader.old.calls + reads)) }
     ensures turns { result ≡ Err DeskFault.Turns → reader.new.calls ≡ capped (reader.old.calls + 1000000000) }
     ensures read_failed { result ≡ Err DeskFault.Read → reader.new.failures ≡ capped (reader.old.failures + 1) }
     ensures write_failed { result ≡ Err DeskFault.Write → writer.new.failures ≡ capped (writer.old.failures + 1) }
 {
     let _calls = reader.calls();
-    let mut workspace = Workspace::new(alloc, Callers::new(alloc));
+    let mut workspace = Workspace::new(alloc, Callers::new(alloc), false);
     let mut input = Input::new();
     let mut turns = MOST_READS;
     let mut count = 0;
@@ -285,7 +228,7 @@ pub fn run<R: Read, W: Outlet, B: Book>(
         )? {
             Served::Nothing => return Ok(count),
             Served::Stopped => return Ok(count + 1),
-            Served::Answered => count += 1,
+            Served::Answered(answered) => count += answered,
         }
     }
 }

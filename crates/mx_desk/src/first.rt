@@ -3,20 +3,32 @@ ghost use Rattle.std.specs.Prelude.{◌≡◌, ◌≤◌, length};
 ghost use Rattle.httparse.specs.Grammar.{RequestHead};
 ghost use Rattle.httparse.specs.Spans.{IsRequestAt, IsRequestWithin};
 ghost use Rattle.mx_desk.specs.Found.{IsFound};
+ghost use Rattle.mx_desk.specs.Respond.{is_head};
 
 use crate::fields::{body_len, token};
 use crate::head::{Found, Reason, Received, Stop};
 use httparse::Status;
-use httparse::spans::{EMPTY_HEADER_SPAN, HeaderSpan, RequestSpans, parse_request};
+use httparse::spans::{HeaderSpan, RequestSpans, parse_request};
 
 /// The longest head, in bytes.
 pub const MAX_HEAD: usize = 8192;
+
+/// The most fields of a head.
+pub const MAX_FIELDS: usize = 64;
 
 /// No head.
 const BAD_HEAD: Stop = Stop {
     is_head: false,
     reason: Reason::BadHead,
 };
+
+/// A fault of a request with this method.
+fn stop_of(method: &[u8], reason: Reason) -> Stop
+    ensures { result ≡ record { is_head = is_head method.now; reason = reason } }
+{
+    let is_head = method == b"HEAD".as_slice();
+    Stop { is_head, reason }
+}
 
 /// What comes first after a whole head.
 fn after_head<'a>(bytes: &'a [u8], fields: &[HeaderSpan], head: &RequestSpans) -> Found<'a>
@@ -28,16 +40,12 @@ fn after_head<'a>(bytes: &'a [u8], fields: &[HeaderSpan], head: &RequestSpans) -
 {
     let fields = &fields[..head.headers];
     let method = head.method.of(bytes);
-    let is_head = method == b"HEAD".as_slice();
     let len = match body_len(bytes, fields) {
         Ok(len) => len,
-        Err(reason) => return Found::Stopped(Stop { is_head, reason }),
+        Err(reason) => return Found::Stopped(stop_of(method, reason)),
     };
     if bytes.len() - head.len < len {
-        return Found::Open(Some(Stop {
-            is_head,
-            reason: Reason::BodyCut,
-        }));
+        return Found::Open(Some(stop_of(method, Reason::BodyCut)));
     }
     let end = head.len + len;
     let asked = Received {
@@ -50,20 +58,19 @@ fn after_head<'a>(bytes: &'a [u8], fields: &[HeaderSpan], head: &RequestSpans) -
 }
 
 /// What comes first in these bytes: a whole request or a fault, whatever follows them, or what it is if nothing
-/// follows.
-pub fn first(bytes: &[u8]) -> Found<'_>
+/// follows. The fields of the head are read in `fields`.
+pub fn first<'a>(bytes: &'a [u8], fields: &mut [HeaderSpan; MAX_FIELDS]) -> Found<'a>
     ensures { IsFound bytes.now result }
 {
     if bytes.is_empty() {
         return Found::Open(None);
     }
-    let mut fields = [EMPTY_HEADER_SPAN; 64];
-    match parse_request(bytes, &mut fields) {
+    match parse_request(bytes, fields) {
         Ok(Status::Complete(head)) => {
             if MAX_HEAD < head.len {
                 return Found::Stopped(BAD_HEAD);
             }
-            after_head(bytes, &fields, &head)
+            after_head(bytes, fields, &head)
         }
         Ok(Status::Partial) => {
             if MAX_HEAD <= bytes.len() {

@@ -9,10 +9,12 @@ pub mod fault;
 pub mod fields;
 pub mod first;
 pub mod head;
+pub mod held;
 pub mod input;
 pub mod laws;
 pub mod outlet;
 pub mod output;
+pub mod rounds;
 pub mod workspace;
 
 pub use counted::Counted;

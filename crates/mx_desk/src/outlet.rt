@@ -7,7 +7,7 @@ use std::io::{BufWriter, Write};
 pub trait Outlet: Write {
     ghost use Rattle.std.specs.Io.KnownBytes.{Keeps};
 
-    /// Learns that a request is given up because the store failed. What was written stays as it is.
+    /// Learns that a round, or its last request, is given up because the store failed. What was written stays as it is.
     fn store_failed(&mut self)
         ensures { Keeps (Self.contents self.old) (Self.contents self.new) };
 }

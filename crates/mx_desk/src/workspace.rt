@@ -2,6 +2,9 @@
 ghost use Rattle.std.specs.Prelude.{◌≡◌, []};
 
 use crate::callers::Callers;
+use crate::first::MAX_FIELDS;
+use crate::held::Round;
+use httparse::spans::{EMPTY_HEADER_SPAN, HeaderSpan};
 use mx_command::Command;
 use mx_office::values::Decided;
 use mx_wire::Scratch;
@@ -18,12 +21,18 @@ pub struct Workspace {
     pub decided: Decided,
     /// Whose the tokens were that came so far.
     pub callers: Callers,
+    /// What is held of the last round.
+    pub round: Round,
+    /// What the fields of a head are read in.
+    pub fields: [HeaderSpan; MAX_FIELDS],
 }
 
 impl Workspace {
-    /// A workspace in which nothing was worked out yet, and this is known of tokens.
-    pub fn new(alloc: Global, callers: Callers) -> Workspace
+    /// A workspace in which nothing was worked out yet, and this is known of tokens. `alone` says whether a round has one
+    /// request alone.
+    pub fn new(alloc: Global, callers: Callers, alone: bool) -> Workspace
         ensures edits { result.decided.edits ≡ [] }
+        ensures alone { result.round.alone ≡ alone }
         ensures callers { result.callers ≡ callers }
     {
         Workspace {
@@ -31,6 +40,8 @@ impl Workspace {
             command: Command::Collect,
             decided: Decided::new(),
             callers,
+            round: Round::new(alone),
+            fields: [EMPTY_HEADER_SPAN; MAX_FIELDS],
         }
     }
 }

@@ -1,5 +1,5 @@
 //! Two lives over the same files: a file stops in the first life, and the second goes on with what a book in memory has after
-//! the requests that the first answered, or after one more.
+//! the requests that the first answered, or after the whole next round.
 use crate::disks::{
     Disks, EACH, MOST_CALLS, Stopping, as_written, connected, files_of, have_stopped,
     never_stopping, stopping_after,
@@ -7,7 +7,7 @@ use crate::disks::{
 use crate::made::new_books;
 use crate::offices::{Question, serve_in, shown_in, told_in_memory};
 use crate::requests::{FUNDED, LOOKS, PAID};
-use crate::scripts::{input_of, length_of, run_through, serve, shown};
+use crate::scripts::{Coming, end_of_round, input_of, length_of, serve, shown, told_through};
 use mx_book::Book;
 use mx_lives::live_on;
 use mx_office::Office;
@@ -44,7 +44,7 @@ impl Question for LookAfter<'_> {
         office: &mut Office<impl Book>,
     ) -> Option<String> {
         serve(rt, self.routes, office, FUNDED, self.count)?;
-        run_through(rt.alloc(), self.routes, office, self.second)?;
+        told_through(rt.alloc(), self.routes, office, self.second)?;
         shown(rt.alloc(), self.routes, office, LOOKS)
     }
 }
@@ -107,7 +107,8 @@ fn lived_through(
 }
 
 /// Lives both lives over copies of the files, of which one stops after so many calls, and asserts what is left: what is shown
-/// after as many requests as the first answers before that stop, or one more. Gives whether it stopped in the first.
+/// after the requests that the first answers before that stop, or after the whole next round. These are counted where the first
+/// is lived alone. Gives whether it stopped in the first.
 fn assert_lived(
     rt: &(impl Abort + AllocGlobal),
     routes: &Routes,
@@ -117,7 +118,7 @@ fn assert_lived(
 ) -> Result<bool, Fail> {
     let alloc = rt.alloc();
     let disks = stopping_after(alloc, &case.before, which, calls)?;
-    let mut first = serve_in(rt, routes, disks, FUNDED);
+    let mut first = serve_in(rt, routes, disks, FUNDED, Coming::Together);
     let disks = stopping_after(alloc, &case.before, which, calls)?;
     let left = lived_through(rt, routes, case, disks);
     match first.done {
@@ -125,7 +126,7 @@ fn assert_lived(
             let count = count.ok_or("not served")?;
             let text = left.ok_or("not opened")?;
             let found = case.looks.get(count) == Some(&text)
-                || case.looks.get(count.saturating_add(1)) == Some(&text);
+                || case.looks.get(end_of_round(FUNDED, count)) == Some(&text);
             assert!(rt; found, "after {count}: {text}");
         }
         None => assert!(rt; left.is_none()),

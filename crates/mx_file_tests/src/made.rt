@@ -4,7 +4,7 @@ use crate::disks::{
     never_stopping, once_more, stopping_after,
 };
 use crate::offices::{operator, serve_in};
-use crate::scripts::length_of;
+use crate::scripts::{Coming, length_of};
 use mx_pay::Token;
 use mx_tables::{OpenFault, Tables};
 use mx_wire::Routes;
@@ -104,7 +104,7 @@ fn assert_left(
     let ended = done_in(rt, never_stopping(alloc, left)?, &OpenedOrCreated(operator));
     assert!(rt; ended.done.is_some());
     assert!(rt; answered.is_none() || ended.done == Some(Found::There));
-    let told = serve_in(rt, routes, once_more(ended.files), NEW);
+    let told = serve_in(rt, routes, once_more(ended.files), NEW, Coming::Alone);
     assert_eq!(rt; told.done.flatten(), Some(length_of(NEW)));
     Ok(())
 }

@@ -4,7 +4,7 @@ use crate::disks::{
     have_stopped, never_stopping, once_more, stopping_after,
 };
 use crate::offices::serve_in;
-use crate::scripts::length_of;
+use crate::scripts::{Coming, length_of};
 use mx_tables::{Migrated, OpenFault, migrate};
 use mx_wire::Routes;
 use sqlite::{Alter, Connection, Error, Files};
@@ -123,7 +123,7 @@ fn assert_left(
     let ended = migrate_in(rt, never_stopping(alloc, left)?);
     let already = ended.done == Some(Ok(Migrated::Already));
     assert!(rt; already || !answered && ended.done == Some(Ok(Migrated::Done)));
-    let told = serve_in(rt, routes, once_more(ended.files), KEPT);
+    let told = serve_in(rt, routes, once_more(ended.files), KEPT, Coming::Alone);
     assert_eq!(rt; told.done.flatten(), Some(length_of(KEPT)));
     Ok(())
 }
@@ -213,7 +213,8 @@ fn are_kept(
     routes: &Routes,
     files: &Files<Memory>,
 ) -> Option<bool> {
-    let ended = serve_in(rt, routes, never_stopping(rt.alloc(), files).ok()?, KEPT);
+    let disks = never_stopping(rt.alloc(), files).ok()?;
+    let ended = serve_in(rt, routes, disks, KEPT, Coming::Alone);
     Some(ended.done.flatten()? == length_of(KEPT))
 }
 

@@ -1,6 +1,6 @@
 //! Offices over files, and over a book in memory, and what is asked of them.
 use crate::disks::{Deed, Disks, Ended, done_in};
-use crate::scripts::{serve, shown};
+use crate::scripts::{Coming, serve, serve_together, shown};
 use mx_book::Book;
 use mx_memory::PlainBook;
 use mx_office::Office;
@@ -74,6 +74,7 @@ impl<Q: Question> Deed for InOffice<'_, Q> {
 struct Script<'a> {
     routes: &'a Routes,
     script: &'a str,
+    coming: Coming,
 }
 
 impl Question for Script<'_> {
@@ -84,7 +85,10 @@ impl Question for Script<'_> {
         rt: &(impl Abort + AllocGlobal),
         office: &mut Office<impl Book>,
     ) -> Option<usize> {
-        serve(rt, self.routes, office, self.script, usize::MAX)
+        match self.coming {
+            Coming::Alone => serve(rt, self.routes, office, self.script, usize::MAX),
+            Coming::Together => serve_together(rt, self.routes, office, self.script),
+        }
     }
 }
 
@@ -113,8 +117,14 @@ pub(super) fn serve_in(
     routes: &Routes,
     disks: Disks,
     script: &str,
+    coming: Coming,
 ) -> Ended<Option<usize>> {
-    done_in(rt, disks, &InOffice(&Script { routes, script }))
+    let script = Script {
+        routes,
+        script,
+        coming,
+    };
+    done_in(rt, disks, &InOffice(&script))
 }
 
 /// What the books in files answer to requests, a line each.

@@ -1,11 +1,11 @@
-//! Requests over files that stop: what is left is what a book in memory has after the requests that were answered, or
-//! after one more.
+//! Requests over files that stop, one at a time or all of them together: what is left is what a book in memory has after the
+//! requests that were answered, or after the whole next round. One at a time, that is one request more.
 use crate::disks::{
     EACH, MOST_CALLS, Stopping, as_synced, as_written, have_stopped, never_stopping, stopping_after,
 };
 use crate::made::new_books;
 use crate::offices::{Question, serve_in, shown_in, told_in_memory};
-use crate::scripts::{length_of, serve, shown};
+use crate::scripts::{Coming, end_of_round, length_of, serve, shown};
 use mx_book::Book;
 use mx_office::Office;
 use mx_wire::Routes;
@@ -77,10 +77,12 @@ clerk POST /collect
 operator GET /reconcile
 "#;
 
-/// A script, files with the books before it, and what a book in memory shows after each number of its requests.
+/// A script and how its requests come, files with the books before it, and what a book in memory shows after each number of
+/// its requests.
 #[derive(Drop)]
 struct Case {
     script: &'static str,
+    coming: Coming,
     files: Files<Memory>,
     shows: Vec<String>,
 }
@@ -136,7 +138,7 @@ fn books_after(
 ) -> Option<Files<Memory>> {
     let alloc = rt.alloc();
     let disks = never_stopping(alloc, &new_books(rt)?).ok()?;
-    let ended = serve_in(rt, routes, disks, before);
+    let ended = serve_in(rt, routes, disks, before, Coming::Together);
     assert_eq!(rt; ended.done.flatten(), Some(length_of(before)));
     as_written(alloc, &ended.files).ok()
 }
@@ -149,7 +151,20 @@ fn is_shown(case: &Case, count: usize, text: &str) -> bool {
     }
 }
 
-/// Asserts that what a stop left shows what is shown after so many requests, or after one more.
+/// How many requests are answered when the next round ends, behind a round that ended after so many.
+fn next_end(case: &Case, count: usize) -> usize {
+    match case.coming {
+        Coming::Alone => count.saturating_add(1),
+        Coming::Together => end_of_round(case.script, count),
+    }
+}
+
+/// Whether a round ends after so many requests, or the first begins.
+fn is_end(case: &Case, count: usize) -> bool {
+    count == 0 || next_end(case, count.saturating_sub(1)) == count
+}
+
+/// Asserts that what a stop left shows what is shown after so many requests, or after the whole next round.
 fn assert_left(
     rt: &(impl Abort + AllocGlobal),
     routes: &Routes,
@@ -161,13 +176,13 @@ fn assert_left(
     let ended = shown_in(rt, routes, never_stopping(alloc, left)?, LOOKS);
     let text = ended.done.flatten().ok_or("not opened")?;
     let found = is_shown(case, count, text.as_str())
-        || is_shown(case, count.saturating_add(1), text.as_str());
+        || is_shown(case, next_end(case, count), text.as_str());
     assert!(rt; found, "after {count}: {text}");
     Ok(())
 }
 
-/// Serves the script over copies of the files, of which one stops after so many calls, and asserts what is left. Gives
-/// whether it stopped.
+/// Serves the script over copies of the files, of which one stops after so many calls, and asserts that whole rounds were
+/// answered, and what is left. Gives whether it stopped.
 fn assert_stop(
     rt: &(impl Abort + AllocGlobal),
     routes: &Routes,
@@ -177,13 +192,14 @@ fn assert_stop(
 ) -> Result<bool, Fail> {
     let alloc = rt.alloc();
     let disks = stopping_after(alloc, &case.files, which, calls)?;
-    let mut ended = serve_in(rt, routes, disks, case.script);
+    let mut ended = serve_in(rt, routes, disks, case.script, case.coming);
     let count = match ended.done {
         Some(count) => count.ok_or("not served")?,
         None => 0,
     };
     let stopped = have_stopped(&mut ended.files);
     assert!(rt; stopped || count == length_of(case.script));
+    assert!(rt; is_end(case, count), "{count} answered");
     let written = as_written(alloc, &ended.files)?;
     assert_left(rt, routes, case, &written, count)?;
     let synced = as_synced(alloc, &mut ended.files)?;
@@ -211,10 +227,12 @@ fn assert_stops(
     rt: &(impl Abort + AllocGlobal),
     before: &str,
     script: &'static str,
+    coming: Coming,
 ) -> Result<(), Fail> {
     let routes = Routes::new(rt.alloc())?;
     let case = Case {
         script,
+        coming,
         files: books_after(rt, &routes, before).ok_or("no files")?,
         shows: shows_of(rt, &routes, before, script).ok_or("no memory")?,
     };
@@ -226,15 +244,31 @@ fn assert_stops(
 
 #[test]
 fn stops_of_a_set_up(rt: HostRuntime) -> Result<(), Fail> {
-    assert_stops(&rt, "", FUNDED)
+    assert_stops(&rt, "", FUNDED, Coming::Alone)
 }
 
 #[test]
 fn stops_of_a_payment(rt: HostRuntime) -> Result<(), Fail> {
-    assert_stops(&rt, FUNDED, PAID)
+    assert_stops(&rt, FUNDED, PAID, Coming::Alone)
 }
 
 #[test]
 fn stops_of_a_settlement(rt: HostRuntime) -> Result<(), Fail> {
-    assert_stops(&rt, FUNDED, SETTLED)
+    assert_stops(&rt, FUNDED, SETTLED, Coming::Alone)
+}
+
+/// A set-up is four rounds: behind each of the first three a token is made.
+#[test]
+fn stops_of_a_set_up_in_rounds(rt: HostRuntime) -> Result<(), Fail> {
+    assert_stops(&rt, "", FUNDED, Coming::Together)
+}
+
+#[test]
+fn stops_of_a_payment_in_one_round(rt: HostRuntime) -> Result<(), Fail> {
+    assert_stops(&rt, FUNDED, PAID, Coming::Together)
+}
+
+#[test]
+fn stops_of_a_settlement_in_one_round(rt: HostRuntime) -> Result<(), Fail> {
+    assert_stops(&rt, FUNDED, SETTLED, Coming::Together)
 }

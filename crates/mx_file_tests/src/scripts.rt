@@ -10,6 +10,15 @@ use std::process::Abort;
 /// The response to a request that is given up.
 const UNAVAILABLE: &str = "503";
 
+/// How the requests of a script come.
+#[derive(Clone, Copy)]
+pub(super) enum Coming {
+    /// One at a time, each as an input of its own, so that each is a round.
+    Alone,
+    /// All of them as one input, which is answered in rounds.
+    Together,
+}
+
 /// The last digit of the token of who asks.
 fn digit_of(who: &str) -> &'static str {
     match who {
@@ -98,30 +107,16 @@ pub(super) fn serve(
     Some(count)
 }
 
-/// What an office answers to requests, a line each. None where there is no memory for it.
-pub(super) fn shown(
-    alloc: Global,
-    routes: &Routes,
-    office: &mut Office<impl Book>,
-    requests: &str,
-) -> Option<String> {
-    let mut all = String::new(alloc);
-    for request in requests.lines().filter(|line| !line.is_empty()) {
-        let words = answered(alloc, routes, office, request)?;
-        all.push_str(words.as_str()).ok()?;
-        all.push('\n').ok()?;
-    }
-    Some(all)
-}
-
-/// The requests of a script as one input. None where there is no memory for it.
+/// The requests of a script as one input, with responses behind them or without. None where there is no memory for it.
 pub(super) fn input_of(alloc: Global, script: &str) -> Option<String> {
     let mut input = String::new(alloc);
     for line in script.lines() {
-        if let Some((request, _)) = line.split_once(" -> ") {
-            let bytes = request_of(alloc, request).ok()?;
-            input.push_str(bytes.as_str()).ok()?;
+        if line.is_empty() {
+            continue;
         }
+        let (request, _) = line.split_once(" -> ").unwrap_or((line, ""));
+        let bytes = request_of(alloc, request).ok()?;
+        input.push_str(bytes.as_str()).ok()?;
     }
     Some(input)
 }
@@ -154,15 +149,84 @@ pub(super) fn told_in(alloc: Global, written: &[u8]) -> Option<String> {
     Some(words)
 }
 
-/// Serves an input as a whole, whatever the responses. None where there is no memory for them.
-pub(super) fn run_through(
+/// What an office answers to an input, a line each. None where there is no memory for it.
+pub(super) fn told_through(
     alloc: Global,
     routes: &Routes,
     office: &mut Office<impl Book>,
     input: &str,
-) -> Option<()> {
+) -> Option<String> {
     let mut reader = Counted::new(input.as_bytes());
     let mut writer = Counted::new(Vec::new(alloc));
     run(alloc, &mut reader, &mut writer, routes, office).ok()?;
-    Some(())
+    let written = writer.into_inner();
+    told_in(alloc, written.as_slice())
+}
+
+/// What an office answers to requests that come together, a line each. None where there is no memory for it.
+pub(super) fn shown(
+    alloc: Global,
+    routes: &Routes,
+    office: &mut Office<impl Book>,
+    requests: &str,
+) -> Option<String> {
+    let input = input_of(alloc, requests)?;
+    told_through(alloc, routes, office, input.as_str())
+}
+
+/// How many responses to a script come before the first that says 503. Asserts that each of them is the one in the script, and
+/// that none behind them says that something was done.
+fn count_answered(rt: &impl Abort, script: &str, told: &[&str]) -> usize {
+    let mut place = 0usize;
+    let mut count = 0usize;
+    for line in script.lines() {
+        let Some((request, response)) = line.split_once(" -> ") else {
+            continue;
+        };
+        let words = told.get(place).copied().unwrap_or("no response");
+        if count < place || words.starts_with(UNAVAILABLE) {
+            assert!(rt; !words.starts_with("200"), "{request}: {words}");
+        } else {
+            assert_eq!(rt; words, response, "{request}");
+            count = count.saturating_add(1);
+        }
+        place = place.saturating_add(1);
+    }
+    count
+}
+
+/// Serves a script as one input. Gives how many requests were answered before the first that was given up, and asserts that
+/// each of them got its response, and that none behind them was done. None where there is no memory for words.
+pub(super) fn serve_together(
+    rt: &(impl Abort + AllocGlobal),
+    routes: &Routes,
+    office: &mut Office<impl Book>,
+    script: &str,
+) -> Option<usize> {
+    let told = shown(rt.alloc(), routes, office, script)?;
+    let lines: Vec<&str> = told.lines().collect(rt.alloc()).ok()?;
+    assert_eq!(rt; lines.len(), length_of(script));
+    Some(count_answered(rt, script, lines.as_slice()))
+}
+
+/// Whether a request makes a token.
+fn makes_token(request: &str) -> bool {
+    request.split_once(" POST /members ").is_some()
+        || request.split_once(" POST /holders ").is_some()
+}
+
+/// How many requests of a script are answered when that round ends which begins behind so many of them. A round ends behind a
+/// request that makes a token, or with the input, as no script here has 64 requests.
+pub(super) fn end_of_round(script: &str, count: usize) -> usize {
+    let mut end = 0usize;
+    for line in script.lines() {
+        let Some((request, _)) = line.split_once(" -> ") else {
+            continue;
+        };
+        end = end.saturating_add(1);
+        if end > count && makes_token(request) {
+            break;
+        }
+    }
+    end
 }

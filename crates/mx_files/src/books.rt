@@ -1,10 +1,10 @@
 //! Books in a store, wherever that keeps them.
-ghost use Rattle.std.specs.Prelude.{◌≡◌, ◌≤◌, [], IfOk, IsErr};
+ghost use Rattle.std.specs.Prelude.{◌≡◌, ◌≤◌, [], false, IfOk, IsErr};
 ghost use Rattle.sqlite.specs.Held.{state as state_of};
 ghost use Rattle.mx_book.specs.World.{World, opening};
 ghost use Rattle.mx_desk.specs.Steps.{state};
 ghost use Rattle.mx_tables.specs.Holds.{SpellsOne};
-ghost use Rattle.mx_tables.specs.States.{Leaves, worry};
+ghost use Rattle.mx_tables.specs.States.{IsOurs, Leaves, worry};
 ghost use Rattle.mx_tasks.specs.Faults.{Untouched};
 ghost use Rattle.mx_tasks.specs.Works.{Works};
 ghost use Rattle.mx_files.specs.Durable.{Endures};
@@ -30,12 +30,13 @@ pub fn unmade(fault: OpenFault) -> TaskFault
     }
 }
 
-/// Makes new books in a store, for the operator with this token, and gives the store back. They spell the World that has
-/// nothing but that token.
+/// Makes new books in a store, for the operator with this token, and gives the store back. They spell the World that
+/// has nothing but that token.
 ///
 /// # Errors
 ///
-/// `Memory` or `Store` where the store refuses a statement; the store is given up then.
+/// `NotThisSchema` where the store has tables; `Memory` or `Store` where it refuses a statement. The store is given up
+/// then.
 pub fn make_in_store<S: Alter + Drop>(
     alloc: Global,
     store: Connection<S>,
@@ -43,6 +44,7 @@ pub fn make_in_store<S: Alter + Drop>(
 ) -> Result<Connection<S>, TaskFault>
     ensures made { IfOk result (λ c. worry (state_of S.Store c) ≡ 0
         → SpellsOne (state_of S.Store c).now (opening operator)) }
+    ensures ours { IfOk result (λ c. IsOurs false (state_of S.Store c)) }
     ensures lasts { IfOk result (λ c. worry (state_of S.Store c) ≡ 0
         → Leaves (state_of S.Store c) (state_of S.Store c).now) }
 {
@@ -52,17 +54,14 @@ pub fn make_in_store<S: Alter + Drop>(
     }
 }
 
-/// Does a piece of work over the books in a store, and gives what came of it, with the store. What came of it is said of the
-/// World that the books spelled (`works`). Where the store is refused, nothing was read or written.
-///
-/// What was answered outlives a stop. Of requests, be they answered to the end or until a fault shut the store, it says what
-/// an opening finds after a stop at that moment (`Endures`): the World after them, or that with one more, which was given up.
-/// A stop in the midst of the work is a store that fails from there on, so that is said of each moment.
+/// Does a piece of work over the books in a store, and gives what came of it, with the store (`works`). Of requests it
+/// says what an opening finds after a stop at that moment (`Endures`). A stop in the midst of the work is a store that
+/// fails from there on.
 ///
 /// # Errors
 ///
-/// `NotThisSchema` where the store has no books of this version; `Store` where it has other tables, or refuses a statement;
-/// `Memory`. The store is given up then.
+/// `NotThisSchema` where the store has no books of this version; `Store` where it has other tables, or refuses a
+/// statement; `Memory`. Nothing was read or written then, and the store is given up.
 pub fn over_store<S: Alter + Drop, R: Read, W: Outlet>(
     rt: &HostRuntime,
     store: Connection<S>,

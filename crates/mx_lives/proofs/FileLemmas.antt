@@ -1,5 +1,5 @@
 -- What the bytes of files hold, and what a close leaves of them.
-use Rattle.std.proofs.Common.{◌≡◌, ℕ, List, [], ◌∷◌, ◌++◌, ap, ap₂, sym, subst, ◌∙◌}
+use Rattle.std.proofs.Common.{◌≡◌, ℕ, false, List, [], ◌∷◌, ◌++◌, ap, ap₂, refl, sym, subst, ◌∙◌}
 use Rattle.std.proofs.Math.Logic.{∥∥₁_elim}
 use Rattle.sqlite_disk.specs.declared.Disk.{Ghosts}
 use Rattle.sqlite_disk.specs.declared.Files.{Files}
@@ -14,8 +14,8 @@ use Rattle.sqlite.specs.Files.{Finds, file_state, image_of}
 use Rattle.sqlite.specs.Held.{Held}
 use Rattle.sqlite.specs.State.{Opens}
 use Rattle.mx_book.specs.World.{World}
+use Rattle.mx_desk.specs.Rounds.{Leads}
 use Rattle.mx_desk.specs.Serve.{Marked}
-use Rattle.mx_desk.specs.Steps.{Leads}
 use Rattle.mx_tables.specs.Holds.{SpellsOne}
 use Rattle.mx_tables.specs.Schema.{office_schema}
 use Rattle.mx_tables.specs.States.{IsOurs, worry}
@@ -34,7 +34,7 @@ left_closed g files (first ∷ inputs) input w closed = closed
 
 pub closed_left : {D : Type 0} (g : Ghosts D) (files : Files D) (inputs : List (List ℕ)) (input : List ℕ) {Holds : List Marked → World → Type 0}
     → Leads Holds (λ _ now. AreClosed g files now) → Leads Holds (λ _ now. AreLeft g files (inputs ++ input ∷ []) now)
-closed_left g files inputs input led = record { end = led.end; marked = led.marked; holds = led.holds; moves = left_closed g files inputs input led.end led.moves }
+closed_left g files inputs input led = record { end = led.end; rounds = led.rounds; holds = led.holds; moves = left_closed g files inputs input led.end led.moves }
 
 -- a database of the office with these trees
 is_ours : (db : Database) (trees : Trees) → db.schema ≡ office_schema → db.trees ≡ trees → db ≡ record { schema = office_schema; trees = trees }
@@ -42,13 +42,13 @@ is_ours db trees schema same = ap₂ (λ (s : Schema) (t : Trees). record { sche
 
 module _ {D : Type 0} {g : Ghosts D} where
   -- a close of the books that spell a World leaves their bytes
-  pub books_closed : (c : Held (FileStore D g)) (files : Files D) (w : World) → (worry (file_state c) ≡ 0 → IsOurs (file_state c)) → (worry (file_state c) ≡ 0 → SpellsOne (file_state c).now w) → IsDatabase (file_state c).now → IsCopied c files → AreClosed g files w
+  pub books_closed : (c : Held (FileStore D g)) (files : Files D) (w : World) → (worry (file_state c) ≡ 0 → IsOurs false (file_state c)) → (worry (file_state c) ≡ 0 → SpellsOne (file_state c).now w) → IsDatabase (file_state c).now → IsCopied c files → AreClosed g files w
   books_closed c files w ours spelled listed copied = record { seen = hold _ copied.seen; left = λ bytes left. hold bytes (copied.left bytes left) } where
     sure : worry (file_state c) ≡ 0
     sure = no_worry (file_state c) copied.was_open copied.was_clean
 
     same : (file_state c).now ≡ record { schema = office_schema; trees = (file_state c).committed.trees }
-    same = is_ours (file_state c).now _ ((ours sure).schema sure) (sym (ap (λ (db : Database). db.trees) ((ours sure).steady sure)))
+    same = is_ours (file_state c).now _ ((ours sure).schema sure) (sym (ap (λ (db : Database). db.trees) ((ours sure).steady sure ((ours sure).idle copied.was_clean refl))))
 
     now : SpellsOne (record { schema = office_schema; trees = (file_state c).committed.trees }) w
     now = subst (λ (db : Database). SpellsOne db w) same (spelled sure)

@@ -7,8 +7,9 @@ use Rattle.mx_book.specs.World.{World}
 use Rattle.mx_book.specs.declared.contract.StoreFault.{StoreFault}
 use Rattle.mx_desk.specs.Durable.{Lasts, Lives, ended, stopped, unborn}
 use Rattle.mx_desk.specs.Leaves.{Lawful}
+use Rattle.mx_desk.specs.Rounds.{Leads, Round, all_of}
 use Rattle.mx_desk.specs.Serve.{Marked}
-use Rattle.mx_desk.specs.Steps.{Leads, State, state}
+use Rattle.mx_desk.specs.Steps.{State, state}
 use Rattle.mx_desk.proofs.LawfulLemmas.{lawful_requests}
 use Rattle.mx_tables.specs.Holds.{SpellsOne}
 use Rattle.mx_tables.specs.Schema.{office_schema}
@@ -28,7 +29,7 @@ pub low_if_clean : (s : Connected) → HasCleanDisk s → worry s ≤ 1
 low_if_clean s clean = rw (clean_of s.is_clean clean) (low_at s.is_open)
 
 -- books that are opened spell what their database does, which has the schema of the office then
-pub opened_spells : (was : Database) (book : Connected) (w : World) → IsOurs book → book.now ≡ was → worry book ≡ 0 → (was.schema ≡ office_schema → SpellsOne was w) → SpellsOne book.now w
+pub opened_spells : (was : Database) (book : Connected) (w : World) → IsOurs false book → book.now ≡ was → worry book ≡ 0 → (was.schema ≡ office_schema → SpellsOne was w) → SpellsOne book.now w
 opened_spells was book w ours same sure spelled = rw same (spelled (sym (ap (λ (db : Database). db.schema) same) ∙ ours.schema sure))
 
 -- ---- lives
@@ -44,8 +45,8 @@ module _ {fails : StoreFault → Type 0} where
   over_lives _ _ _ _ _ (unlived {w}) = unborn
   over_lives _ _ _ _ _ (lived {inputs} {input} {lives} {life} {w} {v} {now} {ms} {ns} before run) =
       ended (over_lives inputs lives w v ms before) (task_lawful _ _ _ _ run.runs)
-  over_lives _ _ _ _ _ (lived_more {inputs} {input} {lives} {life} {w} {v} {now} {ms} {ns} _ before run m given_up) =
-      stopped (over_lives inputs lives w v ms before) (task_lawful _ _ _ _ run.runs) m given_up
+  over_lives _ _ _ _ _ (lived_more {inputs} {input} {lives} {life} {w} {v} {now} {ms} {rs} _ before run r given_up) =
+      stopped (over_lives inputs lives w v ms before) (task_lawful _ _ _ _ run.runs) r given_up
 
   -- what lives over inputs led to
   lived_to : {have_stops : Bool} (Spelled : World → Type 0) (inputs : List (List ℕ)) (lives : List Life) (w end : World) (ms : List Marked) → LivesOver fails have_stops inputs lives w ms end → Spelled end
@@ -53,20 +54,20 @@ module _ {fails : StoreFault → Type 0} where
   lived_to Spelled inputs lives w end ms over spelled = record { marked = ms; end = end; over = over; as_one = over_lives inputs lives w end ms over; spelled = spelled }
 
   -- a run over an input
-  pub run_over : {Moves Left : List Marked → World → Type 0} {rest : Option (List ℕ)} (from empty output : Option (List ℕ)) (input : List ℕ) (w : World) (life : Life) → from ≡ Some input → empty ≡ Some []
-      → output ≡ Some life.written.items → IfErr life.ended IsRunFault → ((ms : List Marked) (now : World) → Moves ms now → Left ms now)
+  pub run_over : {Moves Left : List Round → World → Type 0} {rest : Option (List ℕ)} (from empty output : Option (List ℕ)) (input : List ℕ) (w : World) (life : Life) → from ≡ Some input → empty ≡ Some []
+      → output ≡ Some life.written.items → IfErr life.ended IsRunFault → ((rs : List Round) (now : World) → Moves rs now → Left rs now)
       → Leads (λ ms now. TaskRuns fails (state [] from empty w) life.ended ms (state [] rest output now)) Moves → Leads (RunsOver fails w input life) Left
   run_over {Moves} {Left} {rest} from empty output input w life given none wrote fault f led = record {
     end = led.end;
-    marked = led.marked;
+    rounds = led.rounds;
     holds = record {
       rest = rest;
       fault = fault;
-      runs = subst (λ (out : Option (List ℕ)). TaskRuns fails (state [] (Some input) (Some []) w) life.ended led.marked (state [] rest out led.end)) wrote
-          (subst (λ (o : Option (List ℕ)). TaskRuns fails (state [] (Some input) o w) life.ended led.marked (state [] rest output led.end)) none
-          (subst (λ (i : Option (List ℕ)). TaskRuns fails (state [] i empty w) life.ended led.marked (state [] rest output led.end)) given led.holds));
+      runs = subst (λ (out : Option (List ℕ)). TaskRuns fails (state [] (Some input) (Some []) w) life.ended (all_of led.rounds) (state [] rest out led.end)) wrote
+          (subst (λ (o : Option (List ℕ)). TaskRuns fails (state [] (Some input) o w) life.ended (all_of led.rounds) (state [] rest output led.end)) none
+          (subst (λ (i : Option (List ℕ)). TaskRuns fails (state [] i empty w) life.ended (all_of led.rounds) (state [] rest output led.end)) given led.holds));
     };
-    moves = f led.marked led.end led.moves;
+    moves = f led.rounds led.end led.moves;
   }
 
   -- before the first
@@ -84,9 +85,9 @@ module _ {fails : StoreFault → Type 0} where
   pub lived_next : (Before After : World → Type 0) (inputs : List (List ℕ)) (input : List ℕ) (lives : List Life) (life : Life) (w : World) → LivedTo fails true Before inputs lives w
       → ((v : World) → Before v → Leads (RunsOver fails v input life) (Lasts After)) → LivedTo fails true After (inputs ++ input ∷ []) (lives ++ life ∷ []) w
   lived_next Before After inputs input lives life w before next = by (next before.end before.spelled) where
-    after : (ns : List Marked) (now : World) → RunsOver fails before.end input life ns now → Lasts After ns now → LivedTo fails true After (inputs ++ input ∷ []) (lives ++ life ∷ []) w
-    after ns now run (inl here) = lived_to After _ _ w now _ (lived before.over run) here
-    after ns now run (inr more) = lived_to After _ _ w _ _ (lived_more refl before.over run more.0 more.1) more.2
+    after : (rs : List Round) (now : World) → RunsOver fails before.end input life (all_of rs) now → Lasts After rs now → LivedTo fails true After (inputs ++ input ∷ []) (lives ++ life ∷ []) w
+    after rs now run (inl here) = lived_to After _ _ w now _ (lived before.over run) here
+    after rs now run (inr more) = lived_to After _ _ w _ _ (lived_more refl before.over run more.0 more.1) more.2
 
     by : Leads (RunsOver fails before.end input life) (Lasts After) → LivedTo fails true After (inputs ++ input ∷ []) (lives ++ life ∷ []) w
-    by led = after led.marked led.end led.holds led.moves
+    by led = after led.rounds led.end led.holds led.moves

@@ -1,9 +1,8 @@
 //! Books that answer the requests of an input.
 ghost use Rattle.std.specs.Prelude.{◌≡◌, ◌≤◌};
-ghost use Rattle.mx_book.specs.Stands.{MovesTo};
+ghost use Rattle.mx_book.specs.Stands.{MovesTo, RestsAt};
 ghost use Rattle.mx_book.specs.World.{World};
-ghost use Rattle.mx_desk.specs.Serve.{attempts};
-ghost use Rattle.mx_desk.specs.Steps.{Leads};
+ghost use Rattle.mx_desk.specs.Rounds.{Leads, attempts};
 ghost use Rattle.mx_lives.specs.Lived.{RunsOver};
 
 use mx_book::Book;
@@ -24,10 +23,11 @@ pub struct Life {
 
 /// Lends books to an office that answers the requests of an input, and gives them back, with what came of that.
 pub(crate) fn answered<B: Book>(alloc: Global, book: B, input: &[u8]) -> (B, Life)
-    ensures later { B.doubt book ≤ B.doubt result.0 }
-    ensures runs { (w : World) → B.doubt result.0 ≤ 1 → (B.doubt book ≡ 0 → B.spells (B.rows book) w)
+    ensures later { B.settled book → B.doubt book ≤ B.doubt result.0 }
+    ensures still { B.settled book → B.settled result.0 }
+    ensures runs { (w : World) → B.doubt result.0 ≤ 1 → RestsAt B.doubt B.rows B.spells B.settled book w
         → Leads (RunsOver B.fails w input.now result.1)
-        (λ ms. MovesTo B.doubt B.rows B.spells B.leaves book result.0 w (attempts ms)) }
+        (λ rs. MovesTo B.doubt B.rows B.spells B.settled B.leaves book result.0 w (attempts rs)) }
 {
     let mut office = Office::new(book);
     let mut reader = Counted::new(input);

@@ -7,7 +7,7 @@ ghost use Rattle.sqlite.specs.Files.{Finds, IsOpened, file_state, image_of};
 ghost use Rattle.sqlite.specs.Held.{state};
 ghost use Rattle.sqlite.specs.State.{HasCleanDisk};
 ghost use Rattle.mx_book.specs.World.{World, opening};
-ghost use Rattle.mx_desk.specs.Steps.{Leads};
+ghost use Rattle.mx_desk.specs.Rounds.{Leads};
 ghost use Rattle.mx_office.specs.Reachable.{IsReachable};
 ghost use Rattle.mx_tables.specs.Holds.{SpellsOne};
 ghost use Rattle.mx_tables.specs.Schema.{office_schema};
@@ -89,7 +89,7 @@ fn life_over<S: Alter + Drop>(
 ) -> Option<(Connection<S>, Life)>
     ensures later { IfSome result
         (λ r. worry (state S.Store store) ≤ worry (state S.Store r.0)) }
-    ensures ours { IfSome result (λ r. IsOurs (state S.Store r.0)) }
+    ensures ours { IfSome result (λ r. IsOurs false (state S.Store r.0)) }
     ensures lives { (w : World) → ((state S.Store store).now.schema ≡ office_schema
         → SpellsOne (state S.Store store).now w)
         → IfSome result (λ r. worry (state S.Store r.0) ≡ 0
@@ -123,19 +123,12 @@ fn closed_life<D: Disk + Drop>(
     Some((closed(left)?, life))
 }
 
-/// Lives over the books in two files of any disk, a database and its log, one for each input, in order. A life opens the files,
-/// answers the requests of its input, and closes the files. Gives back the files, with what came of each life; and None where
-/// they couldn't be opened or closed, or have no books, or there is no memory. No task of the program calls this: it says what
-/// the program's runs over a file come to, of the bytes in the file.
+/// Lives over the books in two files of any disk, a database and its log, one for each input, in order. A life opens
+/// the files, answers the requests of its input, and closes the files. Gives back the files, with what came of each
+/// life; None where they couldn't be opened or closed, or have no books, or there is no memory. No task of the program
+/// calls this.
 ///
-/// Where the bytes in the files were those of books that spell a World, all lives together are one list of requests, each life
-/// a run over exactly the bytes of its input, which ended and wrote as is given back. The bytes that the files have in the end
-/// are those of books that spell the World after them; where there was a life, also with the database file alone, and as a
-/// stop may leave them (`lives`). So by the law `lives` of mx_desk, all that is promised of requests holds of those of all
-/// lives. No request that was given up is done after all.
-///
-/// This holds of files that have returned what was written to them in all lives, and that nobody else wrote (`AreClean`). Of
-/// None nothing is said.
+/// All lives together are one list of requests (`lives`). No request that was given up is done after all.
 pub fn closed_lives<D: Disk + Drop>(
     alloc: Global,
     files: Files<D>,
@@ -158,12 +151,11 @@ pub fn closed_lives<D: Disk + Drop>(
     Some((held, lives))
 }
 
-/// As `closed_lives`, with a stop in place of each close: the files are opened, each life is ended by a stop behind which the
-/// books are opened again (`live_on`), and the files are closed in the end. So a stop loses nothing that was answered, of the
-/// bytes in the files too.
+/// As `closed_lives`, with a stop in place of each close (`live_on`): a call of `crash`, by which each of the files
+/// forgets what its contract lets a stop make it forget. The files are closed in the end.
 ///
-/// All lives together are one list of requests (`lives`): of those that a life gave up one at most was done after all. A stop
-/// is a call of `crash`: each of the files forgets what its contract lets a stop make it forget.
+/// All lives together are one list of requests (`lives`): of the rounds that a life gave up, one at most was done after
+/// all.
 pub fn stopped_lives<D: Crash + Drop>(
     alloc: Global,
     files: Files<D>,

@@ -1,5 +1,5 @@
 -- What a write makes of the rows is what the edit does that asks for it.
-use Rattle.std.proofs.Common.{◌≡◌, ℕ, List, [], ◌∷◌, sym, ◌∙◌, ap, subst}
+use Rattle.std.proofs.Common.{◌≡◌, ℕ, [], ◌∷◌, sym, ◌∙◌, ap, subst}
 use Rattle.mx_book.specs.declared.edits.Edit.{Edit}
 use Rattle.mx_book.specs.RowEdits.{rewritten, archive_rows}
 use Rattle.mx_memory.specs.Shelves.{rows_of, SpendsOne}

@@ -1,5 +1,5 @@
 //! The book in memory.
-ghost use Rattle.std.proofs.Common.{inl, refl};
+ghost use Rattle.std.proofs.Common.{inl, refl, arith};
 ghost use Rattle.mx_book.specs.World.{opening};
 ghost use Rattle.mx_book.specs.Rows.{Rows as Kept, world_of};
 ghost use Rattle.mx_memory.specs.Shelves.{rows_of};
@@ -44,6 +44,15 @@ impl Book for PlainBook {
     ghost spells = { Spells };
 
     ghost doubt = { λ _. 0 };
+
+    // Each change is settled at once.
+    ghost base = { λ b. rows_of b.shelves };
+
+    ghost harm = { λ _. 0 };
+
+    ghost settled = { λ _. Unit {0} };
+
+    ghost defers = { ⊥ };
 
     // Nothing outlives it.
     ghost leaves = { λ _ _. ⊥ };
@@ -212,7 +221,15 @@ impl Book for PlainBook {
 
     ghost single = { one_world };
 
+    fn settle(&mut self) -> Result<(), StoreFault> {
+        Ok(())
+    }
+
     ghost steady = { λ b r h left. absurd left };
+
+    ghost rest = { λ b _. (refl, λ _. refl) };
+
+    ghost deep = { λ b. omega arith };
 
     ghost doubted = { λ _. inl refl };
 }

@@ -1,5 +1,5 @@
 -- What the call of one command tells gives what a decision on it does.
-use Rattle.std.proofs.Common.{◌≡◌, ◌⊎◌, inl, inr, true, false, [], refl, sym, subst, Result, Ok, Err, OnOk, IfErr, IsTrue}
+use Rattle.std.proofs.Common.{◌≡◌, ◌⊎◌, inr, true, false, [], refl, sym, subst, Result, Ok, Err, OnOk, IfErr, IsTrue}
 use Rattle.std.proofs.lemmas.Result.{IfOk-weaker, IfErr-weaker}
 use Rattle.mx_book.specs.World.{World}
 use Rattle.mx_book.specs.declared.contract.Book.{Ghosts}
@@ -32,7 +32,6 @@ module _ {B T : Type 0} (b : Ghosts B) {old new : B} {r : Result T StoreFault} {
       → ((w : World) (t : T) → said w t → makes_edits w x ≡ false → d.edits ≡ []) → TellsOf b old new r caller x d
   tells_write x is t says idle = record {
     keeps = t.keeps;
-    answered = IfOk-weaker r _ _ (λ _ working. inl working) t.answered;
     decides = λ w valid sure spelled. IfOk-weaker r _ _ (λ y so. says w y so valid) (t.value w sure spelled);
     reads = on_ok_always r (λ read. absurd (cc (read, is)));
     edits = λ w sure spelled. IfOk-weaker r _ _ (λ y so none. idle w y so none) (t.value w sure spelled);
@@ -44,7 +43,6 @@ module _ {B T : Type 0} (b : Ghosts B) {old new : B} {r : Result T StoreFault} {
   pub tells_read : (x : Command) {said : World → T → Type 0} → Tells b b.fails old new r said → ((w : World) (t : T) → said w t → IsCommand x → Decides w (base w caller x) d) → OnOk r (d.edits ≡ []) → TellsOf b old new r caller x d
   tells_read x t says none = record {
     keeps = t.keeps;
-    answered = IfOk-weaker r _ _ (λ _ working. inl working) t.answered;
     decides = λ w valid sure spelled. IfOk-weaker r _ _ (λ y so. says w y so valid) (t.value w sure spelled);
     reads = IfOk-weaker r _ _ (λ _ same _. same) none;
     edits = λ w sure spelled. IfOk-weaker r _ _ (λ _ same _. same) none;
@@ -58,7 +56,6 @@ module _ {B T : Type 0} (b : Ghosts B) {old new : B} {r : Result T StoreFault} {
       → TellsOf b old new r caller x d
   tells_list x is no_read makes t says memory = record {
     keeps = t.keeps;
-    answered = IfOk-weaker r _ _ (λ _ working. inl working) t.answered;
     decides = λ w valid sure spelled. IfOk-weaker r _ _ (λ y so. says w y so valid) (t.value w sure spelled);
     reads = on_ok_always r (λ read. absurd (cc (read, no_read)));
     edits = λ w sure spelled. on_ok_always r (λ none. absurd (cc (none, makes w)));
@@ -72,7 +69,6 @@ module _ {B T : Type 0} (b : Ghosts B) {old new : B} {r : Result T StoreFault} {
       → TellsOf b old new r caller x d
   tells_listed x is t says none memory = record {
     keeps = t.keeps;
-    answered = IfOk-weaker r _ _ (λ _ working. inl working) t.answered;
     decides = λ w valid sure spelled. IfOk-weaker r _ _ (λ y so. says w y so valid) (t.value w sure spelled);
     reads = IfOk-weaker r _ _ (λ _ same _. same) none;
     edits = λ w sure spelled. IfOk-weaker r _ _ (λ _ same _. same) none;

@@ -3,7 +3,6 @@ pub mod DecisionLemmas
 pub mod OwnLemmas
 pub mod CaseLemmas
 pub mod DecideLemmas
-pub mod WorkingLemmas
 pub mod AccountLemmas
 pub mod CommandLemmas
 pub mod MoneyLemmas

@@ -6,29 +6,20 @@ use Rattle.mx_purse.specs.State.{State}
 use Rattle.mx_purse.specs.declared.message.Message.{Message}
 use Rattle.mx_book.specs.declared.edits.Edit.{Edit}
 use Rattle.mx_book.specs.declared.edits.Edit.TheVariants.{SetMember, SetPurse, AddLine, AddMessage, AddLoad, AddRedemption, AddTray, AddSettled}
-use Rattle.mx_book.specs.declared.values.Caller.{Caller}
 use Rattle.mx_book.specs.declared.values.Line.{Line}
 use Rattle.mx_book.specs.declared.values.LineKind.TheVariants as kind
 use Rattle.mx_book.specs.declared.values.MemberRow.{MemberRow}
 use Rattle.mx_book.specs.World.{World, Name, is_of, is_of_member}
 use Rattle.mx_book.specs.Reads.{of_purse, finds_place, purses_of}
 use Rattle.mx_book.specs.Edits.{Fits, all_edited}
-use Rattle.mx_command.specs.declared.values.Command.{Command}
 use Rattle.mx_office.specs.declared.values.Decided.{Decided}
-use Rattle.mx_command.specs.declared.values.Refusal.TheVariants.{NotForCaller}
-use Rattle.mx_command.specs.declared.values.Reply.TheVariants.{Refused}
-use Rattle.mx_office.specs.Step.{Deed, base, world_after, is_kept, listed, money_line, payment_line}
+use Rattle.mx_office.specs.Step.{Deed, world_after, is_kept, listed, money_line, payment_line}
 
 -- the reply of what is done, and edits that fit the World and lead to what is done, with what is sent
 pub record Decides (w : World) (to : Deed World) (d : Decided) : Type 0 where
   pub reply : d.reply ≡ to.reply
   pub fits : Fits w d.edits
   pub leads : all_edited w d.edits ≡ world_after to
-
--- a command that isn't one of the caller's is refused in every World, without a look at the book
-pub record IsForAnother (caller : Caller) (command : Command) (d : Decided) : Type 0 where
-  pub told : d.reply ≡ Refused NotForCaller
-  pub step : (w : World) → (base w caller command).reply ≡ Refused NotForCaller
 
 -- how many purses a holder of a member has, and nothing where the member has no such holder
 abbrev pub purse_count : World → Name → Name → Option ℕ

@@ -2,7 +2,6 @@
 ghost use Rattle.std.specs.Prelude.{◌≡◌, [], false, nat_lt, OnOk, IfErr};
 ghost use Rattle.mx_pay.specs.Log.{log_len};
 ghost use Rattle.mx_book.specs.Keeps.{Keeps, Gives};
-ghost use Rattle.mx_book.specs.Stands.{IsWorking};
 ghost use Rattle.mx_book.specs.Reads.{finds_place, tray_of};
 ghost use Rattle.mx_office.specs.Calls.{Tells};
 ghost use Rattle.mx_command.specs.Commands.{IsCommand};
@@ -56,8 +55,7 @@ fn may_clear<B: Book>(
     purse: Name,
     details: &Log,
 ) -> Result<bool, StoreFault>
-    ensures keeps { Keeps B.doubt B.rows B.leaves book.old book.new }
-    ensures answered { IsWorking B.doubt book.old → OnOk result (IsWorking B.doubt book.new) }
+    ensures keeps { Keeps B.doubt B.rows B.harm B.base B.defers B.settled B.leaves book.old book.new }
     ensures value { Gives B.doubt B.rows B.spells book.old book.new result
         (λ w b. b ≡ may_clear w purse details.now) }
     ensures fault { IfErr result B.fails }

@@ -3,8 +3,8 @@ ghost use Rattle.std.specs.Borrow.{sem};
 ghost use Rattle.std.specs.List.{AllByRecursion};
 ghost use Rattle.std.specs.Prelude.{◌≡◌, ◌≤◌, ◌⊎◌, [], false, length, IfOk, IfErr, IsTrue, OnOk, OnErr};
 ghost use Rattle.mx_book.specs.Edits.{Fits, all_edited};
-ghost use Rattle.mx_book.specs.Keeps.{Keeps};
-ghost use Rattle.mx_book.specs.Stands.{Attempts, IsWorking, MovesTo};
+ghost use Rattle.mx_book.specs.Keeps.{Bides, Keeps};
+ghost use Rattle.mx_book.specs.Stands.{Attempts, MovesTo, RestsAt, Settles};
 ghost use Rattle.mx_book.specs.World.{World, Name as HolderName};
 ghost use Rattle.mx_book.specs.declared.contract.StoreFault.TheVariants.{Memory};
 ghost use Rattle.mx_command.specs.declared.values.Refusal.{Refusal};
@@ -13,7 +13,7 @@ ghost use Rattle.mx_office.specs.Abstract.{Refines};
 ghost use Rattle.mx_office.specs.Calls.{TellsOf};
 ghost use Rattle.mx_command.specs.Commands.{IsAsked};
 ghost use Rattle.mx_office.specs.Conservation.{IsNeverFullOutcome};
-ghost use Rattle.mx_office.specs.Decides.{Decides, IsForAnother};
+ghost use Rattle.mx_office.specs.Decides.{Decides};
 ghost use Rattle.mx_office.specs.Faults.{FailsFor, MayFail, MayNotDecide, is_read, lists, makes_edits};
 ghost use Rattle.mx_office.specs.Isolation.{cut, for_holder, local, told_to, view, view_of};
 ghost use Rattle.mx_office.specs.Lends.{LendsBook};
@@ -68,18 +68,16 @@ impl<B: Book> Office<B> {
     }
 
     /// What a command of a caller would do: its reply, and the edits that lead to its World. Nothing changes. A fault
-    /// is one of the book's reads, or `Memory` where the command reads a list: a grant, purses, inbox and statement. Over
-    /// rows that spell a World (`memory`) a grant reads one only where its member is there, and an inbox and a statement
-    /// only where the purse is the holder's. There a command that is idle has no edits (`edits`). `asked` says what the
-    /// caller and the command keep by their types: names are names, and numbers and tokens are within limits.
+    /// is one of the book's reads, or `Memory` where the command reads a list: a grant, purses, inbox and statement.
+    /// Over rows that spell a World (`memory`) a grant reads one only where its member is there, and an inbox and a
+    /// statement only where the purse is the holder's. There a command that is idle has no edits (`edits`).
     pub fn decide(
         &mut self,
         alloc: Global,
         caller: Caller,
         command: &Command,
     ) -> Result<Decided, StoreFault>
-        ensures keeps { Keeps B.doubt B.rows B.leaves self.old.book self.new.book }
-        ensures answered { IfOk result (λ d. IsWorking B.doubt self.new.book ⊎ IsForAnother caller command.now d) }
+        ensures keeps { Keeps B.doubt B.rows B.harm B.base B.defers B.settled B.leaves self.old.book self.new.book }
         ensures decides { (w : World) → B.doubt self.new.book ≡ 0 → B.spells (B.rows self.old.book) w → IfOk result (Decides w (base w caller command.now)) }
         ensures reads { IfOk result (λ d. IsTrue (is_read command.now) → d.edits ≡ []) }
         ensures edits { (w : World) → B.doubt self.new.book ≡ 0 → B.spells (B.rows self.old.book) w
@@ -104,8 +102,7 @@ impl<B: Book> Office<B> {
         command: &Command,
         decided: &mut Decided,
     ) -> Result<(), StoreFault>
-        ensures keeps { Keeps B.doubt B.rows B.leaves self.old.book self.new.book }
-        ensures answered { OnOk result (IsWorking B.doubt self.new.book ⊎ IsForAnother caller command.now decided.new) }
+        ensures keeps { Keeps B.doubt B.rows B.harm B.base B.defers B.settled B.leaves self.old.book self.new.book }
         ensures decides { (w : World) → B.doubt self.new.book ≡ 0 → B.spells (B.rows self.old.book) w → OnOk result (Decides w (base w caller command.now) decided.new) }
         ensures reads { OnOk result (IsTrue (is_read command.now) → decided.new.edits ≡ []) }
         ensures edits { (w : World) → B.doubt self.new.book ≡ 0 → B.spells (B.rows self.old.book) w
@@ -127,15 +124,13 @@ impl<B: Book> Office<B> {
 
     /// Makes the edits of a decision, all of them, or none where it answers a fault. They have to fit the
     /// World, as they do when nothing has changed the book since `decide` gave them. A fault is `Memory` or one of the
-    /// book's. Where there are no edits the book isn't asked, and there is no fault.
+    /// book's. Where there are no edits the book isn't asked, and there is no fault. What is made waits for `settle`.
     pub fn commit(&mut self, decided: &Decided) -> Result<(), StoreFault>
         requires { (w : World) → B.doubt self.old.book ≡ 0 → B.spells (B.rows self.old.book) w → Fits w decided.now.edits }
         ensures later { B.doubt self.old.book ≤ B.doubt self.new.book }
         ensures ok { (w : World) → B.doubt self.new.book ≡ 0 → B.spells (B.rows self.old.book) w → OnOk result (B.spells (B.rows self.new.book) (all_edited w decided.now.edits)) }
         ensures err { B.doubt self.new.book ≡ 0 → OnErr result (B.rows self.new.book ≡ B.rows self.old.book) }
-        ensures attempts { (w : World) → (B.doubt self.old.book ≡ 0 → B.spells (B.rows self.old.book) w)
-            → Attempts B.doubt B.rows B.spells B.leaves self.old.book self.new.book result w
-            (λ v. all_edited v decided.now.edits) }
+        ensures bides { Bides B.harm B.base B.defers B.leaves self.old.book self.new.book }
         ensures nothing { decided.now.edits ≡ [] → IfErr result (λ _. ⊥) }
         ensures fault { IfErr result (λ e. (e ≡ Memory) ⊎ B.fails e) }
     {
@@ -146,33 +141,22 @@ impl<B: Book> Office<B> {
         self.book.apply(edits)
     }
 
-    /// Answers a command of a caller: decides, and makes the edits. After a fault and after a refusal nothing is
-    /// changed, whatever the book holds. A fault is one of the book's reads, or `Memory` where the command takes some: it
-    /// reads a list, or makes edits and isn't refused. What is refused for its caller, its purse or its member takes none,
-    /// nor does a load or a redemption that is repeated, an archive of nothing, or a clear that finds no place. `asked` says
-    /// the same as at `decide`.
+    /// Answers a command of a caller in a round: decides, and makes the edits, which wait for `settle`. The answer is
+    /// so only where that answers. After a fault and after a refusal nothing is changed, but a fault may undo what
+    /// waits, and then `settle` is a fault too. A fault is one of the book's calls, or `Memory` where the command takes
+    /// some: it reads a list, or makes edits and isn't refused.
     ///
-    /// It keeps holders apart: after an answer that succeeds, and for every holder, what is the holder's own of each of
-    /// the holder's purses is what the holder's view of that one command makes of what it was (`accounts`), and the reply,
-    /// where it is given to that holder, is the one that this view gives (`told`). What a view is stands at `isolation`.
-    ///
-    /// A stop leaves the World after a command that was answered. After one that wasn't it leaves the World before the command
-    /// or that after it (`attempts`).
-    pub fn answer(
+    /// It keeps holders apart (`accounts`, `told`). What a view is stands at `isolation`.
+    pub fn answer_in_round(
         &mut self,
         alloc: Global,
         caller: Caller,
         command: &Command,
     ) -> Result<Reply, StoreFault>
         ensures later { B.doubt self.old.book ≤ B.doubt self.new.book }
+        ensures bides { Bides B.harm B.base B.defers B.leaves self.old.book self.new.book }
         ensures ok { (w : World) → B.doubt self.new.book ≡ 0 → B.spells (B.rows self.old.book) w → OnOk result (B.spells (B.rows self.new.book) (step w caller command.now).world) }
-        ensures attempts { (w : World) → B.doubt self.new.book ≤ 1
-            → (B.doubt self.old.book ≡ 0 → B.spells (B.rows self.old.book) w)
-            → Attempts B.doubt B.rows B.spells B.leaves self.old.book self.new.book result w
-            (λ v. (step v caller command.now).world) }
-        ensures reply { (w : World) → B.doubt self.new.book ≤ 1
-            → (B.doubt self.old.book ≡ 0 → B.spells (B.rows self.old.book) w)
-            → IfOk result (λ r. r ≡ (step w caller command.now).reply) }
+        ensures reply { (w : World) → B.doubt self.new.book ≡ 0 → B.spells (B.rows self.old.book) w → IfOk result (λ r. r ≡ (step w caller command.now).reply) }
         ensures accounts { (w v : World) → B.doubt self.new.book ≡ 0 → B.spells (B.rows self.old.book) w → B.spells (B.rows self.new.book) v → OnOk result ((h : HolderName) → cut v h ≡ (local (cut w h) (view_of w h caller command.now)).end) }
         ensures told { (w : World) → B.doubt self.new.book ≡ 0 → B.spells (B.rows self.old.book) w → IfOk result (λ r. (h : HolderName) → for_holder h caller r ≡ (local (cut w h) (view_of w h caller command.now)).replies) }
         ensures refused { B.doubt self.new.book ≡ 0 → IfOk result (λ r. (refusal : Refusal) → r ≡ Refused refusal → B.rows self.new.book ≡ B.rows self.old.book) }
@@ -189,39 +173,78 @@ impl<B: Book> Office<B> {
         Ok(decided.reply)
     }
 
-    /// Answers commands in order: one outcome a command, its reply, or `Unavailable` where `answer` gives a fault. An
-    /// AllocError means that nothing was done. From a World that commands can lead to it ends in such a World
-    /// (`reachable`), which meets all the conditions of a World, in which each member's account is balanced, and no value
-    /// was made or is gone; and nothing is refused because a purse or a float is full (`never_full`). Where each outcome is
-    /// a refusal or `Unavailable`, the rows are as they were, whatever the book holds (`undone`).
+    /// Settles what was changed in the round: all of it stands, or none where it answers a fault. Where it answers Ok,
+    /// all that was answered in the round is so, and the store works. A fault is one of the book's settle, or came in
+    /// the round and has undone it.
+    pub fn settle(&mut self) -> Result<(), StoreFault>
+        ensures settles { Settles B.doubt B.rows B.harm B.base B.defers B.settled B.leaves self.old.book self.new.book result }
+        ensures fault { IfErr result B.fails }
+    {
+        self.book.settle()
+    }
+
+    /// Answers a command of a caller in a round of its own, as `answer_in_round` says, and settles it. A fault is one
+    /// of either.
     ///
-    /// It keeps holders apart, as `answer` does: for every holder, the replies to the holder, in order, are those that
-    /// the holder's view of the commands that were answered gives (`told`), and what is the holder's own in the end is
-    /// what that view leaves (`accounts`). Commands that were not answered are in no view, and change nothing.
+    /// A stop leaves the World after a command that was answered. After one that wasn't it leaves the World before the
+    /// command or that after it (`attempts`).
+    pub fn answer(
+        &mut self,
+        alloc: Global,
+        caller: Caller,
+        command: &Command,
+    ) -> Result<Reply, StoreFault>
+        ensures settled { B.settled self.new.book }
+        ensures later { B.settled self.old.book → B.doubt self.old.book ≤ B.doubt self.new.book }
+        ensures ok { (w : World) → B.doubt self.new.book ≡ 0 → B.spells (B.rows self.old.book) w → OnOk result (B.spells (B.rows self.new.book) (step w caller command.now).world) }
+        ensures attempts { (w : World) → B.doubt self.new.book ≤ 1
+            → RestsAt B.doubt B.rows B.spells B.settled self.old.book w
+            → Attempts B.doubt B.rows B.spells B.settled B.leaves self.old.book self.new.book result w
+            (λ v. (step v caller command.now).world) }
+        ensures reply { (w : World) → B.doubt self.new.book ≤ 1
+            → RestsAt B.doubt B.rows B.spells B.settled self.old.book w
+            → IfOk result (λ r. r ≡ (step w caller command.now).reply) }
+        ensures accounts { (w v : World) → B.doubt self.new.book ≡ 0 → B.spells (B.rows self.old.book) w → B.spells (B.rows self.new.book) v → OnOk result ((h : HolderName) → cut v h ≡ (local (cut w h) (view_of w h caller command.now)).end) }
+        ensures told { (w : World) → B.doubt self.new.book ≡ 0 → B.spells (B.rows self.old.book) w → IfOk result (λ r. (h : HolderName) → for_holder h caller r ≡ (local (cut w h) (view_of w h caller command.now)).replies) }
+        ensures refused { B.doubt self.new.book ≡ 0 → IfOk result (λ r. (refusal : Refusal) → r ≡ Refused refusal → B.rows self.new.book ≡ B.rows self.old.book) }
+        ensures err { B.settled self.old.book → B.doubt self.new.book ≡ 0
+            → OnErr result (B.rows self.new.book ≡ B.rows self.old.book) }
+        ensures fault { IfErr result (λ e. (e ≡ Memory) ⊎ B.fails e) }
+        ensures memory { (w : World) → B.doubt self.new.book ≡ 0 → B.spells (B.rows self.old.book) w → IfErr result (MayFail B.fails w caller command.now) }
+        ensures asked { IsAsked (caller, command.now) }
+    {
+        let answered = self.answer_in_round(alloc, caller, command);
+        let settled = self.settle();
+        let reply = answered?;
+        settled?;
+        Ok(reply)
+    }
+
+    /// Answers commands in order, each in a round of its own: one outcome a command, its reply, or `Unavailable` where
+    /// `answer` gives a fault. An AllocError means that nothing was done.
     ///
-    /// The commands that were answered are operations of the abstract purses, in which a payment is one operation, for
-    /// every choice of losses at the end (`refines`). What these are stands at `refinement`.
-    ///
-    /// What `run` says holds also where a fault shuts the store on the way. A stop leaves the World in the end, or that with one
-    /// more of the commands that weren't answered, behind which nothing was changed.
+    /// From a World that commands lead to it ends in such a World (`reachable`), and nothing is refused because a purse
+    /// or a float is full (`never_full`). It keeps holders apart (`told`, `accounts`), and its commands are operations
+    /// of the abstract purses (`refines`). `run` says what a stop leaves, also where a fault shut the store.
     pub fn run(
         &mut self,
         alloc: Global,
         commands: &[(Caller, Command)],
     ) -> Result<Vec<Outcome>, AllocError>
-        ensures later { B.doubt self.old.book ≤ B.doubt self.new.book }
+        ensures later { B.settled self.old.book → B.doubt self.old.book ≤ B.doubt self.new.book }
+        ensures still { B.settled self.old.book → B.settled self.new.book }
         ensures run { (w : World) → B.doubt self.new.book ≤ 1
-            → (B.doubt self.old.book ≡ 0 → B.spells (B.rows self.old.book) w)
-            → IfOk result (λ outcomes. Leads B.fails (MovesTo B.doubt B.rows B.spells B.leaves
+            → RestsAt B.doubt B.rows B.spells B.settled self.old.book w
+            → IfOk result (λ outcomes. Leads B.fails (MovesTo B.doubt B.rows B.spells B.settled B.leaves
             self.old.book self.new.book w (attempts commands.now outcomes.items)) w commands.now outcomes.items) }
-        ensures reachable { (w : World) → B.doubt self.new.book ≡ 0 → B.spells (B.rows self.old.book) w → IsReachable w → IfOk result (λ _. StandsBalanced (B.spells (B.rows self.new.book))) }
-        ensures never_full { (w : World) → B.doubt self.new.book ≡ 0 → B.spells (B.rows self.old.book) w → IsReachable w → IfOk result (λ outcomes. AllByRecursion IsNeverFullOutcome outcomes.items) }
-        ensures accounts { (w v : World) → B.doubt self.new.book ≡ 0 → B.spells (B.rows self.old.book) w → B.spells (B.rows self.new.book) v → IfOk result (λ outcomes. (h : HolderName) → cut v h ≡ (local (cut w h) (view h w (answered commands.now outcomes.items))).end) }
-        ensures told { (w : World) → B.doubt self.new.book ≡ 0 → B.spells (B.rows self.old.book) w → IfOk result (λ outcomes. (h : HolderName) → told_to h (replies commands.now outcomes.items) ≡ (local (cut w h) (view h w (answered commands.now outcomes.items))).replies) }
-        ensures refines { (w v : World) → B.doubt self.new.book ≡ 0 → B.spells (B.rows self.old.book) w
+        ensures reachable { (w : World) → B.doubt self.new.book ≡ 0 → RestsAt B.doubt B.rows B.spells B.settled self.old.book w → IsReachable w → IfOk result (λ _. StandsBalanced (B.spells (B.rows self.new.book))) }
+        ensures never_full { (w : World) → B.doubt self.new.book ≡ 0 → RestsAt B.doubt B.rows B.spells B.settled self.old.book w → IsReachable w → IfOk result (λ outcomes. AllByRecursion IsNeverFullOutcome outcomes.items) }
+        ensures accounts { (w v : World) → B.doubt self.new.book ≡ 0 → RestsAt B.doubt B.rows B.spells B.settled self.old.book w → B.spells (B.rows self.new.book) v → IfOk result (λ outcomes. (h : HolderName) → cut v h ≡ (local (cut w h) (view h w (answered commands.now outcomes.items))).end) }
+        ensures told { (w : World) → B.doubt self.new.book ≡ 0 → RestsAt B.doubt B.rows B.spells B.settled self.old.book w → IfOk result (λ outcomes. (h : HolderName) → told_to h (replies commands.now outcomes.items) ≡ (local (cut w h) (view h w (answered commands.now outcomes.items))).replies) }
+        ensures refines { (w v : World) → B.doubt self.new.book ≡ 0 → RestsAt B.doubt B.rows B.spells B.settled self.old.book w
             → B.spells (B.rows self.new.book) v → IsReachable w
             → IfOk result (λ outcomes. Refines w (answered commands.now outcomes.items) v) }
-        ensures undone { B.doubt self.new.book ≡ 0 → IfOk result (λ outcomes.
+        ensures undone { B.settled self.old.book → B.doubt self.new.book ≡ 0 → IfOk result (λ outcomes.
             AllByRecursion IsUndone outcomes.items → B.rows self.new.book ≡ B.rows self.old.book) }
         ensures each { IfOk result (λ outcomes. length outcomes.items ≡ length commands.now) }
         ensures err { OnErr result (self.new ≡ self.old) }

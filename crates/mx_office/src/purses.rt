@@ -1,7 +1,6 @@
 //! The commands of holders.
 ghost use Rattle.std.specs.Prelude.{◌≡◌, ◌⊎◌, [], OnOk, IfErr, IsTrue, is_some, option_map};
 ghost use Rattle.mx_book.specs.declared.contract.StoreFault.TheVariants.{Memory};
-ghost use Rattle.mx_book.specs.Stands.{IsWorking};
 ghost use Rattle.mx_book.specs.World.{World};
 ghost use Rattle.mx_book.specs.Reads.{own_purse, purses_of, redemption_of};
 ghost use Rattle.mx_office.specs.Calls.{Tells};
@@ -30,8 +29,7 @@ pub(crate) fn placed<B: Book>(
     alloc: Global,
     sent: Outgoing,
 ) -> Result<Outgoing, StoreFault>
-    ensures { IsWorking B.doubt book.old
-        → Tells B.Book B.fails book.old book.new result
+    ensures { Tells B.Book B.fails book.old book.new result
         (λ w s. carried s ≡ placed w (carried sent)) }
 {
     let Some(peer) = peer_of(&sent) else {
@@ -150,7 +148,8 @@ pub(crate) fn start_from<B: Book>(
     ensures { Tells B.Book B.fails book.old book.new result
         (λ w _. Decides w (on_own w holder purse (start_from peer value seq)) decided.new) }
 {
-    let Some(mut after) = book.own_purse(alloc, holder, purse)? else {
+    let mut own = book.own_purse(alloc, holder, purse)?;
+    let Some(after) = &mut own else {
         refuse(decided, Refusal::NoSuchPurse);
         return Ok(());
     };
@@ -161,11 +160,11 @@ pub(crate) fn start_from<B: Book>(
             Ok(())
         }
         Ok(details) => {
-            let line = abort_line(&after, logged);
+            let line = abort_line(after, logged);
             make_purse(
                 decided,
                 Reply::Started(details),
-                &after,
+                after,
                 line,
                 &Outgoing::Nothing,
             );
@@ -189,7 +188,8 @@ pub(crate) fn start_to<B: Book>(
     ensures { Tells B.Book B.fails book.old book.new result
         (λ w _. Decides w (on_own w holder purse (start_to peer value seq)) decided.new) }
 {
-    let Some(mut after) = book.own_purse(alloc, holder, purse)? else {
+    let mut own = book.own_purse(alloc, holder, purse)?;
+    let Some(after) = &mut own else {
         refuse(decided, Refusal::NoSuchPurse);
         return Ok(());
     };
@@ -201,8 +201,8 @@ pub(crate) fn start_to<B: Book>(
         }
         Ok(details) => {
             let request = placed(book, alloc, Outgoing::Req(details))?;
-            let line = abort_line(&after, logged);
-            make_purse(decided, Reply::Started(details), &after, line, &request);
+            let line = abort_line(after, logged);
+            make_purse(decided, Reply::Started(details), after, line, &request);
             Ok(())
         }
     }
@@ -221,7 +221,8 @@ pub(crate) fn handle<B: Book>(
     ensures { Tells B.Book B.fails book.old book.new result
         (λ w _. Decides w (on_own w holder purse (handle number)) decided.new) }
 {
-    let Some(mut after) = book.own_purse(alloc, holder, purse)? else {
+    let mut own = book.own_purse(alloc, holder, purse)?;
+    let Some(after) = &mut own else {
         refuse(decided, Refusal::NoSuchPurse);
         return Ok(());
     };
@@ -232,8 +233,8 @@ pub(crate) fn handle<B: Book>(
     let logged = after.pending();
     let handled = after.handle(&message);
     let answer = placed(book, alloc, sent_for(&handled))?;
-    let line = message_line(&after, logged, &handled);
-    make_purse(decided, Reply::Handled(handled), &after, line, &answer);
+    let line = message_line(after, logged, &handled);
+    make_purse(decided, Reply::Handled(handled), after, line, &answer);
     Ok(())
 }
 
@@ -279,7 +280,8 @@ pub(crate) fn abort<B: Book>(
     ensures { Tells B.Book B.fails book.old book.new result
         (λ w _. Decides w (on_own w holder purse abort) decided.new) }
 {
-    let Some(mut after) = book.own_purse(alloc, holder, purse)? else {
+    let mut own = book.own_purse(alloc, holder, purse)?;
+    let Some(after) = &mut own else {
         refuse(decided, Refusal::NoSuchPurse);
         return Ok(());
     };
@@ -287,8 +289,8 @@ pub(crate) fn abort<B: Book>(
     let reply = Reply::Aborted {
         logged: logged.is_some(),
     };
-    let line = abort_line(&after, logged);
-    make_purse(decided, reply, &after, line, &Outgoing::Nothing);
+    let line = abort_line(after, logged);
+    make_purse(decided, reply, after, line, &Outgoing::Nothing);
     Ok(())
 }
 
@@ -300,8 +302,7 @@ fn not_kept<B: Book>(
     purse: Name,
     entry: Option<&PayDetails>,
 ) -> Result<Option<PayDetails>, StoreFault>
-    ensures { IsWorking B.doubt book.old
-        → Tells B.Book B.fails book.old book.new result
+    ensures { Tells B.Book B.fails book.old book.new result
         (λ w o. o ≡ not_kept w purse (option_map (λ d. d.now) entry.entry)) }
 {
     let Some(details) = entry else {
@@ -330,15 +331,16 @@ pub(crate) fn read_log<B: Book>(
     ensures { Tells B.Book B.fails book.old book.new result
         (λ w _. Decides w (on_own w holder purse (read_log place)) decided.new) }
 {
-    let Some(mut after) = book.own_purse(alloc, holder, purse)? else {
+    let mut own = book.own_purse(alloc, holder, purse)?;
+    let Some(after) = &mut own else {
         refuse(decided, Refusal::NoSuchPurse);
         return Ok(());
     };
     let logged = after.pending();
     let entry = after.read_log(place);
     let new = not_kept(book, alloc, purse, entry.as_ref())?;
-    let line = abort_line(&after, logged);
-    make_read(decided, Reply::Read(entry), &after, line, new);
+    let line = abort_line(after, logged);
+    make_read(decided, Reply::Read(entry), after, line, new);
     Ok(())
 }
 
@@ -358,7 +360,8 @@ pub(crate) fn redeem<B: Book>(
         → Decides w (on_own w holder purse (redeem amount reference)) decided.new)
         × (IsTrue (is_some (redemption_of w purse reference)) → decided.new.edits ≡ [])) }
 {
-    let Some(mut after) = book.own_purse(alloc, holder, purse)? else {
+    let mut own = book.own_purse(alloc, holder, purse)?;
+    let Some(after) = &mut own else {
         refuse(decided, Refusal::NoSuchPurse);
         return Ok(());
     };
@@ -366,7 +369,7 @@ pub(crate) fn redeem<B: Book>(
         again(decided, before, amount, Reply::Redeemed);
         return Ok(());
     }
-    let mut rested = after;
+    let mut rested = *after;
     let logged = rested.abort();
     match after.redeem(amount) {
         Err(refusal) => {
@@ -375,7 +378,7 @@ pub(crate) fn redeem<B: Book>(
         }
         Ok(()) => {
             let line = abort_line(&rested, logged);
-            make_redemption(decided, &after, line, amount, reference);
+            make_redemption(decided, after, line, amount, reference);
             Ok(())
         }
     }

@@ -5,3 +5,4 @@ pub mod RowLemmas
 pub mod ReadingLemmas
 pub mod ImportLemmas
 pub mod KeptLemmas
+pub mod RoundLemmas

@@ -2,7 +2,7 @@
 
 /// Who is told how far an import is. The import goes on in the same way whatever is done with it.
 pub trait Progress {
-    /// So many rows of the roll are done: added, found the same or refused.
+    /// So many rows of the roll are done and kept: added, found the same or refused.
     fn done(&mut self, rows: u64);
 }
 

@@ -23,7 +23,7 @@ pub struct Report {
 
 /// What the books come to. A fault is one of the book's reads, or `Memory`.
 pub fn reconcile<B: Book>(alloc: Global, book: &mut B) -> Result<Report, StoreFault>
-    ensures keeps { Keeps B.doubt B.rows B.leaves book.old book.new }
+    ensures keeps { Keeps B.doubt B.rows B.harm B.base B.defers B.settled B.leaves book.old book.new }
     ensures value { Gives B.doubt B.rows B.spells book.old book.new result
         (λ w report. (report.members.items ≡ members_totals_of w) × (report.scheme ≡ totals_of w)) }
     ensures fault { IfErr result (λ e. (e ≡ Memory) ⊎ B.fails e) }

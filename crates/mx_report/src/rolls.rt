@@ -5,12 +5,13 @@ ghost use Rattle.csv.specs.Reading.{error_kind};
 ghost use Rattle.csv.specs.declared.error.Error.{Error};
 ghost use Rattle.csv.specs.Records.{Row, fields_of};
 ghost use Rattle.mx_book.specs.declared.contract.StoreFault.TheVariants as fault;
-ghost use Rattle.mx_book.specs.Keeps.{Keeps, Gives};
+ghost use Rattle.mx_book.specs.Keeps.{Bides, Keeps, Gives};
+ghost use Rattle.mx_book.specs.Stands.{RestsAt, Settles};
 ghost use Rattle.mx_book.specs.World.{World, is_of};
 ghost use Rattle.mx_office.specs.Reachable.{IsReachable, StandsBalanced};
 ghost use Rattle.mx_report.specs.declared.rolls.RollFaultKind.TheVariants.{NotRoll, Memory, Store};
 ghost use Rattle.mx_report.specs.Roll.{Fields, asker, is_clerk, is_holder, is_same, roll_header};
-ghost use Rattle.mx_report.specs.Import.{IsRowImported, IsRecordImported, IsBroken, IsImported, HasNoHeader, IsNoRoll, IsRoll, outcome_of, no_rows, rows_counted, tallied, tally_of};
+ghost use Rattle.mx_report.specs.Import.{IsRowImported, IsRecordImported, IsBroken, IsImported, HasNoHeader, IsNoRoll, IsRoll, SettlesRows, outcome_of, no_rows, rows_counted, tallied, tally_of};
 ghost use Rattle.mx_report.specs.Reading.{HasGiven, book_fault, record_fault};
 
 use crate::progress::{Nobody, Progress};
@@ -23,6 +24,9 @@ use mx_office::Office;
 use mx_pay::Name;
 use mx_pay::names::same_name;
 use std::alloc::Global;
+
+/// How many rows wait for a settle at most.
+const MOST_WAITING: u64 = 64;
 
 /// Why a row of a roll is refused.
 #[derive(Clone, Copy)]
@@ -69,7 +73,7 @@ pub enum RollFaultKind {
 pub struct RollFault {
     /// Why it ended.
     pub kind: RollFaultKind,
-    /// How many rows came before. They stand, and no other does.
+    /// How many first rows of the roll stand, and no other does.
     pub done: u64,
 }
 
@@ -174,7 +178,7 @@ fn is_of(member: &Name, holder: &Option<HolderRow>) -> bool
 /// Whether what a row says stands already.
 #[tactic(auto, unfolding(crate::specs::Roll::is_same))]
 fn is_same<B: Book>(book: &mut B, alloc: Global, row: &RollRow) -> Result<bool, StoreFault>
-    ensures keeps { Keeps B.doubt B.rows B.leaves book.old book.new }
+    ensures keeps { Keeps B.doubt B.rows B.harm B.base B.defers B.settled B.leaves book.old book.new }
     ensures value { Gives B.doubt B.rows B.spells book.old book.new result
         (λ w b. b ≡ is_same w row.now) }
     ensures fault { IfErr result B.fails }
@@ -201,7 +205,7 @@ fn is_same<B: Book>(book: &mut B, alloc: Global, row: &RollRow) -> Result<bool, 
 /// holder's member for a purse. None where that holder isn't there.
 #[tactic(auto, unfolding(crate::specs::Roll::asker))]
 fn asker<B: Book>(book: &mut B, alloc: Global, row: &RollRow) -> Result<Option<Caller>, StoreFault>
-    ensures keeps { Keeps B.doubt B.rows B.leaves book.old book.new }
+    ensures keeps { Keeps B.doubt B.rows B.harm B.base B.defers B.settled B.leaves book.old book.new }
     ensures value { Gives B.doubt B.rows B.spells book.old book.new result
         (λ w o. o ≡ asker w row.now) }
     ensures fault { IfErr result B.fails }
@@ -226,14 +230,17 @@ fn outcome_of(reply: &Reply) -> RowOutcome
     }
 }
 
-/// Imports a row: nothing where it is same, and else its command, which the office answers as it answers a request.
+/// Imports a row: nothing where it is same, and else its command, which the office answers as it answers a request. What it
+/// changes waits for a settle.
 fn import_row<B: Book>(
     office: &mut Office<B>,
     alloc: Global,
     row: &RollRow,
 ) -> Result<RowOutcome, StoreFault>
     ensures later { B.doubt office.old.book ≤ B.doubt office.new.book }
-    ensures ok { (w : World) → B.doubt office.new.book ≡ 0 → B.spells (B.rows office.old.book) w → IfOk result (IsRowImported (B.spells (B.rows office.new.book)) w (Some row.now)) }
+    ensures bides { Bides B.harm B.base B.defers B.leaves office.old.book office.new.book }
+    ensures ok { (w : World) → B.doubt office.new.book ≡ 0 → B.spells (B.rows office.old.book) w
+        → IfOk result (IsRowImported (B.spells (B.rows office.new.book)) w (Some row.now)) }
     ensures err { B.doubt office.new.book ≡ 0
         → OnErr result (B.rows office.new.book ≡ B.rows office.old.book) }
     ensures fault { IfErr result (λ e. (e ≡ fault.Memory) ⊎ B.fails e) }
@@ -244,7 +251,7 @@ fn import_row<B: Book>(
     let Some(caller) = asker(&mut office.book, alloc, row)? else {
         return Ok(RowOutcome::Refused(RollReason::Refused(Refusal::NoSuchHolder)));
     };
-    let reply = office.answer(alloc, caller, &row.command())?;
+    let reply = office.answer_in_round(alloc, caller, &row.command())?;
     Ok(outcome_of(&reply))
 }
 
@@ -258,7 +265,10 @@ fn import_record<B: Book>(
 ) -> Result<(), StoreFault>
     requires few { rows_counted (tally_of report.old) < 2 ^ 64 - 1 }
     ensures later { B.doubt office.old.book ≤ B.doubt office.new.book }
-    ensures ok { (w : World) → B.doubt office.new.book ≡ 0 → B.spells (B.rows office.old.book) w → OnOk result (IsRecordImported (B.spells (B.rows office.new.book)) w (fields_of entry.now) (tally_of report.old) (tally_of report.new)) }
+    ensures bides { Bides B.harm B.base B.defers B.leaves office.old.book office.new.book }
+    ensures ok { (w : World) → B.doubt office.new.book ≡ 0 → B.spells (B.rows office.old.book) w
+        → OnOk result (IsRecordImported (B.spells (B.rows office.new.book)) w
+        (fields_of entry.now) (tally_of report.old) (tally_of report.new)) }
     ensures counted { OnOk result
         (rows_counted (tally_of report.new) ≡ rows_counted (tally_of report.old) + 1) }
     ensures err { B.doubt office.new.book ≡ 0
@@ -318,6 +328,7 @@ fn import_next<B: Book>(
 ) -> Result<(), RollFaultKind>
     requires few { rows_counted (tally_of report.old) < 2 ^ 64 - 1 }
     ensures later { B.doubt office.old.book ≤ B.doubt office.new.book }
+    ensures bides { Bides B.harm B.base B.defers B.leaves office.old.book office.new.book }
     ensures taken { OnOk result ((r : Row) × (next ≡ Ok r)) }
     ensures ok { (w : World) → B.doubt office.new.book ≡ 0 → B.spells (B.rows office.old.book) w
         → OnOk result (IfOk next (λ r. IsRecordImported (B.spells (B.rows office.new.book)) w
@@ -340,56 +351,146 @@ fn import_next<B: Book>(
     }
 }
 
+/// Settles what waits, so that all rows so far are kept, and tells and gives how many. Where it fails, as many are kept as
+/// before.
+fn settle_rows<B: Book, P: Progress>(
+    office: &mut Office<B>,
+    rows: u64,
+    kept: u64,
+    progress: &mut P,
+) -> Result<u64, RollFault>
+    ensures settles { Settles B.doubt B.rows B.harm B.base B.defers B.settled B.leaves
+        office.old.book office.new.book result }
+    ensures all { IfOk result (λ n. n ≡ rows) }
+    ensures before { IfErr result (λ f. f.done ≡ kept) }
+    ensures roll { IfErr result (λ f. f.kind ≢ NotRoll) }
+    ensures store { IfErr result (λ f. f.kind ≡ Store → B.fails fault.Store) }
+{
+    match office.settle() {
+        Ok(()) => {
+            progress.done(rows);
+            Ok(rows)
+        }
+        Err(fault) => Err(RollFault {
+            kind: book_fault(fault),
+            done: kept,
+        }),
+    }
+}
+
+/// Settles the rows so far where enough of them wait, and gives how many are kept.
+fn settle_some<B: Book, P: Progress>(
+    office: &mut Office<B>,
+    rows: u64,
+    kept: u64,
+    progress: &mut P,
+) -> Result<u64, RollFault>
+    requires few { kept ≤ rows }
+    ensures ok { IfOk result (λ n.
+        ((n ≡ kept) × (office.new.book ≡ office.old.book))
+        ⊎ ((n ≡ rows) × Settles B.doubt B.rows B.harm B.base B.defers B.settled B.leaves
+        office.old.book office.new.book result)) }
+    ensures err { OnErr result (Settles B.doubt B.rows B.harm B.base B.defers B.settled B.leaves
+        office.old.book office.new.book result) }
+    ensures within { IfOk result (λ n. n ≤ rows) }
+    ensures before { IfErr result (λ f. f.done ≡ kept) }
+    ensures roll { IfErr result (λ f. f.kind ≢ NotRoll) }
+    ensures store { IfErr result (λ f. f.kind ≡ Store → B.fails fault.Store) }
+{
+    if rows - kept < MOST_WAITING {
+        return Ok(kept);
+    }
+    settle_rows(office, rows, kept, progress)
+}
+
+/// The fault of an import that ends behind so many rows: these are settled first. Where that fails, fewer rows stand than come
+/// before a record that makes the roll none, and in place of `NotRoll` the fault is that of the settle.
+fn end_at<B: Book, P: Progress>(
+    office: &mut Office<B>,
+    kind: RollFaultKind,
+    rows: u64,
+    kept: u64,
+    progress: &mut P,
+) -> RollFault
+    ensures settles { SettlesRows B.Book office.old.book office.new.book rows kept result.done }
+    ensures not_roll { result.kind ≡ NotRoll → (kind ≡ NotRoll) × (result.done ≡ rows) }
+    ensures store { result.kind ≡ Store → (kind ≡ Store) ⊎ B.fails fault.Store }
+{
+    match settle_rows(office, rows, kept, progress) {
+        Ok(done) => RollFault { kind, done },
+        Err(fault) => match kind {
+            RollFaultKind::NotRoll => fault,
+            _ => RollFault {
+                kind,
+                done: fault.done,
+            },
+        },
+    }
+}
+
 /// Imports a roll: members, holders and purses in comma-separated values, with the header `kind,name,of,token`. The bytes
-/// EF BB BF before it are dropped. A row that stands already changes nothing and is counted as same; each other row is one
-/// command, by the operator for a member, and for a holder or a purse by the clerk of its member. A row that is refused, or
-/// is of no row's form, doesn't stop the import.
+/// EF BB BF before it are dropped. A row that stands already changes nothing and is counted as same; each other is one
+/// command, by the operator for a member, and by its member's clerk for a holder or a purse. A row that is refused, or is of
+/// no row's form, doesn't stop the import.
 ///
-/// A fault is `NotRoll` where the first record isn't the header, or there is none, or where a record has another number of
-/// fields than four; `Memory`, also where csv refuses a record for want of it; or `Store`, where the book's own reads fail
-/// so. The rows before it stand, `done` of them, and no other.
+/// It settles every 64 rows, and at the end. After a fault `done` rows stand, and no other.
 pub fn import_roll<B: Book>(
     alloc: Global,
     office: &mut Office<B>,
     bytes: &[u8],
 ) -> Result<RollReport, RollFault>
-    ensures later { B.doubt office.old.book ≤ B.doubt office.new.book }
-    ensures done { (w : World) → B.doubt office.new.book ≡ 0 → B.spells (B.rows office.old.book) w → IfOk result (λ report. IsImported (B.spells (B.rows office.new.book)) w bytes.now (tally_of report)) }
-    ensures broken { (w : World) → B.doubt office.new.book ≡ 0 → B.spells (B.rows office.old.book) w → IfErr result (λ f. IsBroken (B.spells (B.rows office.new.book)) w bytes.now f.done) }
+    ensures still { B.settled office.old.book → B.settled office.new.book }
+    ensures later { B.settled office.old.book → B.doubt office.old.book ≤ B.doubt office.new.book }
+    ensures done { (w : World) → B.doubt office.new.book ≡ 0 → B.spells (B.rows office.old.book) w
+        → IfOk result (λ report. IsImported (B.spells (B.rows office.new.book)) w bytes.now
+        (tally_of report)) }
+    ensures broken { (w : World) → B.doubt office.new.book ≡ 0
+        → RestsAt B.doubt B.rows B.spells B.settled office.old.book w
+        → IfErr result (λ f. IsBroken (B.spells (B.rows office.new.book)) w bytes.now f.done) }
     ensures roll { IfOk result (λ _. (records : List Fields) × IsRoll bytes.now records) }
     ensures not_roll { IfErr result (λ f. f.kind ≡ NotRoll → IsNoRoll bytes.now f.done) }
     ensures store { IfErr result (λ f. f.kind ≡ Store → B.fails fault.Store) }
-    ensures reachable { (w : World) → B.doubt office.new.book ≡ 0 → B.spells (B.rows office.old.book) w → IsReachable w → StandsBalanced (B.spells (B.rows office.new.book)) }
+    ensures reachable { (w : World) → B.doubt office.new.book ≡ 0
+        → RestsAt B.doubt B.rows B.spells B.settled office.old.book w → IsReachable w
+        → StandsBalanced (B.spells (B.rows office.new.book)) }
 {
     import_roll_telling(alloc, office, bytes, &mut Nobody)
 }
 
-/// The same, where somebody is told after each row how many are done.
+/// The same, where somebody is told after each settle how many rows are kept.
 pub fn import_roll_telling<B: Book, P: Progress>(
     alloc: Global,
     office: &mut Office<B>,
     bytes: &[u8],
     progress: &mut P,
 ) -> Result<RollReport, RollFault>
-    ensures later { B.doubt office.old.book ≤ B.doubt office.new.book }
-    ensures done { (w : World) → B.doubt office.new.book ≡ 0 → B.spells (B.rows office.old.book) w → IfOk result (λ report. IsImported (B.spells (B.rows office.new.book)) w bytes.now (tally_of report)) }
-    ensures broken { (w : World) → B.doubt office.new.book ≡ 0 → B.spells (B.rows office.old.book) w → IfErr result (λ f. IsBroken (B.spells (B.rows office.new.book)) w bytes.now f.done) }
+    ensures still { B.settled office.old.book → B.settled office.new.book }
+    ensures later { B.settled office.old.book → B.doubt office.old.book ≤ B.doubt office.new.book }
+    ensures done { (w : World) → B.doubt office.new.book ≡ 0 → B.spells (B.rows office.old.book) w
+        → IfOk result (λ report. IsImported (B.spells (B.rows office.new.book)) w bytes.now
+        (tally_of report)) }
+    ensures broken { (w : World) → B.doubt office.new.book ≡ 0
+        → RestsAt B.doubt B.rows B.spells B.settled office.old.book w
+        → IfErr result (λ f. IsBroken (B.spells (B.rows office.new.book)) w bytes.now f.done) }
     ensures roll { IfOk result (λ _. (records : List Fields) × IsRoll bytes.now records) }
     ensures not_roll { IfErr result (λ f. f.kind ≡ NotRoll → IsNoRoll bytes.now f.done) }
     ensures store { IfErr result (λ f. f.kind ≡ Store → B.fails fault.Store) }
-    ensures reachable { (w : World) → B.doubt office.new.book ≡ 0 → B.spells (B.rows office.old.book) w → IsReachable w → StandsBalanced (B.spells (B.rows office.new.book)) }
+    ensures reachable { (w : World) → B.doubt office.new.book ≡ 0
+        → RestsAt B.doubt B.rows B.spells B.settled office.old.book w → IsReachable w
+        → StandsBalanced (B.spells (B.rows office.new.book)) }
 {
     let records = match records_of(alloc, bytes) {
         Ok(records) => records,
         Err(kind) => return Err(RollFault { kind, done: 0 }),
     };
     let mut report = RollReport::new(alloc);
+    let mut kept = 0;
     for record in records {
         if let Err(kind) = import_next(office, alloc, record, &mut report) {
-            let done = report.rows();
-            return Err(RollFault { kind, done });
+            return Err(end_at(office, kind, report.rows(), kept, progress));
         }
-        progress.done(report.rows());
+        kept = settle_some(office, report.rows(), kept, progress)?;
     }
+    settle_rows(office, report.rows(), kept, progress)?;
     Ok(report)
 }

@@ -13,7 +13,7 @@ use std::alloc::{AllocError, Global};
 
 /// The lines of a purse, by number, read page by page.
 fn read_lines<B: Book>(alloc: Global, book: &mut B, purse: Name) -> Result<Vec<Line>, StoreFault>
-    ensures keeps { Keeps B.doubt B.rows B.leaves book.old book.new }
+    ensures keeps { Keeps B.doubt B.rows B.harm B.base B.defers B.settled B.leaves book.old book.new }
     ensures value { Gives B.doubt B.rows B.spells book.old book.new result
         (λ w lines. lines.items ≡ own_lines w purse) }
     ensures fault { IfErr result (λ e. (e ≡ Memory) ⊎ B.fails e) }
@@ -39,7 +39,7 @@ pub fn statement<B: Book>(
     book: &mut B,
     purse: Name,
 ) -> Result<Option<Vec<Line>>, StoreFault>
-    ensures keeps { Keeps B.doubt B.rows B.leaves book.old book.new }
+    ensures keeps { Keeps B.doubt B.rows B.harm B.base B.defers B.settled B.leaves book.old book.new }
     ensures value { Gives B.doubt B.rows B.spells book.old book.new result
         (λ w o. option_map (λ lines. lines.items) o ≡ statement_of w purse) }
     ensures fault { IfErr result (λ e. (e ≡ Memory) ⊎ B.fails e) }

@@ -16,6 +16,7 @@ mod rounds;
 mod scripts;
 mod settled;
 mod sums;
+mod together;
 
 pub(super) use self::answered::answer_in_the_end;
 use self::payments::FIVE_STEPS;

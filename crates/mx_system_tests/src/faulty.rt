@@ -48,6 +48,14 @@ impl<B: Book> Book for Faulty<B> {
 
     ghost doubt = { λ b. B.doubt b.book };
 
+    ghost base = { λ b. B.base b.book };
+
+    ghost harm = { λ b. B.harm b.book };
+
+    ghost settled = { λ b. B.settled b.book };
+
+    ghost defers = { B.defers };
+
     ghost leaves = { λ b r. B.leaves b.book r };
 
     ghost fails = { λ _. Unit {0} };
@@ -257,11 +265,19 @@ impl<B: Book> Book for Faulty<B> {
         self.book.apply(edits)
     }
 
+    fn settle(&mut self) -> Result<(), StoreFault> {
+        self.book.settle()
+    }
+
     ghost sound = { B.sound };
 
     ghost single = { B.single };
 
     ghost steady = { λ b r. B.steady b.book r };
 
-    ghost doubted = { λ _. inr tt };
+    ghost rest = { λ b. B.rest b.book };
+
+    ghost deep = { λ b. B.deep b.book };
+
+    ghost doubted = { λ _. inr (λ _. tt) };
 }

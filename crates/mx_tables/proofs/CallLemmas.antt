@@ -1,16 +1,16 @@
 -- Calls one after another: what each of them is gives what all are.
-use Rattle.mx_tables.proofs.Common.{◌≡◌, ℕ, List, Ok, ◌∙◌, arith, refl, IfOk-weaker, Row, Database, state, Executes, Rows, office_schema, Holds, going}
+use Rattle.mx_tables.proofs.Common.{Bool, ◌+◌, ◌≡◌, ℕ, List, Ok, ◌∙◌, arith, refl, IfOk-weaker, Row, Database, state, Executes, Rows, office_schema, Holds, going}
 use Rattle.std.proofs.Common.{Err, Result, IfOk, sym, ap, subst}
 use Rattle.std.proofs.lemmas.Result.{IfOk-from_err}
 use Rattle.std.specs.Result.{IsErr}
 use Rattle.sqlite_trees.specs.declared.store.Store.{Ghosts}
-use Rattle.sqlite.specs.declared.transaction.Transaction.{Transaction}
+use Rattle.sqlite.specs.declared.savepoint.Savepoint.{Savepoint}
 use Rattle.sqlite.specs.Held.{Held}
 use Rattle.sqlite.specs.State.{HasCleanDisk}
 use Rattle.mx_book.specs.declared.contract.StoreFault.{StoreFault}
 use Rattle.mx_tables.specs.Known.{Knowledge}
-use Rattle.mx_tables.specs.States.{IsAwake, IsOurs, Stays, Brings, WritesWith, Reads, Steps, Runs, Writes, Finds}
-use Rattle.mx_tables.proofs.StateLemmas.{on_ok_anyway, on_ok_never, brings_same, brings_none, stays_same, stays_then, sure_before, within_none, within_then}
+use Rattle.mx_tables.specs.States.{IsAwake, IsOurs, Stays, Brings, WritesWith, Reads, ReadsAt, Steps, Runs, Within, Writes, Finds}
+use Rattle.mx_tables.proofs.StateLemmas.{on_ok_anyway, on_ok_never, brings_same, brings_none, stays_same, stays_then, sure_first, within_none, within_then}
 use Rattle.mx_tables.proofs.WriteLemmas.{goes_as, goes_then}
 
 module _ {S : Type 0} (g : Ghosts S) where
@@ -32,11 +32,11 @@ module _ {S : Type 0} (g : Ghosts S) where
   reads_fault {r = r} {other = other} h fault = record { stays = h.stays; value = λ ours calm rows holds. IfOk-from_err r (other rows) fault; live = on_ok_never r _ fault }
 
   -- a fault after what leaves the rows, and a fault before any read
-  pub reads_stopped : {T : Type 0} {old new : Held S} {r : Result T StoreFault} {is : Rows → T → Type 0} → (IsOurs (state g old) → Stays (state g old) (state g new)) → IsErr r → Reads g old new r is
-  reads_stopped {r = r} {is = is} stays fault = record { stays = stays; value = λ ours calm rows holds. IfOk-from_err r (is rows) fault; live = on_ok_never r _ fault }
+  pub reads_stopped : {T : Type 0} {old new : Held S} {r : Result T StoreFault} {is : Rows → T → Type 0} → ((begun : Bool) → IsOurs begun (state g old) → Stays begun (state g old) (state g new)) → IsErr r → Reads g old new r is
+  reads_stopped {r = r} {is = is} stays fault = record { stays = λ ours. stays _ ours; value = λ ours calm rows holds. IfOk-from_err r (is rows) fault; live = on_ok_never r _ fault }
 
   pub reads_never : {T : Type 0} {old : Held S} {r : Result T StoreFault} {is : Rows → T → Type 0} → IsErr r → Reads g old old r is
-  reads_never {old = old} = reads_stopped (stays_same (state g old))
+  reads_never {old = old} = reads_stopped (λ begun ours. stays_same (state g old) ours)
 
   -- what follows from what a read gives
   pub reads_more : {T : Type 0} {old new : Held S} {r : Result T StoreFault} {is other : Rows → T → Type 0}
@@ -50,55 +50,82 @@ module _ {S : Type 0} (g : Ghosts S) where
     stays = λ ours. stays_then (state g a) (state g b) (state g c) (one.stays ours) (two.stays (one.stays ours).ours);
     value = λ ours calm rows holds.
         let kept = one.stays ours in
-        let before = sure_before (state g b) (state g c) (two.stays kept.ours).later calm in
+        let before = sure_first (two.stays kept.ours).later calm in
         let same : Holds (state g b).now rows = subst (λ (d : Database). Holds d rows) (sym (kept.same before)) holds in
         IfOk-weaker r _ _ (λ y is. (one.value ours before rows holds, is)) (two.value kept.ours calm rows same);
+    live = two.live;
+  }
+
+  -- the same for a round that has begun, or for none
+  pub reads_at : {T : Type 0} {begun : Bool} {old new : Held S} {r : Result T StoreFault} {is : Rows → T → Type 0} → Reads g old new r is → ReadsAt begun g old new r is
+  reads_at h = record { stays = λ ours. h.stays ours; value = λ ours. h.value ours; live = h.live }
+
+  pub reads_more_at : {T : Type 0} {begun : Bool} {old new : Held S} {r : Result T StoreFault} {is other : Rows → T → Type 0}
+      → ReadsAt begun g old new r is → ((rows : Rows) → Holds (state g old).now rows → (x : T) → is rows x → other rows x) → ReadsAt begun g old new r other
+  reads_more_at {r = r} h f = record { stays = h.stays; value = λ ours calm rows holds. IfOk-weaker r _ _ (f rows holds) (h.value ours calm rows holds); live = h.live }
+
+  pub reads_to_at : {T U : Type 0} {begun : Bool} {old new : Held S} {x : T} {r : Result U StoreFault} {is : Rows → T → Type 0} {other : Rows → U → Type 0}
+      → ReadsAt begun g old new (Ok x) is → ((rows : Rows) → Holds (state g old).now rows → is rows x → IfOk r (other rows)) → ReadsAt begun g old new r other
+  reads_to_at {r = r} h f = record { stays = h.stays; value = λ ours calm rows holds. f rows holds (h.value ours calm rows holds); live = on_ok_anyway r h.live }
+
+  pub reads_then_at : {T U : Type 0} {begun : Bool} {a b c : Held S} {x : T} {r : Result U StoreFault} {is : Rows → T → Type 0} {other : Rows → U → Type 0}
+      → Reads g a b (Ok x) is → ReadsAt begun g b c r other → ReadsAt begun g a c r (λ rows y. is rows x × other rows y)
+  reads_then_at {a = a} {b = b} {c = c} {r = r} one two = record {
+    stays = λ ours. stays_then (state g a) (state g b) (state g c) (one.stays ours) (two.stays (one.stays ours).ours);
+    value = λ ours calm rows holds.
+        let kept = one.stays ours in
+        let before = sure_first (two.stays kept.ours).later calm in
+        let there : Holds (state g b).now rows = subst (λ (d : Database). Holds d rows) (sym (kept.same before)) holds in
+        IfOk-weaker r _ _ (λ y is. (one.value ours before rows holds, is)) (two.value kept.ours calm rows there);
     live = two.live;
   }
 
   -- ---- steps inside a transaction
 
   -- a fault after a step
-  pub steps_fault : {T U E F : Type 0} {old new : Transaction S} {r : Result T E} {does : T → Type 0} {other : U → Type 0} {e : F}
+  pub steps_fault : {T U E F : Type 0} {old new : Savepoint S g} {r : Result T E} {does : T → Type 0} {other : U → Type 0} {e : F}
       → Steps g old new r does → Steps g old new (Err e) other
   steps_fault h = record {
     same_reference = h.same_reference;
-    within = record { clean = h.within.clean; kept = h.within.kept; inside = λ clean inside. tt; stops = h.within.stops };
+    place = h.place;
+    within = record { clean = h.within.clean; kept = h.within.kept; inside = λ clean inside. tt; marks = h.within.marks; stops = h.within.stops };
     ok = λ clean inside. tt;
   }
 
   -- what follows from what a step did
-  pub steps_to : {T E : Type 0} {old new : Transaction S} {r : Result T E} {does other : T → Type 0}
+  pub steps_to : {T E : Type 0} {old new : Savepoint S g} {r : Result T E} {does other : T → Type 0}
       → Steps g old new r does → ((x : T) → does x → other x) → Steps g old new r other
-  steps_to {r = r} h f = record { same_reference = h.same_reference; within = h.within; ok = λ clean inside. IfOk-weaker r _ _ f (h.ok clean inside) }
+  steps_to {r = r} h f = record { same_reference = h.same_reference; place = h.place; within = h.within; ok = λ clean inside. IfOk-weaker r _ _ f (h.ok clean inside) }
 
   -- no step yet
-  pub steps_none : {T E : Type 0} {does : T → Type 0} (a : Transaction S) (x : T) → does x → Steps {E = E} g a a (Ok x) does
-  steps_none a x it = record { same_reference = refl; within = within_none (state g a.conn.now) x; ok = λ clean inside. it }
+  pub steps_none : {T E : Type 0} {does : T → Type 0} (a : Savepoint S g) (x : T) → does x → Steps {E = E} g a a (Ok x) does
+  steps_none a x it = record { same_reference = refl; place = refl; within = within_none (a.at + 1) (state g a.conn.now) x; ok = λ clean inside. it }
 
   -- what follows from a step that answered Ok
-  pub steps_as : {T U E F : Type 0} {old new : Transaction S} {x : T} (r : Result U F) {does : T → Type 0} {other : U → Type 0}
+  pub steps_as : {T U E F : Type 0} {old new : Savepoint S g} {x : T} (r : Result U F) {does : T → Type 0} {other : U → Type 0}
       → Steps {E = E} g old new (Ok x) does → (does x → IfOk r other) → Steps g old new r other
   steps_as {old = old} {new = new} (Ok y) h f = record {
     same_reference = h.same_reference;
-    within = record { clean = h.within.clean; kept = h.within.kept; inside = h.within.inside; stops = h.within.stops };
+    place = h.place;
+    within = record { clean = h.within.clean; kept = h.within.kept; inside = h.within.inside; marks = h.within.marks; stops = h.within.stops };
     ok = λ clean inside. f (h.ok clean inside);
   }
   steps_as (Err e) h f = steps_fault h
 
   -- a step after a step
-  pub steps_then : {T U E F : Type 0} {a b c : Transaction S} {x : T} {r : Result U F} {does : T → Type 0} {other : U → Type 0}
+  pub steps_then : {T U E F : Type 0} {a b c : Savepoint S g} {x : T} {r : Result U F} {does : T → Type 0} {other : U → Type 0}
       → Steps {E = E} g a b (Ok x) does → Steps g b c r other → Steps g a c r (λ y. does x × other y)
   steps_then {a = a} {b = b} {c = c} {x = x} {r = r} one two = record {
     same_reference = two.same_reference ∙ one.same_reference;
-    within = within_then (state g a.conn.now) (state g b.conn.now) (state g c.conn.now) x r one.within two.within;
+    place = two.place ∙ one.place;
+    within = within_then (a.at + 1) (state g a.conn.now) (state g b.conn.now) (state g c.conn.now) x r one.within (subst (λ n. Within (n + 1) (state g b.conn.now) (state g c.conn.now) r) one.place two.within);
     ok = λ clean inside.
         let early : HasCleanDisk (state g b.conn.now) = (let e = two.within.clean in omega arith) in
         IfOk-weaker r _ _ (λ y is. (one.ok early inside, is)) (two.ok clean (one.within.inside early inside));
   }
 
   -- what a statement does to the rows
-  pub runs_to : {T : Type 0} (sql : List ℕ) (params : Row) {old new : Transaction S} {r : Result T StoreFault} {counts : ℕ → Type 0} {change : Rows → Rows} {learns : Knowledge → Knowledge}
+  pub runs_to : {T : Type 0} (sql : List ℕ) (params : Row) {old new : Savepoint S g} {r : Result T StoreFault} {counts : ℕ → Type 0} {change : Rows → Rows} {learns : Knowledge → Knowledge}
       → Runs g sql params old new r counts
       → ((count : ℕ) → counts count → (state g old.conn.now).now.schema ≡ office_schema
       → Executes sql params (state g old.conn.now) (state g new.conn.now) (Ok count) → Brings change learns (state g old.conn.now) (state g new.conn.now))
@@ -106,7 +133,7 @@ module _ {S : Type 0} (g : Ghosts S) where
   runs_to sql params h f = steps_to h (λ x it has. f it.0 it.1 has it.2)
 
   -- what a statement does that changed one row
-  pub runs_one : {T : Type 0} (sql : List ℕ) (params : Row) {old new : Transaction S} {r : Result T StoreFault} {does : Type 0}
+  pub runs_one : {T : Type 0} (sql : List ℕ) (params : Row) {old new : Savepoint S g} {r : Result T StoreFault} {does : Type 0}
       → Runs g sql params old new r (λ count. count ≡ 1)
       → ((state g old.conn.now).now.schema ≡ office_schema → Executes sql params (state g old.conn.now) (state g new.conn.now) (Ok 1) → does)
       → Steps g old new r (λ _. (state g old.conn.now).now.schema ≡ office_schema → does)
@@ -114,28 +141,28 @@ module _ {S : Type 0} (g : Ghosts S) where
       steps_to h (λ x it has. f has (subst (λ n. Executes sql params (state g old.conn.now) (state g new.conn.now) (Ok n)) it.1 it.2))
 
   -- what follows from what was found
-  pub finds_to : {T U : Type 0} {old new : Transaction S} {x : T} (r : Result U StoreFault) {is : Rows → T → Type 0} {other : Rows → U → Type 0}
+  pub finds_to : {T U : Type 0} {old new : Savepoint S g} {x : T} (r : Result U StoreFault) {is : Rows → T → Type 0} {other : Rows → U → Type 0}
       → Finds g old new (Ok x) is → ((rows : Rows) → Holds (state g old.conn.now).now rows → is rows x → IfOk r (other rows)) → Finds g old new r other
   finds_to (Ok y) h f = steps_as (Ok y) h (λ seen has. record { same = (seen has).same; value = λ rows holds. f rows holds ((seen has).value rows holds) })
   finds_to (Err e) h f = steps_fault h
 
   -- a change as another that gives the same
-  pub writes_as : {T : Type 0} {old new : Transaction S} {r : Result T StoreFault} {one two : Rows → Rows} {learns : Knowledge → Knowledge}
+  pub writes_as : {T : Type 0} {old new : Savepoint S g} {r : Result T StoreFault} {one two : Rows → Rows} {learns : Knowledge → Knowledge}
       → WritesWith g old new r one learns → ((rows : Rows) → Holds (state g old.conn.now).now rows → one rows ≡ two rows) → WritesWith g old new r two learns
   writes_as {old = old} {new = new} {one = one} {two = two} h same =
       steps_to h (λ x went has. goes_as one two _ (state g old.conn.now) (state g new.conn.now) same (went has))
 
   -- the same, where the learns is another that is the same too
-  pub writes_with : {T : Type 0} {old new : Transaction S} {r : Result T StoreFault} {one two : Rows → Rows} {i j : Knowledge → Knowledge}
+  pub writes_with : {T : Type 0} {old new : Savepoint S g} {r : Result T StoreFault} {one two : Rows → Rows} {i j : Knowledge → Knowledge}
       → WritesWith g old new r one i → ((rows : Rows) → one rows ≡ two rows) → ((k : Knowledge) → i k ≡ j k) → WritesWith g old new r two j
   writes_with {old = old} {new = new} {r = r} {one = one} h rows known = writes_as (subst (WritesWith g old new r one) (λ t k. known k t) h) (λ r holds. rows r)
 
   -- no change yet
-  pub writes_none : (a : Transaction S) → Writes g a a going (λ rows. rows)
+  pub writes_none : (a : Savepoint S g) → Writes g a a going (λ rows. rows)
   writes_none a = steps_none a tt (λ has. brings_none (state g a.conn.now) has)
 
   -- no change after a look
-  pub finds_none : {T U : Type 0} {a b : Transaction S} {x : T} {y : U} {is : Rows → T → Type 0} {change : Rows → Rows}
+  pub finds_none : {T U : Type 0} {a b : Savepoint S g} {x : T} {y : U} {is : Rows → T → Type 0} {change : Rows → Rows}
       → Finds g a b (Ok x) is → ((rows : Rows) → Holds (state g a.conn.now).now rows → is rows x → rows ≡ change rows) → Writes g a b (Ok y) change
   finds_none {a = a} {b = b} {y = y} found f =
       let old = state g a.conn.now in
@@ -143,7 +170,7 @@ module _ {S : Type 0} (g : Ghosts S) where
       steps_as (Ok y) found (λ seen has. goes_as _ _ _ old new (λ r holds. f r holds ((seen has).value r holds)) (brings_same _ _ old old old new refl (seen has).same (brings_none old has)))
 
   -- a change after a look
-  pub finds_then : {T U : Type 0} {a b c : Transaction S} {x : T} {r : Result U StoreFault} {is : Rows → T → Type 0} {one two : Rows → Rows}
+  pub finds_then : {T U : Type 0} {a b c : Savepoint S g} {x : T} {r : Result U StoreFault} {is : Rows → T → Type 0} {one two : Rows → Rows}
       → Finds g a b (Ok x) is → Writes g b c r one → ((rows : Rows) → Holds (state g a.conn.now).now rows → is rows x → one rows ≡ two rows) → Writes g a c r two
   finds_then {a = a} {b = b} {c = c} found wrote f =
       steps_to (steps_then found wrote) (λ y both has.
@@ -153,7 +180,7 @@ module _ {S : Type 0} (g : Ghosts S) where
       (brings_same _ _ (state g a.conn.now) (state g b.conn.now) (state g c.conn.now) (state g c.conn.now) seen.same refl went))
 
   -- a change after a change
-  pub writes_then : {T U : Type 0} {a b c : Transaction S} {x : T} {r : Result U StoreFault} {one two : Rows → Rows} {i j : Knowledge → Knowledge}
+  pub writes_then : {T U : Type 0} {a b c : Savepoint S g} {x : T} {r : Result U StoreFault} {one two : Rows → Rows} {i j : Knowledge → Knowledge}
       → WritesWith g a b (Ok x) one i → WritesWith g b c r two j → WritesWith g a c r (λ rows. two (one rows)) (λ k. j (i k))
   writes_then {a = a} {b = b} {c = c} {one = one} {two = two} {i = i} {j = j} first second =
       steps_to (steps_then first second) (λ y both has.

@@ -32,7 +32,7 @@ use Rattle.mx_tables.specs.declared.asking.About.{About}
 use Rattle.mx_tables.specs.declared.asking.About.TheVariants.{Member, Holder, Purse, Owner, Next}
 use Rattle.mx_tables.specs.States.{worry, Accepts, HasOneAtMost, AcceptsText, AcceptsCommand, Blames, IsFaulted, Explains, IsExplained, Reads}
 use Rattle.mx_tables.proofs.Places.{Place, Belongs}
-use Rattle.mx_tables.proofs.StateLemmas.{sure, no_worry}
+use Rattle.mx_tables.proofs.StateLemmas.{idle_sure, sure, no_worry}
 use Rattle.mx_tables.proofs.CauseLemmas.{handed}
 use Rattle.mx_tables.proofs.Statements.{env, passes}
 use Rattle.mx_tables.proofs.StoredLemmas.{and_true, same_text}
@@ -202,7 +202,7 @@ module _ {S : Type 0} (g : Ghosts S) where
   pub why_to : {X U : Type 0} {old new : Held S} {x : X} {r : Result U StoreFault} {is : Rows → X → Type 0} → Reads g old new (Ok x) is → IsExplained g old new (Ok x)
       → ((w : World) (s : Spells (state g old).now w) → is s.rows x → IfErr r IsForMemory) → IsExplained g old new r
   why_to {old = old} {new = new} {r = r} h one f = record {
-    why = λ ours. explains_to (state g old) (state g new) r (one.why ours) (λ was calm it. f it.0 it.1 (h.value ours calm it.1.rows it.1.holds));
+    why = λ ours. explains_to (state g old) (state g new) r (one.why ours) (λ was calm it. f it.0 it.1 (h.value ours (idle_sure (state g new) calm) it.1.rows it.1.holds));
   }
 
   -- one read and then another
@@ -211,7 +211,7 @@ module _ {S : Type 0} (g : Ghosts S) where
     why = λ ours.
         let kept = h.stays ours in
         explains_then (state g a) (state g b) (state g c) r (one.why ours) (two.why kept.ours)
-        (λ was calm it. (it.0, subst (λ (d : Database). Spells d it.0) (sym (kept.same calm)) it.1));
+        (λ was calm it. (it.0, subst (λ (d : Database). Spells d it.0) (sym (kept.same (idle_sure (state g b) calm))) it.1));
   }
 
 -- a decoding that gives a value has no fault

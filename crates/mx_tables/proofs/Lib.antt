@@ -2,6 +2,9 @@ pub mod Common
 pub mod Texts
 pub mod Statements
 pub mod StateLemmas
+pub mod RoundLemmas
+pub mod BookLemmas
+pub mod OpeningLemmas
 pub mod CauseLemmas
 pub mod StoredLemmas
 pub mod MapLists

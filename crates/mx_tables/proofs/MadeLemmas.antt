@@ -53,9 +53,9 @@ makes_next (also table is rest) = (table, is, rest)
 pub makes_none : {before after : Schema} → Makes before [] after → before ≡ after
 makes_none made = refl
 
-pub adds : (schema : Schema) (sql : List ℕ) (table : Table) (old new : State) (r : Result ℕ Error) → IsCreate schema sql table → old.now.schema ≡ schema → ExecutesInside 0 sql [] old new r → OnOk r (AddsTable schema table old new)
-adds schema sql table old new (Err e) is has h = tt
-adds schema sql table old new (Ok count) is has h =
+pub adds : (held : ℕ) (schema : Schema) (sql : List ℕ) (table : Table) (old new : State) (r : Result ℕ Error) → IsCreate schema sql table → old.now.schema ≡ schema → ExecutesInside held sql [] old new r → OnOk r (AddsTable schema table old new)
+adds held schema sql table old new (Err e) is has h = tt
+adds held schema sql table old new (Ok count) is has h =
     let known = is_create sql (understood schema sql) is.creates in
     let w = subst (λ t. Writes old new None CreateTable t [] count) known.1 (runs_as sql [] old new schema has CreateTable known.0 is.plain count h.0) in
     let all = went w.changed in

@@ -1,12 +1,13 @@
 -- How tables of version 1 become those of version 2.
-use Rattle.mx_tables.proofs.Common.{◌≡◌, ℕ, ◌≤◌, true, List, [], ◌∷◌, ◌++◌, length, filter, Ok, refl, ◌∙◌, inl, inr, pos, arith, is_eq, Null, Int, Text, Row, column, col, number, Database, Executes, IsPermutation, Rows, Holds, office_schema, state}
-use Rattle.std.proofs.Common.{◌≢◌, ◌⊎◌, Err, Result, OnOk, OnErr, drop, map, sym, ap, ap₂, subst}
+use Rattle.mx_tables.proofs.Common.{◌≡◌, ℕ, ◌≤◌, false, true, List, [], ◌∷◌, ◌++◌, length, filter, Ok, refl, ◌∙◌, inl, inr, pos, arith, is_eq, Null, Int, Text, Row, column, col, number, Database, Executes, IsPermutation, Rows, Holds, office_schema, state}
+use Rattle.std.proofs.Common.{◌≢◌, ◌⊎◌, Err, IsTrue, Result, OnOk, OnErr, drop, map, sym, ap, ap₂, subst}
 use Rattle.std.proofs.lemmas.Cmp.{tied_itself}
 use Rattle.std.proofs.lemmas.List.Sorted.{IsPermutation-sym}
 use Rattle.sqlite_value.specs.declared.value.Value.{Value}
 use Rattle.sqlite_value.specs.Order.{value_cmp}
 use Rattle.sqlite_value.proofs.OrderLemmas.{value_cmp-apart, value_cmp_total}
 use Rattle.sqlite_trees.specs.Tree.{Trees, has_rowid}
+use Rattle.sqlite_trees.specs.View.{doubt}
 use Rattle.sqlite_trees.specs.declared.store.Store.{Ghosts}
 use Rattle.sqlite_schema.specs.declared.schema.Constraint.TheVariants.{Unique}
 use Rattle.sqlite_schema.specs.declared.schema.Kind.TheVariants.{Integer}
@@ -22,7 +23,7 @@ use Rattle.sqlite_rules.proofs.ProbeLemmas.{has_mapped, mapped_has}
 use Rattle.sqlite_rules.proofs.TableLemmas.{put_all_adds}
 use Rattle.sqlite_sql.specs.Term.{Term, lit, eval_all}
 use Rattle.sqlite.specs.Held.{Held}
-use Rattle.sqlite.specs.State.{State, HasCleanDisk, Survives}
+use Rattle.sqlite.specs.State.{State, HasCleanDisk, Marks, Survives, begins_at}
 use Rattle.mx_pay.proofs.TestLemmas.{is_equal}
 use Rattle.mx_book.specs.World.{World}
 use Rattle.mx_book.specs.declared.contract.StoreFault.{StoreFault}
@@ -37,7 +38,7 @@ use Rattle.mx_tables.specs.States.{worry, IsOurs, StaysAt, Commits}
 use Rattle.mx_tables.proofs.Texts.{is_first, set_version, set_version_is}
 use Rattle.mx_tables.proofs.Statements.{updated, picked, env, passes}
 use Rattle.mx_tables.proofs.StoredLemmas.{cast_int, cast_null, permuted}
-use Rattle.mx_tables.proofs.StateLemmas.{sure, sure_before, no_worry, not_lied, worry_later, rests_at}
+use Rattle.mx_tables.proofs.StateLemmas.{sure, sure_before, idle_sure, no_worry, not_lied, worry_later}
 use Rattle.mx_tables.proofs.MadeLemmas.{meta_table, one_meta, passes_first}
 use Rattle.mx_tables.proofs.WriteLemmas.{no_actions, one_stores}
 use Rattle.mx_tables.proofs.Places.{trees_apart}
@@ -160,20 +161,26 @@ module _ (old mid new : State) (made : AddsTable schema_11 settled old mid) (set
   }
 
 -- what a stop leaves where the commit ran, also if that failed
-pub stops_upgrading : (old mid new : State) → Survives mid new (λ db. db ≡ mid.now.trees) → (HasCleanDisk mid → (db : Trees) → mid.may_leave db → old.may_leave db) → (HasCleanDisk mid → UpgradesOpen old mid.now) → StopsUpgrading old new
-stops_upgrading old mid new survives less went clean db left =
-    let early : HasCleanDisk mid = (let e = survives.clean in omega arith) in
-    elim (survives.crash clean db left) [
-      | inl was ↦ inl (less early db was)
-      | inr made ↦ inr (
-          let it = went early in
-          record {
-            live = it.live;
-            upgrades = λ has.
-                let up = it.upgrades has in
-                subst (Upgrades old.now) (ap₂ (λ (s : Schema) (t : Trees). record { schema = s; trees = t }) up.whole.schema (sym made)) up;
-          })
-    ]
+pub stops_upgrading : (old mid new : State) (at : ℕ) → Survives mid new (λ db. IsTrue (begins_at mid at) × (db ≡ mid.now.trees)) → (HasCleanDisk new → (db : Trees) → mid.may_leave db → old.may_leave db) → (HasCleanDisk new → UpgradesOpen old mid.now) → StopsUpgrading old new
+stops_upgrading old mid new at survives less went clean db left = elim (survives.crash clean db left) [
+  | inl was ↦ inl (less clean db was)
+  | inr made ↦ inr (
+      let it = went clean in
+      record {
+        live = it.live;
+        upgrades = λ has.
+            let up = it.upgrades has in
+            subst (Upgrades old.now) (ap₂ (λ (s : Schema) (t : Trees). record { schema = s; trees = t }) up.whole.schema (sym made.1)) up;
+      })
+]
+
+-- the step inside a savepoint is one of the connection that the savepoint was begun in
+pub upgrades_inside : (old mark mid : State) (at : ℕ) → (HasCleanDisk mark → (at ≡ length old.marks) × Marks old mark []) → doubt mark.is_clean ≤ doubt mid.is_clean → (HasCleanDisk mid → IsTrue mark.in_transaction → UpgradesOpen mark mid.now)
+    → HasCleanDisk mid → UpgradesOpen old mid.now
+upgrades_inside old mark mid at marked later went clean =
+    let begun = (marked (omega (arith, later, clean))).1.0 in
+    let it = went clean begun.mode in
+    record { live = begun.was_open; upgrades = λ has. subst (λ d. Upgrades d mid.now) begun.now_is (it.upgrades (ap (λ (d : Database). d.schema) begun.now_is ∙ has)) }
 
 -- ---- which version a store has
 
@@ -191,15 +198,15 @@ other_version v n db has only other u it = only.1 (number_of u) (λ e. other (sy
 
 -- the store was found to be of version 1, and then the step to version 2 was made or left
 pub record After {S X : Type 0} (g : Ghosts S) (old mid new : Held S) (r : Result X StoreFault) : Type 0 where
-  pub stays : StaysAt schema_11 (state g old) (state g mid)
+  pub stays : StaysAt false schema_11 (state g old) (state g mid)
   pub whole : worry (state g mid) ≡ 0 → IsWhole One (state g old).now
-  pub commits : Commits g mid new r (UpgradesOpen (state g mid) (state g new).now)
+  pub commits : Commits (state g mid) (state g new) r (UpgradesOpen (state g mid) (state g new).now)
   pub stops : StopsUpgrading (state g mid) (state g new)
 
-pub found_one : {S X : Type 0} (g : Ghosts S) {old mid new : Held S} {r : Result X StoreFault} {v : Version} → v ≡ One → StaysAt (schema_of v) (state g old) (state g mid) → (worry (state g mid) ≡ 0 → IsWhole v (state g old).now)
-    → Commits g mid new r (UpgradesOpen (state g mid) (state g new).now) → StopsUpgrading (state g mid) (state g new) → After g old mid new r
+pub found_one : {S X : Type 0} (g : Ghosts S) {old mid new : Held S} {r : Result X StoreFault} {v : Version} → v ≡ One → StaysAt false (schema_of v) (state g old) (state g mid) → (worry (state g mid) ≡ 0 → IsWhole v (state g old).now)
+    → Commits (state g mid) (state g new) r (UpgradesOpen (state g mid) (state g new).now) → StopsUpgrading (state g mid) (state g new) → After g old mid new r
 found_one g {old = old} {mid = mid} is stays whole commits stops = record {
-  stays = subst (λ v. StaysAt (schema_of v) (state g old) (state g mid)) is stays;
+  stays = subst (λ v. StaysAt false (schema_of v) (state g old) (state g mid)) is stays;
   whole = λ calm. subst (λ v. IsWhole v (state g old).now) is (whole calm);
   commits = commits;
   stops = stops;
@@ -213,20 +220,20 @@ module _ {S X : Type 0} (g : Ghosts S) {old mid new : Held S} {r : Result X Stor
   calm = sure_before (state g mid) (state g new) later_then
 
   pub was_before : worry (state g old) ≤ worry (state g new)
-  was_before = omega (arith, h.stays.later, later_then)
+  was_before = omega (arith, h.stays.lasts, later_then)
 
   -- the step as one of the database that was found
   upgraded_from : (db : Database) → worry (state g mid) ≡ 0 → UpgradesOpen (state g mid) db → Migrates Done (state g old).now db
-  upgraded_from db before it = (h.whole before, subst (λ d. Upgrades d db) (h.stays.same before) (it.upgrades (h.stays.ours.schema before)))
+  upgraded_from db before it = (h.whole before, subst (λ d. Upgrades d db) (h.stays.same (idle_sure (state g mid) before)) (it.upgrades (h.stays.ours.schema before)))
 
   pub stops_led : worry (state g new) ≤ 1 → (db : Trees) → (state g new).may_leave db
       → (state g old).may_leave db ⊎ ((worry (state g old) ≡ 0) × Migrates Done (state g old).now (record { schema = office_schema; trees = db }))
   stops_led low db left =
       elim (h.stops (not_lied (state g new) low) db left) [
-        | inl was ↦ inl ((rests_at h.stays).stops (omega (arith, low, later_then)) db was)
+        | inl was ↦ inl (h.stays.stops (omega (arith, low, later_then)) db was)
         | inr made ↦ inr (
             let before = no_worry (state g mid) made.live (let e = h.commits.clean in let f = not_lied (state g new) low in omega arith) in
-            (sure_before (state g old) (state g mid) h.stays.later before, upgraded_from _ before made))
+            (sure_before (state g old) (state g mid) h.stays.lasts before, upgraded_from _ before made))
       ]
 
 module _ {S X : Type 0} (g : Ghosts S) {old mid new : Held S} where
@@ -238,12 +245,17 @@ module _ {S X : Type 0} (g : Ghosts S) {old mid new : Held S} where
   left_raised {r = Ok x} h end = tt
   left_raised {r = Err e} h end =
       let before = calm g h end in
-      (h.commits.none (sure (state g new) end).1 (sure (state g new) end).0).0 ∙ h.stays.ours.steady before ∙ h.stays.same before
+      let steady = h.stays.ours.steady before (h.stays.ours.idle (sure (state g mid) before).1 refl) in
+      (h.commits.none (sure (state g new) end).1 (sure (state g new) end).0).0 ∙ steady ∙ h.stays.same (idle_sure (state g mid) before)
 
-  pub ours_raised : {r : Result X StoreFault} → After g old mid new r → OnOk r (IsOurs (state g new))
-  ours_raised {r = Ok x} h = record {
-    autocommit = h.commits.ended;
-    steady = λ end. (h.commits.all (sure (state g new) end).1).1;
-    schema = λ end. (upgraded_from g h _ (calm g h end) (h.commits.all (sure (state g new) end).1).0).1.whole.schema;
-  }
+  pub ours_raised : {r : Result X StoreFault} → After g old mid new r → OnOk r (IsOurs false (state g new))
+  ours_raised {r = Ok x} h =
+      let all = λ (end : worry (state g new) ≡ 0). h.commits.all (sure (state g new) end).1 in
+      let has = λ (end : worry (state g new) ≡ 0). (upgraded_from g h _ (calm g h end) (all end).0).1.whole.schema in
+      record {
+        idle = λ clean none. h.commits.ended clean;
+        steady = λ end outside. (all end).1;
+        schema = has;
+        base = λ end. ap (λ (d : Database). d.schema) (all end).1 ∙ has end;
+      }
   ours_raised {r = Err e} h = tt

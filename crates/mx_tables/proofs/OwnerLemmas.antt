@@ -26,7 +26,7 @@ use Rattle.std.proofs.lemmas.Int.{ints}
 use Rattle.std.proofs.lemmas.Bool.Decides.{nat_tests}
 use Rattle.std.proofs.lemmas.List.{take_more}
 use Rattle.mx_book.specs.declared.contract.StoreFault.{StoreFault}
-use Rattle.mx_tables.proofs.StateLemmas.{on_ok_anyway, sure_before}
+use Rattle.mx_tables.proofs.StateLemmas.{on_ok_anyway, sure_before, sound, sure_first}
 use Rattle.mx_tables.specs.Schema.{purse_cells}
 use Rattle.mx_tables.specs.Holds.{HaveCells}
 use Rattle.sqlite_trees.specs.declared.store.Store.{Ghosts}
@@ -39,7 +39,7 @@ use Rattle.mx_tables.specs.Known.{AreNumbered, IsKnown, known_of, newly_known}
 use Rattle.mx_book.specs.Under.{pair_cmp}
 use Rattle.std.specs.Ordering.{nat_cmp}
 use Rattle.sqlite_trees.specs.Tree.{Trees}
-use Rattle.mx_tables.specs.States.{worry, IsAwake, IsOurs, Stays, Knows, Looks, Reads}
+use Rattle.mx_tables.specs.States.{unsure, worry, IsAwake, IsOurs, Stays, Knows, Looks, ReadsAt}
 use Rattle.mx_tables.specs.Owners.{OwnerIndex, IndexSlots, index_of, NumbersDiffer, HasOwner, is_owned_in, Owned, Lists, Rises}
 use Rattle.mx_tables.proofs.LoadLemmas.{any_named}
 use Rattle.mx_tables.proofs.Texts.{select_numbers, select_numbers_is, select_owners, select_owners_is}
@@ -245,18 +245,18 @@ held_of db r held h it n (Some p) =
 -- ---- a read that goes by it
 
 -- the purses that are known are those of the rows that were there
-pub looks_under : {S T : Type 0} (g : Ghosts S) (old new : Held S) (before : Option Known) (known : Known) (h : Name) {r : Result T StoreFault} {is : Rows → T → Type 0} → (IsOurs (state g old) → Stays (state g old) (state g new))
-    → (IsOurs (state g old) → Knows (state g old) before → Knows (state g new) (Some known)) → ((rows : Rows) → names_under (index_of known.held) h ≡ row_purses_of rows h → IfOk r (is rows))
-    → Looks g old new before (Some known) (IsAwake (state g new) → Reads g old new r is)
+pub looks_under : {S T : Type 0} (g : Ghosts S) (old new : Held S) (before : Option Known) (known : Known) (h : Name) {r : Result T StoreFault} {is : Rows → T → Type 0} → ((begun : Bool) → IsOurs begun (state g old) → Stays begun (state g old) (state g new))
+    → ((begun : Bool) → IsOurs begun (state g old) → Knows begun (state g old) before → Knows begun (state g new) (Some known)) → ((rows : Rows) → names_under (index_of known.held) h ≡ row_purses_of rows h → IfOk r (is rows))
+    → Looks g old new before (Some known) (λ b. IsAwake (state g new) → ReadsAt b g old new r is)
 looks_under g old new before known h {r = r} stays tells f = record {
   reads = λ ours was live. record {
-    stays = stays;
+    stays = stays _;
     value = λ ours calm rows holds.
-        let there : Holds (state g new).now rows = subst (λ (d : Database). Holds d rows) (sym ((stays ours).same calm)) holds in
-        f rows (held_names rows.purses (index_of known.held) (held_of (state g new).now rows (index_of known.held) there (tells ours was calm).owned) h);
+        let there : Holds (state g new).now rows = subst (λ (d : Database). Holds d rows) (sym ((stays _ ours).same calm)) holds in
+        f rows (held_names rows.purses (index_of known.held) (held_of (state g new).now rows (index_of known.held) there (tells _ ours was calm).owned) h);
     live = on_ok_anyway r live;
   };
-  known = tells;
+  known = λ ours was. tells _ ours was;
 }
 
 -- nothing more is known than the purses of each holder
@@ -270,8 +270,8 @@ only_owned db held it numbered = record {
 }
 
 -- what a pass shows tells of the rows that are there
-pub told_shown : (old new : State) (items : List Row) (held : IndexSlots) (known : Known) → IsOurs old → Stays old new → (worry new ≡ 0 → Shown select_owners [] old new items) → Lists items (index_of held) → known_of known ≡ newly_known (index_of held) → (worry old ≡ 0 → AreNumbered (old.now.trees 10))
-    → Knows new (Some known)
-told_shown old new items held known ours stays shown lists is numbered = λ calm.
-    let owned = owned_shown old new items (index_of held) (shown calm) (ours.schema (sure_before old new stays.later calm)) lists in
-    subst (IsKnown new.now.trees) (sym is) (subst (λ (d : Database). IsKnown d.trees (newly_known (index_of held))) (sym (stays.same calm)) (only_owned old.now.trees (index_of held) owned (numbered (sure_before old new stays.later calm))))
+pub told_shown : {begun : Bool} (old new : State) (items : List Row) (held : IndexSlots) (known : Known) → IsOurs begun old → Stays begun old new → (worry new ≡ 0 → Shown select_owners [] old new items) → Lists items (index_of held) → known_of known ≡ newly_known (index_of held) → (unsure begun old ≡ 0 → AreNumbered (old.now.trees 10))
+    → Knows begun new (Some known)
+told_shown {begun} old new items held known ours stays shown lists is numbered = λ calm.
+    let owned = owned_shown old new items (index_of held) (shown (sound begun new calm)) (ours.schema (sure_before old new stays.lasts (sound begun new calm))) lists in
+    subst (IsKnown new.now.trees) (sym is) (subst (λ (d : Database). IsKnown d.trees (newly_known (index_of held))) (sym (stays.same calm)) (only_owned old.now.trees (index_of held) owned (numbered (sure_first stays.later calm))))

@@ -39,12 +39,12 @@ use Rattle.mx_tables.specs.Answers.{ArePurses, about_text, purse_shown, purse_co
 use Rattle.mx_tables.specs.declared.asking.About.TheVariants.{Purse}
 use Rattle.mx_tables.specs.declared.known.Known.{Known}
 use Rattle.mx_tables.specs.Known.{Stands, AtMost, AreKnown, IsPlace, Lies, Recalls, Saw, is_message_at, is_under, purse_columns_of}
-use Rattle.mx_tables.specs.States.{IsOurs, Looks, Reads, Stays, Tells}
+use Rattle.mx_tables.specs.States.{IsOurs, Looks, Reads, ReadsAt, Stays, Tells, TellsAt}
 use Rattle.mx_tables.proofs.Texts.{is_given, select_held_numbers, select_held_numbers_is, select_message, select_message_is}
 use Rattle.mx_tables.proofs.InboxLemmas.{at_message}
 use Rattle.mx_book.specs.Under.{pair_cmp}
 use Rattle.mx_tables.proofs.Statements.{env, passes, picked, shown_rows}
-use Rattle.mx_tables.proofs.StateLemmas.{on_ok_anyway, stays_then, sure_before}
+use Rattle.mx_tables.proofs.StateLemmas.{on_ok_anyway, stays_then, sure_first}
 use Rattle.mx_tables.proofs.StoredLemmas.{and_true, same_text, permuted}
 use Rattle.mx_tables.proofs.MapLists.{AreDistinct}
 use Rattle.mx_tables.proofs.Places.{distinct, in_map, stored}
@@ -216,27 +216,27 @@ at_most_found p old new rows shown has =
 module _ {S : Type 0} (g : Ghosts S) where
   -- what is known answers, by a connection that was found open
   pub looks_known : {T : Type 0} {old new : Held S} (k : Option Known) {r : Result T StoreFault} {is : Rows → T → Type 0} → Reads g old new (Ok (tt {0})) (λ _ _. Unit {0})
-      → ((rows : Rows) → Holds (state g old).now rows → AreKnown (state g old).now.trees k → IfOk r (is rows)) → Looks g old new k k (Reads g old new r is)
+      → ((rows : Rows) → Holds (state g old).now rows → AreKnown (state g old).now.trees k → IfOk r (is rows)) → Looks g old new k k (λ b. ReadsAt b g old new r is)
   looks_known {old = old} {new = new} k {r = r} h f = record {
     reads = λ ours was. record {
-      stays = h.stays;
-      value = λ ours calm rows holds. f rows holds (was (sure_before (state g old) (state g new) (h.stays ours).later calm));
+      stays = λ ours. h.stays ours;
+      value = λ ours calm rows holds. f rows holds (was (sure_first (h.stays ours).later calm));
       live = on_ok_anyway r h.live;
     };
     known = λ ours. (h.stays ours).known k;
   }
 
   -- a read that asks leaves what is known
-  pub looks_read : {T : Type 0} {old new : Held S} (k : Option Known) {r : Result T StoreFault} {says : World → T → Type 0} → Tells g old new r says → Looks g old new k k (Tells g old new r says)
-  looks_read k h = record { reads = λ ours was. h; known = λ ours. (h.stays ours).known k }
+  pub looks_read : {T : Type 0} {old new : Held S} (k : Option Known) {r : Result T StoreFault} {says : World → T → Type 0} → Tells g old new r says → Looks g old new k k (λ b. TellsAt b g old new r says)
+  looks_read k h = record { reads = λ ours was. record { stays = λ ours. h.stays ours; value = λ ours. h.value ours; live = h.live }; known = λ ours. (h.stays ours).known k }
 
   -- what a read gives is so of the World after a read of the same rows
-  pub tells_after : {T : Type 0} {a b c : Held S} {r : Result T StoreFault} {says : World → T → Type 0} → (IsOurs (state g a) → Stays (state g a) (state g b)) → Tells g b c r says → Tells g a c r says
+  pub tells_after : {T : Type 0} {begun : Bool} {a b c : Held S} {r : Result T StoreFault} {says : World → T → Type 0} → (IsOurs begun (state g a) → Stays begun (state g a) (state g b)) → TellsAt begun g b c r says → TellsAt begun g a c r says
   tells_after {a = a} {b = b} {c = c} one two = record {
     stays = λ ours. stays_then (state g a) (state g b) (state g c) (one ours) (two.stays (one ours).ours);
     value = λ ours w calm spelled.
         let kept = one ours in
-        let before = sure_before (state g b) (state g c) (two.stays kept.ours).later calm in
+        let before = sure_first (two.stays kept.ours).later calm in
         two.value kept.ours w calm (subst (λ (d : Database). SpellsOne d w) (sym (kept.same before)) spelled);
     live = two.live;
   }

@@ -1,6 +1,7 @@
 -- What a statement leaves of the connection.
 use Rattle.mx_tables.proofs.Common.{◌≡◌, inl, inr, ℕ, ◌≤◌, Bool, true, false, List, Ok, Option, Some, None, refl, ◌∙◌, arith, Row, Database, state, Holds, office_schema, Rows}
-use Rattle.std.proofs.Common.{◌⊎◌, Err, Result, is_ok, OnOk, OnErr, IsTrue, sym, ap, ap₂, subst}
+use Rattle.std.proofs.Common.{take, length, length-take, length-take-le, ◌⊎◌, Err, Result, OnOk, OnErr, IsTrue, sym, ap, subst}
+use Rattle.std.proofs.lemmas.Bool.{cases_Bool}
 use Rattle.std.proofs.lemmas.Result.{IfOk-from_err}
 use Rattle.std.specs.Result.{IsErr}
 use Rattle.sqlite_trees.specs.View.{doubt}
@@ -21,10 +22,9 @@ use Rattle.sqlite.specs.Held.{Held}
 use Rattle.sqlite.proofs.Callers.{begun_plain}
 use Rattle.sqlite.specs.Listing.{understood, listing_schema, if_select}
 use Rattle.sqlite.specs.State.{State, HasCleanDisk, IsUnchanged, IsRolledBack, Shows, Fails, FailsToQuery, FailsToShow, IsNotRun, Shown, ShowsRows, KeepsCommit, ExecutesInside, IsTooLate, Survives, CommitsShowing}
-use Rattle.mx_book.specs.declared.contract.StoreFault.{StoreFault}
 use Rattle.mx_tables.specs.declared.known.Known.{Known}
-use Rattle.mx_tables.specs.Known.{Knowledge, IsKnown, AreKnown, IsKeptUp, known_of}
-use Rattle.mx_tables.specs.States.{worry, IsAwake, IsAt, IsOurs, IsText, IsSilent, ShowsNothing, StaysIdle, Stays, StaysAt, Within, Stops, Brings, Applies, Commits, Knows}
+use Rattle.mx_tables.specs.Known.{Knowledge, IsKnown, AreKnown}
+use Rattle.mx_tables.specs.States.{unsure, worry, IsAwake, IsAt, IsOurs, IsText, IsSilent, ShowsNothing, StaysIdle, Stays, StaysAt, KeepsMarks, Within, Brings, Knows}
 
 -- a statement that fails changes nothing, or its transaction is rolled back
 abbrev pub Quits : State → State → Type 0
@@ -62,7 +62,7 @@ on_ok_anyway (Err e) p = tt
 pub on_ok_never : {T E : Type 0} (r : Result T E) (P : Type 0) → IsErr r → OnOk r P
 on_ok_never r P fault = IfOk-from_err r (λ _. P) fault
 
-worry_rises : (a b : ℕ) → a ≤ 2 → (b ≡ 0 → a ≡ 0) → (b ≤ 1 → a ≤ 1) → a ≤ b
+pub worry_rises : (a b : ℕ) → a ≤ 2 → (b ≡ 0 → a ≡ 0) → (b ≤ 1 → a ≤ 1) → a ≤ b
 worry_rises a b low h k = grind (arith, h, k)
 
 pub worry_later : (old new : State) → doubt old.is_clean ≤ doubt new.is_clean → (HasCleanDisk new → IsTrue new.is_open → IsTrue old.is_open) → worry old ≤ worry new
@@ -102,59 +102,130 @@ pub quits : (old new : State) → Quits old new → KeepsCommit old new
 quits old new (inl same) = record { was_open = λ _. same.0.was_open; committed = λ _. same.0.committed_is }
 quits old new (inr undone) = record { was_open = undone.was_open; committed = λ o. (undone.undone o).1 }
 
-quits_now : (old new : State) → Quits old new → IsTrue new.is_open → old.committed ≡ old.now → (new.now ≡ old.now) × (new.committed ≡ old.now)
+committed_kept : (old new : State) → Quits old new → IsTrue new.is_open → new.committed ≡ old.committed
+committed_kept old new (inl same) live = same.0.committed_is
+committed_kept old new (inr undone) live = (undone.undone live).1
+
+pub quits_now : (old new : State) → Quits old new → IsTrue new.is_open → old.committed ≡ old.now → (new.now ≡ old.now) × (new.committed ≡ old.now)
 quits_now old new (inl same) live steady = (same.0.now_is, same.0.committed_is ∙ steady)
 quits_now old new (inr undone) live steady = let it = undone.undone live in (it.0 ∙ steady, it.1 ∙ steady)
 
--- what is known is so of a database that is the same
-pub known_kept : (old new : State) → worry old ≤ worry new → (worry new ≡ 0 → new.now ≡ old.now) → (held : Option Known) → Knows old held → Knows new held
-known_kept old new later same known tells = λ h. subst (λ (d : Database). AreKnown d.trees known) (sym (same h)) (tells (sure_before old new later h))
+-- ---- doubt of a round
 
-pub stays : {of : Schema} (old new : State) → IsAt of old → (old.in_transaction ≡ false → new.in_transaction ≡ false) → doubt old.is_clean ≤ doubt new.is_clean
+-- what is sure is open and clean, and in its transaction where a round has begun
+pub sure_in : (begun : Bool) (s : State) → unsure begun s ≡ 0 → IsTrue s.is_open × HasCleanDisk s × ((begun ≡ false) ⊎ IsTrue s.in_transaction)
+sure_in true s h = (grind (arith, h), no_doubt s.is_clean (grind (arith, h)), inr (grind (arith, h)))
+sure_in false s h = (grind (arith, h), no_doubt s.is_clean (grind (arith, h)), inl refl)
+
+pub no_unsure : (begun : Bool) (s : State) → IsTrue s.is_open → HasCleanDisk s → (begun ≡ false) ⊎ IsTrue s.in_transaction → unsure begun s ≡ 0
+no_unsure true s live clean (inl h) = absurd (cc)
+no_unsure true s live clean (inr h) = rw (live, clean_of s.is_clean clean, h) refl
+no_unsure false s live clean h = rw (live, clean_of s.is_clean clean) refl
+
+unsure_low : (begun : Bool) (s : State) → unsure begun s ≤ 2
+unsure_low begun s = grind arith
+
+unsure_clean : (begun : Bool) (s : State) → unsure begun s ≤ 1 → HasCleanDisk s
+unsure_clean begun s h = no_doubt s.is_clean (grind (arith, h))
+
+clean_unsure : (begun : Bool) (s : State) → HasCleanDisk s → unsure begun s ≤ 1
+clean_unsure begun s clean = let it : IsTrue s.is_clean = clean_of s.is_clean clean in grind (arith, it)
+
+-- doubt doesn't fall where what is sure then was sure before
+pub unsure_later : (one two : Bool) (old new : State) → doubt old.is_clean ≤ doubt new.is_clean → (unsure two new ≡ 0 → unsure one old ≡ 0) → unsure one old ≤ unsure two new
+unsure_later one two old new clean was = worry_rises (unsure one old) (unsure two new) (unsure_low one old) was
+    (λ low. let now = unsure_clean two new low in clean_unsure one old (omega (arith, clean, now)))
+
+-- what is sure isn't worried about
+pub sound : (begun : Bool) (s : State) → unsure begun s ≡ 0 → worry s ≡ 0
+sound begun s h = let it = sure_in begun s h in no_worry s it.0 it.1
+
+pub idle_sure : (s : State) → worry s ≡ 0 → unsure false s ≡ 0
+idle_sure s h = let it = sure s h in no_unsure false s it.0 it.1 (inl refl)
+
+-- before what is sure all was sure
+pub sure_first : {a b : ℕ} → a ≤ b → b ≡ 0 → a ≡ 0
+sure_first later h = omega (arith, later, h)
+
+-- what is known is so of a database that is the same
+pub known_kept : (begun : Bool) (old new : State) → unsure begun old ≤ unsure begun new → (unsure begun new ≡ 0 → new.now ≡ old.now) → (held : Option Known) → Knows begun old held → Knows begun new held
+known_kept begun old new later same known tells = λ h. subst (λ (d : Database). AreKnown d.trees known) (sym (same h)) (tells (sure_first later h))
+
+pub stays : {begun : Bool} {of : Schema} (old new : State) → IsAt begun of old → (old.in_transaction ≡ false → new.in_transaction ≡ false) → doubt old.is_clean ≤ doubt new.is_clean
     → (HasCleanDisk new → IsTrue new.is_open → IsTrue old.is_open) → (worry new ≡ 0 → old.now.schema ≡ of → Quits old new)
-    → (HasCleanDisk new → (db : Trees) → new.may_leave db → old.may_leave db) → StaysAt of old new
-stays old new ours mode clean opened quits crash =
-    let later = worry_later old new clean opened in
-    let both = λ (h : worry new ≡ 0).
-    let before = sure_before old new later h in
-    quits_now old new (quits h (ours.schema before)) (sure new h).0 (ours.steady before) in
+    → (HasCleanDisk new → (db : Trees) → new.may_leave db → old.may_leave db) → StaysAt begun of old new
+stays {begun} old new ours mode clean opened quits crash =
+    let lasts = worry_later old new clean opened in
+    let left = λ (h : worry new ≡ 0). quits h (ours.schema (sure_before old new lasts h)) in
+    let was : unsure begun new ≡ 0 → unsure begun old ≡ 0 = λ h.
+    let it = sure_in begun new h in
+    no_unsure begun old (opened it.1 it.0) (omega (arith, clean, it.1)) (elim it.2 [
+      | inl none ↦ inl none
+      | inr inside ↦ inr (elim (cases_Bool old.in_transaction) [ inl u ↦ u | inr v ↦ absurd (let x = mode v in cc) ])
+    ]) in
+    let later = unsure_later begun begun old new clean was in
+    let same : unsure begun new ≡ 0 → new.now ≡ old.now = λ h.
+    let it = sure_in begun new h in
+    let cold : HasCleanDisk old = omega (arith, clean, it.1) in
+    elim (left (sound begun new h)) [
+      | inl kept ↦ kept.0.now_is
+      | inr back ↦ (back.undone it.0).0 ∙ ours.steady (sure_before old new lasts (sound begun new h)) (elim it.2 [
+        | inl none ↦ ours.idle cold none
+        | inr inside ↦ absurd (let x = back.autocommit in cc)
+      ])
+    ] in
+    let base : worry new ≡ 0 → new.committed ≡ old.committed = λ h. (committed_kept old new (left h)) (sure new h).0 in
     record {
       ours = record {
-        autocommit = mode ours.autocommit;
-        steady = λ h. (both h).1 ∙ sym (both h).0;
-        schema = λ h. ap (λ (d : Database). d.schema) (both h).0 ∙ ours.schema (sure_before old new later h);
+        idle = λ c none. mode (ours.idle (omega (arith, clean, c)) none);
+        steady = λ h outside. elim (left h) [
+          | inl it ↦ it.0.committed_is ∙ ours.steady (sure_before old new lasts h) (sym it.0.mode ∙ outside) ∙ sym it.0.now_is
+          | inr back ↦ let it = back.undone (sure new h).0 in it.1 ∙ sym it.0
+        ];
+        schema = λ h. elim (left h) [
+          | inl it ↦ ap (λ (d : Database). d.schema) it.0.now_is ∙ ours.schema (sure_before old new lasts h)
+          | inr back ↦ ap (λ (d : Database). d.schema) (back.undone (sure new h).0).0 ∙ ours.base (sure_before old new lasts h)
+        ];
+        base = λ h. ap (λ (d : Database). d.schema) (base h) ∙ ours.base (sure_before old new lasts h);
       };
+      lasts = lasts;
       later = later;
-      same = λ h. (both h).0;
-      stops = λ h db left. record { ours = ours; schema = left.schema; trees = crash (not_lied new h) db.trees left.trees };
-      known = known_kept old new later (λ h. (both h).0);
+      mode = mode;
+      same = same;
+      base = base;
+      stops = λ h db gone. crash (not_lied new h) db gone;
+      known = known_kept begun old new later same;
     }
 
 -- what is idle and steady is so in its schema
-pub is_at : (of : Schema) (s : State) → s.in_transaction ≡ false → (IsTrue s.is_open → s.now ≡ s.committed) → s.now.schema ≡ of → IsAt of s
-is_at of s idle steady has = record { autocommit = idle; steady = λ h. sym (steady (sure s h).0); schema = λ _. has }
-
--- so is what is read of it, whatever its schema is
-pub stays_found : {of : Schema} (old new : State) → ((s : Schema) → IsAt s old → StaysAt s old new) → old.in_transaction ≡ false → (IsTrue old.is_open → old.now ≡ old.committed) → old.now.schema ≡ of → StaysAt of old new
-stays_found {of} old new stays idle steady has = stays of (is_at of old idle steady has)
-
-pub rests_at : {of : Schema} {old new : State} → StaysAt of old new → StaysIdle old new
-rests_at {of} h = record {
-  autocommit = h.ours.autocommit;
-  later = h.later;
-  same = h.same;
-  stops = λ calm db left. (h.stops calm (record { schema = of; trees = db }) (record { ours = h.ours; schema = refl; trees = left })).trees;
+pub is_at : (of : Schema) (s : State) → s.in_transaction ≡ false → (IsTrue s.is_open → s.now ≡ s.committed) → s.now.schema ≡ of → IsAt false of s
+is_at of s idle steady has = record {
+  idle = λ c none. idle;
+  steady = λ h outside. sym (steady (sure s h).0);
+  schema = λ _. has;
+  base = λ h. ap (λ (d : Database). d.schema) (sym (steady (sure s h).0)) ∙ has;
 }
 
-pub stays_same : {of : Schema} (a : State) → IsAt of a → StaysAt of a a
-stays_same a ours = record { ours = ours; later = omega arith; same = λ h. refl; stops = λ h db left. left; known = λ held tells. tells }
+-- so is what is read of it, whatever its schema is
+pub stays_found : {of : Schema} (old new : State) → ((s : Schema) → IsAt false s old → StaysAt false s old new) → old.in_transaction ≡ false → (IsTrue old.is_open → old.now ≡ old.committed) → old.now.schema ≡ of
+    → StaysAt false of old new
+stays_found {of} old new stays idle steady has = stays of (is_at of old idle steady has)
 
-pub stays_then : {of : Schema} (a b c : State) → StaysAt of a b → StaysAt of b c → StaysAt of a c
+pub rests_at : {of : Schema} (old new : State) → old.in_transaction ≡ false → StaysAt false of old new → StaysIdle old new
+rests_at old new idle h = record { autocommit = h.mode idle; later = h.lasts; same = λ sure. h.same (idle_sure new sure); stops = h.stops }
+
+pub stays_same : {begun : Bool} {of : Schema} (a : State) → IsAt begun of a → StaysAt begun of a a
+stays_same a ours = record { ours = ours; lasts = omega arith; later = omega arith; mode = λ outside. outside; same = λ h. refl; base = λ h. refl; stops = λ h db left. left; known = λ held tells. tells }
+
+pub stays_then : {begun : Bool} {of : Schema} (a b c : State) → StaysAt begun of a b → StaysAt begun of b c → StaysAt begun of a c
 stays_then a b c one two = record {
   ours = two.ours;
+  lasts = omega (arith, one.lasts, two.lasts);
   later = omega (arith, one.later, two.later);
-  same = λ h. two.same h ∙ one.same (sure_before b c two.later h);
-  stops = λ h db left. one.stops (let e = two.later in omega arith) db (two.stops h db left);
+  mode = λ outside. two.mode (one.mode outside);
+  same = λ h. two.same h ∙ one.same (sure_first two.later h);
+  base = λ h. two.base h ∙ one.base (sure_before b c two.lasts h);
+  stops = λ h db left. one.stops (let e = two.lasts in omega arith) db (two.stops h db left);
   known = λ held tells. two.known held (one.known held tells);
 }
 
@@ -208,16 +279,16 @@ begun_live g sql params old new (inl h) = h.1.0.is_open
 begun_live g sql params old new (inr h) = (showed sql params (state g old) (state g new) _ h.1).2.is_open
 
 -- and the rows
-pub begun_stays : {S : Type 0} (g : Ghosts S) (sql : List ℕ) (params : Row) (old new : Held S) → IsText sql → IsSilent sql → IsOurs (state g old) → (old.in_transaction ≡ false → new.in_transaction ≡ false)
-    → Survives (state g old) (state g new) (CommitsShowing sql params (state g old)) → (HasCleanDisk (state g new) → HasBegun g sql params old new) → Stays (state g old) (state g new)
+pub begun_stays : {S : Type 0} {begun : Bool} (g : Ghosts S) (sql : List ℕ) (params : Row) (old new : Held S) → IsText sql → IsSilent sql → IsOurs begun (state g old) → (old.in_transaction ≡ false → new.in_transaction ≡ false)
+    → Survives (state g old) (state g new) (CommitsShowing sql params (state g old)) → (HasCleanDisk (state g new) → HasBegun g sql params old new) → Stays begun (state g old) (state g new)
 begun_stays g sql params old new text silent ours mode survives begun =
     stays (state g old) (state g new) ours mode survives.clean (λ now live. begun_open g sql params old new (begun now))
     (λ h has. inl (begun_plain g sql params old new (subst (λ s. IsPlain (understood s sql)) (sym has) text) (begun (sure (state g new) h).1)).1)
     (leaves_as sql params (state g old) (state g new) silent survives)
 
 -- and so does one that doesn't
-pub refused_stays : {S X : Type 0} (g : Ghosts S) (sql : List ℕ) (params : Row) (old new : Held S) (r : Result X Error) (e : Error) → r ≡ Err e → IsSilent sql → IsOurs (state g old)
-    → OnErr r (IsRefused g sql params old r new) → Stays (state g old) (state g new)
+pub refused_stays : {S X : Type 0} {begun : Bool} (g : Ghosts S) (sql : List ℕ) (params : Row) (old new : Held S) (r : Result X Error) (e : Error) → r ≡ Err e → IsSilent sql → IsOurs begun (state g old)
+    → OnErr r (IsRefused g sql params old r new) → Stays begun (state g old) (state g new)
 refused_stays g sql params old new (Ok x) e is silent ours h = absurd (cc)
 refused_stays g sql params old new (Err f) e is silent ours h =
     let left : HasCleanDisk (state g new) → Quits (state g old) (state g new) = λ clean. query_quits sql params (state g old) (state g new) f (h.err clean) in
@@ -225,7 +296,7 @@ refused_stays g sql params old new (Err f) e is silent ours h =
     (leaves_as sql params (state g old) (state g new) silent h.survives)
 
 -- a step to the next row, or one that fails, leaves the rows
-pub step_stays : (old new : State) → IsOurs old → (old.in_transaction ≡ false → new.in_transaction ≡ false) → Survives old new (λ _. ⊥) → (HasCleanDisk new → Quits old new) → Stays old new
+pub step_stays : {begun : Bool} (old new : State) → IsOurs begun old → (old.in_transaction ≡ false → new.in_transaction ≡ false) → Survives old new (λ _. ⊥) → (HasCleanDisk new → Quits old new) → Stays begun old new
 step_stays old new ours mode survives left = stays old new ours mode survives.clean (λ clean. (quits old new (left clean)).was_open) (λ h has. left (sure new h).1) (leaves_less old new survives)
 
 pub failed_quits : (old new : State) (e : Error) → Fails old new ⊥ e ⊎ IsUnchanged old new → Quits old new
@@ -234,11 +305,16 @@ failed_quits old new e (inr same) = inl same
 
 -- ---- writes in a transaction
 
--- inside a transaction no statement changes what is committed, whatever its text and the schema are
-pub inside_keeps : (sql : List ℕ) (params : Row) (old new : State) (r : Result ℕ Error) → ExecutesInside 0 sql params old new r → KeepsCommit old new × OnOk r (IsTrue new.in_transaction)
-inside_keeps sql params old new (Ok count) h = (record { was_open = λ _. h.1.was_open; committed = λ _. h.1.committed_is }, h.1.mode)
-inside_keeps sql params old new (Err e) (inl h) = (quits old new h.1, tt)
-inside_keeps sql params old new (Err e) (inr h) = (quits old new (inl h.2), tt)
+-- what was rolled back is undone, and what quits keeps its savepoints or has none
+pub quits_marks : (held : ℕ) (old new : State) → Quits old new → KeepsMarks held old new
+quits_marks held old new (inl same) = inl (λ low. ap (take held) same.2)
+quits_marks held old new (inr back) = inr (record { was_open = back.was_open; undone = back.undone; autocommit = back.autocommit; unmarked = back.unmarked })
+
+-- inside a savepoint no statement changes what is committed, nor the oldest savepoints, whatever its text and the schema are
+pub inside_keeps : (held : ℕ) (sql : List ℕ) (params : Row) (old new : State) (r : Result ℕ Error) → ExecutesInside held sql params old new r → KeepsCommit old new × OnOk r (IsTrue new.in_transaction) × KeepsMarks held old new
+inside_keeps held sql params old new (Ok count) h = (record { was_open = λ _. h.1.was_open; committed = λ _. h.1.committed_is }, h.1.mode, inl h.2)
+inside_keeps held sql params old new (Err e) (inl h) = (quits old new h.1, tt, quits_marks held old new h.1)
+inside_keeps held sql params old new (Err e) (inr h) = (quits old new (inl h.2), tt, quits_marks held old new (inl h.2))
 
 -- ---- reads in a transaction
 
@@ -247,9 +323,9 @@ shown_keeps sql params old new rows inside h =
     let it = showed sql params old new rows h in
     (record { was_open = λ _. it.2.was_open; committed = λ _. it.2.committed_is ∙ it.3 inside }, it.2.mode ∙ inside)
 
-pub refused_keeps : (sql : List ℕ) (params : Row) (old new : State) (e : Error) → FailsToQuery sql params old new e ⊎ IsTooLate sql params old new e → KeepsCommit old new
-refused_keeps sql params old new e (inl failed) = quits old new (query_quits sql params old new e failed)
-refused_keeps sql params old new e (inr late) = quits old new (inl late.5)
+pub refused_quits : (sql : List ℕ) (params : Row) (old new : State) (e : Error) → FailsToQuery sql params old new e ⊎ IsTooLate sql params old new e → Quits old new
+refused_quits sql params old new e (inl failed) = query_quits sql params old new e failed
+refused_quits sql params old new e (inr late) = inl late.5
 
 -- ---- a transaction as a whole
 
@@ -257,85 +333,59 @@ refused_keeps sql params old new e (inr late) = quits old new (inl late.5)
 abbrev pub Changed : {S : Type 0} → Ghosts S → Held S → Held S → (Rows → Rows) → (Knowledge → Knowledge) → Type 0
 Changed g old new change learns = (state g old).now.schema ≡ office_schema → Brings change learns (state g old) (state g new)
 
-module _ {S X : Type 0} (g : Ghosts S) (old new : Held S) (change : Rows → Rows) (learns : Knowledge → Knowledge) (ours : IsOurs (state g old)) where
-  was_sure : (r : Result X StoreFault) → Commits g old new r (Changed g old new change learns) → worry (state g new) ≡ 0 → worry (state g old) ≡ 0
-  was_sure r it h = sure_before (state g old) (state g new) (worry_later (state g old) (state g new) it.clean it.opens) h
-
-  pub left_as_was : (r : Result X StoreFault) → Commits g old new r (Changed g old new change learns) → worry (state g new) ≡ 0 → OnErr r ((state g new).now ≡ (state g old).now)
-  left_as_was (Ok x) it h = tt
-  left_as_was (Err e) it h = (it.none (sure (state g new) h).1 (sure (state g new) h).0).0 ∙ ours.steady (was_sure (Err e) it h)
-
-  pub ours_after : (r : Result X StoreFault) → Commits g old new r (Changed g old new change learns) → IsOurs (state g new)
-  ours_after (Ok x) it = record {
-    autocommit = it.ended;
-    steady = λ h. (it.all (sure (state g new) h).1).1;
-    schema = λ h. ((it.all (sure (state g new) h).1).0 (ours.schema (was_sure (Ok x) it h))).schema;
-  }
-  ours_after (Err e) it = record {
-    autocommit = it.ended;
-    steady = λ h. let left = it.none (sure (state g new) h).1 (sure (state g new) h).0 in left.1 ∙ sym left.0;
-    schema = λ h. ap (λ (d : Database). d.schema) (left_as_was (Err e) it h) ∙ ours.schema (was_sure (Err e) it h);
-  }
-
-  -- what is known is kept up
-  pub told_after : (r : Result X StoreFault) → Commits g old new r (Changed g old new change learns) → (made : Bool) → made ≡ is_ok r → (before after : Option Known) → IsKeptUp made learns before after
-      → Knows (state g old) before → Knows (state g new) after
-  told_after r it made is before None kept tells = λ h. tt
-  told_after (Err e) it true is before (Some known) kept tells = absurd (cc)
-  told_after (Ok x) it false is before (Some known) kept tells = absurd (cc)
-  told_after (Err e) it false is before (Some known) kept tells = λ h.
-      subst (λ (d : Database). IsKnown d.trees (known_of known)) (sym (left_as_was (Err e) it h)) (subst (λ o. Knows (state g old) o) kept tells (was_sure (Err e) it h))
-  told_after (Ok x) it true is before (Some known) kept tells = λ h.
-      let was = was_sure (Ok x) it h in
-      let went = (it.all (sure (state g new) h).1).0 (ours.schema was) in
-      subst (IsKnown (state g new).now.trees) (sym kept.2) (went.known _ (subst (λ o. Knows (state g old) o) kept.1 tells was))
-
 keeps_then : (a b c : State) → KeepsCommit a b → KeepsCommit b c → KeepsCommit a c
 keeps_then a b c one two = record { was_open = λ o. one.was_open (two.was_open o); committed = λ o. two.committed o ∙ one.committed (two.was_open o) }
 
 -- ---- steps inside a transaction
 
 -- a statement that ran or failed
-pub within_by : {T F : Type 0} (old new : State) (q : Result T F) → Survives old new (λ _. ⊥)
-    → (HasCleanDisk new → IsTrue old.in_transaction → KeepsCommit old new × OnOk q (IsTrue new.in_transaction)) → Within old new q
-within_by old new q survives ran = record {
+pub within_by : {T F : Type 0} (held : ℕ) (old new : State) (q : Result T F) → Survives old new (λ _. ⊥)
+    → (HasCleanDisk new → IsTrue old.in_transaction → KeepsCommit old new × OnOk q (IsTrue new.in_transaction) × KeepsMarks held old new) → Within held old new q
+within_by held old new q survives ran = record {
   clean = survives.clean;
   kept = λ clean inside. (ran clean inside).0;
   inside = λ clean inside. (ran clean inside).1;
+  marks = λ clean inside. (ran clean inside).2;
   stops = leaves_less old new survives;
 }
 
+-- what is taken whole is as long
+taken_length : {A : Type 0} (n : ℕ) (xs ys : List A) → n ≤ length xs → take n ys ≡ take n xs → n ≤ length ys
+taken_length n xs ys low same =
+    let one : length (take n ys) ≡ length (take n xs) = ap length same in
+    let size : length (take n xs) ≡ n = length-take-le n xs low in
+    let most = length-take n ys in
+    omega (arith, one, size, most)
+
+-- savepoints stay over both, where the transaction went on after the first
+marks_then : (held : ℕ) (a b c : State) → KeepsCommit a b → KeepsMarks held a b → IsTrue b.in_transaction → KeepsMarks held b c → KeepsMarks held a c
+marks_then held a b c kept one inside two = elim one [
+  | inl same ↦ elim two [
+    | inl again ↦ inl (λ low. let size = taken_length held a.marks b.marks low (same low) in again size ∙ same low)
+    | inr back ↦ inr (record {
+      was_open = λ live. kept.was_open (back.was_open live);
+      undone = λ live. let it = back.undone live in let was = kept.committed (back.was_open live) in (it.0 ∙ was, it.1 ∙ was);
+      autocommit = back.autocommit;
+      unmarked = back.unmarked;
+    })
+  ]
+  | inr back ↦ absurd (let x = back.autocommit in cc)
+]
+
 -- one step and then another
-pub within_then : {T U E F : Type 0} (a b c : State) (x : T) (r : Result U F) → Within {T = T} {E = E} a b (Ok x) → Within b c r → Within a c r
-within_then a b c x r one two =
+pub within_then : {T U E F : Type 0} (held : ℕ) (a b c : State) (x : T) (r : Result U F) → Within {T = T} {E = E} held a b (Ok x) → Within held b c r → Within held a c r
+within_then held a b c x r one two =
     let early = λ (clean : HasCleanDisk c). let it : HasCleanDisk b = (let e = two.clean in omega arith) in it in
     record {
       clean = let e = one.clean in let f = two.clean in omega arith;
       kept = λ clean inside. keeps_then a b c (one.kept (early clean) inside) (two.kept clean (one.inside (early clean) inside));
       inside = λ clean inside. two.inside clean (one.inside (early clean) inside);
+      marks = λ clean inside. marks_then held a b c (one.kept (early clean) inside) (one.marks (early clean) inside) (one.inside (early clean) inside) (two.marks clean (one.inside (early clean) inside));
       stops = λ clean db left. one.stops (early clean) db (two.stops clean db left);
     }
 
-pub within_none : {T F : Type 0} (a : State) (x : T) → Within {T = T} {E = F} a a (Ok x)
-within_none a x = record { clean = omega arith; kept = λ clean inside. record { was_open = λ o. o; committed = λ o. refl }; inside = λ clean inside. inside; stops = λ clean db left. left }
-
--- ---- what a stop leaves of a transaction
-
--- where its commit ran, also if that failed
-pub stops_commit : (change : Rows → Rows) (learns : Knowledge → Knowledge) (old mid new : State) → Survives mid new (λ db. db ≡ mid.now.trees) → (HasCleanDisk mid → (db : Trees) → mid.may_leave db → old.may_leave db)
-    → (HasCleanDisk mid → IsTrue old.is_open) → (HasCleanDisk mid → old.now.schema ≡ office_schema → Brings change learns old mid) → Stops change old new
-stops_commit change learns old mid new survives less live goes clean db has left =
-    let early : HasCleanDisk mid = (let e = survives.clean in omega arith) in
-    elim (survives.crash clean db.trees left) [
-      | inl was ↦ inl (less early db.trees was)
-      | inr made ↦ inr (
-        live early,
-        λ known r holds.
-            let went = goes early known in
-            let same : mid.now ≡ db = ap₂ (λ (s : Schema) (t : Trees). record { schema = s; trees = t }) (went.schema ∙ sym has) (sym made) in
-            subst (λ (d : Database). Holds d (change r)) same (went.rows r holds),
-      )
-    ]
+pub within_none : {T F : Type 0} (held : ℕ) (a : State) (x : T) → Within {T = T} {E = F} held a a (Ok x)
+within_none held a x = record { marks = λ clean inside. inl (λ low. refl); clean = omega arith; kept = λ clean inside. record { was_open = λ o. o; committed = λ o. refl }; inside = λ clean inside. inside; stops = λ clean db left. left }
 
 -- a change of rows that were the same before, and leave the same
 pub brings_same : (change : Rows → Rows) (learns : Knowledge → Knowledge) (a b c d : State) → b.now ≡ a.now → d.now ≡ c.now → Brings change learns b c → Brings change learns a d
@@ -348,24 +398,3 @@ brings_same change learns a b c d before after went = record {
 -- no change
 pub brings_none : (a : State) → a.now.schema ≡ office_schema → Brings (λ r. r) (λ k. k) a a
 brings_none a has = record { schema = has; rows = λ r holds. holds; known = λ k so. so }
-
-abbrev pub begun : {S : Type 0} → Held S → Held S
-begun h = record h { in_transaction = true }
-
--- a transaction whose changes were made and committed
-pub commits_made : {S T : Type 0} (g : Ghosts S) (old mid new : Held S) (change : Rows → Rows) (learns : Knowledge → Knowledge) {x : T} → doubt (state g (begun old)).is_clean ≤ doubt (state g mid).is_clean → doubt (state g mid).is_clean ≤ doubt (state g new).is_clean
-    → (HasCleanDisk (state g mid) → Applies change learns (state g (begun old)) (state g mid)) → (HasCleanDisk (state g new) → Shows (state g mid) (state g new) (state g mid).now (state g mid).now false) → new.in_transaction ≡ false
-    → Commits {E = StoreFault} g old new (Ok x) (Changed g old new change learns)
-commits_made g old mid new change learns one two made shown ended =
-    let early = λ (clean : HasCleanDisk (state g new)). let it : HasCleanDisk (state g mid) = omega (arith, two, clean) in it in
-    record {
-      all = λ clean.
-          let shows = shown clean in (
-            λ has. brings_same change learns _ _ _ _ refl shows.now_is ((made (early clean)).goes has),
-            shows.committed_is ∙ sym shows.now_is,
-          );
-      none = λ clean. tt;
-      ended = ended;
-      opens = λ clean live. (made (early clean)).live;
-      clean = omega (arith, one, two);
-    }

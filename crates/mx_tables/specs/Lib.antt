@@ -3,6 +3,7 @@ pub mod Schema
 pub mod Owners
 pub mod Known
 pub mod States
+pub mod Rounds
 pub mod Steady
 pub mod Answers
 pub mod Pages

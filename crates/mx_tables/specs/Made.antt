@@ -18,7 +18,7 @@ use Rattle.sqlite.specs.Does.{lacks_sequence}
 use Rattle.sqlite.specs.Given.{IsPlain}
 use Rattle.sqlite.specs.Listing.{understood}
 use Rattle.sqlite_trees.specs.declared.store.Store.{Ghosts}
-use Rattle.sqlite.specs.declared.transaction.Transaction.{Transaction}
+use Rattle.sqlite.specs.declared.savepoint.Savepoint.{Savepoint}
 use Rattle.sqlite.specs.Held.{state}
 use Rattle.sqlite.specs.State.{State}
 use Rattle.mx_tables.specs.States.{Steps}
@@ -82,5 +82,5 @@ abbrev pub version_shown : Row → Row
 version_shown r = column r 2 ∷ []
 
 -- a step that makes the tables of this schema where those of that one are
-abbrev pub Builds : {S T E : Type 0} → Ghosts S → Transaction S → Transaction S → Result T E → Schema → Schema → Type 0
+abbrev pub Builds : {S T E : Type 0} → (g : Ghosts S) → Savepoint S g → Savepoint S g → Result T E → Schema → Schema → Type 0
 Builds g old new result before after = Steps g old new result (λ _. Blank before (state g old.conn.now) → Blank after (state g new.conn.now))

@@ -1,5 +1,5 @@
 -- What the tables keep true of their connection, and what a call does to it.
-use Rattle.std.specs.Prelude.{◌≡◌, ℕ, ◌≤◌, ◌⊎◌, Bool, false, if◌then◌else◌, List, length, Result, Ok, Err, None, IfOk, IfErr, OnOk, OnErr, IsTrue, IsSome, Option}
+use Rattle.std.specs.Prelude.{◌≡◌, ℕ, ◌+◌, ◌≤◌, ◌⊎◌, ◌&&◌, ◌||◌, not, take, Bool, false, if◌then◌else◌, List, [], length, Result, Ok, Err, None, IfOk, IfErr, OnOk, OnErr, IsTrue, IsSome, Option}
 use Rattle.sqlite_trees.specs.Tree.{Trees}
 use Rattle.sqlite_trees.specs.View.{doubt}
 use Rattle.sqlite_schema.specs.declared.schema.Schema.{Schema}
@@ -18,7 +18,7 @@ use Rattle.sqlite_resolve.specs.declared.compiled.Compiled.{Compiled}
 use Rattle.mx_book.specs.declared.contract.StoreFault.TheVariants.{Memory, Store}
 use Rattle.sqlite_value.specs.Order.{Row}
 use Rattle.sqlite_trees.specs.declared.store.Store.{Ghosts}
-use Rattle.sqlite.specs.declared.transaction.Transaction.{Transaction}
+use Rattle.sqlite.specs.declared.savepoint.Savepoint.{Savepoint}
 use Rattle.sqlite.specs.Held.{Held, state}
 use Rattle.sqlite.specs.State.{State, HasCleanDisk, HasCause, KeepsCommit, Executes, Shown}
 use Rattle.mx_tables.specs.Schema.{office_schema}
@@ -40,15 +40,22 @@ worry s = worry_at s.is_open s.is_clean
 abbrev pub IsAwake : State → Type 0
 IsAwake s = worry s ≤ 1 → worry s ≡ 0
 
--- between calls no transaction is open, all is committed, and the schema is this one
-pub record IsAt (of : Schema) (s : State) : Type 0 where
-  pub autocommit : s.in_transaction ≡ false
-  pub steady : worry s ≡ 0 → s.committed ≡ s.now
+-- 0 where the rows are those that the changes made: the connection is open, its disk told no lie, and a round that has begun is
+-- in its transaction still, which a fault ends
+abbrev pub unsure : Bool → State → ℕ
+unsure begun s = worry_at (s.is_open && (not begun || s.in_transaction)) s.is_clean
+
+-- between calls, in a round that has begun or in none: outside a round no transaction is open, where none is open all is committed,
+-- and the schema is this one, as the connection has it and as it was committed
+pub record IsAt (begun : Bool) (of : Schema) (s : State) : Type 0 where
+  pub idle : HasCleanDisk s → begun ≡ false → s.in_transaction ≡ false
+  pub steady : worry s ≡ 0 → s.in_transaction ≡ false → s.committed ≡ s.now
   pub schema : worry s ≡ 0 → s.now.schema ≡ of
+  pub base : worry s ≡ 0 → s.committed.schema ≡ of
 
 -- and it is that of the office
-abbrev pub IsOurs : State → Type 0
-IsOurs = IsAt office_schema
+abbrev pub IsOurs : Bool → State → Type 0
+IsOurs begun = IsAt begun office_schema
 
 -- between calls, whatever the schema is: the connection is as it was but for a fault, and so is what a stop leaves
 pub record StaysIdle (old new : State) : Type 0 where
@@ -59,7 +66,7 @@ pub record StaysIdle (old new : State) : Type 0 where
 
 -- what may be found in this schema after a stop at this moment
 pub record LeavesAt (of : Schema) (s : State) (db : Database) : Type 0 where
-  pub ours : IsAt of s
+  pub base : worry s ≡ 0 → s.committed.schema ≡ of
   pub schema : db.schema ≡ of
   pub trees : s.may_leave db.trees
 
@@ -68,26 +75,43 @@ abbrev pub Leaves : State → Database → Type 0
 Leaves = LeavesAt office_schema
 
 -- without worry what is known is so of the rows
-abbrev pub Knows : State → Option Known → Type 0
-Knows s known = worry s ≡ 0 → AreKnown s.now.trees known
+abbrev pub Knows : Bool → State → Option Known → Type 0
+Knows begun s known = unsure begun s ≡ 0 → AreKnown s.now.trees known
 
--- A read: doubt doesn't fall, and without any in the end the database is as it was. While the disk didn't lie, a stop leaves what it could leave before.
-pub record StaysAt (of : Schema) (old new : State) : Type 0 where
-  pub ours : IsAt of new
-  pub later : worry old ≤ worry new
-  pub same : worry new ≡ 0 → new.now ≡ old.now
-  pub stops : worry new ≤ 1 → (db : Database) → LeavesAt of new db → LeavesAt of old db
-  pub known : (k : Option Known) → Knows old k → Knows new k
+-- A read, in a round or in none: doubt doesn't fall, and without any in the end the database is as it was. While the disk didn't lie,
+-- a stop leaves what it could leave before.
+pub record StaysAt (begun : Bool) (of : Schema) (old new : State) : Type 0 where
+  pub ours : IsAt begun of new
+  pub lasts : worry old ≤ worry new
+  pub later : unsure begun old ≤ unsure begun new
+  pub mode : old.in_transaction ≡ false → new.in_transaction ≡ false
+  pub same : unsure begun new ≡ 0 → new.now ≡ old.now
+  pub base : worry new ≡ 0 → new.committed ≡ old.committed
+  pub stops : worry new ≤ 1 → (db : Trees) → new.may_leave db → old.may_leave db
+  pub known : (k : Option Known) → Knows begun old k → Knows begun new k
 
 -- a read of the tables
-abbrev pub Stays : State → State → Type 0
-Stays = StaysAt office_schema
+abbrev pub Stays : Bool → State → State → Type 0
+Stays begun = StaysAt begun office_schema
 
--- A step inside a transaction: no fault is forgotten, nothing is committed, the transaction goes on, and a stop leaves what it could leave before.
-pub record Within {T E : Type 0} (old new : State) (result : Result T E) : Type 0 where
+-- the transaction was rolled back, and no savepoint is left
+pub record IsUndone (old new : State) : Type 0 where
+  pub was_open : IsTrue new.is_open → IsTrue old.is_open
+  pub undone : IsTrue new.is_open → (new.now ≡ old.committed) × (new.committed ≡ old.committed)
+  pub autocommit : new.in_transaction ≡ false
+  pub unmarked : new.marks ≡ []
+
+-- the oldest savepoints, so many, are the same, or the transaction was rolled back
+abbrev pub KeepsMarks : ℕ → State → State → Type 0
+KeepsMarks held old new = (held ≤ length old.marks → take held new.marks ≡ take held old.marks) ⊎ IsUndone old new
+
+-- A step inside a savepoint: no fault is forgotten, nothing is committed, the transaction goes on, and so do the oldest
+-- savepoints; a stop leaves what it could leave before.
+pub record Within {T E : Type 0} (held : ℕ) (old new : State) (result : Result T E) : Type 0 where
   pub clean : doubt old.is_clean ≤ doubt new.is_clean
   pub kept : HasCleanDisk new → IsTrue old.in_transaction → KeepsCommit old new
   pub inside : HasCleanDisk new → IsTrue old.in_transaction → OnOk result (IsTrue new.in_transaction)
+  pub marks : HasCleanDisk new → IsTrue old.in_transaction → KeepsMarks held old new
   pub stops : HasCleanDisk new → (db : Trees) → new.may_leave db → old.may_leave db
 
 -- the result of the steps so far
@@ -120,16 +144,6 @@ SparesKnown old new = (k : Knowledge) → IsKnown old.now.trees k → IsKnown ne
 abbrev pub Goes : (Rows → Rows) → State → State → Type 0
 Goes change = Brings change (λ k. k)
 
--- the connection was open, and this change is made of the rows
-pub record Applies (change : Rows → Rows) (learns : Knowledge → Knowledge) (old new : State) : Type 0 where
-  pub live : IsTrue old.is_open
-  pub goes : old.now.schema ≡ office_schema → Brings change learns old new
-
--- A stop leaves what it could leave before, or, of an open connection, the rows after the change.
-abbrev pub Stops : (Rows → Rows) → State → State → Type 0
-Stops change old new = HasCleanDisk new → (db : Database) → db.schema ≡ office_schema → new.may_leave db.trees
-    → old.may_leave db.trees ⊎ (IsTrue old.is_open × (old.now.schema ≡ office_schema → (r : Rows) → Holds old.now r → Holds db (change r)))
-
 -- the rows are as they were, and this is so of them
 pub record Sees (old new : State) (is : Rows → Type 0) : Type 0 where
   pub same : new.now ≡ old.now
@@ -140,43 +154,55 @@ pub record Sees (old new : State) (is : Rows → Type 0) : Type 0 where
 -- A read: the connection is as it was but for a fault, without doubt what is given is so of the rows, and a connection that a
 -- fault has shut gives nothing.
 pub record Reads {S T : Type 0} (g : Ghosts S) (old new : Held S) (result : Result T StoreFault) (is : Rows → T → Type 0) : Type 0 where
-  pub stays : IsOurs (state g old) → Stays (state g old) (state g new)
-  pub value : IsOurs (state g old) → worry (state g new) ≡ 0 → (r : Rows) → Holds (state g old).now r → IfOk result (is r)
+  pub stays : {begun : Bool} → IsOurs begun (state g old) → Stays begun (state g old) (state g new)
+  pub value : {begun : Bool} → IsOurs begun (state g old) → unsure begun (state g new) ≡ 0 → (r : Rows) → Holds (state g old).now r → IfOk result (is r)
   pub live : OnOk result (IsAwake (state g new))
 
 -- A read of the World: the same, where what is given is so of the World that the rows spell.
 pub record Tells {S T : Type 0} (g : Ghosts S) (old new : Held S) (result : Result T StoreFault) (is : World → T → Type 0) : Type 0 where
-  pub stays : IsOurs (state g old) → Stays (state g old) (state g new)
-  pub value : IsOurs (state g old) → (w : World) → worry (state g new) ≡ 0 → SpellsOne (state g old).now w → IfOk result (is w)
+  pub stays : {begun : Bool} → IsOurs begun (state g old) → Stays begun (state g old) (state g new)
+  pub value : {begun : Bool} → IsOurs begun (state g old) → (w : World) → unsure begun (state g new) ≡ 0 → SpellsOne (state g old).now w → IfOk result (is w)
+  pub live : OnOk result (IsAwake (state g new))
+
+-- the same for a round that has begun, or for none
+pub record ReadsAt {S T : Type 0} (begun : Bool) (g : Ghosts S) (old new : Held S) (result : Result T StoreFault) (is : Rows → T → Type 0) : Type 0 where
+  pub stays : IsOurs begun (state g old) → Stays begun (state g old) (state g new)
+  pub value : IsOurs begun (state g old) → unsure begun (state g new) ≡ 0 → (r : Rows) → Holds (state g old).now r → IfOk result (is r)
+  pub live : OnOk result (IsAwake (state g new))
+
+pub record TellsAt {S T : Type 0} (begun : Bool) (g : Ghosts S) (old new : Held S) (result : Result T StoreFault) (is : World → T → Type 0) : Type 0 where
+  pub stays : IsOurs begun (state g old) → Stays begun (state g old) (state g new)
+  pub value : IsOurs begun (state g old) → (w : World) → unsure begun (state g new) ≡ 0 → SpellsOne (state g old).now w → IfOk result (is w)
   pub live : OnOk result (IsAwake (state g new))
 
 -- a read that goes by what is known, or comes to know more
-pub record Looks {S : Type 0} (g : Ghosts S) (old new : Held S) (before after : Option Known) (read : Type 0) : Type 0 where
-  pub reads : IsOurs (state g old) → Knows (state g old) before → read
-  pub known : IsOurs (state g old) → Knows (state g old) before → Knows (state g new) after
+pub record Looks {S : Type 0} (g : Ghosts S) (old new : Held S) (before after : Option Known) (read : Bool → Type 0) : Type 0 where
+  pub reads : {begun : Bool} → IsOurs begun (state g old) → Knows begun (state g old) before → read begun
+  pub known : {begun : Bool} → IsOurs begun (state g old) → Knows begun (state g old) before → Knows begun (state g new) after
 
--- A step inside a transaction: the same connection is lent, and where it answers Ok this is so of what it gives.
-pub record Steps {S T E : Type 0} (g : Ghosts S) (old new : Transaction S) (result : Result T E) (does : T → Type 0) : Type 0 where
+-- A step inside a savepoint: the same one is lent, and where it answers Ok this is so of what it gives.
+pub record Steps {S T E : Type 0} (g : Ghosts S) (old new : Savepoint S g) (result : Result T E) (does : T → Type 0) : Type 0 where
   pub same_reference : new.conn.ghost_name ≡ old.conn.ghost_name
-  pub within : Within (state g old.conn.now) (state g new.conn.now) result
+  pub place : new.at ≡ old.at
+  pub within : Within (old.at + 1) (state g old.conn.now) (state g new.conn.now) result
   pub ok : HasCleanDisk (state g new.conn.now) → IsTrue old.conn.now.in_transaction → IfOk result does
 
 -- a step that makes this change of the rows, and of what is known of them
-abbrev pub WritesWith : {S T : Type 0} → Ghosts S → Transaction S → Transaction S → Result T StoreFault → (Rows → Rows) → (Knowledge → Knowledge) → Type 0
+abbrev pub WritesWith : {S T : Type 0} → (g : Ghosts S) → Savepoint S g → Savepoint S g → Result T StoreFault → (Rows → Rows) → (Knowledge → Knowledge) → Type 0
 WritesWith g old new result change learns =
     Steps g old new result (λ _. (state g old.conn.now).now.schema ≡ office_schema → Brings change learns (state g old.conn.now) (state g new.conn.now))
 
 -- a step that makes this change of the rows, by which nothing that is known changes
-abbrev pub Writes : {S T : Type 0} → Ghosts S → Transaction S → Transaction S → Result T StoreFault → (Rows → Rows) → Type 0
+abbrev pub Writes : {S T : Type 0} → (g : Ghosts S) → Savepoint S g → Savepoint S g → Result T StoreFault → (Rows → Rows) → Type 0
 Writes g old new result change = WritesWith g old new result change (λ k. k)
 
 -- a step that leaves the rows, and gives what is so of them
-abbrev pub Finds : {S T : Type 0} → Ghosts S → Transaction S → Transaction S → Result T StoreFault → (Rows → T → Type 0) → Type 0
+abbrev pub Finds : {S T : Type 0} → (g : Ghosts S) → Savepoint S g → Savepoint S g → Result T StoreFault → (Rows → T → Type 0) → Type 0
 Finds g old new result is =
     Steps g old new result (λ v. (state g old.conn.now).now.schema ≡ office_schema → Sees (state g old.conn.now) (state g new.conn.now) (λ r. is r v))
 
 -- a step that runs a statement, which changes so many rows
-abbrev pub Runs : {S T : Type 0} → Ghosts S → List ℕ → Row → Transaction S → Transaction S → Result T StoreFault → (ℕ → Type 0) → Type 0
+abbrev pub Runs : {S T : Type 0} → (g : Ghosts S) → List ℕ → Row → Savepoint S g → Savepoint S g → Result T StoreFault → (ℕ → Type 0) → Type 0
 Runs g sql params old new result counts =
     Steps g old new result (λ _. (count : ℕ) × counts count × Executes sql params (state g old.conn.now) (state g new.conn.now) (Ok count))
 
@@ -186,13 +212,12 @@ pub record IsQuery (sql : List ℕ) : Type 0 where
   pub silent : IsSilent sql
 
 -- A transaction as a whole: where it answers Ok this is done and committed, and else nothing is.
-pub record Commits {S T E : Type 0} (g : Ghosts S) (old new : Held S) (result : Result T E) (done : Type 0) : Type 0 where
-  pub all : HasCleanDisk (state g new) → OnOk result (done × ((state g new).committed ≡ (state g new).now))
-  pub none : HasCleanDisk (state g new) → OnErr result (IsTrue (state g new).is_open
-      → ((state g new).now ≡ (state g old).committed) × ((state g new).committed ≡ (state g old).committed))
-  pub ended : new.in_transaction ≡ false
-  pub opens : HasCleanDisk (state g new) → IsTrue (state g new).is_open → IsTrue (state g old).is_open
-  pub clean : doubt (state g old).is_clean ≤ doubt (state g new).is_clean
+pub record Commits {T E : Type 0} (old new : State) (result : Result T E) (done : Type 0) : Type 0 where
+  pub all : HasCleanDisk new → OnOk result (done × (new.committed ≡ new.now))
+  pub none : HasCleanDisk new → OnErr result (IsTrue new.is_open → (new.now ≡ old.committed) × (new.committed ≡ old.committed))
+  pub ended : HasCleanDisk new → new.in_transaction ≡ false
+  pub opens : HasCleanDisk new → IsTrue new.is_open → IsTrue old.is_open
+  pub clean : doubt old.is_clean ≤ doubt new.is_clean
 
 -- ---- why a read fails
 
@@ -239,4 +264,4 @@ pub record Explains (old new : State) (known blamed : Type 0) : Type 0 where
 
 -- a read fails only where the disk does, for want of memory, by a limit on steps, or where the rows spell no World
 pub record IsExplained {S T : Type 0} (g : Ghosts S) (old new : Held S) (result : Result T StoreFault) : Type 0 where
-  pub why : IsOurs (state g old) → Explains (state g old) (state g new) ((w : World) × Spells (state g old).now w) (IfErr result (Blames (state g old) (state g new)))
+  pub why : IsOurs false (state g old) → Explains (state g old) (state g new) ((w : World) × Spells (state g old).now w) (IfErr result (Blames (state g old) (state g new)))

@@ -10,11 +10,11 @@ use crate::given;
 use crate::holders::is_of;
 use mx_book::StoreFault;
 use mx_pay::Name;
-use sqlite::{Alter, Row, Transaction};
+use sqlite::{Alter, Row, Savepoint};
 
 /// Collects the redemptions of the purse that a row names before its holder, where the holder is the member's.
 fn collect_row<S: Alter>(
-    tx: &mut Transaction<'_, S>,
+    tx: &mut Savepoint<'_, S>,
     member: &Name,
     row: &Row,
 ) -> Result<(), StoreFault>
@@ -38,7 +38,7 @@ fn collect_row<S: Alter>(
 }
 
 /// Collects the redemptions of the purses of the member's holders.
-pub fn collect<S: Alter>(tx: &mut Transaction<'_, S>, member: &Name) -> Result<(), StoreFault>
+pub fn collect<S: Alter>(tx: &mut Savepoint<'_, S>, member: &Name) -> Result<(), StoreFault>
     ensures { Writes S.Store tx.old tx.new result
         (λ r. record r { redemptions = remake (marked r.purses r.holders member.now) r.redemptions }) }
 {

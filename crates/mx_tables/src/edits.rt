@@ -1,11 +1,12 @@
 //! The edits, each a few statements of a transaction.
-ghost use Rattle.std.specs.Prelude.{◌≡◌, IsTrue, OnOk, false, fold};
+ghost use Rattle.std.specs.Prelude.{◌≡◌, fold};
 ghost use Rattle.sqlite.specs.Held.{state};
-ghost use Rattle.sqlite.specs.State.{HasCleanDisk, IsUnchanged};
+ghost use Rattle.sqlite.specs.State.{IsUnchanged};
 ghost use Rattle.mx_book.specs.RowEdits.{rewritten};
 ghost use Rattle.mx_tables.specs.Known.{known_after};
 ghost use Rattle.mx_tables.specs.Schema.{office_schema};
-ghost use Rattle.mx_tables.specs.States.{Applies, Brings, Commits, Finds, Steps, Stops, Writes, WritesWith};
+ghost use Rattle.mx_tables.specs.States.{Brings, Finds, Steps, Writes, WritesWith};
+ghost use Rattle.mx_tables.specs.Rounds.{ChangesIn, ChangesRound};
 
 use crate::asking::fault_of;
 use crate::collecting::collect;
@@ -17,18 +18,19 @@ use crate::members::{insert_member, update_member};
 use crate::purses::{insert_purse, next_number, raise_next, set_purse};
 use crate::redemptions::insert_redemption;
 use crate::results::{archive_tray, insert_tray};
+use crate::rounds::begin;
 use crate::settled::insert_settled;
 use crate::tokens::insert_token;
 use mx_book::{Caller, Edit, StoreFault};
 use mx_pay::names::same_name;
 use mx_pay::{MOST_NUMBER, Name, Token};
 use mx_purse::Message;
-use sqlite::{Alter, Connection, Transaction};
+use sqlite::{Alter, Connection, Savepoint};
 use std::alloc::Global;
 
 /// Adds a member and its clerk's token.
 fn add_member<S: Alter>(
-    tx: &mut Transaction<'_, S>,
+    tx: &mut Savepoint<'_, S>,
     member: Name,
     clerk: Token,
 ) -> Result<(), StoreFault>
@@ -40,7 +42,7 @@ fn add_member<S: Alter>(
 
 /// Adds a holder and the holder's token.
 fn add_holder<S: Alter>(
-    tx: &mut Transaction<'_, S>,
+    tx: &mut Savepoint<'_, S>,
     holder: Name,
     member: Name,
     token: Token,
@@ -64,7 +66,7 @@ fn take_expected(expected: &mut Option<(Name, u64)>, purse: &Name) -> Option<u64
 
 /// The number of a purse's next message: the expected one, else that of the purse's row.
 fn number_for<S: Alter>(
-    tx: &mut Transaction<'_, S>,
+    tx: &mut Savepoint<'_, S>,
     expected: Option<u64>,
     purse: &Name,
 ) -> Result<u64, StoreFault>
@@ -79,7 +81,7 @@ fn number_for<S: Alter>(
 /// Puts a message into the inbox of a purse under its next message number, which rises by one. Store where there is
 /// no such purse, that number is 10^15, or another one is expected.
 fn add_message<S: Alter>(
-    tx: &mut Transaction<'_, S>,
+    tx: &mut Savepoint<'_, S>,
     alloc: Global,
     expected: Option<u64>,
     purse: &Name,
@@ -99,7 +101,7 @@ fn add_message<S: Alter>(
 
 /// Makes one edit, where this is expected of the number of a purse's next message.
 fn edit_one<S: Alter>(
-    tx: &mut Transaction<'_, S>,
+    tx: &mut Savepoint<'_, S>,
     alloc: Global,
     expected: &mut Option<(Name, u64)>,
     edit: &Edit,
@@ -146,7 +148,7 @@ fn edit_one<S: Alter>(
 
 /// Makes these edits in order. Of the number of a purse's next message it may be known what to expect.
 fn edit_each<S: Alter>(
-    tx: &mut Transaction<'_, S>,
+    tx: &mut Savepoint<'_, S>,
     alloc: Global,
     expected: Option<(Name, u64)>,
     edits: &[Edit],
@@ -162,7 +164,7 @@ fn edit_each<S: Alter>(
 }
 
 /// Finds the connection open: one that a fault has shut is to commit nothing.
-pub fn find_open<S: Alter>(tx: &mut Transaction<'_, S>) -> Result<(), StoreFault>
+pub fn find_open<S: Alter>(tx: &mut Savepoint<'_, S>) -> Result<(), StoreFault>
     ensures { Steps S.Store tx.old tx.new result
         (λ _. IsUnchanged (state S.Store tx.old.conn.now) (state S.Store tx.new.conn.now)) }
 {
@@ -172,42 +174,41 @@ pub fn find_open<S: Alter>(tx: &mut Transaction<'_, S>) -> Result<(), StoreFault
     }
 }
 
-/// Makes these edits in a connection that is found open.
-fn edit_open<S: Alter>(
-    tx: &mut Transaction<'_, S>,
-    alloc: Global,
-    expected: Option<(Name, u64)>,
-    edits: &[Edit],
-) -> Result<(), StoreFault>
-    ensures { Steps S.Store tx.old tx.new result (λ _. Applies
-        (λ r. fold rewritten r edits.now) (λ k. fold known_after k edits.now)
-        (state S.Store tx.old.conn.now) (state S.Store tx.new.conn.now)) }
-{
-    find_open(tx)?;
-    edit_each(tx, alloc, expected, edits)
-}
-
-/// Makes these edits in order, all of them or none, in one transaction. Of the number of a purse's next message it
-/// may be known what to expect, which spares a look at it; another number that is found there is Store.
-pub fn edit_all<S: Alter>(
+/// Makes these edits in order in a transaction, all of them or none, in a savepoint. Of the number of a purse's next message
+/// it may be known what to expect, which spares a look at it; another number that is found there is Store.
+pub fn edit_marked<S: Alter>(
     alloc: Global,
     conn: &mut Connection<S>,
     expected: Option<(Name, u64)>,
     edits: &[Edit],
 ) -> Result<(), StoreFault>
-    requires { conn.old.in_transaction ≡ false }
-    ensures commits { Commits S.Store conn.old conn.new result ((state S.Store conn.old).now.schema ≡ office_schema
+    ensures { ChangesIn (state S.Store conn.old) (state S.Store conn.new) result
+        ((state S.Store conn.old).now.schema ≡ office_schema
         → Brings (λ r. fold rewritten r edits.now) (λ k. fold known_after k edits.now)
         (state S.Store conn.old) (state S.Store conn.new)) }
-    ensures lives { HasCleanDisk (state S.Store conn.new)
-        → OnOk result (IsTrue (state S.Store conn.new).is_open) }
-    ensures stops { Stops (λ r. fold rewritten r edits.now)
-        (state S.Store conn.old) (state S.Store conn.new) }
 {
-    let mut tx = conn.transaction();
-    edit_open(&mut tx, alloc, expected, edits)?;
-    match tx.commit() {
+    let mut mark = match conn.savepoint() {
+        Ok(mark) => mark,
+        Err(error) => return Err(fault_of(error)),
+    };
+    edit_each(&mut mark, alloc, expected, edits)?;
+    match mark.commit() {
         Ok(()) => Ok(()),
         Err(error) => Err(fault_of(error)),
     }
+}
+
+/// Makes these edits in order in a round, all of them or none, and begins the round where none has begun.
+pub fn change_in<S: Alter>(
+    alloc: Global,
+    conn: &mut Connection<S>,
+    begun: &mut bool,
+    expected: Option<(Name, u64)>,
+    edits: &[Edit],
+) -> Result<(), StoreFault>
+    ensures { ChangesRound (λ r. fold rewritten r edits.now) (λ k. fold known_after k edits.now)
+        begun.old (state S.Store conn.old) begun.new (state S.Store conn.new) result }
+{
+    begin(conn, begun)?;
+    edit_marked(alloc, conn, expected, edits)
 }

@@ -2,7 +2,7 @@
 ghost use Rattle.std.specs.Prelude.{◌≡◌};
 ghost use Rattle.std.specs.FinMap as fmap;
 ghost use Rattle.mx_book.specs.World.{is_of};
-ghost use Rattle.mx_tables.specs.States.{IsExplained, Looks, Reads, Tells, Writes};
+ghost use Rattle.mx_tables.specs.States.{TellsAt, IsExplained, Looks, Reads, Tells, Writes};
 ghost use Rattle.mx_book.specs.Reads.{holder_of};
 
 use crate::asking::{About, ask_about, run};
@@ -13,12 +13,12 @@ use crate::owners::count_purses;
 use mx_book::{HolderRow, StoreFault};
 use mx_pay::Name;
 use mx_pay::names::same_name;
-use sqlite::{Alter, Connection, Transaction};
+use sqlite::{Alter, Connection, Savepoint};
 use std::alloc::Global;
 
 /// Adds a holder of a member.
 pub fn insert_holder<S: Alter>(
-    tx: &mut Transaction<'_, S>,
+    tx: &mut Savepoint<'_, S>,
     name: &Name,
     member: &Name,
 ) -> Result<(), StoreFault>
@@ -52,7 +52,7 @@ pub fn read_holder<S: Alter>(
     name: &Name,
 ) -> Result<Option<HolderRow>, StoreFault>
     ensures { Looks S.Store conn.old conn.new kept.old kept.new
-        (Tells S.Store conn.old conn.new result (λ w v. v ≡ holder_of w name.now)) }
+        (λ b. TellsAt b S.Store conn.old conn.new result (λ w v. v ≡ holder_of w name.now)) }
 {
     let Some(member) = find_holder(conn, name)? else {
         return Ok(None);

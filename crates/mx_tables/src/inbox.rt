@@ -1,5 +1,5 @@
 //! The messages in the inboxes of purses.
-ghost use Rattle.std.specs.Prelude.{◌≡◌, ◌≤◌, ◌^◌, IfOk, is_some, length, map};
+ghost use Rattle.std.specs.Prelude.{Bool, ◌≡◌, ◌≤◌, ◌^◌, IfOk, is_some, length, map};
 ghost use Rattle.std.specs.FinMap as fmap;
 ghost use Rattle.std.specs.List.{AllByRecursion};
 ghost use Rattle.sqlite_value.specs.Order.{column};
@@ -11,7 +11,7 @@ ghost use Rattle.mx_tables.specs.Answers.{first_three, message_row};
 ghost use Rattle.sqlite.specs.Held.{state};
 ghost use Rattle.mx_tables.specs.Known.{AtMost, known_after, known_sent};
 ghost use Rattle.mx_book.specs.declared.edits.Edit.TheVariants.{DropMessage};
-ghost use Rattle.mx_tables.specs.States.{IsExplained, IsOurs, Looks, Reads, Tells, WritesWith, worry};
+ghost use Rattle.mx_tables.specs.States.{TellsAt, IsExplained, IsOurs, Looks, Reads, Tells, WritesWith, unsure};
 ghost use Rattle.mx_book.specs.Reads.{inbox_of, message_of};
 
 use crate::asking::{ask, ask_one, find_live, run_one};
@@ -23,7 +23,7 @@ use mx_book::StoreFault;
 use mx_pay::{MOST_NUMBER, Name};
 use mx_purse::Message;
 use mx_purse::words::{message_word, read_message};
-use sqlite::{Alter, Connection, Row, Transaction};
+use sqlite::{Alter, Connection, Row, Savepoint};
 use std::alloc::Global;
 
 /// The message whose kind and details stand in these columns.
@@ -86,7 +86,7 @@ pub fn count_messages<S: Alter>(conn: &mut Connection<S>, purse: &Name) -> Resul
     ensures reads { Reads S.Store conn.old conn.new result
         (λ r v. v ≡ length (row_inbox_of r purse.now)) }
     ensures why { IsExplained S.Store conn.old conn.new result }
-    ensures most { IsOurs (state S.Store conn.old) → worry (state S.Store conn.new) ≡ 0
+    ensures most { (begun : Bool) → IsOurs begun (state S.Store conn.old) → unsure begun (state S.Store conn.new) ≡ 0
         → IfOk result (AtMost ((state S.Store conn.new).now.trees 10) purse.now) }
 {
     let rows = ask(
@@ -106,7 +106,7 @@ pub fn find_message<S: Alter>(
     number: u64,
 ) -> Result<Option<Message>, StoreFault>
     ensures { Looks S.Store conn.old conn.new known.old known.new
-        (Tells S.Store conn.old conn.new result (λ w v. v ≡ message_of w purse.now number)) }
+        (λ b. TellsAt b S.Store conn.old conn.new result (λ w v. v ≡ message_of w purse.now number)) }
 {
     if number > MOST_NUMBER {
         find_live(conn)?;
@@ -154,7 +154,7 @@ pub fn read_has_message<S: Alter>(
     number: u64,
 ) -> Result<bool, StoreFault>
     ensures { Looks S.Store conn.old conn.new known.now known.now
-        (Tells S.Store conn.old conn.new result
+        (λ b. TellsAt b S.Store conn.old conn.new result
         (λ w b. b ≡ is_some (message_of w purse.now number))) }
 {
     let Some(()) = recall_seen(known, purse, number) else {
@@ -166,7 +166,7 @@ pub fn read_has_message<S: Alter>(
 
 /// Puts a message into an inbox under a number that isn't there.
 pub fn insert_message<S: Alter>(
-    tx: &mut Transaction<'_, S>,
+    tx: &mut Savepoint<'_, S>,
     alloc: Global,
     purse: &Name,
     number: u64,
@@ -192,7 +192,7 @@ pub fn insert_message<S: Alter>(
 
 /// Takes a message that is there out of an inbox. Store where its number is above 10^15.
 pub fn drop_message<S: Alter>(
-    tx: &mut Transaction<'_, S>,
+    tx: &mut Savepoint<'_, S>,
     purse: &Name,
     number: u64,
 ) -> Result<(), StoreFault>

@@ -22,6 +22,7 @@ mod owners;
 mod purses;
 mod redemptions;
 mod results;
+mod rounds;
 mod same;
 mod settled;
 mod sums;

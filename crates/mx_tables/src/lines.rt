@@ -1,5 +1,5 @@
 //! The lines of the statements of purses.
-ghost use Rattle.std.specs.Prelude.{◌≡◌, ◌<◌, ◌^◌, IfOk, IfSome, OnOk, string_bytes};
+ghost use Rattle.std.specs.Prelude.{Bool, ◌≡◌, ◌<◌, ◌^◌, IfOk, IfSome, OnOk, string_bytes};
 ghost use Rattle.std.specs.FinMap as fmap;
 ghost use Rattle.sqlite.specs.Held.{state};
 ghost use Rattle.sqlite_value.specs.Order.{column};
@@ -18,7 +18,7 @@ use crate::given::{self, MOST_KEPT};
 use mx_book::words::{kind_text, push_note, read_kind};
 use mx_book::{Line, LineKind, Note, StoreFault};
 use mx_pay::Name;
-use sqlite::{Alter, Connection, Row, Rows, Transaction};
+use sqlite::{Alter, Connection, Row, Rows, Savepoint};
 use std::alloc::Global;
 
 /// The text of what a line refers to.
@@ -37,7 +37,7 @@ fn text_of(alloc: Global, note: &Note) -> Result<String, StoreFault>
 /// Adds a line of a purse. Store where its number or its balance is above 2^63 - 1.
 pub fn insert_line<S: Alter>(
     alloc: Global,
-    tx: &mut Transaction<'_, S>,
+    tx: &mut Savepoint<'_, S>,
     purse: &Name,
     line: &Line,
 ) -> Result<(), StoreFault>
@@ -104,8 +104,8 @@ fn line_in(row: &Row, note: Note) -> Result<Line, StoreFault>
 /// The next line that a query of lines gives, or None at its end.
 fn next_line<S: Alter>(rows: &mut Rows<'_, S>) -> Result<Option<Line>, StoreFault>
     ensures same_reference { rows.new.conn.ghost_name ≡ rows.old.conn.ghost_name }
-    ensures stays { IsOurs (state S.Store rows.old.conn.now)
-        → Stays (state S.Store rows.old.conn.now) (state S.Store rows.new.conn.now) }
+    ensures stays { (begun : Bool) → IsOurs begun (state S.Store rows.old.conn.now)
+        → Stays begun (state S.Store rows.old.conn.now) (state S.Store rows.new.conn.now) }
     ensures shown { worry (state S.Store rows.new.conn.now) ≡ 0
         → IfOk result (GivesLine S.Store rows.old.conn.now rows.new.conn.now) }
     ensures live { OnOk result (IsAwake (state S.Store rows.new.conn.now)) }

@@ -11,10 +11,10 @@ use crate::asking::run;
 use crate::tokens::insert_token;
 use mx_book::{Caller, StoreFault};
 use mx_pay::Token;
-use sqlite::{Alter, Error, Transaction};
+use sqlite::{Alter, Error, Savepoint};
 
 /// Makes one table.
-fn make<S: Alter>(tx: &mut Transaction<'_, S>, sql: &str) -> Result<(), Error>
+fn make<S: Alter>(tx: &mut Savepoint<'_, S>, sql: &str) -> Result<(), Error>
     ensures { Steps S.Store tx.old tx.new result
         (λ _. (schema : _) (table : _) → IsCreate schema sql.now table
         → (state S.Store tx.old.conn.now).now.schema ≡ schema
@@ -67,7 +67,7 @@ impl Version {
 }
 
 /// Makes one table after another.
-fn make_each<S: Alter>(tx: &mut Transaction<'_, S>, texts: &[&str]) -> Result<(), Error>
+fn make_each<S: Alter>(tx: &mut Savepoint<'_, S>, texts: &[&str]) -> Result<(), Error>
     ensures { Steps S.Store tx.old tx.new result
         (λ _. (before after : _) → Makes before (map (λ s. s.now) texts.now) after
         → Blank before (state S.Store tx.old.conn.now)
@@ -80,7 +80,7 @@ fn make_each<S: Alter>(tx: &mut Transaction<'_, S>, texts: &[&str]) -> Result<()
 }
 
 /// Makes all tables of a version.
-pub fn make_tables<S: Alter>(tx: &mut Transaction<'_, S>, version: Version) -> Result<(), Error>
+pub fn make_tables<S: Alter>(tx: &mut Savepoint<'_, S>, version: Version) -> Result<(), Error>
     ensures { Builds S.Store tx.old tx.new result no_schema (schema_of version) }
 {
     match version {
@@ -90,7 +90,7 @@ pub fn make_tables<S: Alter>(tx: &mut Transaction<'_, S>, version: Version) -> R
 }
 
 /// Makes the table that only version 2 has.
-pub fn make_settled<S: Alter>(tx: &mut Transaction<'_, S>) -> Result<(), Error>
+pub fn make_settled<S: Alter>(tx: &mut Savepoint<'_, S>) -> Result<(), Error>
     ensures { Steps S.Store tx.old tx.new result
         (λ _. (state S.Store tx.old.conn.now).now.schema ≡ schema_11
         → AddsTable schema_11 settled (state S.Store tx.old.conn.now) (state S.Store tx.new.conn.now)) }
@@ -99,7 +99,7 @@ pub fn make_settled<S: Alter>(tx: &mut Transaction<'_, S>) -> Result<(), Error>
 }
 
 /// Adds the row of `meta`.
-fn insert_meta<S: Alter>(tx: &mut Transaction<'_, S>) -> Result<(), StoreFault>
+fn insert_meta<S: Alter>(tx: &mut Savepoint<'_, S>) -> Result<(), StoreFault>
     ensures { Steps S.Store tx.old tx.new result
         (λ _. Blank office_schema (state S.Store tx.old.conn.now)
         → Fresh (state S.Store tx.new.conn.now)) }
@@ -108,7 +108,7 @@ fn insert_meta<S: Alter>(tx: &mut Transaction<'_, S>) -> Result<(), StoreFault>
 }
 
 /// Adds the row of `meta` and the operator's token.
-pub fn fill<S: Alter>(tx: &mut Transaction<'_, S>, operator: &Token) -> Result<(), StoreFault>
+pub fn fill<S: Alter>(tx: &mut Savepoint<'_, S>, operator: &Token) -> Result<(), StoreFault>
     ensures { Steps S.Store tx.old tx.new result
         (λ _. Blank office_schema (state S.Store tx.old.conn.now)
         → Holds (state S.Store tx.new.conn.now).now (opening_rows operator.now)) }

@@ -15,7 +15,7 @@ use crate::cells::{money_at, name_at};
 use crate::given;
 use mx_book::{MemberRow, StoreFault};
 use mx_pay::{MOST_NUMBER, Name};
-use sqlite::{Alter, Connection, Row, Transaction};
+use sqlite::{Alter, Connection, Row, Savepoint};
 use std::alloc::Global;
 
 /// What a row says of a member, where there is a row: its grants and its float.
@@ -47,7 +47,7 @@ pub fn find_member<S: Alter>(
 }
 
 /// Adds a member with grants 0 and float 0.
-pub fn insert_member<S: Alter>(tx: &mut Transaction<'_, S>, name: &Name) -> Result<(), StoreFault>
+pub fn insert_member<S: Alter>(tx: &mut Savepoint<'_, S>, name: &Name) -> Result<(), StoreFault>
     ensures { Writes S.Store tx.old tx.new result
         (λ r. record r { members = fmap.insert r.members name.now (record { granted = 0; float = 0 }) }) }
 {
@@ -85,7 +85,7 @@ pub fn list_members<S: Alter>(
 
 /// Sets what is kept of a member that is there. Store where a number is above 10^15.
 pub fn update_member<S: Alter>(
-    tx: &mut Transaction<'_, S>,
+    tx: &mut Savepoint<'_, S>,
     name: &Name,
     granted: u64,
     float: u64,

@@ -14,7 +14,7 @@ use crate::edits::find_open;
 use crate::making::{Version, make_settled};
 use crate::opening::{OpenFault, open_fault, version_number, version_of};
 use mx_book::StoreFault;
-use sqlite::{Alter, Connection, Transaction};
+use sqlite::{Alter, Connection, Savepoint};
 use std::alloc::Global;
 
 /// What became of a store.
@@ -27,7 +27,7 @@ pub enum Migrated {
 }
 
 /// Sets the version in `meta` to 2. Store where `meta` has no row of id 1.
-fn set_version<S: Alter>(tx: &mut Transaction<'_, S>) -> Result<(), StoreFault>
+fn set_version<S: Alter>(tx: &mut Savepoint<'_, S>) -> Result<(), StoreFault>
     ensures { Steps S.Store tx.old tx.new result
         (λ _. (state S.Store tx.old.conn.now).now.schema ≡ office_schema
         → SetsVersion (state S.Store tx.old.conn.now).now (state S.Store tx.new.conn.now).now) }
@@ -36,7 +36,7 @@ fn set_version<S: Alter>(tx: &mut Transaction<'_, S>) -> Result<(), StoreFault>
 }
 
 /// Makes the table that version 1 lacks and sets the version, in a connection that is found open.
-fn upgrade<S: Alter>(tx: &mut Transaction<'_, S>) -> Result<(), StoreFault>
+fn upgrade<S: Alter>(tx: &mut Savepoint<'_, S>) -> Result<(), StoreFault>
     ensures { Steps S.Store tx.old tx.new result
         (λ _. UpgradesOpen (state S.Store tx.old.conn.now) (state S.Store tx.new.conn.now).now) }
 {
@@ -50,13 +50,16 @@ fn upgrade<S: Alter>(tx: &mut Transaction<'_, S>) -> Result<(), StoreFault>
 /// Brings tables of version 1 to version 2 in one transaction, or leaves them.
 fn upgrade_all<S: Alter>(conn: &mut Connection<S>) -> Result<(), StoreFault>
     requires { conn.old.in_transaction ≡ false }
-    ensures commits { Commits S.Store conn.old conn.new result
+    ensures commits { Commits (state S.Store conn.old) (state S.Store conn.new) result
         (UpgradesOpen (state S.Store conn.old) (state S.Store conn.new).now) }
     ensures live { HasCleanDisk (state S.Store conn.new)
         → OnOk result (IsTrue (state S.Store conn.new).is_open) }
     ensures stops { StopsUpgrading (state S.Store conn.old) (state S.Store conn.new) }
 {
-    let mut tx = conn.transaction();
+    let mut tx = match conn.savepoint() {
+        Ok(tx) => tx,
+        Err(error) => return Err(fault_of(error)),
+    };
     upgrade(&mut tx)?;
     match tx.commit() {
         Ok(()) => Ok(()),
@@ -73,7 +76,7 @@ fn find_version<S: Alter>(alloc: Global, store: &mut Connection<S>) -> Result<Ve
     ensures live { HasCleanDisk (state S.Store store.new)
         → OnOk result (IsTrue (state S.Store store.new).is_open) }
     ensures stays { IfOk result (λ version.
-        StaysAt (schema_of version) (state S.Store store.old) (state S.Store store.new)) }
+        StaysAt false (schema_of version) (state S.Store store.old) (state S.Store store.new)) }
     ensures whole { worry (state S.Store store.new) ≡ 0
         → IfOk result (λ version. IsWhole version (state S.Store store.old).now) }
     ensures unknown { worry (state S.Store store.new) ≡ 0 → IfErr result
@@ -95,14 +98,15 @@ fn find_version<S: Alter>(alloc: Global, store: &mut Connection<S>) -> Result<Ve
 /// store refuses a statement for another cause, its tables are others, or a transaction is open on it.
 pub fn migrate<S: Alter>(alloc: Global, store: &mut Connection<S>) -> Result<Migrated, OpenFault>
     ensures later { worry (state S.Store store.old) ≤ worry (state S.Store store.new) }
-    ensures ours { OnOk result (IsOurs (state S.Store store.new)) }
+    ensures ours { OnOk result (IsOurs false (state S.Store store.new)) }
     ensures live { worry (state S.Store store.new) ≤ 1
         → OnOk result (worry (state S.Store store.new) ≡ 0) }
     ensures migrates { worry (state S.Store store.new) ≡ 0 → IfOk result
         (λ made. Migrates made (state S.Store store.old).now (state S.Store store.new).now) }
     ensures left { worry (state S.Store store.new) ≡ 0 → OnErr result
         ((state S.Store store.new).now ≡ (state S.Store store.old).now) }
-    ensures idle { store.old.in_transaction ≡ false → store.new.in_transaction ≡ false }
+    ensures idle { store.old.in_transaction ≡ false
+        → HasCleanDisk (state S.Store store.new) → store.new.in_transaction ≡ false }
     ensures unknown { worry (state S.Store store.new) ≡ 0 → IfErr result
         (λ fault. fault ≡ NotThisSchema
         → (table_named (state S.Store store.old).now.schema (codes "meta") ≡ None)

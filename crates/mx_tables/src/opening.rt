@@ -7,9 +7,9 @@ ghost use Rattle.sqlite_schema.specs.Names.{table_named};
 ghost use Rattle.sqlite_trees.specs.Tree.{has_rowid};
 ghost use Rattle.mx_book.specs.Spells.{opening_rows};
 ghost use Rattle.mx_tables.specs.Holds.{Holds};
-ghost use Rattle.mx_tables.specs.Made.{HasOnly, HasVersion, IsUnknown, version_shown};
+ghost use Rattle.mx_tables.specs.Made.{Blank, HasOnly, HasVersion, IsUnknown, version_shown};
 ghost use Rattle.mx_tables.specs.Schema.{no_schema, schema_of};
-ghost use Rattle.mx_tables.specs.States.{Commits, IsAt, IsOurs, StaysAt, worry};
+ghost use Rattle.mx_tables.specs.States.{Commits, IsAt, IsOurs, StaysAt, Steps, worry};
 ghost use Rattle.mx_tables.specs.declared.opening.OpenFault.TheVariants.{NotThisSchema};
 
 use crate::asking::ask;
@@ -18,7 +18,7 @@ use crate::making::{Version, fill, make_tables};
 use crate::same::same_schema;
 use mx_book::StoreFault;
 use mx_pay::Token;
-use sqlite::{Alter, Connection, Error, ErrorCode, Row};
+use sqlite::{Alter, Connection, Error, ErrorCode, Row, Savepoint};
 use sqlite_schema::schema::Schema;
 use sqlite_trees::memory::MemStore;
 use std::alloc::Global;
@@ -79,6 +79,29 @@ fn is_blank(schema: &Schema) -> bool
     schema.tables.is_empty() && schema.indexes.is_empty() && schema.views.is_empty()
 }
 
+/// Makes the tables, the row of `meta` and the operator's token. Beside other tables it is a fault.
+fn make_all<S: Alter>(
+    tx: &mut Savepoint<'_, S>,
+    blank: bool,
+    operator: &Token,
+) -> Result<(), OpenFault>
+    ensures steps { Steps S.Store tx.old tx.new result
+        (λ _. IsTrue blank × (Blank no_schema (state S.Store tx.old.conn.now)
+        → Holds (state S.Store tx.new.conn.now).now (opening_rows operator.now))) }
+    ensures taken { IsTrue blank → IfErr result (λ fault. fault ≢ NotThisSchema) }
+{
+    if let Err(error) = make_tables(tx, Version::Two) {
+        return Err(refused_create(blank, error));
+    }
+    if !blank {
+        return Err(OpenFault::Store);
+    }
+    match fill(tx, operator) {
+        Ok(()) => Ok(()),
+        Err(fault) => Err(open_fault(fault)),
+    }
+}
+
 /// Makes the tables, the row of `meta` and the operator's token in one transaction, or nothing.
 pub(crate) fn make_office<S: Alter>(
     conn: &mut Connection<S>,
@@ -87,22 +110,17 @@ pub(crate) fn make_office<S: Alter>(
     requires idle { conn.old.in_transaction ≡ false }
     requires steady { IsTrue (state S.Store conn.old).is_open
         → (state S.Store conn.old).now ≡ (state S.Store conn.old).committed }
-    ensures commits { Commits S.Store conn.old conn.new result
+    ensures commits { Commits (state S.Store conn.old) (state S.Store conn.new) result
         (Holds (state S.Store conn.new).now (opening_rows operator.now)) }
     ensures taken { IfErr result
         (λ fault. fault ≡ NotThisSchema → (state S.Store conn.old).now.schema ≢ no_schema) }
 {
     let blank = is_blank(conn.schema());
-    let mut tx = conn.transaction();
-    if let Err(error) = make_tables(&mut tx, Version::Two) {
-        return Err(refused_create(blank, error));
-    }
-    if !blank {
-        return Err(OpenFault::Store);
-    }
-    if let Err(fault) = fill(&mut tx, operator) {
-        return Err(open_fault(fault));
-    }
+    let mut tx = match conn.savepoint() {
+        Ok(tx) => tx,
+        Err(error) => return Err(refused_create(true, error)),
+    };
+    make_all(&mut tx, blank, operator)?;
     match tx.commit() {
         Ok(()) => Ok(()),
         Err(error) => Err(refused_create(true, error)),
@@ -117,7 +135,10 @@ fn model_of(alloc: Global, version: Version) -> Result<Connection<MemStore>, Ope
     let Ok(mut conn) = Connection::open_in_memory(alloc) else {
         return Err(OpenFault::Memory);
     };
-    let mut tx = conn.transaction();
+    let mut tx = match conn.savepoint() {
+        Ok(tx) => tx,
+        Err(error) => return Err(refused_create(true, error)),
+    };
     if let Err(error) = make_tables(&mut tx, version) {
         return Err(refused_create(true, error));
     }
@@ -159,8 +180,8 @@ pub(crate) fn version_of(alloc: Global, schema: &Schema) -> Result<Version, Open
 
 /// The version that `meta` has, in the rows of id 1.
 fn version_rows<S: Alter>(conn: &mut Connection<S>) -> Result<Vec<Row>, StoreFault>
-    ensures stays { (schema : _) → IsAt schema (state S.Store conn.old)
-        → StaysAt schema (state S.Store conn.old) (state S.Store conn.new) }
+    ensures stays { (schema : _) → IsAt false schema (state S.Store conn.old)
+        → StaysAt false schema (state S.Store conn.old) (state S.Store conn.new) }
     ensures rows { (version : _) → worry (state S.Store conn.new) ≡ 0
         → (state S.Store conn.old).now.schema ≡ schema_of version → IfOk result
         (λ rows. IsPermutation
@@ -173,8 +194,8 @@ fn version_rows<S: Alter>(conn: &mut Connection<S>) -> Result<Vec<Row>, StoreFau
 
 /// The only version that `meta` has; NotThisSchema exactly where it has none.
 pub(crate) fn version_number<S: Alter>(conn: &mut Connection<S>) -> Result<u64, OpenFault>
-    ensures stays { (schema : _) → IsAt schema (state S.Store conn.old)
-        → StaysAt schema (state S.Store conn.old) (state S.Store conn.new) }
+    ensures stays { (schema : _) → IsAt false schema (state S.Store conn.old)
+        → StaysAt false schema (state S.Store conn.old) (state S.Store conn.new) }
     ensures known { (version : _) → worry (state S.Store conn.new) ≡ 0
         → (state S.Store conn.old).now.schema ≡ schema_of version
         → IfOk result (λ n. HasOnly n (state S.Store conn.old).now) }
@@ -201,10 +222,10 @@ pub(crate) fn version_number<S: Alter>(conn: &mut Connection<S>) -> Result<u64, 
 /// Whether the version that `meta` has is 2; NotThisSchema exactly where it isn't, or isn't there. Tables of version 1
 /// where it is 2 are Store.
 fn check_version<S: Alter>(conn: &mut Connection<S>, version: Version) -> Result<(), OpenFault>
-    ensures stays { (schema : _) → IsAt schema (state S.Store conn.old)
-        → StaysAt schema (state S.Store conn.old) (state S.Store conn.new) }
-    ensures ours { IsAt (schema_of version) (state S.Store conn.old)
-        → OnOk result (IsOurs (state S.Store conn.new)) }
+    ensures stays { (schema : _) → IsAt false schema (state S.Store conn.old)
+        → StaysAt false schema (state S.Store conn.old) (state S.Store conn.new) }
+    ensures ours { IsAt false (schema_of version) (state S.Store conn.old)
+        → OnOk result (IsOurs false (state S.Store conn.new)) }
     ensures known { worry (state S.Store conn.new) ≡ 0
         → (state S.Store conn.old).now.schema ≡ schema_of version
         → OnOk result (HasVersion 2 (state S.Store conn.old).now) }
@@ -230,7 +251,7 @@ pub(crate) fn check_office<S: Alter>(
     requires idle { conn.old.in_transaction ≡ false }
     requires steady { IsTrue (state S.Store conn.old).is_open
         → (state S.Store conn.old).now ≡ (state S.Store conn.old).committed }
-    ensures ours { OnOk result (IsOurs (state S.Store conn.new)) }
+    ensures ours { OnOk result (IsOurs false (state S.Store conn.new)) }
     ensures later { worry (state S.Store conn.old) ≤ worry (state S.Store conn.new) }
     ensures same { worry (state S.Store conn.new) ≡ 0
         → (state S.Store conn.new).now ≡ (state S.Store conn.old).now }

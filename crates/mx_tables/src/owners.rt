@@ -1,11 +1,11 @@
 //! The index of purses by holder, which is kept in memory.
-ghost use Rattle.std.specs.Prelude.{◌≡◌, IfOk, OnOk, is_some, length, true};
+ghost use Rattle.std.specs.Prelude.{Bool, ◌≡◌, IfOk, OnOk, is_some, length, true};
 ghost use Rattle.sqlite.specs.Held.{state};
 ghost use Rattle.mx_book.specs.Reads.{purses_of};
 ghost use Rattle.mx_book.specs.RowReads.{row_purses_of};
 ghost use Rattle.mx_tables.specs.Known.{AreNumbered};
 ghost use Rattle.mx_tables.specs.Owners.{Lists, Rises, index_of};
-ghost use Rattle.mx_tables.specs.States.{IsAwake, IsOurs, Looks, Reads, Stays, Tells, Knows, worry};
+ghost use Rattle.mx_tables.specs.States.{TellsAt, ReadsAt, IsAwake, IsOurs, Looks, Reads, Stays, Tells, Knows, unsure};
 
 use crate::asking::{ask, find_live};
 use crate::cells::{integer_at, name_at};
@@ -55,9 +55,9 @@ fn check_numbers(rows: &[Row]) -> Result<(), StoreFault>
 /// Finds that no two messages have one row number. The kinds are asked for too, since no index has them: an index would show the
 /// numbers in the order of its keys.
 fn check_inbox<S: Alter>(conn: &mut Connection<S>) -> Result<(), StoreFault>
-    ensures stays { IsOurs (state S.Store conn.old)
-        → Stays (state S.Store conn.old) (state S.Store conn.new) }
-    ensures numbered { IsOurs (state S.Store conn.old) → worry (state S.Store conn.new) ≡ 0
+    ensures stays { (begun : Bool) → IsOurs begun (state S.Store conn.old)
+        → Stays begun (state S.Store conn.old) (state S.Store conn.new) }
+    ensures numbered { (begun : Bool) → IsOurs begun (state S.Store conn.old) → unsure begun (state S.Store conn.new) ≡ 0
         → OnOk result (AreNumbered ((state S.Store conn.new).now.trees 10)) }
     ensures live { OnOk result (IsAwake (state S.Store conn.new)) }
 {
@@ -71,10 +71,10 @@ fn make_known<S: Alter>(
     conn: &mut Connection<S>,
     known: &mut Option<Known>,
 ) -> Result<(), StoreFault>
-    ensures stays { IsOurs (state S.Store conn.old)
-        → Stays (state S.Store conn.old) (state S.Store conn.new) }
-    ensures knows { IsOurs (state S.Store conn.old) → Knows (state S.Store conn.old) known.old
-        → Knows (state S.Store conn.new) known.new }
+    ensures stays { (begun : Bool) → IsOurs begun (state S.Store conn.old)
+        → Stays begun (state S.Store conn.old) (state S.Store conn.new) }
+    ensures knows { (begun : Bool) → IsOurs begun (state S.Store conn.old) → Knows begun (state S.Store conn.old) known.old
+        → Knows begun (state S.Store conn.new) known.new }
     ensures live { IsAwake (state S.Store conn.old)
         → OnOk result (IsAwake (state S.Store conn.new)) }
     ensures there { OnOk result (is_some known.new ≡ true) }
@@ -96,10 +96,10 @@ pub fn try_known<S: Alter>(
     known: &mut Option<Known>,
     tried: &mut bool,
 )
-    ensures stays { IsOurs (state S.Store conn.old)
-        → Stays (state S.Store conn.old) (state S.Store conn.new) }
-    ensures knows { IsOurs (state S.Store conn.old) → Knows (state S.Store conn.old) known.old
-        → Knows (state S.Store conn.new) known.new }
+    ensures stays { (begun : Bool) → IsOurs begun (state S.Store conn.old)
+        → Stays begun (state S.Store conn.old) (state S.Store conn.new) }
+    ensures knows { (begun : Bool) → IsOurs begun (state S.Store conn.old) → Knows begun (state S.Store conn.old) known.old
+        → Knows begun (state S.Store conn.new) known.new }
 {
     if known.is_none() && !*tried {
         *tried = true;
@@ -115,8 +115,8 @@ pub fn count_purses<S: Alter>(
     holder: &Name,
 ) -> Result<usize, StoreFault>
     ensures { Looks S.Store conn.old conn.new known.old known.new
-        (IsAwake (state S.Store conn.old)
-        → Reads S.Store conn.old conn.new result (λ r v. v ≡ length (row_purses_of r holder.now))) }
+        (λ b. IsAwake (state S.Store conn.old)
+        → ReadsAt b S.Store conn.old conn.new result (λ r v. v ≡ length (row_purses_of r holder.now))) }
 {
     make_known(alloc, conn, known)?;
     let Some(known) = known else { unreachable!() };
@@ -132,7 +132,7 @@ pub fn list_purses<S: Alter>(
     holder: &Name,
 ) -> Result<Vec<Name>, StoreFault>
     ensures { Looks S.Store conn.old conn.new known.old known.new
-        (Tells S.Store conn.old conn.new result (λ w v. v.items ≡ purses_of w holder.now)) }
+        (λ b. TellsAt b S.Store conn.old conn.new result (λ w v. v.items ≡ purses_of w holder.now)) }
 {
     find_live(conn)?;
     make_known(alloc, conn, known)?;

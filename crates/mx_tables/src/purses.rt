@@ -1,5 +1,5 @@
 //! Purses.
-ghost use Rattle.std.specs.Prelude.{◌≡◌, ◌<◌, ◌^◌, if◌then◌else◌, IfOk, None, Some, is_some, option_map};
+ghost use Rattle.std.specs.Prelude.{Bool, ◌≡◌, ◌<◌, ◌^◌, if◌then◌else◌, IfOk, None, Some, is_some, option_map};
 ghost use Rattle.mx_pay.specs.Names.{is_name};
 ghost use Rattle.std.specs.FinMap as fmap;
 ghost use Rattle.sqlite.specs.Held.{state};
@@ -10,7 +10,7 @@ ghost use Rattle.mx_book.specs.declared.values.PurseRow.{PurseRow};
 ghost use Rattle.mx_tables.specs.Answers.{ArePurses, Raises, ShowsOwn, place_of, purse_columns, purse_shown, state_columns, state_shown};
 ghost use Rattle.mx_tables.specs.Known.{known_after};
 ghost use Rattle.mx_tables.specs.Schema.{office_schema};
-ghost use Rattle.mx_tables.specs.States.{Finds, IsExplained, IsOurs, Knows, Looks, Reads, Steps, Tells, WritesWith};
+ghost use Rattle.mx_tables.specs.States.{TellsAt, ReadsAt, Finds, IsExplained, IsOurs, Knows, Looks, Reads, Steps, Tells, WritesWith};
 ghost use Rattle.mx_book.specs.Reads.{account_of, own_purse, has_purse};
 
 use crate::asking::{About, ask_about, ask_about_inside, find_live, run, run_one};
@@ -26,12 +26,12 @@ use mx_pay::names::same_name;
 use mx_pay::{MOST_NUMBER, Name, Seq};
 use mx_purse::Purse;
 use mx_purse::words::status_word;
-use sqlite::{Alter, Connection, Row, Transaction};
+use sqlite::{Alter, Connection, Row, Savepoint};
 use std::alloc::Global;
 
 /// Adds a purse of a holder: at rest, with nothing in it and nothing logged.
 pub fn insert_purse<S: Alter>(
-    tx: &mut Transaction<'_, S>,
+    tx: &mut Savepoint<'_, S>,
     name: &Name,
     holder: &Name,
 ) -> Result<(), StoreFault>
@@ -137,7 +137,7 @@ fn find_own<S: Alter>(
     name: &Name,
 ) -> Result<Option<Purse>, StoreFault>
     ensures { Looks S.Store conn.old conn.new known.old known.new
-        (Tells S.Store conn.old conn.new result (λ w v. v ≡ own_purse w holder.now name.now)) }
+        (λ b. TellsAt b S.Store conn.old conn.new result (λ w v. v ≡ own_purse w holder.now name.now)) }
 {
     let Some(row) = ask_about(conn, About::Purse, name)? else {
         return Ok(None);
@@ -158,7 +158,7 @@ fn own_known<S: Alter>(
     name: &Name,
 ) -> Result<Option<Purse>, StoreFault>
     ensures { Looks S.Store conn.old conn.new known.old known.new
-        (Tells S.Store conn.old conn.new result (λ w v. v ≡ own_purse w holder.now name.now)) }
+        (λ b. TellsAt b S.Store conn.old conn.new result (λ w v. v ≡ own_purse w holder.now name.now)) }
 {
     let Some(row) = recall_purse(known, name) else {
         return find_own(alloc, conn, known, holder, name);
@@ -178,7 +178,7 @@ pub fn read_own<S: Alter>(
     name: &Name,
 ) -> Result<Option<Purse>, StoreFault>
     ensures { Looks S.Store conn.old conn.new known.old known.new
-        (Tells S.Store conn.old conn.new result (λ w v. v ≡ own_purse w holder.now name.now)) }
+        (λ b. TellsAt b S.Store conn.old conn.new result (λ w v. v ≡ own_purse w holder.now name.now)) }
 {
     try_known(alloc, conn, known, tried);
     own_known(alloc, conn, known, holder, name)
@@ -224,7 +224,7 @@ pub fn read_has_purse<S: Alter>(
     name: &Name,
 ) -> Result<bool, StoreFault>
     ensures looks { Looks S.Store conn.old conn.new known.now known.now
-        (Tells S.Store conn.old conn.new result (λ w b. b ≡ has_purse w name.now)) }
+        (λ b. TellsAt b S.Store conn.old conn.new result (λ w b. b ≡ has_purse w name.now)) }
     ensures why { IsExplained S.Store conn.old conn.new result }
 {
     let Some(_row) = recall_purse(known, name) else {
@@ -242,7 +242,7 @@ pub fn read_is_own<S: Alter>(
     name: &Name,
 ) -> Result<bool, StoreFault>
     ensures looks { Looks S.Store conn.old conn.new known.now known.now
-        (Tells S.Store conn.old conn.new result
+        (λ b. TellsAt b S.Store conn.old conn.new result
         (λ w b. b ≡ is_some (own_purse w holder.now name.now))) }
     ensures why { IsExplained S.Store conn.old conn.new result }
 {
@@ -263,8 +263,8 @@ pub fn find_place<S: Alter>(
     ensures reads { Reads S.Store conn.old conn.new result
         (λ r v. v ≡ place_of r name.now) }
     ensures why { IsExplained S.Store conn.old conn.new result }
-    ensures knows { IsOurs (state S.Store conn.old) → Knows (state S.Store conn.old) known.old
-        → Knows (state S.Store conn.new) known.new }
+    ensures knows { (begun : Bool) → IsOurs begun (state S.Store conn.old) → Knows begun (state S.Store conn.old) known.old
+        → Knows begun (state S.Store conn.new) known.new }
 {
     let Some(next_message) = number_in(ask_about(conn, About::Next, name)?)? else {
         return Ok(None);
@@ -284,7 +284,7 @@ pub fn read_place<S: Alter>(
     name: &Name,
 ) -> Result<Option<u64>, StoreFault>
     ensures looks { Looks S.Store conn.old conn.new known.old known.new
-        (Reads S.Store conn.old conn.new result (λ r v. v ≡ place_of r name.now)) }
+        (λ b. ReadsAt b S.Store conn.old conn.new result (λ r v. v ≡ place_of r name.now)) }
     ensures why { IsExplained S.Store conn.old conn.new result }
 {
     let Some(number) = recall_place(known, name) else {
@@ -296,7 +296,7 @@ pub fn read_place<S: Alter>(
 
 /// Sets the purse of that name, which is there.
 pub fn set_purse<S: Alter>(
-    tx: &mut Transaction<'_, S>,
+    tx: &mut Savepoint<'_, S>,
     alloc: Global,
     purse: &Purse,
 ) -> Result<(), StoreFault>
@@ -321,7 +321,7 @@ pub fn set_purse<S: Alter>(
 }
 
 /// The number of a purse's next message. Store where there is no such purse.
-pub fn next_number<S: Alter>(tx: &mut Transaction<'_, S>, name: &Name) -> Result<u64, StoreFault>
+pub fn next_number<S: Alter>(tx: &mut Savepoint<'_, S>, name: &Name) -> Result<u64, StoreFault>
     ensures { Finds S.Store tx.old tx.new result
         (λ r n. option_map (λ x. x.next_message) (fmap.get r.purses name.now) ≡ Some n) }
 {
@@ -331,7 +331,7 @@ pub fn next_number<S: Alter>(tx: &mut Transaction<'_, S>, name: &Name) -> Result
 /// Raises the number of a purse's next message, which is this one, by one. Store where there is no such purse, or it has
 /// another number.
 pub fn raise_next<S: Alter>(
-    tx: &mut Transaction<'_, S>,
+    tx: &mut Savepoint<'_, S>,
     name: &Name,
     next: u64,
 ) -> Result<(), StoreFault>

@@ -9,11 +9,11 @@ use crate::cells::amount_in;
 use crate::given;
 use mx_book::StoreFault;
 use mx_pay::{Amount, Name};
-use sqlite::{Alter, Connection, Transaction};
+use sqlite::{Alter, Connection, Savepoint};
 
 /// Adds a redemption of a purse, which isn't collected.
 pub fn insert_redemption<S: Alter>(
-    tx: &mut Transaction<'_, S>,
+    tx: &mut Savepoint<'_, S>,
     purse: &Name,
     reference: &Name,
     amount: Amount,

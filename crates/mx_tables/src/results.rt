@@ -16,13 +16,13 @@ use crate::codes::entry_code;
 use crate::given;
 use mx_book::StoreFault;
 use mx_pay::{Log, Name, PayDetails};
-use sqlite::{Alter, Connection, Row, Transaction};
+use sqlite::{Alter, Connection, Row, Savepoint};
 use std::alloc::Global;
 
 /// Adds a result to the tray of a purse.
 pub fn insert_tray<S: Alter>(
     alloc: Global,
-    tx: &mut Transaction<'_, S>,
+    tx: &mut Savepoint<'_, S>,
     purse: &Name,
     details: &PayDetails,
 ) -> Result<(), StoreFault>
@@ -85,7 +85,7 @@ pub fn list_tray<S: Alter>(conn: &mut Connection<S>, purse: &Name) -> Result<Log
 
 /// Adds what these rows show to the archive of a purse.
 fn archive_rows<S: Alter>(
-    tx: &mut Transaction<'_, S>,
+    tx: &mut Savepoint<'_, S>,
     purse: &Name,
     rows: &[Row],
 ) -> Result<(), StoreFault>
@@ -107,7 +107,7 @@ fn archive_rows<S: Alter>(
 }
 
 /// Moves what is in the tray of a purse to the archive.
-pub fn archive_tray<S: Alter>(tx: &mut Transaction<'_, S>, purse: &Name) -> Result<(), StoreFault>
+pub fn archive_tray<S: Alter>(tx: &mut Savepoint<'_, S>, purse: &Name) -> Result<(), StoreFault>
     ensures { Writes S.Store tx.old tx.new result (λ r. rewritten r (ArchiveTray purse.now)) }
 {
     let rows = ask_inside(

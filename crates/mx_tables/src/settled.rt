@@ -11,13 +11,13 @@ use crate::codes::entry_code;
 use crate::given;
 use mx_book::StoreFault;
 use mx_pay::PayDetails;
-use sqlite::{Alter, Connection, Transaction};
+use sqlite::{Alter, Connection, Savepoint};
 use std::alloc::Global;
 
 /// Adds details to those that are settled.
 pub fn insert_settled<S: Alter>(
     alloc: Global,
-    tx: &mut Transaction<'_, S>,
+    tx: &mut Savepoint<'_, S>,
     details: &PayDetails,
 ) -> Result<(), StoreFault>
     ensures { Writes S.Store tx.old tx.new result (λ r. rewritten r (AddSettled details.now)) }

@@ -7,11 +7,13 @@ ghost use Rattle.mx_tables.specs.Schema.{no_schema};
 ghost use Rattle.mx_tables.specs.declared.opening.OpenFault.TheVariants.{NotThisSchema};
 ghost use Rattle.mx_tables.specs.Made.{HasVersion, IsUnknown};
 ghost use Rattle.mx_tables.specs.States.{worry, IsOurs, Leaves};
-ghost use Rattle.mx_tables.specs.Steady.{left_as_is};
+ghost use Rattle.mx_tables.specs.Rounds.{IsSettled, LeavesBase, base_of, doubt_of, harm_of, rows_of};
+ghost use Rattle.mx_tables.specs.Steady.{deep_at, left_as_base, rest_in};
+ghost use Rattle.sqlite.specs.State.{HasCleanDisk};
 ghost use Rattle.sqlite.specs.Effect.{Database};
 ghost use Rattle.mx_tables.specs.Holds.{SpellsOne};
 
-use crate::edits::edit_all;
+use crate::edits::change_in;
 use crate::holders::read_holder;
 use crate::inbox::{find_message, list_inbox, read_has_message};
 use crate::known::{Known, keep_up};
@@ -24,6 +26,7 @@ use crate::owners::list_purses;
 use crate::purses::{read_account, read_has_purse, read_is_own, read_own, read_place};
 use crate::redemptions::find_redemption;
 use crate::results::{find_archived, list_tray};
+use crate::rounds::end;
 use crate::settled::find_settled;
 use crate::sums::{sum_member, sum_scheme, sum_uncollected};
 use crate::tokens::find_caller;
@@ -42,6 +45,8 @@ use std::marker::Model;
 pub struct Tables<S: Alter> {
     alloc: Global,
     conn: Connection<S>,
+    // Whether a round has begun.
+    begun: bool,
     // A purse to which a message was found to find a place since the last change, and the number that it gets.
     expected: Option<(Name, u64)>,
     // What is known of the rows, from when the purses of a holder or a purse are first asked for.
@@ -52,16 +57,18 @@ pub struct Tables<S: Alter> {
 
 impl<S: Alter> Model for Tables<S> {
     ghost use Rattle.sqlite.specs.Held.{Held, held_code, state as state_of};
-    ghost use Rattle.mx_tables.specs.States.{IsOurs, Knows};
+    ghost use Rattle.std.specs.Prelude.{Bool};
+    ghost use Rattle.std.specs.Coded.{coded×, coded_bool};
+    ghost use Rattle.mx_tables.specs.Rounds.{IsKept, KnowsIn};
 
-    ghost Value = { Held S };
+    ghost Value = { Held S × Bool };
 
-    ghost coded = { held_code S.code };
+    ghost coded = { coded× (held_code S.code) coded_bool };
 
-    ghost view = { λ t. t.conn };
+    ghost view = { λ t. (t.conn, t.begun) };
 
-    ghost invariant = { λ t. IsOurs (state_of S.Store t.conn)
-        × Knows (state_of S.Store t.conn) t.known };
+    ghost invariant = { λ t. IsKept t.begun (state_of S.Store t.conn)
+        × KnowsIn t.begun (state_of S.Store t.conn) t.known };
 }
 
 impl<S: Alter> Tables<S> {
@@ -74,16 +81,17 @@ impl<S: Alter> Tables<S> {
         operator: Token,
     ) -> Result<Tables<S>, OpenRefused<S>>
         ensures later { MatchResult result
-            (λ t. worry (state S.Store store) ≤ worry (state S.Store t))
+            (λ t. worry (state S.Store store) ≤ worry (state S.Store t.0))
             (λ e. worry (state S.Store store) ≤ worry (state S.Store e.store)) }
         ensures opens { IfOk result
-            (λ t. worry (state S.Store t) ≡ 0
-            → SpellsOne (state S.Store t).now (opening operator)) }
+            (λ t. worry (state S.Store t.0) ≡ 0
+            → SpellsOne (state S.Store t.0).now (opening operator)) }
+        ensures settled { IfOk result (IsSettled S.Store) }
         ensures left { IfErr result
             (λ e. worry (state S.Store e.store) ≡ 0
             → (state S.Store e.store).now ≡ (state S.Store store).now) }
         ensures idle { store.in_transaction ≡ false → IfErr result
-            (λ e. e.store.in_transaction ≡ false) }
+            (λ e. HasCleanDisk (state S.Store e.store) → e.store.in_transaction ≡ false) }
         ensures taken { IfErr result
             (λ e. e.fault ≡ NotThisSchema → (state S.Store store).now.schema ≢ no_schema) }
     {
@@ -97,6 +105,7 @@ impl<S: Alter> Tables<S> {
             Ok(()) => Ok(Tables {
                 alloc,
                 conn: store,
+                begun: false,
                 expected: None,
                 known: None,
                 tried: false,
@@ -111,15 +120,16 @@ impl<S: Alter> Tables<S> {
     /// transaction is open on it.
     pub fn open(alloc: Global, mut store: Connection<S>) -> Result<Tables<S>, OpenRefused<S>>
         ensures later { MatchResult result
-            (λ t. worry (state S.Store store) ≤ worry (state S.Store t))
+            (λ t. worry (state S.Store store) ≤ worry (state S.Store t.0))
             (λ e. worry (state S.Store store) ≤ worry (state S.Store e.store)) }
         ensures same { IfOk result
-            (λ t. worry (state S.Store t) ≡ 0 → (state S.Store t).now ≡ (state S.Store store).now) }
-        ensures ours { IfOk result (λ t. IsOurs (state S.Store t)) }
+            (λ t. worry (state S.Store t.0) ≡ 0 → (state S.Store t.0).now ≡ (state S.Store store).now) }
+        ensures settled { IfOk result (IsSettled S.Store) }
+        ensures ours { IfOk result (λ t. IsOurs false (state S.Store t.0)) }
         ensures live { IfOk result
-            (λ t. worry (state S.Store t) ≤ 1 → worry (state S.Store t) ≡ 0) }
+            (λ t. worry (state S.Store t.0) ≤ 1 → worry (state S.Store t.0) ≡ 0) }
         ensures known { IfOk result
-            (λ t. worry (state S.Store t) ≡ 0 → HasVersion 2 (state S.Store store).now) }
+            (λ t. worry (state S.Store t.0) ≡ 0 → HasVersion 2 (state S.Store store).now) }
         ensures left { IfErr result
             (λ e. worry (state S.Store e.store) ≡ 0
             → (state S.Store e.store).now ≡ (state S.Store store).now) }
@@ -139,6 +149,7 @@ impl<S: Alter> Tables<S> {
             Ok(()) => Ok(Tables {
                 alloc,
                 conn: store,
+                begun: false,
                 expected: None,
                 known: None,
                 tried: false,
@@ -147,13 +158,15 @@ impl<S: Alter> Tables<S> {
         }
     }
 
-    /// The connection, with its rows as they are.
+    /// The connection, with its rows as they are. A book that waits for a settle is to be settled first: else what waits is
+    /// in a transaction still.
     pub fn into_store(self) -> Connection<S>
-        ensures same { result ≡ self }
-        ensures ours { IsOurs (state S.Store result) }
-        ensures lasts { worry (state S.Store result) ≡ 0
+        ensures same { result ≡ self.0 }
+        ensures ours { IsSettled S.Store self → IsOurs false (state S.Store result) }
+        ensures lasts { IsSettled S.Store self → worry (state S.Store result) ≡ 0
             → Leaves (state S.Store result) (state S.Store result).now }
-        ensures idle { result.in_transaction ≡ false }
+        ensures idle { IsSettled S.Store self → HasCleanDisk (state S.Store result)
+            → result.in_transaction ≡ false }
     {
         let Tables { conn, .. } = self;
         conn
@@ -163,13 +176,21 @@ impl<S: Alter> Tables<S> {
 impl<S: Alter> Book for Tables<S> {
     ghost Rows = { Database };
 
-    ghost rows = { λ t. (state S.Store t).now };
+    ghost rows = { rows_of S.Store };
 
     ghost spells = { SpellsOne };
 
-    ghost doubt = { λ t. worry (state S.Store t) };
+    ghost doubt = { doubt_of S.Store };
 
-    ghost leaves = { λ t db. Leaves (state S.Store t) db };
+    ghost base = { base_of S.Store };
+
+    ghost harm = { harm_of S.Store };
+
+    ghost settled = { IsSettled S.Store };
+
+    ghost defers = { Unit {0} };
+
+    ghost leaves = { LeavesBase S.Store };
 
     ghost fails = { λ _. Unit {0} };
 
@@ -184,8 +205,19 @@ impl<S: Alter> Book for Tables<S> {
     fn apply(&mut self, edits: &[Edit]) -> Result<(), StoreFault> {
         let expected = self.expected.take();
         let known = self.known.take();
-        let done = edit_all(self.alloc, &mut self.conn, expected, edits);
+        let done = change_in(self.alloc, &mut self.conn, &mut self.begun, expected, edits);
         self.known = keep_up(done.is_ok(), known, edits);
+        done
+    }
+
+    fn settle(&mut self) -> Result<(), StoreFault> {
+        let done = end(&mut self.conn, self.begun);
+        self.begun = false;
+        if done.is_err() {
+            self.expected = None;
+            self.known = None;
+            self.tried = false;
+        }
         done
     }
 
@@ -326,11 +358,15 @@ impl<S: Alter> Book for Tables<S> {
         sum_scheme(alloc, &mut self.conn)
     }
 
-    ghost doubted = { λ _. inr tt };
+    ghost doubted = { λ _. inr (λ _. tt) };
 
     ghost sound = { λ db w h. h.spelled.spells.sound };
 
     ghost single = { λ db v w h g. g.only v h.spelled };
 
-    ghost steady = { λ t db. left_as_is _ (S.Store.settled t.store) db };
+    ghost steady = { λ t db. left_as_base _ (S.Store.settled t.0.store) db };
+
+    ghost rest = { λ t. rest_in t.1 _ t.0.in_transaction _ _ _ };
+
+    ghost deep = { λ t. deep_at t.1 _ t.0.in_transaction _ };
 }

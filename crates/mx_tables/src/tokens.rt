@@ -16,7 +16,7 @@ use crate::asking::{ask_one, run};
 use crate::cells::{name_at, text_at};
 use mx_book::{Caller, StoreFault};
 use mx_pay::Token;
-use sqlite::{Alter, Connection, Row, Transaction};
+use sqlite::{Alter, Connection, Row, Savepoint};
 use sqlite_value::value::ValueRef;
 
 /// Who a row says that the token is of.
@@ -76,7 +76,7 @@ fn owner_of(caller: &Caller) -> &str
 
 /// Adds a token.
 pub fn insert_token<S: Alter>(
-    tx: &mut Transaction<'_, S>,
+    tx: &mut Savepoint<'_, S>,
     token: &Token,
     caller: &Caller,
 ) -> Result<(), StoreFault>

@@ -5,7 +5,8 @@ use Rattle.mx_pay.specs.declared.names.Name.{Name}
 use Rattle.mx_book.specs.World.{World}
 use Rattle.mx_book.specs.declared.contract.StoreFault.{StoreFault}
 use Rattle.mx_desk.specs.Serve.{Marked}
-use Rattle.mx_desk.specs.Steps.{State, Leads, state}
+use Rattle.mx_desk.specs.Rounds.{Leads, Round}
+use Rattle.mx_desk.specs.Steps.{State, state}
 use Rattle.mx_report.specs.Import.{IsBroken, IsImported, Tally, tally_of}
 use Rattle.mx_report.specs.declared.rolls.RollReport.{RollReport}
 use Rattle.mx_tasks.specs.Connections.{ServesConnections}
@@ -61,7 +62,7 @@ WorksReport w purse result = MatchResult result (IsReport w purse) (λ e. e ≡ 
 
 -- work that began with the World of s: what comes of it, what was read and written, and where the books stand. Of requests that
 -- is said also where the store was shut on the way, and else where it is sure.
-abbrev pub Works : (StoreFault → Type 0) → Type 0 → (World → Type 0) → (List Marked → World → Type 0) → State → Work → Result Done TaskFault → Option (List ℕ) → Option (List ℕ) → Type 0
+abbrev pub Works : (StoreFault → Type 0) → Type 0 → (World → Type 0) → (List Round → World → Type 0) → State → Work → Result Done TaskFault → Option (List ℕ) → Option (List ℕ) → Type 0
 Works fails Sure Stands Moves s Run result input output = Leads (λ ms now. WorksRun fails s result ms (state [] input output now)) Moves
 Works fails Sure Stands Moves s (Serve port count) result input output = Leads (WorksServe fails s.world count result) Moves
 Works fails Sure Stands Moves s (Import roll) result input output = Sure → ImportsFile Stands s.world IsSaid result

@@ -1,9 +1,8 @@
 //! Connections, one after another.
 ghost use Rattle.std.specs.Prelude.{◌≡◌, ◌≤◌, IfOk};
-ghost use Rattle.mx_book.specs.Stands.{MovesTo};
+ghost use Rattle.mx_book.specs.Stands.{MovesTo, RestsAt};
 ghost use Rattle.mx_book.specs.World.{World};
-ghost use Rattle.mx_desk.specs.Serve.{attempts};
-ghost use Rattle.mx_desk.specs.Steps.{Leads};
+ghost use Rattle.mx_desk.specs.Rounds.{Leads, attempts};
 ghost use Rattle.mx_tasks.specs.Connections.{Connects, ServesConnections};
 
 use crate::alarm::{Alarm, Alarmed};
@@ -50,10 +49,11 @@ fn serve_connection<B: Book>(
     alarm: &mut Alarm<'_>,
     office: &mut Office<B>,
 )
-    ensures later { B.doubt office.old.book ≤ B.doubt office.new.book }
-    ensures serves { (w : World) → B.doubt office.new.book ≤ 1 → (B.doubt office.old.book ≡ 0 → B.spells (B.rows office.old.book) w)
+    ensures later { B.settled office.old.book → B.doubt office.old.book ≤ B.doubt office.new.book }
+    ensures still { B.settled office.old.book → B.settled office.new.book }
+    ensures serves { (w : World) → B.doubt office.new.book ≤ 1 → RestsAt B.doubt B.rows B.spells B.settled office.old.book w
         → Leads (Connects B.fails w)
-        (λ ms. MovesTo B.doubt B.rows B.spells B.leaves office.old.book office.new.book w (attempts ms)) }
+        (λ rs. MovesTo B.doubt B.rows B.spells B.settled B.leaves office.old.book office.new.book w (attempts rs)) }
 {
     let mut reader = Counted::new(Timed::new(rt, stream));
     let mut writer = Counted::new(Alarmed::new(Timed::new(rt, stream), alarm));
@@ -70,19 +70,14 @@ pub fn listen(rt: &HostRuntime, port: u16) -> io::Result<TcpListener> {
     TcpListener::bind(rt, ("127.0.0.1", port))
 }
 
-/// Serves so many connections, one after another: of each the first request alone. A fault of a connection ends that
-/// connection and no other. A client that is silent or slow holds the others up for ten seconds with its request, ten with
-/// the response and ten with what it sends behind its request, at the most. The first time that a request is given up because
-/// the store failed, a line on standard error says so. The answer is how many were served.
-///
-/// Each connection begins with the World that the one before left, and at most one request of it is answered. All that is
-/// promised of requests holds of those that were answered, in order (`serves`): they keep holders apart; from a World that
-/// commands lead to they lead to such a World, and nothing that they ask is refused because a purse or a float is full; and
-/// the commands that they ask are operations of the abstract purses.
+/// Serves so many connections, one after another: of each the first request alone. What is promised of these is one
+/// clause (`serves`). A fault of a connection ends that connection alone. A slow client holds the others up for ten
+/// seconds with its request, ten with the response and ten with what it sends behind. The first time that the store
+/// fails a request, a line on standard error says so. The answer is how many were served.
 ///
 /// # Errors
 ///
-/// That of the system where a connection can't be taken; those before it were served.
+/// That of the system where a connection can't be taken.
 pub fn serve_connections<B: Book>(
     rt: &HostRuntime,
     listener: &TcpListener,
@@ -91,10 +86,11 @@ pub fn serve_connections<B: Book>(
     office: &mut Office<B>,
 ) -> io::Result<u64>
     ensures all { IfOk result (λ served. served ≡ count) }
-    ensures later { B.doubt office.old.book ≤ B.doubt office.new.book }
-    ensures serves { (w : World) → B.doubt office.new.book ≤ 1 → (B.doubt office.old.book ≡ 0 → B.spells (B.rows office.old.book) w)
+    ensures later { B.settled office.old.book → B.doubt office.old.book ≤ B.doubt office.new.book }
+    ensures still { B.settled office.old.book → B.settled office.new.book }
+    ensures serves { (w : World) → B.doubt office.new.book ≤ 1 → RestsAt B.doubt B.rows B.spells B.settled office.old.book w
         → Leads (ServesConnections B.fails w count result)
-        (λ ms. MovesTo B.doubt B.rows B.spells B.leaves office.old.book office.new.book w (attempts ms)) }
+        (λ rs. MovesTo B.doubt B.rows B.spells B.settled B.leaves office.old.book office.new.book w (attempts rs)) }
 {
     let mut alarm = Alarm::new(rt);
     'connections: for _ in 0..count {

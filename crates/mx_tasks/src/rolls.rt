@@ -1,5 +1,6 @@
 //! Rolls: the file, and its import into the books.
 ghost use Rattle.std.specs.Prelude.{◌≡◌, ◌≤◌, IfOk, vec_len};
+ghost use Rattle.mx_book.specs.Stands.{RestsAt};
 ghost use Rattle.mx_book.specs.World.{World};
 ghost use Rattle.mx_office.specs.Reachable.{IsReachable, StandsBalanced};
 ghost use Rattle.mx_tasks.specs.Works.{Imports, ImportsFile, IsText};
@@ -39,18 +40,22 @@ pub fn read_roll(rt: &HostRuntime, path: &str) -> Result<Vec<u8>, Cause>
 ///
 /// # Errors
 ///
-/// `Roll` where the bytes are no roll, `Memory`, or a fault of the book: the rows before it are imported. `Memory` also where
-/// the roll is imported and there is none for the lines.
+/// `Roll` where the bytes are no roll, and then the rows before the odd record are imported; `Memory`, or a fault of
+/// the book, and then some first rows are imported. `Memory` also where the roll is imported whole and there is none
+/// for the lines.
 pub fn import_over<B: Book, P: Progress>(
     alloc: Global,
     office: &mut Office<B>,
     bytes: &[u8],
     progress: &mut P,
 ) -> Result<String, TaskFault>
-    ensures later { B.doubt office.old.book ≤ B.doubt office.new.book }
-    ensures imports { (w : World) → B.doubt office.new.book ≡ 0 → B.spells (B.rows office.old.book) w
+    ensures later { B.settled office.old.book → B.doubt office.old.book ≤ B.doubt office.new.book }
+    ensures still { B.settled office.old.book → B.settled office.new.book }
+    ensures imports { (w : World) → B.doubt office.new.book ≡ 0
+        → RestsAt B.doubt B.rows B.spells B.settled office.old.book w
         → Imports (B.spells (B.rows office.new.book)) w bytes.now IsText result }
-    ensures reachable { (w : World) → B.doubt office.new.book ≡ 0 → B.spells (B.rows office.old.book) w
+    ensures reachable { (w : World) → B.doubt office.new.book ≡ 0
+        → RestsAt B.doubt B.rows B.spells B.settled office.old.book w
         → IsReachable w → StandsBalanced (B.spells (B.rows office.new.book)) }
 {
     let report = import_roll_telling(alloc, office, bytes, progress)?;
@@ -65,20 +70,22 @@ fn tell_end(rt: &HostRuntime, path: &str, answer: &Result<String, TaskFault>, do
     }
 }
 
-/// Imports the roll in a file, and gives the lines that report it. A terminal is told how far it is while it is under way, and
-/// at a fault what is wrong with the roll and how many rows are done.
+/// Imports the roll in a file, and gives the lines that report it. A terminal is told how far it is while it is under
+/// way, and at a fault what is wrong with the roll and how many rows are done and kept.
 ///
 /// # Errors
 ///
-/// `File` where the file isn't there or can't be read; `RollTooLarge` where it has more than 1,048,576 bytes; `Memory`: then
-/// nothing is imported. And those of `import_over`.
+/// `File` where the file isn't there or can't be read; `RollTooLarge` where it has more than 1,048,576 bytes; `Memory`:
+/// then nothing is imported. And those of `import_over`.
 pub fn import_from<B: Book>(
     rt: &HostRuntime,
     path: &str,
     office: &mut Office<B>,
 ) -> Result<String, TaskFault>
-    ensures later { B.doubt office.old.book ≤ B.doubt office.new.book }
-    ensures imports { (w : World) → B.doubt office.new.book ≡ 0 → B.spells (B.rows office.old.book) w
+    ensures later { B.settled office.old.book → B.doubt office.old.book ≤ B.doubt office.new.book }
+    ensures still { B.settled office.old.book → B.settled office.new.book }
+    ensures imports { (w : World) → B.doubt office.new.book ≡ 0
+        → RestsAt B.doubt B.rows B.spells B.settled office.old.book w
         → ImportsFile (B.spells (B.rows office.new.book)) w IsText result }
 {
     let bytes = match read_roll(rt, path) {

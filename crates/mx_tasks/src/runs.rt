@@ -1,9 +1,10 @@
 //! What the program does for a run: requests from a reader, responses to a writer.
 ghost use Rattle.std.specs.Prelude.{◌≡◌, ◌≤◌, List, [], Err, IfErr};
-ghost use Rattle.mx_book.specs.Stands.{MovesTo};
+ghost use Rattle.mx_book.specs.Stands.{MovesTo, RestsAt};
 ghost use Rattle.mx_book.specs.World.{World, opening};
-ghost use Rattle.mx_desk.specs.Serve.{Marked, attempts};
-ghost use Rattle.mx_desk.specs.Steps.{state, Leads};
+ghost use Rattle.mx_desk.specs.Rounds.{Leads, attempts};
+ghost use Rattle.mx_desk.specs.Serve.{Marked};
+ghost use Rattle.mx_desk.specs.Steps.{state};
 ghost use Rattle.mx_office.specs.Reachable.{IsReachable};
 ghost use Rattle.mx_tasks.specs.Faults.{Untouched};
 ghost use Rattle.mx_tasks.specs.Runs.{IsRunFault, TaskRuns};
@@ -19,31 +20,28 @@ use mx_wire::Routes;
 use std::alloc::Global;
 use std::io::Read;
 
-/// Answers the requests of the input over any office, and says how many responses were written. A fault is `Memory` where
-/// there is none for the routes, and then nothing was read, written or changed; or that of the desk: `Read` where a read
-/// failed, `Turns` where 1,000,000,000 reads didn't reach the end of the input, `Write` where a response couldn't be
-/// written or flushed.
+/// Answers the requests of the input over any office, and says how many responses were written. It is a run of the desk
+/// (`runs`).
 ///
-/// What is said of the bytes holds where the office's rows spell a World, and its store told no lie; a fault may have shut it on
-/// the way. Then it is a run of the desk (`runs`): however it ends, the requests that it answered keep holders apart; from a
-/// World that commands lead to they lead to such a World, and no command that they ask is refused because a purse or a float
-/// is full; and what they ask are operations of the abstract purses, in which a payment is one operation, for every choice of
-/// losses at the end.
+/// A fault is `Memory` where there is none for the routes, and then nothing was read, written or changed; or that of
+/// the desk: `Read` where a read failed, `Turns` where 1,000,000,000 reads didn't reach the end of the input, `Write`
+/// where a response couldn't be written or flushed.
 pub fn run_office<R: Read, W: Outlet, B: Book>(
     alloc: Global,
     office: &mut Office<B>,
     reader: &mut Counted<R>,
     writer: &mut Counted<W>,
 ) -> Result<u64, TaskFault>
-    ensures later { B.doubt office.old.book ≤ B.doubt office.new.book }
+    ensures later { B.settled office.old.book → B.doubt office.old.book ≤ B.doubt office.new.book }
+    ensures still { B.settled office.old.book → B.settled office.new.book }
     ensures unbegun { result ≡ Err TaskFault.Memory → (office.new ≡ office.old)
         × Untouched reader.old reader.new writer.old writer.new }
     ensures fault { IfErr result IsRunFault }
-    ensures runs { (w : World) → B.doubt office.new.book ≤ 1 → (B.doubt office.old.book ≡ 0 → B.spells (B.rows office.old.book) w)
+    ensures runs { (w : World) → B.doubt office.new.book ≤ 1 → RestsAt B.doubt B.rows B.spells B.settled office.old.book w
         → Leads (λ ms now. TaskRuns B.fails
         (state [] (R.remaining reader.old.device) (W.contents writer.old.device) w) result ms
         (state [] (R.remaining reader.new.device) (W.contents writer.new.device) now))
-        (λ ms. MovesTo B.doubt B.rows B.spells B.leaves office.old.book office.new.book w (attempts ms)) }
+        (λ rs. MovesTo B.doubt B.rows B.spells B.settled B.leaves office.old.book office.new.book w (attempts rs)) }
 {
     let routes = Routes::new(alloc)?;
     let count = run(alloc, reader, writer, &routes, office)?;
@@ -61,28 +59,24 @@ fn run_over<R: Read, W: Outlet, B: Book + Drop>(
     ensures unbegun { result ≡ Err TaskFault.Memory
         → Untouched reader.old reader.new writer.old writer.new }
     ensures fault { IfErr result IsRunFault }
-    ensures runs { (w : World) → (B.doubt book ≡ 0 → B.spells (B.rows book) w)
+    ensures runs { (w : World) → RestsAt B.doubt B.rows B.spells B.settled book w
         → (left : B) × (B.doubt left ≤ 1
         → Leads (λ ms now. TaskRuns B.fails
         (state [] (R.remaining reader.old.device) (W.contents writer.old.device) w) result ms
         (state [] (R.remaining reader.new.device) (W.contents writer.new.device) now))
-        (λ ms. MovesTo B.doubt B.rows B.spells B.leaves book left w (attempts ms))) }
+        (λ rs. MovesTo B.doubt B.rows B.spells B.settled B.leaves book left w (attempts rs))) }
 {
     let mut office = Office::new(book);
     run_office(alloc, &mut office, reader, writer)
 }
 
-/// Answers the requests of the input over books in memory that are given up at the end, for the operator with that token,
-/// and says how many responses were written. A fault is `Memory` where there is none for the routes, and then nothing
-/// was read or written; or that of the desk: `Read` where a read failed, `Turns` where 1,000,000,000 reads didn't reach
-/// the end of the input, `Write` where a response couldn't be written or flushed.
+/// Answers the requests of the input over books in memory that are given up at the end, for the operator with that
+/// token, and says how many responses were written. It is a run of the desk (`runs`) from a World to which commands
+/// lead (`begins`).
 ///
-/// It is a run of the desk from the World that has nothing but that token (`runs`), to which commands lead (`begins`). However
-/// it ends, it keeps holders apart: for every holder, the responses to the holder's own requests, in order and byte for byte,
-/// are those that what the holder sees of the requests gives; after `Write` the last may be cut. It ends in a World that
-/// commands lead to, and no command that a request asks is refused because a purse or a float is full. Whatever bytes came
-/// in, and for every choice of losses at the end, operations of the abstract purses lead from no purses to what the World at
-/// the end is there: one for each command that the requests asked, a payment being one.
+/// A fault is `Memory` where there is none for the routes, and then nothing was read or written; or that of the desk:
+/// `Read` where a read failed, `Turns` where 1,000,000,000 reads didn't reach the end, `Write` where a write or a flush
+/// failed.
 pub fn run_memory<R: Read, W: Outlet>(
     alloc: Global,
     operator: Token,

@@ -73,7 +73,7 @@ pub struct Reported {
 
 /// The text of the reconciliation.
 fn reconciliation<B: Book>(alloc: Global, book: &mut B) -> Result<Reported, TaskFault>
-    ensures keeps { Keeps B.doubt B.rows B.leaves book.old book.new }
+    ensures keeps { Keeps B.doubt B.rows B.harm B.base B.defers B.settled B.leaves book.old book.new }
     ensures value { Gives B.doubt B.rows B.spells book.old book.new result
         (λ w. Reports w None) }
     ensures fault { IfErr result (IsBookFault B.fails) }
@@ -91,7 +91,7 @@ fn has_balance<B: Book>(
     purse: Name,
     lines: &[Line],
 ) -> Result<bool, TaskFault>
-    ensures keeps { Keeps B.doubt B.rows B.leaves book.old book.new }
+    ensures keeps { Keeps B.doubt B.rows B.harm B.base B.defers B.settled B.leaves book.old book.new }
     ensures value { Gives B.doubt B.rows B.spells book.old book.new result
         (λ w even. even ≡ is_even_account lines.now (account_of w purse)) }
     ensures fault { IfErr result (IsBookFault B.fails) }
@@ -104,7 +104,7 @@ fn has_balance<B: Book>(
 
 /// The text of a purse's statement.
 fn purse_statement<B: Book>(alloc: Global, book: &mut B, purse: Name) -> Result<Reported, TaskFault>
-    ensures keeps { Keeps B.doubt B.rows B.leaves book.old book.new }
+    ensures keeps { Keeps B.doubt B.rows B.harm B.base B.defers B.settled B.leaves book.old book.new }
     ensures value { Gives B.doubt B.rows B.spells book.old book.new result
         (λ w. Reports w (Some purse)) }
     ensures fault { IfErr result (IsReportFault B.fails) }
@@ -130,7 +130,7 @@ pub fn report_text<B: Book>(
     book: &mut B,
     purse: Option<Name>,
 ) -> Result<Reported, TaskFault>
-    ensures keeps { Keeps B.doubt B.rows B.leaves book.old book.new }
+    ensures keeps { Keeps B.doubt B.rows B.harm B.base B.defers B.settled B.leaves book.old book.new }
     ensures value { Gives B.doubt B.rows B.spells book.old book.new result
         (λ w. Reports w purse) }
     ensures fault { IfErr result (IsReportFault B.fails) }

@@ -1,10 +1,10 @@
 //! What is done over the books in a file.
 ghost use Rattle.std.specs.Prelude.{◌≡◌, ◌≤◌, ◌⊎◌, [], IfOk, IfErr, string_bytes};
 ghost use Rattle.mx_book.specs.Keeps.{Keeps};
-ghost use Rattle.mx_book.specs.Stands.{MovesTo};
+ghost use Rattle.mx_book.specs.Stands.{MovesTo, RestsAt};
 ghost use Rattle.mx_book.specs.World.{World};
-ghost use Rattle.mx_desk.specs.Serve.{attempts};
-ghost use Rattle.mx_desk.specs.Steps.{state, Leads};
+ghost use Rattle.mx_desk.specs.Rounds.{Leads, attempts};
+ghost use Rattle.mx_desk.specs.Steps.{state};
 ghost use Rattle.mx_tasks.specs.Faults.{IsReportFault, Untouched};
 ghost use Rattle.mx_tasks.specs.Works.{ImportsFile, IsSaid, Works, WorksReport, WorksRun, WorksServe, served_text};
 ghost use Rattle.mx_tasks.specs.declared.work.Work.TheVariants.{Run};
@@ -60,7 +60,7 @@ fn said(text: Vec<u8>) -> Done
 
 /// What the books come to, or the statement of a purse.
 fn report<B: Book>(alloc: Global, book: &mut B, purse: Option<Name>) -> Result<Done, TaskFault>
-    ensures keeps { Keeps B.doubt B.rows B.leaves book.old book.new }
+    ensures keeps { Keeps B.doubt B.rows B.harm B.base B.defers B.settled B.leaves book.old book.new }
     ensures fault { IfErr result (IsReportFault B.fails) }
     ensures reports { (w : World) → B.doubt book.new ≡ 0 → B.spells (B.rows book.old) w
         → WorksReport w purse result }
@@ -87,10 +87,11 @@ fn serve_on<B: Book>(
     routes: &Routes,
     office: &mut Office<B>,
 ) -> Result<Done, TaskFault>
-    ensures later { B.doubt office.old.book ≤ B.doubt office.new.book }
-    ensures serves { (w : World) → B.doubt office.new.book ≤ 1 → (B.doubt office.old.book ≡ 0 → B.spells (B.rows office.old.book) w)
+    ensures later { B.settled office.old.book → B.doubt office.old.book ≤ B.doubt office.new.book }
+    ensures still { B.settled office.old.book → B.settled office.new.book }
+    ensures serves { (w : World) → B.doubt office.new.book ≤ 1 → RestsAt B.doubt B.rows B.spells B.settled office.old.book w
         → Leads (WorksServe B.fails w count result)
-        (λ ms. MovesTo B.doubt B.rows B.spells B.leaves office.old.book office.new.book w (attempts ms)) }
+        (λ rs. MovesTo B.doubt B.rows B.spells B.settled B.leaves office.old.book office.new.book w (attempts rs)) }
 {
     match serve_connections(rt, listener, u64::from(count), routes, office) {
         Ok(served) => Ok(said(served_text(rt.alloc(), served)?.into_bytes())),
@@ -105,10 +106,11 @@ fn serve<B: Book>(
     count: u32,
     office: &mut Office<B>,
 ) -> Result<Done, TaskFault>
-    ensures later { B.doubt office.old.book ≤ B.doubt office.new.book }
-    ensures serves { (w : World) → B.doubt office.new.book ≤ 1 → (B.doubt office.old.book ≡ 0 → B.spells (B.rows office.old.book) w)
+    ensures later { B.settled office.old.book → B.doubt office.old.book ≤ B.doubt office.new.book }
+    ensures still { B.settled office.old.book → B.settled office.new.book }
+    ensures serves { (w : World) → B.doubt office.new.book ≤ 1 → RestsAt B.doubt B.rows B.spells B.settled office.old.book w
         → Leads (WorksServe B.fails w count result)
-        (λ ms. MovesTo B.doubt B.rows B.spells B.leaves office.old.book office.new.book w (attempts ms)) }
+        (λ rs. MovesTo B.doubt B.rows B.spells B.settled B.leaves office.old.book office.new.book w (attempts rs)) }
 {
     let Ok(listener) = listen(rt, port) else {
         return Err(TaskFault::Net);
@@ -127,12 +129,13 @@ fn run<R: Read, W: Outlet, B: Book>(
     reader: &mut Counted<R>,
     writer: &mut Counted<W>,
 ) -> Result<Done, TaskFault>
-    ensures later { B.doubt office.old.book ≤ B.doubt office.new.book }
-    ensures runs { (w : World) → B.doubt office.new.book ≤ 1 → (B.doubt office.old.book ≡ 0 → B.spells (B.rows office.old.book) w)
+    ensures later { B.settled office.old.book → B.doubt office.old.book ≤ B.doubt office.new.book }
+    ensures still { B.settled office.old.book → B.settled office.new.book }
+    ensures runs { (w : World) → B.doubt office.new.book ≤ 1 → RestsAt B.doubt B.rows B.spells B.settled office.old.book w
         → Leads (λ ms now. WorksRun B.fails
         (state [] (R.remaining reader.old.device) (W.contents writer.old.device) w) result ms
         (state [] (R.remaining reader.new.device) (W.contents writer.new.device) now))
-        (λ ms. MovesTo B.doubt B.rows B.spells B.leaves office.old.book office.new.book w (attempts ms)) }
+        (λ rs. MovesTo B.doubt B.rows B.spells B.settled B.leaves office.old.book office.new.book w (attempts rs)) }
 {
     run_office(alloc, office, reader, writer)?;
     Ok(said(Vec::new(alloc)))
@@ -140,8 +143,10 @@ fn run<R: Read, W: Outlet, B: Book>(
 
 /// Imports the roll in a file.
 fn import<B: Book>(rt: &HostRuntime, roll: &str, office: &mut Office<B>) -> Result<Done, TaskFault>
-    ensures later { B.doubt office.old.book ≤ B.doubt office.new.book }
-    ensures imports { (w : World) → B.doubt office.new.book ≡ 0 → B.spells (B.rows office.old.book) w
+    ensures later { B.settled office.old.book → B.doubt office.old.book ≤ B.doubt office.new.book }
+    ensures still { B.settled office.old.book → B.settled office.new.book }
+    ensures imports { (w : World) → B.doubt office.new.book ≡ 0
+        → RestsAt B.doubt B.rows B.spells B.settled office.old.book w
         → ImportsFile (B.spells (B.rows office.new.book)) w IsSaid result }
 {
     let lines = import_from(rt, roll, office)?;
@@ -163,11 +168,12 @@ pub fn do_work<R: Read, W: Outlet, B: Book>(
     reader: &mut Counted<R>,
     writer: &mut Counted<W>,
 ) -> Result<Done, TaskFault>
-    ensures later { B.doubt office.old.book ≤ B.doubt office.new.book }
+    ensures later { B.settled office.old.book → B.doubt office.old.book ≤ B.doubt office.new.book }
+    ensures still { B.settled office.old.book → B.settled office.new.book }
     ensures untouched { (work.now ≡ Run) ⊎ Untouched reader.old reader.new writer.old writer.new }
-    ensures works { (w : World) → B.doubt office.new.book ≤ 1 → (B.doubt office.old.book ≡ 0 → B.spells (B.rows office.old.book) w)
+    ensures works { (w : World) → B.doubt office.new.book ≤ 1 → RestsAt B.doubt B.rows B.spells B.settled office.old.book w
         → Works B.fails (B.doubt office.new.book ≡ 0) (B.spells (B.rows office.new.book))
-        (λ ms. MovesTo B.doubt B.rows B.spells B.leaves office.old.book office.new.book w (attempts ms))
+        (λ rs. MovesTo B.doubt B.rows B.spells B.settled B.leaves office.old.book office.new.book w (attempts rs))
         (state [] (R.remaining reader.old.device) (W.contents writer.old.device) w) work.now result
         (R.remaining reader.new.device) (W.contents writer.new.device) }
 {
@@ -187,11 +193,12 @@ pub fn work_over<R: Read, W: Outlet, B: Book>(
     reader: &mut Counted<R>,
     writer: &mut Counted<W>,
 ) -> (Result<Done, TaskFault>, B)
-    ensures later { B.doubt book ≤ B.doubt result.1 }
+    ensures later { B.settled book → B.doubt book ≤ B.doubt result.1 }
+    ensures still { B.settled book → B.settled result.1 }
     ensures untouched { (work.now ≡ Run) ⊎ Untouched reader.old reader.new writer.old writer.new }
-    ensures works { (w : World) → B.doubt result.1 ≤ 1 → (B.doubt book ≡ 0 → B.spells (B.rows book) w)
+    ensures works { (w : World) → B.doubt result.1 ≤ 1 → RestsAt B.doubt B.rows B.spells B.settled book w
         → Works B.fails (B.doubt result.1 ≡ 0) (B.spells (B.rows result.1))
-        (λ ms. MovesTo B.doubt B.rows B.spells B.leaves book result.1 w (attempts ms))
+        (λ rs. MovesTo B.doubt B.rows B.spells B.settled B.leaves book result.1 w (attempts rs))
         (state [] (R.remaining reader.old.device) (W.contents writer.old.device) w) work.now result.0
         (R.remaining reader.new.device) (W.contents writer.new.device) }
 {

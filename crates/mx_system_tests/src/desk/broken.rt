@@ -1,5 +1,6 @@
 //! Runs of bytes: what is written, also where a reader or a writer fails.
 use super::devices::{Page, Pieces};
+use super::scripts::Exchange;
 use super::serve_from;
 use crate::empty::Trial;
 use mx_book::Book;
@@ -34,6 +35,13 @@ impl Trial for Told<'_> {
         );
         Ok(())
     }
+}
+
+/// Requests that are sent in one run, and how many of their bytes are read at a time.
+#[derive(Clone, Copy)]
+pub(super) struct Sent<'a> {
+    pub(super) exchange: &'a Exchange,
+    pub(super) size: usize,
 }
 
 /// A run that its reader or its writer ends by a failure, and a second run.

@@ -50,22 +50,22 @@ impl Read for Pieces<'_> {
 /// failed, and takes no memory.
 #[derive(Clone, Copy)]
 pub(super) struct Page {
-    bytes: [u8; 4096],
+    bytes: [u8; 12288],
     len: usize,
     room: usize,
     takes_none: bool,
     store_failures: u32,
     ghost within: { len ≤ room },
-    ghost fits: { room ≤ 4096 },
+    ghost fits: { room ≤ 12288 },
 }
 
 impl Page {
-    /// A page of at most 4,096 bytes.
+    /// A page of at most 12,288 bytes.
     pub(super) fn new(room: usize) -> Page {
         Page {
-            bytes: [0; 4096],
+            bytes: [0; 12288],
             len: 0,
-            room: room.min(4096),
+            room: room.min(12288),
             takes_none: false,
             store_failures: 0,
         }

@@ -123,10 +123,10 @@ fn first_request_alone(rt: HostRuntime) -> Result<(), Fail> {
     let rest = FOUR_REQUESTS.strip_prefix(NEW_MEMBER).ok_or("no rest")?;
     let served = [
         ("", Served::Nothing, ""),
-        (FOUR_REQUESTS, Served::Answered, ADDED_BYTES),
+        (FOUR_REQUESTS, Served::Answered(1), ADDED_BYTES),
         ("GET /purses", Served::Stopped, BAD_HEAD_BYTES),
-        (NEW_MEMBER, Served::Answered, TAKEN_BYTES),
-        (rest, Served::Answered, ADDED_BYTES),
+        (NEW_MEMBER, Served::Answered(1), TAKEN_BYTES),
+        (rest, Served::Answered(1), ADDED_BYTES),
     ];
     in_memory(&rt, &FirstAlone(&served))
 }

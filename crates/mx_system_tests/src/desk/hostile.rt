@@ -1,7 +1,7 @@
 //! Hostile use: input that is cut anywhere, readers and writers that fail at each of their calls, and growths that are
 //! refused.
 use super::answered::Answered;
-use super::broken::{Broken, Told};
+use super::broken::{Broken, Sent, Told};
 use super::faults::BAD_HEAD_BYTES;
 use super::payments::FIVE_STEPS;
 use super::scripts::{Exchange, Place};
@@ -66,17 +66,17 @@ fn input_cut_anywhere(rt: HostRuntime) -> Result<(), Fail> {
     assert_each_cut(&rt, &PAYMENT)
 }
 
-/// A run whose reader gives some bytes at a time and fails at this one of a request: the requests before it are answered, and
-/// it and those behind it may be sent again as if nothing had been.
-fn read_up_to<'a>(exchange: &'a Exchange, place: &Place, cut: usize) -> Option<Broken<'a>> {
+/// A run whose reader fails at this byte of a request: the requests before it are answered, and it and those behind it may be
+/// sent again as if nothing had been.
+pub(super) fn read_up_to<'a>(sent: &Sent<'a>, place: &Place, cut: usize) -> Option<Broken<'a>> {
     let (input, output) = (
-        exchange.input.as_str().as_bytes(),
-        exchange.output.as_str().as_bytes(),
+        sent.exchange.input.as_str().as_bytes(),
+        sent.exchange.output.as_str().as_bytes(),
     );
     Some(Broken {
         fault: DeskFault::Read,
         input: input.get(..cut)?,
-        size: 97,
+        size: sent.size,
         reads: None,
         room: 4096,
         takes_none: false,
@@ -89,11 +89,11 @@ fn read_up_to<'a>(exchange: &'a Exchange, place: &Place, cut: usize) -> Option<B
 /// Asserts that so it is at each byte of a request.
 fn assert_reads_fail(
     rt: &(impl Abort + AllocGlobal),
-    exchange: &Exchange,
+    sent: &Sent<'_>,
     place: &Place,
 ) -> Result<(), Fail> {
     for cut in place.start..place.end {
-        in_memory(rt, &read_up_to(exchange, place, cut).ok_or("no bytes")?)?;
+        in_memory(rt, &read_up_to(sent, place, cut).ok_or("no bytes")?)?;
     }
     Ok(())
 }
@@ -163,67 +163,83 @@ impl Trial for NoneBegun<'_> {
 #[test]
 fn reader_that_fails_at_each_read(rt: HostRuntime) -> Result<(), Fail> {
     let exchange = Exchange::of_one_run(rt.alloc(), &PAYMENT)?;
+    let sent = Sent {
+        exchange: &exchange,
+        size: 97,
+    };
     for place in &exchange.places {
-        assert_reads_fail(&rt, &exchange, place)?;
+        assert_reads_fail(&rt, &sent, place)?;
     }
     in_tables(&rt, &NoneBegun(&exchange))
 }
 
-/// A run whose page is full at this byte of a response: its request stands, and those behind it don't, since they are answered
-/// as usual when they are sent again.
-fn written_up_to<'a>(
-    exchange: &'a Exchange,
-    place: &Place,
+/// A run whose page is full at this byte of a response of a round: the requests up to the last one of the round stand, and
+/// those behind it don't, since they are answered as usual when they are sent again.
+pub(super) fn written_up_to<'a>(
+    sent: &Sent<'a>,
+    last: &Place,
     room: usize,
     takes_none: bool,
 ) -> Option<Broken<'a>> {
     let (input, output) = (
-        exchange.input.as_str().as_bytes(),
-        exchange.output.as_str().as_bytes(),
+        sent.exchange.input.as_str().as_bytes(),
+        sent.exchange.output.as_str().as_bytes(),
     );
     Some(Broken {
         fault: DeskFault::Write,
         input,
-        size: 4096,
+        size: sent.size,
         reads: None,
         room,
         takes_none,
         output: output.get(..room)?,
-        rest: input.get(place.end..)?,
-        responses: output.get(place.told_end..)?,
+        rest: input.get(last.end..)?,
+        responses: output.get(last.told_end..)?,
     })
 }
 
-/// Asserts that so it is at the first byte of a response, at one inside and at the last, of a page that fails and of one that
-/// takes nothing any more.
-fn assert_writes_fail(
+/// The first byte of a response, one inside, and the last.
+pub(super) fn bytes_of(place: &Place) -> [usize; 3] {
+    [
+        place.told,
+        place.told.saturating_add(20),
+        place.told_end.saturating_sub(1),
+    ]
+}
+
+/// Asserts that so it is at three bytes of a response, of a page that fails and of one that takes nothing any more.
+pub(super) fn assert_writes_fail(
     rt: &(impl Abort + AllocGlobal),
-    exchange: &Exchange,
+    sent: &Sent<'_>,
     place: &Place,
+    last: &Place,
 ) -> Result<(), Fail> {
-    let (first, last) = (place.told, place.told_end.saturating_sub(1));
-    for room in [first, first.saturating_add(20), last] {
-        let fails = written_up_to(exchange, place, room, false);
+    for room in bytes_of(place) {
+        let fails = written_up_to(sent, last, room, false);
         in_memory(rt, &fails.ok_or("no bytes")?)?;
-        let takes_none = written_up_to(exchange, place, room, true);
+        let takes_none = written_up_to(sent, last, room, true);
         in_tables(rt, &takes_none.ok_or("no bytes")?)?;
     }
     Ok(())
 }
 
-/// A writer that fails in any response, or takes nothing any more, ends the run: that request is done, and nothing behind it
-/// is.
+/// Where bytes come one at a time each request is a round of its own. A writer that fails in any response, or takes nothing
+/// any more, ends the run: that request is done, and nothing behind it is.
 #[test]
 fn writer_that_fails_in_each_response(rt: HostRuntime) -> Result<(), Fail> {
     let exchange = Exchange::of_one_run(rt.alloc(), &PAYMENT)?;
+    let sent = Sent {
+        exchange: &exchange,
+        size: 1,
+    };
     for place in &exchange.places {
-        assert_writes_fail(&rt, &exchange, place)?;
+        assert_writes_fail(&rt, &sent, place, place)?;
     }
     Ok(())
 }
 
 /// Statements after a payment, and the sums.
-const TOLD: &str = r#"
+pub(super) const TOLD: &str = r#"
 ann GET /purses/p1/statement/0 -> 200 {"lines":[{"amount":100,"balance":100,"kind":"loaded","note":"a1","number":1},{"amount":60,"balance":40,"kind":"sent","note":"p1,q1,60,0,0","number":2}]}
 ann GET /purses/p1/inbox -> 200 {"messages":[{"details":"p1,q1,60,0,0","kind":"req","number":0},{"details":"p1,q1,60,0,0","kind":"ack","number":1}]}
 operator GET /reconcile -> 200 {"balances":"100","float":"900","granted":"1000","issued":"100","lost":"0","redeemed":"0","transit":"0","uncollected":"0"}

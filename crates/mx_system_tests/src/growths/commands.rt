@@ -16,9 +16,9 @@ use std::test::Fail;
 enum Way {
     /// `decide` alone, which changes nothing.
     Decide,
-    /// `decide`, and `commit`.
+    /// `decide`, `commit` and `settle`.
     Commit,
-    /// `decide`, and `apply` of the book where there are edits.
+    /// `decide`, `apply` of the book where there are edits, and `settle`.
     Apply,
     /// `answer`.
     Answer,
@@ -53,6 +53,17 @@ fn applied(
     Ok(decided.reply)
 }
 
+/// What was done, once it is settled. It is settled also where it wasn't done, so that the next command begins anew.
+fn settled(
+    office: &mut Office<impl Book>,
+    done: Result<Reply, StoreFault>,
+) -> Result<Reply, StoreFault> {
+    let kept = office.settle();
+    let reply = done?;
+    kept?;
+    Ok(reply)
+}
+
 /// What comes of a run of the command alone. A command that is given up for whatever cause counts as want of memory.
 fn run_alone(
     alloc: Global,
@@ -78,8 +89,14 @@ fn reply_by(
 ) -> Result<Reply, StoreFault> {
     match way {
         Way::Decide => Ok(office.decide(alloc, asked.0, &asked.1)?.reply),
-        Way::Commit => committed(alloc, office, asked),
-        Way::Apply => applied(alloc, office, asked),
+        Way::Commit => {
+            let done = committed(alloc, office, asked);
+            settled(office, done)
+        }
+        Way::Apply => {
+            let done = applied(alloc, office, asked);
+            settled(office, done)
+        }
         Way::Answer => office.answer(alloc, asked.0, &asked.1),
         Way::Run => run_alone(alloc, office, asked),
     }

@@ -1,14 +1,15 @@
-use Rattle.std.proofs.Common.{◌+◌, [], ◌∷◌, ◌++◌, Ok, length, refl, sym, ap, ◌∙◌, append_assoc, arith, length-append}
+use Rattle.std.proofs.Common.{◌≡◌, ◌+◌, ◌≤◌, [], ◌∷◌, ◌++◌, Ok, length, refl, sym, ap, ◌∙◌, true, append_assoc, arith, length-append}
 use Rattle.std.proofs.lemmas.Bool.{eqb-true, eqb-false}
 use Rattle.std.proofs.lemmas.List.{append-nil}
 use Rattle.std.proofs.lemmas.Result.{err_from_is_err_and}
 use Rattle.mx_desk.specs.Found.{request_view}
-use Rattle.mx_desk.specs.Knows.{KeptAt}
-use Rattle.mx_desk.specs.Serve.{world_after_one}
+use Rattle.mx_desk.specs.Knows.{RestsKnown}
+use Rattle.mx_desk.specs.Rounds.{marked_of}
+use Rattle.mx_desk.specs.Serve.{world_after}
 use Rattle.std.proofs.KnownBytes.{Appends-nil, Appends-trans, Appends-kept, Consumes-nil, Consumes-trans, Consumes-kept}
-use Rattle.mx_desk.proofs.RequestLemmas.{Whole-shorter}
 use Rattle.mx_desk.proofs.MoveLemmas.{moves_not, moves_since}
 use Rattle.mx_desk.proofs.StepLemmas.{answered_step, cut_step, turns_step, read_step, flush_step, stop_step, cut_stop_step, stop_at_end, cut_stop_at_end, nothing_step, smaller, first_now, open_room, capped_none, capped_more}
+use Rattle.mx_desk.proofs.TurnLemmas.{turn_shorter, turned}
 use Rattle.mx_desk.proofs.desk.serve_next.Goals as goal
 
 pub pieces-init : goal.pieces-init
@@ -21,53 +22,81 @@ pieces-init g c = record {
   wrote = Appends-nil _;
   office = refl;
   callers = refl;
+  alone = refl;
 }
 
-pub returns-in_err-reply-in-Whole-clause-steps : goal.returns-in_err-reply-in-Whole-clause-steps
-returns-in_err-reply-in-Whole-clause-steps g c = λ w low kept.
-    let p = err_from_is_err_and c.from_residual.result c.from_residual.ensures.1 in
-    let still : KeptAt g.B.Book.doubt g.B.Book.rows g.B.Book.spells c.pieces.office.book c.pieces.workspace.callers w = rw (c.pieces.invariant.office, c.pieces.invariant.callers) kept in
-    let err = c.in_err-reply-in-Whole.ensures.err w low still in
+pub returns-in_err-respond-in-Whole-clause-steps : goal.returns-in_err-respond-in-Whole-clause-steps
+returns-in_err-respond-in-Whole-clause-steps g c = λ w low kept.
+    let b = g.B.Book in
+    let start : RestsKnown b.doubt b.rows b.spells b.settled c.pieces.office.book c.pieces.workspace.callers w = rw (c.pieces.invariant.office, c.pieces.invariant.callers) kept in
     let came = c.pieces.invariant.came in
-    let less = err.cut in
-    rw (p.1, p.2, c.in_err-reply-in-Whole.ensures.fault.0) (record {
-      end = world_after_one w err.marked;
-      marked = err.marked ∷ [];
-      moves = moves_since _ w _ _ (ap (λ o. o.book) c.pieces.invariant.office) err.moves;
-      holds =
-          cut_step g.B.Book.fails _ _ c.pieces.input (request_view c.in-Whole.request) c.in-Whole.end err.marked err.count
-          (record { came = came.0; consumed = came.1; pending_is = came.2 })
-          (rw c.pending.ensures.value at c.in-Whole.ensures.1)
-          err.request err.marks (omega (arith, less))
-          (Appends-trans _ _ _ [] _ c.pieces.invariant.wrote err.wrote)
-          refl;
+    let whole = rw c.pending.ensures.value at c.in-Whole.ensures.1 in
+    let first = first_now c.pieces.input (request_view c.in-Whole.request) c.in-Whole.end whole in
+    let one = c.hold-goes_on.ensures.holds in
+    let is_one : c.hold-goes_on.new.workspace.round.held.items ≡ one.0 ∷ [] = one.1 ∙ ap (λ l. l ++ one.0 ∷ []) c.clear.ensures in
+    let few = (let fits = c.len-count.ensures.fits in rw c.len-count.ensures.value at fits) in
+    let t = turned b _ _ _ _ _ _ one.0 (request_view c.in-Whole.request) _ _ c.pieces.input _ _ (rw c.forget.ensures first) one.2 c.hold_more.ensures.holds is_one
+    _ g.met.B.Book.steady g.met.B.Book.rest g.met.B.Book.deep _ w _ _ c.respond.result start few c.respond.ensures.responds low in
+    let alone : c.args.workspace.now.round.alone ≡ true → length (marked_of t.round) ≤ 1 = λ alone.
+    let same = c.hold_more.ensures.one (c.hold-goes_on.ensures.alone ∙ c.pieces.invariant.alone ∙ alone) in
+    let few = sym t.count ∙ ap length (same ∙ is_one) in
+    omega (arith, few) in
+    let p = err_from_is_err_and c.from_residual.result c.from_residual.ensures.1 in
+    let cut = t.err c.in_err-respond-in-Whole.field-0.0 c.in_err-respond-in-Whole.was in
+    let less = cut.1 in
+    rw (p.1, p.2, c.in_err-respond-in-Whole.ensures.fault.0) (record {
+      end = world_after w (marked_of t.round);
+      rounds = t.round ∷ [];
+      moves = moves_since _ w _ _ (ap (λ o. o.book) c.pieces.invariant.office) t.moves;
+      holds = rw (append-nil (marked_of t.round)) (
+        cut_step b.fails _ _ c.pieces.input _ (marked_of t.round) cut.0 (record { came = came.0; consumed = came.1; pending_is = came.2 })
+            t.begins t.few t.marks (omega (arith, less)) (Appends-trans _ _ _ [] _ c.pieces.invariant.wrote cut.2) refl,
+        alone,
+      );
     })
 
 pub returns-in-Whole-clause-steps : goal.returns-in-Whole-clause-steps
 returns-in-Whole-clause-steps g c = λ w low kept.
-    let still : KeptAt g.B.Book.doubt g.B.Book.rows g.B.Book.spells c.pieces.office.book c.pieces.workspace.callers w = rw (c.pieces.invariant.office, c.pieces.invariant.callers) kept in
-    let ok = c.in_ok-reply-in-Whole.ensures.ok w low still in
+    let b = g.B.Book in
+    let start : RestsKnown b.doubt b.rows b.spells b.settled c.pieces.office.book c.pieces.workspace.callers w = rw (c.pieces.invariant.office, c.pieces.invariant.callers) kept in
     let came = c.pieces.invariant.came in
+    let whole = rw c.pending.ensures.value at c.in-Whole.ensures.1 in
+    let first = first_now c.pieces.input (request_view c.in-Whole.request) c.in-Whole.end whole in
+    let one = c.hold-goes_on.ensures.holds in
+    let is_one : c.hold-goes_on.new.workspace.round.held.items ≡ one.0 ∷ [] = one.1 ∙ ap (λ l. l ++ one.0 ∷ []) c.clear.ensures in
+    let few = (let fits = c.len-count.ensures.fits in rw c.len-count.ensures.value at fits) in
+    let t = turned b _ _ _ _ _ _ one.0 (request_view c.in-Whole.request) _ _ c.pieces.input _ _ (rw c.forget.ensures first) one.2 c.hold_more.ensures.holds is_one
+    _ g.met.B.Book.steady g.met.B.Book.rest g.met.B.Book.deep _ w _ _ c.respond.result start few c.respond.ensures.responds low in
+    let alone : c.args.workspace.now.round.alone ≡ true → length (marked_of t.round) ≤ 1 = λ alone.
+    let same = c.hold_more.ensures.one (c.hold-goes_on.ensures.alone ∙ c.pieces.invariant.alone ∙ alone) in
+    let few = sym t.count ∙ ap length (same ∙ is_one) in
+    omega (arith, few) in
+    let wrote = t.ok _ c.in_ok-respond-in-Whole.was in
+    let shorter = turn_shorter b _ _ _ _ _ _ one.0 (request_view c.in-Whole.request) _ _ c.pieces.input _ _ (rw c.forget.ensures first) one.2 c.hold_more.ensures.holds is_one in
+    let same = c.len-count.ensures.value in
+    let more = shorter.0 in
     record {
-      end = world_after_one w ok.marked;
-      marked = ok.marked ∷ [];
-      moves = moves_since _ w _ _ (ap (λ o. o.book) c.pieces.invariant.office) ok.moves;
-      holds =
-          answered_step g.B.Book.fails _ _ c.pieces.input (request_view c.in-Whole.request) c.in-Whole.end ok.marked
-          (record { came = came.0; consumed = came.1; pending_is = came.2 })
-          (rw c.pending.ensures.value at c.in-Whole.ensures.1)
-          c.forget.ensures
-          ok.request ok.marks
-          (Appends-trans _ _ _ [] _ c.pieces.invariant.wrote ok.wrote)
-          refl;
+      end = world_after w (marked_of t.round);
+      rounds = t.round ∷ [];
+      moves = moves_since _ w _ _ (ap (λ o. o.book) c.pieces.invariant.office) t.moves;
+      holds = rw (append-nil (marked_of t.round)) (
+        answered_step b.fails _ _ c.pieces.input _ (marked_of t.round) (record { came = came.0; consumed = came.1; pending_is = came.2 })
+            t.begins (same ∙ t.count) (omega (arith, same, more)) t.marks (Appends-trans _ _ _ [] _ c.pieces.invariant.wrote wrote) refl,
+        alone,
+      );
     }
 
 pub returns-in-Whole-clause-smaller : goal.returns-in-Whole-clause-smaller
-returns-in-Whole-clause-smaller g c =
+returns-in-Whole-clause-smaller g c = λ n is.
     let reads = c.pieces.invariant.reads in
     let whole = rw c.pending.ensures.value at c.in-Whole.ensures.1 in
-    λ _. smaller _ _ reads.0 _ (length c.pieces.input) _ reads.1 (λ z. ap length (reads.5 z)) c.pending.ensures.fits
-    (rw c.forget.ensures (Whole-shorter c.pieces.input _ _ (first_now c.pieces.input (request_view c.in-Whole.request) c.in-Whole.end whole)))
+    let first = first_now c.pieces.input (request_view c.in-Whole.request) c.in-Whole.end whole in
+    let one = c.hold-goes_on.ensures.holds in
+    let is_one : c.hold-goes_on.new.workspace.round.held.items ≡ one.0 ∷ [] = one.1 ∙ ap (λ l. l ++ one.0 ∷ []) c.clear.ensures in
+    let shorter = turn_shorter g.B.Book _ _ _ _ _ _ one.0 (request_view c.in-Whole.request) _ _ c.pieces.input _ _ (rw c.forget.ensures first) one.2 c.hold_more.ensures.holds is_one in
+    let same : n ≡ length c.hold_more.new.workspace.round.held.items = (let all = c.len-count.ensures.value in cc) in
+    let more = shorter.0 in
+    (omega (arith, same, more), rw same (smaller _ _ reads.0 _ (length c.pieces.input) _ _ reads.1 (λ z. ap length (reads.5 z)) c.pending.ensures.fits shorter.1))
 
 pub returns-in_err-write_stop-in-Stopped-clause-steps : goal.returns-in_err-write_stop-in-Stopped-clause-steps
 returns-in_err-write_stop-in-Stopped-clause-steps g c = λ w low kept.
@@ -77,15 +106,17 @@ returns-in_err-write_stop-in-Stopped-clause-steps g c = λ w low kept.
     let how = c.in-Stopped.ensures in
     rw (p.1, p.2, c.in_err-write_stop-in-Stopped.ensures.fault) (record {
       end = w;
-      marked = [];
+      rounds = [];
       moves = rw (c.pieces.invariant.office, c.pieces.invariant.callers) (moves_not _ w kept);
-      holds =
-          cut_stop_step g.B.Book.fails _ _ c.pieces.input c.in-Stopped.stop err.0
-          (record { came = came.0; consumed = came.1; pending_is = came.2 })
-          (rw c.pending.ensures.value at how)
-          err.1
-          (Appends-trans _ _ _ [] _ c.pieces.invariant.wrote err.2)
-          refl;
+      holds = (
+        cut_stop_step g.B.Book.fails _ _ c.pieces.input c.in-Stopped.stop err.0
+            (record { came = came.0; consumed = came.1; pending_is = came.2 })
+            (rw c.pending.ensures.value at how)
+            err.1
+            (Appends-trans _ _ _ [] _ c.pieces.invariant.wrote err.2)
+            refl,
+        λ _. omega arith,
+      );
     })
 
 pub returns-in-Stopped-clause-steps : goal.returns-in-Stopped-clause-steps
@@ -94,14 +125,16 @@ returns-in-Stopped-clause-steps g c = λ w low kept.
     let how = c.in-Stopped.ensures in
     record {
       end = w;
-      marked = [];
+      rounds = [];
       moves = rw (c.pieces.invariant.office, c.pieces.invariant.callers) (moves_not _ w kept);
-      holds =
-          stop_step g.B.Book.fails _ _ c.pieces.input c.in-Stopped.stop
-          (record { came = came.0; consumed = came.1; pending_is = came.2 })
-          (rw c.pending.ensures.value at how)
-          (Appends-trans _ _ _ [] _ c.pieces.invariant.wrote c.in_ok-write_stop-in-Stopped.ensures.ok.0)
-          refl;
+      holds = (
+        stop_step g.B.Book.fails _ _ c.pieces.input c.in-Stopped.stop
+            (record { came = came.0; consumed = came.1; pending_is = came.2 })
+            (rw c.pending.ensures.value at how)
+            (Appends-trans _ _ _ [] _ c.pieces.invariant.wrote c.in_ok-write_stop-in-Stopped.ensures.ok.0)
+            refl,
+        λ _. omega arith,
+      );
     }
 
 pub returns-in_default-clause-steps : goal.returns-in_default-clause-steps
@@ -110,15 +143,17 @@ returns-in_default-clause-steps g c = λ w low kept.
     let how = c.in-Open.ensures in
     record {
       end = w;
-      marked = [];
+      rounds = [];
       moves = rw (c.pieces.invariant.office, c.pieces.invariant.callers) (moves_not _ w kept);
-      holds =
-          nothing_step g.B.Book.fails _ _ c.pieces.input
-          (record { came = came.0; consumed = came.1; pending_is = came.2 })
-          (rw (c.pending.ensures.value, c.in_default.is) at how)
-          (c.pieces.invariant.ended c.if-ended.true)
-          c.pieces.invariant.wrote
-          refl;
+      holds = (
+        nothing_step g.B.Book.fails _ _ c.pieces.input
+            (record { came = came.0; consumed = came.1; pending_is = came.2 })
+            (rw (c.pending.ensures.value, c.in_default.is) at how)
+            (c.pieces.invariant.ended c.if-ended.true)
+            c.pieces.invariant.wrote
+            refl,
+        λ _. omega arith,
+      );
     }
 
 pub returns-in_err-write_stop-in-Open-clause-steps : goal.returns-in_err-write_stop-in-Open-clause-steps
@@ -130,16 +165,18 @@ returns-in_err-write_stop-in-Open-clause-steps g c = λ w low kept.
     let last = rw (c.pending.ensures.value, c.in-Some.is) at how in
     rw (p.1, p.2, c.in_err-write_stop-in-Open.ensures.fault) (record {
       end = w;
-      marked = [];
+      rounds = [];
       moves = rw (c.pieces.invariant.office, c.pieces.invariant.callers) (moves_not _ w kept);
-      holds =
-          cut_stop_at_end g.B.Book.fails _ _ c.pieces.input c.in-Some.stop err.0
-          (record { came = came.0; consumed = came.1; pending_is = came.2 })
-          last.0
-          (c.pieces.invariant.ended c.if-ended.true)
-          err.1
-          (Appends-trans _ _ _ [] _ c.pieces.invariant.wrote err.2)
-          refl;
+      holds = (
+        cut_stop_at_end g.B.Book.fails _ _ c.pieces.input c.in-Some.stop err.0
+            (record { came = came.0; consumed = came.1; pending_is = came.2 })
+            last.0
+            (c.pieces.invariant.ended c.if-ended.true)
+            err.1
+            (Appends-trans _ _ _ [] _ c.pieces.invariant.wrote err.2)
+            refl,
+        λ _. omega arith,
+      );
     })
 
 pub returns-in-Open-clause-steps : goal.returns-in-Open-clause-steps
@@ -149,15 +186,17 @@ returns-in-Open-clause-steps g c = λ w low kept.
     let last = rw (c.pending.ensures.value, c.in-Some.is) at how in
     record {
       end = w;
-      marked = [];
+      rounds = [];
       moves = rw (c.pieces.invariant.office, c.pieces.invariant.callers) (moves_not _ w kept);
-      holds =
-          stop_at_end g.B.Book.fails _ _ c.pieces.input c.in-Some.stop
-          (record { came = came.0; consumed = came.1; pending_is = came.2 })
-          last.0
-          (c.pieces.invariant.ended c.if-ended.true)
-          (Appends-trans _ _ _ [] _ c.pieces.invariant.wrote c.in_ok-write_stop-in-Open.ensures.ok.0)
-          refl;
+      holds = (
+        stop_at_end g.B.Book.fails _ _ c.pieces.input c.in-Some.stop
+            (record { came = came.0; consumed = came.1; pending_is = came.2 })
+            last.0
+            (c.pieces.invariant.ended c.if-ended.true)
+            (Appends-trans _ _ _ [] _ c.pieces.invariant.wrote c.in_ok-write_stop-in-Open.ensures.ok.0)
+            refl,
+        λ _. omega arith,
+      );
     }
 
 pub returns-in_err-flush_out-clause-steps : goal.returns-in_err-flush_out-clause-steps
@@ -167,15 +206,17 @@ returns-in_err-flush_out-clause-steps g c = λ w low kept.
     let how = c.in-Open.ensures in
     rw (p.1, p.2, c.in_err-flush_out.ensures.fault) (record {
       end = w;
-      marked = [];
+      rounds = [];
       moves = rw (c.pieces.invariant.office, c.pieces.invariant.callers) (moves_not _ w kept);
-      holds =
-          flush_step g.B.Book.fails _ _ c.pieces.input c.in-Open.fault
-          (record { came = came.0; consumed = came.1; pending_is = came.2 })
-          (rw c.pending.ensures.value at how)
-          refl
-          (Appends-kept _ _ _ [] c.pieces.invariant.wrote c.in_err-flush_out.ensures.bytes)
-          refl;
+      holds = (
+        flush_step g.B.Book.fails _ _ c.pieces.input c.in-Open.fault
+            (record { came = came.0; consumed = came.1; pending_is = came.2 })
+            (rw c.pending.ensures.value at how)
+            refl
+            (Appends-kept _ _ _ [] c.pieces.invariant.wrote c.in_err-flush_out.ensures.bytes)
+            refl,
+        λ _. omega arith,
+      );
     })
 
 pub returns-then-turns-eq0-clause-steps : goal.returns-then-turns-eq0-clause-steps
@@ -184,15 +225,17 @@ returns-then-turns-eq0-clause-steps g c = λ w low kept.
     let how = c.in-Open.ensures in
     record {
       end = w;
-      marked = [];
+      rounds = [];
       moves = rw (c.pieces.invariant.office, c.pieces.invariant.callers) (moves_not _ w kept);
-      holds =
-          turns_step g.B.Book.fails _ _ c.pieces.input c.in-Open.fault
-          (record { came = came.0; consumed = came.1; pending_is = came.2 })
-          (rw c.pending.ensures.value at how)
-          refl
-          (Appends-kept _ _ _ [] c.pieces.invariant.wrote c.flush_out.ensures.bytes)
-          refl;
+      holds = (
+        turns_step g.B.Book.fails _ _ c.pieces.input c.in-Open.fault
+            (record { came = came.0; consumed = came.1; pending_is = came.2 })
+            (rw c.pending.ensures.value at how)
+            refl
+            (Appends-kept _ _ _ [] c.pieces.invariant.wrote c.flush_out.ensures.bytes)
+            refl,
+        λ _. omega arith,
+      );
     }
 
 pub returns-in_err-ended-clause-steps : goal.returns-in_err-ended-clause-steps
@@ -203,15 +246,17 @@ returns-in_err-ended-clause-steps g c = λ w low kept.
     let err = c.in_err-ended.ensures.err in
     rw (p.1, p.2, c.in_err-ended.ensures.fault) (record {
       end = w;
-      marked = [];
+      rounds = [];
       moves = rw (c.pieces.invariant.office, c.pieces.invariant.callers) (moves_not _ w kept);
-      holds =
-          read_step g.B.Book.fails _ _ c.pieces.input c.in-Open.fault
-          (record { came = came.0; consumed = Consumes-kept _ _ _ came.0 came.1 err.1; pending_is = came.2 })
-          (rw c.pending.ensures.value at how)
-          err.0
-          (Appends-kept _ _ _ [] c.pieces.invariant.wrote c.flush_out.ensures.bytes)
-          refl;
+      holds = (
+        read_step g.B.Book.fails _ _ c.pieces.input c.in-Open.fault
+            (record { came = came.0; consumed = Consumes-kept _ _ _ came.0 came.1 err.1; pending_is = came.2 })
+            (rw c.pending.ensures.value at how)
+            err.0
+            (Appends-kept _ _ _ [] c.pieces.invariant.wrote c.flush_out.ensures.bytes)
+            refl,
+        λ _. omega arith,
+      );
     })
 
 pub returns-in_err-ended-clause-reads : goal.returns-in_err-ended-clause-reads
@@ -243,4 +288,5 @@ pieces-preserved g c =
       wrote = Appends-kept _ _ _ [] c.pieces.invariant.wrote c.flush_out.ensures.bytes;
       office = c.pieces.invariant.office;
       callers = c.pieces.invariant.callers;
+      alone = c.pieces.invariant.alone;
     }

@@ -13,6 +13,7 @@ invariant-pieces g l = record {
   wrote : Appends (g.W.Write.contents l.fn.writer.device) (g.W.Write.contents l.writer.device) [];
   office : l.office ≡ l.fn.office;
   callers : l.workspace.callers ≡ l.fn.workspace.callers;
+  alone : l.workspace.round.alone ≡ l.fn.workspace.round.alone;
 }
 
 abbrev pub decreases-pieces : goal.decreases-pieces

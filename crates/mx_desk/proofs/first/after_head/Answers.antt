@@ -11,9 +11,9 @@ returns-in-Err c =
     let at = c.requires.at.1 in
     let few = c.requires.within.section.count_fits in
     let framed = c.in-Err.ensures in
-    let is_head = c.eq-is_head.ensures in
+    let stop = c.stop_of.ensures in
     let method = c.of-method.ensures ∙ at.method in
-    λ more. rw (is_head, method, c.as_slice.ensures) (
+    λ more. rw (stop, method) (
     refused_at (c.args.bytes.now ++ more) h (drop c.args.head.now.len c.args.bytes.now ++ more) c.in-Err.reason
     (head_at c.args.bytes.now more c.args.fields.now c.args.head.now h at c.requires.short (omega (arith, c.requires.few)))
     (sym (rw at.fields at framed)))
@@ -26,9 +26,9 @@ returns-then-bytes-head c =
     let framed = c.in-Ok.ensures in
     let frames = sym (rw at.fields at framed) in
     let small = framing_small (fields_of h) c.in-Ok.len frames in
-    let is_head = c.eq-is_head.ensures in
+    let stop = c.stop_of-then-bytes-head.ensures in
     let method = c.of-method.ensures ∙ at.method in (
-      rw (is_head, method, c.as_slice.ensures) (
+      rw (stop, method) (
           cut_at c.args.bytes.now h c.args.head.now.len c.in-Ok.len
           (head_at c.args.bytes.now [] c.args.fields.now c.args.head.now h at c.requires.short (omega (arith, c.requires.few)))
           frames

@@ -27,5 +27,6 @@ returns-else-bytes-ge-MAX_HEAD c =
 
 pub returns-in-Err : goal.returns-in-Err
 returns-in-Err c =
+    let no_room = c.in-Err.ensures.no_room in
     let some = eqb-false _ _ (sym c.if-is_empty.ensures) in
-    λ more. no_head (simp length-append (omega arith)) (too_many c.args.bytes.now more c.in-Err.ensures.no_room)
+    λ more. no_head (simp length-append (omega arith)) (too_many c.args.bytes.now more (rw c.told-fields at no_room))

@@ -26,7 +26,7 @@ returns-clause-lives g c = λ w books clean.
     let led = c.in_ok-left.ensures.lives w (books_found c.in_ok-store.store c.args.files w first.now books finds opens refl) end in
     record {
       end = led.end;
-      marked = led.marked;
+      rounds = led.rounds;
       holds = led.holds;
       moves = books_closed c.in_ok-left.left c.in_ok-closed.field-0 led.end (λ _. c.in_ok-left.ensures.ours) (λ _. led.moves) (c.in_ok-closed.ensures.sound done.was_open) done;
     }

@@ -5,4 +5,4 @@ use Rattle.mx_lives.proofs.files.new_files.Goals as goal
 
 pub returns-clause-made : goal.returns-clause-made
 returns-clause-made g c = IfSome_then c.closed.result c.closed.ensures.copied (λ left copied clean.
-    books_closed c.in-Ok.made left (opening c.args.operator) (λ sure. (c.in-Ok.ensures.lasts sure).ours) c.in-Ok.ensures.made (c.closed.ensures.sound (copied clean).was_open) (copied clean))
+    books_closed c.in-Ok.made left (opening c.args.operator) (λ _. c.in-Ok.ensures.ours) c.in-Ok.ensures.made (c.closed.ensures.sound (copied clean).was_open) (copied clean))

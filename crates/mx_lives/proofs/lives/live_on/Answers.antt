@@ -9,8 +9,9 @@ use Rattle.mx_lives.proofs.lives.live_on.Goals as goal
 pub inputs-init : goal.inputs-init
 inputs-init g c = record {
   awake = c.in-Ok.ensures.live;
-  calm = sure_before (state g.S.Store c.args.store) (state g.S.Store c.in-Ok.opened) c.in-Ok.ensures.later;
-  led = λ w spelled sure. rw c.new-lives.ensures.items (lived_none _ w (opened_spells (state g.S.Store c.args.store).now (state g.S.Store c.in-Ok.opened) w c.in-Ok.ensures.ours (c.in-Ok.ensures.same sure) sure spelled));
+  settled = c.in-Ok.ensures.settled;
+  calm = sure_before (state g.S.Store c.args.store) (state g.S.Store c.in-Ok.opened.0) c.in-Ok.ensures.later;
+  led = λ w spelled sure. rw c.new-lives.ensures.items (lived_none _ w (opened_spells (state g.S.Store c.args.store).now (state g.S.Store c.in-Ok.opened.0) w c.in-Ok.ensures.ours (c.in-Ok.ensures.same sure) sure spelled));
 }
 
 pub inputs-preserved : goal.inputs-preserved
@@ -22,11 +23,12 @@ inputs-preserved g c =
     let this = get_or-map (λ input. input.now) c.args.inputs.now c.inputs.input-index _ [] c.inputs-test.true in
     record {
       awake = c.in_ok-again.ensures.awake;
-      calm = λ sure. c.inputs.invariant.calm (c.inputs.invariant.awake (c.in_ok-again.ensures.calm sure));
+      settled = c.in_ok-again.ensures.settled;
+      calm = λ sure. c.inputs.invariant.calm (c.inputs.invariant.awake (c.in_ok-again.ensures.calm c.inputs.invariant.settled sure));
       led = λ w spelled sure.
-          let was = c.inputs.invariant.awake (c.in_ok-again.ensures.calm sure) in
+          let was = c.inputs.invariant.awake (c.in_ok-again.ensures.calm c.inputs.invariant.settled sure) in
           rw pushed (rw (take_more texts c.inputs.input-index [] below, this)
-          (lived_next _ (SpellsOne (state g.S.Store c.in_ok-again.again).now) _ _ _ c.in_ok-again.life w (c.inputs.invariant.led w spelled was) (λ v here. c.in_ok-again.ensures.lives v was here sure)));
+          (lived_next _ (SpellsOne (state g.S.Store c.in_ok-again.again.0).now) _ _ _ c.in_ok-again.life w (c.inputs.invariant.led w spelled was) (λ v here. c.in_ok-again.ensures.lives v c.inputs.invariant.settled was here sure)));
     }
 
 pub returns : goal.returns
@@ -37,6 +39,6 @@ returns g c =
     let all = take_all c.inputs.input-index texts past in
     record {
       calm = λ sure. c.inputs.invariant.calm (rw c.into_store.ensures.same at sure);
-      ours = c.into_store.ensures.ours;
+      ours = c.into_store.ensures.ours c.inputs.invariant.settled;
       lives = λ w spelled sure. rw c.into_store.ensures.same (rw all at (c.inputs.invariant.led w spelled (rw c.into_store.ensures.same at sure)));
     }

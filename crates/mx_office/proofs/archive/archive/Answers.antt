@@ -10,7 +10,7 @@ returns-in_err-has_purse g c =
 pub returns-then-not-branch : goal.returns-then-not-branch
 returns-then-not-branch g c =
     let has_purse = so_far g.B.Book c.in_ok-has_purse.ensures.keeps c.in_ok-has_purse.ensures.value in
-    tells_so g.B.Book has_purse c.in_ok-has_purse.ensures.answered (λ w spelled known. (archive_refused w _ _ (g.met.B.Book.sound _ w spelled) (sym known ∙ c.if-not-branch.true) c.refuse.ensures.reply c.refuse.ensures.edits, λ none. c.refuse.ensures.edits))
+    tells_so g.B.Book has_purse (λ w spelled known. (archive_refused w _ _ (g.met.B.Book.sound _ w spelled) (sym known ∙ c.if-not-branch.true) c.refuse.ensures.reply c.refuse.ensures.edits, λ none. c.refuse.ensures.edits))
 
 pub returns-in_err-tray : goal.returns-in_err-tray
 returns-in_err-tray g c =
@@ -20,10 +20,10 @@ pub returns-then-results-eq0 : goal.returns-then-results-eq0
 returns-then-results-eq0 g c =
     let has_purse = so_far g.B.Book c.in_ok-has_purse.ensures.keeps c.in_ok-has_purse.ensures.value in
     let tray = so_more g.B.Book has_purse c.in_ok-tray.ensures.keeps c.in_ok-tray.ensures.value in
-    tells_so g.B.Book tray c.in_ok-tray.ensures.answered (λ w spelled known. (nothing_archived w _ _ (g.met.B.Book.sound _ w spelled) (sym known.0 ∙ c.if-not-branch.false) (search rules) c.tell.ensures.reply c.tell.ensures.edits, λ none. c.tell.ensures.edits))
+    tells_so g.B.Book tray (λ w spelled known. (nothing_archived w _ _ (g.met.B.Book.sound _ w spelled) (sym known.0 ∙ c.if-not-branch.false) (search rules) c.tell.ensures.reply c.tell.ensures.edits, λ none. c.tell.ensures.edits))
 
 pub returns-else-results-eq0 : goal.returns-else-results-eq0
 returns-else-results-eq0 g c =
     let has_purse = so_far g.B.Book c.in_ok-has_purse.ensures.keeps c.in_ok-has_purse.ensures.value in
     let tray = so_more g.B.Book has_purse c.in_ok-tray.ensures.keeps c.in_ok-tray.ensures.value in
-    tells_so g.B.Book tray c.in_ok-tray.ensures.answered (λ w spelled known. (archive_decides w _ _ (g.met.B.Book.sound _ w spelled) c.len-results.result (sym known.0 ∙ c.if-not-branch.false) (search rules) c.make.ensures.reply c.make.ensures.edits, λ none. search rules))
+    tells_so g.B.Book tray (λ w spelled known. (archive_decides w _ _ (g.met.B.Book.sound _ w spelled) c.len-results.result (sym known.0 ∙ c.if-not-branch.false) (search rules) c.make.ensures.reply c.make.ensures.edits, λ none. search rules))

@@ -10,7 +10,7 @@ returns-in_err-has_purse g c =
 pub returns-then-not-branch : goal.returns-then-not-branch
 returns-then-not-branch g c =
     let has_purse = so_far g.B.Book c.in_ok-has_purse.ensures.keeps c.in_ok-has_purse.ensures.value in
-    tells_so g.B.Book has_purse c.in_ok-has_purse.ensures.answered (λ w spelled known. ((λ valid. no_clear w _ _ _ (g.met.B.Book.sound _ w spelled) (sym known ∙ c.if-not-branch.true) c.refuse.ensures.reply c.refuse.ensures.edits), λ none. c.refuse.ensures.edits))
+    tells_so g.B.Book has_purse (λ w spelled known. ((λ valid. no_clear w _ _ _ (g.met.B.Book.sound _ w spelled) (sym known ∙ c.if-not-branch.true) c.refuse.ensures.reply c.refuse.ensures.edits), λ none. c.refuse.ensures.edits))
 
 pub returns-in_err-may_clear : goal.returns-in_err-may_clear
 returns-in_err-may_clear g c =
@@ -20,7 +20,7 @@ pub returns-then-not-branch-2 : goal.returns-then-not-branch-2
 returns-then-not-branch-2 g c =
     let has_purse = so_far g.B.Book c.in_ok-has_purse.ensures.keeps c.in_ok-has_purse.ensures.value in
     let may_clear = so_more g.B.Book has_purse c.in_ok-may_clear.ensures.keeps c.in_ok-may_clear.ensures.value in
-    tells_so g.B.Book may_clear (c.in_ok-may_clear.ensures.answered c.in_ok-has_purse.ensures.answered) (λ w spelled known. ((λ valid. not_archived w _ _ _ (g.met.B.Book.sound _ w spelled) (sym known.0 ∙ c.if-not-branch.false) (sym known.1 ∙ c.if-not-branch-2.true) c.refuse-then-not-branch-2.ensures.reply c.refuse-then-not-branch-2.ensures.edits), λ none. c.refuse-then-not-branch-2.ensures.edits))
+    tells_so g.B.Book may_clear (λ w spelled known. ((λ valid. not_archived w _ _ _ (g.met.B.Book.sound _ w spelled) (sym known.0 ∙ c.if-not-branch.false) (sym known.1 ∙ c.if-not-branch-2.true) c.refuse-then-not-branch-2.ensures.reply c.refuse-then-not-branch-2.ensures.edits), λ none. c.refuse-then-not-branch-2.ensures.edits))
 
 pub returns-in_err-finds_place : goal.returns-in_err-finds_place
 returns-in_err-finds_place g c =
@@ -31,11 +31,11 @@ returns-then-not-branch-3 g c =
     let has_purse = so_far g.B.Book c.in_ok-has_purse.ensures.keeps c.in_ok-has_purse.ensures.value in
     let may_clear = so_more g.B.Book has_purse c.in_ok-may_clear.ensures.keeps c.in_ok-may_clear.ensures.value in
     let finds_place = so_more g.B.Book may_clear c.in_ok-finds_place.ensures.keeps c.in_ok-finds_place.ensures.value in
-    tells_so g.B.Book finds_place c.in_ok-finds_place.ensures.answered (λ w spelled known. ((λ valid. clear_decides w _ _ _ (g.met.B.Book.sound _ w spelled) valid.1 (sym known.0.0 ∙ c.if-not-branch.false) (sym known.0.1 ∙ c.if-not-branch-2.false) c.tell.ensures.reply (search rules)), λ none. c.tell.ensures.edits))
+    tells_so g.B.Book finds_place (λ w spelled known. ((λ valid. clear_decides w _ _ _ (g.met.B.Book.sound _ w spelled) valid.1 (sym known.0.0 ∙ c.if-not-branch.false) (sym known.0.1 ∙ c.if-not-branch-2.false) c.tell.ensures.reply (search rules)), λ none. c.tell.ensures.edits))
 
 pub returns : goal.returns
 returns g c =
     let has_purse = so_far g.B.Book c.in_ok-has_purse.ensures.keeps c.in_ok-has_purse.ensures.value in
     let may_clear = so_more g.B.Book has_purse c.in_ok-may_clear.ensures.keeps c.in_ok-may_clear.ensures.value in
     let finds_place = so_more g.B.Book may_clear c.in_ok-finds_place.ensures.keeps c.in_ok-finds_place.ensures.value in
-    tells_so g.B.Book finds_place c.in_ok-finds_place.ensures.answered (λ w spelled known. ((λ valid. clear_decides w _ _ _ (g.met.B.Book.sound _ w spelled) valid.1 (sym known.0.0 ∙ c.if-not-branch.false) (sym known.0.1 ∙ c.if-not-branch-2.false) c.make.ensures.reply (search rules)), λ none. search rules))
+    tells_so g.B.Book finds_place (λ w spelled known. ((λ valid. clear_decides w _ _ _ (g.met.B.Book.sound _ w spelled) valid.1 (sym known.0.0 ∙ c.if-not-branch.false) (sym known.0.1 ∙ c.if-not-branch-2.false) c.make.ensures.reply (search rules)), λ none. search rules))

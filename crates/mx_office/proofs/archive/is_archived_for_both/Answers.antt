@@ -9,9 +9,9 @@ returns-in_err-archived g c =
 pub returns-then-not-branch : goal.returns-then-not-branch
 returns-then-not-branch g c =
     let archived = so_far g.B.Book c.in_ok-archived.ensures.keeps c.in_ok-archived.ensures.value in
-    tells_so g.B.Book archived c.in_ok-archived.ensures.answered (λ w spelled known. search rules)
+    tells_so g.B.Book archived (λ w spelled known. search rules)
 
 pub returns : goal.returns
 returns g c =
     let archived = so_far g.B.Book c.in_ok-archived.ensures.keeps c.in_ok-archived.ensures.value in
-    tells_then g.B.Book archived (record { keeps = c.archived-2.ensures.keeps; answered = c.archived-2.ensures.answered; value = c.archived-2.ensures.value; fault = c.archived-2.ensures.fault }) (λ w spelled known x is. search rules)
+    tells_then g.B.Book archived (record { keeps = c.archived-2.ensures.keeps; value = c.archived-2.ensures.value; fault = c.archived-2.ensures.fault }) (λ w spelled known x is. search rules)

@@ -12,7 +12,6 @@ pub loop-place-preserved : goal.loop-place-preserved
 loop-place-preserved g c = elim c.match-at.branch [
   | in-Some+in_ok-archived+else-not-branch x ↦ record {
     keeps = search rules;
-    working = search rules;
     all = λ w honest spelled. archived_more w _ _ c.loop-place.place x.in-Some.entry (search rules) (search rules) (search rules);
   }
   | in_default x ↦ absurd (no_gap c.args.details.now c.loop-place.place (search rules) (search rules))

@@ -11,7 +11,7 @@ returns-in_err-held g c = tells_fault g.B.Book _ c.in_err-held.ensures.keeps c.i
 pub returns-in_default : goal.returns-in_default
 returns-in_default g c =
     let held = so_far g.B.Book c.in_ok-held.ensures.keeps c.in_ok-held.ensures.value in
-    tells_so g.B.Book held c.in_ok-held.ensures.answered (λ w spelled known. λ valid. refused_decides w _ _ NoSuchHolder _ (g.met.B.Book.sound _ w spelled) (first _ _ _ (no_holder w _ _ (sym known ∙ c.in_default.is))) c.refuse.ensures.reply c.refuse.ensures.edits)
+    tells_so g.B.Book held (λ w spelled known. λ valid. refused_decides w _ _ NoSuchHolder _ (g.met.B.Book.sound _ w spelled) (first _ _ _ (no_holder w _ _ (sym known ∙ c.in_default.is))) c.refuse.ensures.reply c.refuse.ensures.edits)
 
 pub returns-in_err-has_purse : goal.returns-in_err-has_purse
 returns-in_err-has_purse g c =
@@ -21,13 +21,13 @@ pub returns-then-branch : goal.returns-then-branch
 returns-then-branch g c =
     let held = so_far g.B.Book c.in_ok-held.ensures.keeps c.in_ok-held.ensures.value in
     let has_purse = so_more g.B.Book held c.in_ok-has_purse.ensures.keeps c.in_ok-has_purse.ensures.value in
-    tells_so g.B.Book has_purse c.in_ok-has_purse.ensures.answered (λ w spelled known. λ valid. refused_decides w _ _ NameTaken _ (g.met.B.Book.sound _ w spelled) (next _ _ _ _ (a_holder w _ _ c.in-Some.held (sym known.0 ∙ c.in-Some.is)) (first _ _ _ (sym known.1 ∙ c.if-branch.true))) c.refuse-then-branch.ensures.reply c.refuse-then-branch.ensures.edits)
+    tells_so g.B.Book has_purse (λ w spelled known. λ valid. refused_decides w _ _ NameTaken _ (g.met.B.Book.sound _ w spelled) (next _ _ _ _ (a_holder w _ _ c.in-Some.held (sym known.0 ∙ c.in-Some.is)) (first _ _ _ (sym known.1 ∙ c.if-branch.true))) c.refuse-then-branch.ensures.reply c.refuse-then-branch.ensures.edits)
 
 pub returns-then-held-ge-MOST_PURSES : goal.returns-then-held-ge-MOST_PURSES
 returns-then-held-ge-MOST_PURSES g c =
     let held = so_far g.B.Book c.in_ok-held.ensures.keeps c.in_ok-held.ensures.value in
     let has_purse = so_more g.B.Book held c.in_ok-has_purse.ensures.keeps c.in_ok-has_purse.ensures.value in
-    tells_so g.B.Book has_purse c.in_ok-has_purse.ensures.answered (λ w spelled known. λ valid. refused_decides w _ _ TooManyPurses _ (g.met.B.Book.sound _ w spelled)
+    tells_so g.B.Book has_purse (λ w spelled known. λ valid. refused_decides w _ _ TooManyPurses _ (g.met.B.Book.sound _ w spelled)
     (next _ _ _ _ (a_holder w _ _ c.in-Some.held (sym known.0 ∙ c.in-Some.is)) (next _ _ _ _ (sym known.1 ∙ c.if-branch.false) (first _ _ _ (many_held w c.args.member _ c.in-Some.held _ (sym known.0 ∙ c.in-Some.is) (search rules)))))
     c.refuse-then-held-ge-MOST_PURSES.ensures.reply c.refuse-then-held-ge-MOST_PURSES.ensures.edits)
 
@@ -35,4 +35,4 @@ pub returns : goal.returns
 returns g c =
     let held = so_far g.B.Book c.in_ok-held.ensures.keeps c.in_ok-held.ensures.value in
     let has_purse = so_more g.B.Book held c.in_ok-has_purse.ensures.keeps c.in_ok-has_purse.ensures.value in
-    tells_so g.B.Book has_purse c.in_ok-has_purse.ensures.answered (λ w spelled known. λ valid. new_purse_decides w _ _ _ _ (g.met.B.Book.sound _ w spelled) valid.0 (a_holder w _ _ c.in-Some.held (sym known.0 ∙ c.in-Some.is)) (sym known.1 ∙ c.if-branch.false) (many_held w c.args.member _ c.in-Some.held _ (sym known.0 ∙ c.in-Some.is) (search rules)) c.make.ensures.reply c.make.ensures.edits)
+    tells_so g.B.Book has_purse (λ w spelled known. λ valid. new_purse_decides w _ _ _ _ (g.met.B.Book.sound _ w spelled) valid.0 (a_holder w _ _ c.in-Some.held (sym known.0 ∙ c.in-Some.is)) (sym known.1 ∙ c.if-branch.false) (many_held w c.args.member _ c.in-Some.held _ (sym known.0 ∙ c.in-Some.is) (search rules)) c.make.ensures.reply c.make.ensures.edits)

@@ -23,9 +23,8 @@ loop-member-preserved g c =
                   known.0.0 c.loop-member-test.true c.member-item.is known.0.1 known.1 c.saturating_add-sum.ensures,
             );
       };
-      working = c.in_ok-granted_of.ensures.answered;
     }
 
 pub returns : goal.returns
 returns g c =
-    tells_so g.B.Book c.loop-member.invariant.far c.loop-member.invariant.working (λ w spelled known. granted_all w c.loop-member.member-index _ c.loop-member.sum known.0 c.loop-member-test.false known.1)
+    tells_so g.B.Book c.loop-member.invariant.far (λ w spelled known. granted_all w c.loop-member.member-index _ c.loop-member.sum known.0 c.loop-member-test.false known.1)

@@ -12,7 +12,7 @@ returns-in_err-row g c = tells_fault g.B.Book _ c.in_err-row.ensures.keeps c.in_
 pub returns-in_default : goal.returns-in_default
 returns-in_default g c =
     let row = so_far g.B.Book c.in_ok-row.ensures.keeps c.in_ok-row.ensures.value in
-    tells_so g.B.Book row c.in_ok-row.ensures.answered (λ w spelled known. refused_decides w _ _ NoSuchMember _ (g.met.B.Book.sound _ w spelled) (first _ _ _ (ap is_none (sym known ∙ c.in_default.is))) c.refuse.ensures.reply c.refuse.ensures.edits)
+    tells_so g.B.Book row (λ w spelled known. refused_decides w _ _ NoSuchMember _ (g.met.B.Book.sound _ w spelled) (first _ _ _ (ap is_none (sym known ∙ c.in_default.is))) c.refuse.ensures.reply c.refuse.ensures.edits)
 
 pub returns-in_err-uncollected : goal.returns-in_err-uncollected
 returns-in_err-uncollected g c =
@@ -22,7 +22,7 @@ pub returns-then-float-gt-MOST : goal.returns-then-float-gt-MOST
 returns-then-float-gt-MOST g c =
     let row = so_far g.B.Book c.in_ok-row.ensures.keeps c.in_ok-row.ensures.value in
     let uncollected = so_more g.B.Book row c.in_ok-uncollected.ensures.keeps c.in_ok-uncollected.ensures.value in
-    tells_so g.B.Book uncollected c.in_ok-uncollected.ensures.answered (λ w spelled known. refused_decides w _ _ FloatFull _ (g.met.B.Book.sound _ w spelled)
+    tells_so g.B.Book uncollected (λ w spelled known. refused_decides w _ _ FloatFull _ (g.met.B.Book.sound _ w spelled)
     (full_collect w _ c.in-Some.row c.in_ok-uncollected.uncollected c.saturating_add-float.result (sym known.0 ∙ c.in-Some.is) known.1 c.saturating_add-float.ensures c.if-float-gt-MOST.true)
     c.refuse-then-float-gt-MOST.ensures.reply c.refuse-then-float-gt-MOST.ensures.edits)
 
@@ -30,4 +30,4 @@ pub returns : goal.returns
 returns g c =
     let row = so_far g.B.Book c.in_ok-row.ensures.keeps c.in_ok-row.ensures.value in
     let uncollected = so_more g.B.Book row c.in_ok-uncollected.ensures.keeps c.in_ok-uncollected.ensures.value in
-    tells_so g.B.Book uncollected c.in_ok-uncollected.ensures.answered (λ w spelled known. collect_decides w _ c.in-Some.row c.in_ok-uncollected.uncollected c.saturating_add-float.result (sym known.0 ∙ c.in-Some.is) known.1 c.saturating_add-float.ensures _ (g.met.B.Book.sound _ w spelled) c.if-float-gt-MOST.false c.make.ensures.reply (search rules))
+    tells_so g.B.Book uncollected (λ w spelled known. collect_decides w _ c.in-Some.row c.in_ok-uncollected.uncollected c.saturating_add-float.result (sym known.0 ∙ c.in-Some.is) known.1 c.saturating_add-float.ensures _ (g.met.B.Book.sound _ w spelled) c.if-float-gt-MOST.false c.make.ensures.reply (search rules))

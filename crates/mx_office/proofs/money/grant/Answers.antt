@@ -15,7 +15,7 @@ returns-in_err-row g c =
 pub returns-in_default : goal.returns-in_default
 returns-in_default g c =
     let row = so_far g.B.Book c.in_ok-row.ensures.keeps c.in_ok-row.ensures.value in
-    record { tells = tells_so g.B.Book row c.in_ok-row.ensures.answered (λ w spelled known. refused_decides w _ _ NoSuchMember _ (g.met.B.Book.sound _ w spelled) (first _ _ _ (ap is_none (sym known ∙ c.in_default.is))) c.refuse.ensures.reply c.refuse.ensures.edits); memory = λ w sure spelled. tt }
+    record { tells = tells_so g.B.Book row (λ w spelled known. refused_decides w _ _ NoSuchMember _ (g.met.B.Book.sound _ w spelled) (first _ _ _ (ap is_none (sym known ∙ c.in_default.is))) c.refuse.ensures.reply c.refuse.ensures.edits); memory = λ w sure spelled. tt }
 
 pub returns-in_err-all_granted : goal.returns-in_err-all_granted
 returns-in_err-all_granted g c =
@@ -26,7 +26,7 @@ returns-then-saturating_add-gt-MOST g c =
     let row = so_far g.B.Book c.in_ok-row.ensures.keeps c.in_ok-row.ensures.value in
     let all_granted = so_more g.B.Book row c.in_ok-all_granted.ensures.keeps c.in_ok-all_granted.ensures.value in
     record {
-      tells = tells_so g.B.Book all_granted c.in_ok-all_granted.ensures.answered (λ w spelled known. refused_decides w _ _ GrantTooLarge _ (g.met.B.Book.sound _ w spelled)
+      tells = tells_so g.B.Book all_granted (λ w spelled known. refused_decides w _ _ GrantTooLarge _ (g.met.B.Book.sound _ w spelled)
           (large_grant w _ _ c.in-Some.row c.in_ok-all_granted.field-0 c.saturating_add.result (sym known.0 ∙ c.in-Some.is) known.1 (search rules) c.if-saturating_add-gt-MOST.true) c.refuse-then-saturating_add-gt-MOST.ensures.reply c.refuse-then-saturating_add-gt-MOST.ensures.edits);
       memory = λ w sure spelled. tt;
     }
@@ -36,7 +36,7 @@ returns-then-row-more-gt-MOST g c =
     let row = so_far g.B.Book c.in_ok-row.ensures.keeps c.in_ok-row.ensures.value in
     let all_granted = so_more g.B.Book row c.in_ok-all_granted.ensures.keeps c.in_ok-all_granted.ensures.value in
     record {
-      tells = tells_so g.B.Book all_granted c.in_ok-all_granted.ensures.answered (λ w spelled known. refused_decides w _ _ FloatFull _ (g.met.B.Book.sound _ w spelled)
+      tells = tells_so g.B.Book all_granted (λ w spelled known. refused_decides w _ _ FloatFull _ (g.met.B.Book.sound _ w spelled)
           (full_grant w _ _ c.in-Some.row c.in_ok-all_granted.field-0 c.saturating_add.result (sym known.0 ∙ c.in-Some.is) known.1 (search rules) c.if-saturating_add-gt-MOST.false (search rules)) c.refuse-then-row-more-gt-MOST.ensures.reply c.refuse-then-row-more-gt-MOST.ensures.edits);
       memory = λ w sure spelled. tt;
     }
@@ -46,7 +46,7 @@ returns g c =
     let row = so_far g.B.Book c.in_ok-row.ensures.keeps c.in_ok-row.ensures.value in
     let all_granted = so_more g.B.Book row c.in_ok-all_granted.ensures.keeps c.in_ok-all_granted.ensures.value in
     record {
-      tells = tells_so g.B.Book all_granted c.in_ok-all_granted.ensures.answered (λ w spelled known. grant_decides w _ _ c.in-Some.row c.in_ok-all_granted.field-0 c.saturating_add.result (sym known.0 ∙ c.in-Some.is) known.1 (search rules) c.saturating_add-2.result _ (g.met.B.Book.sound _ w spelled)
+      tells = tells_so g.B.Book all_granted (λ w spelled known. grant_decides w _ _ c.in-Some.row c.in_ok-all_granted.field-0 c.saturating_add.result (sym known.0 ∙ c.in-Some.is) known.1 (search rules) c.saturating_add-2.result _ (g.met.B.Book.sound _ w spelled)
           c.if-saturating_add-gt-MOST.false (search rules) (search rules) c.make.ensures.reply (search rules));
       memory = λ w sure spelled. tt;
     }

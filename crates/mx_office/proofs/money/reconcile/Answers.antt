@@ -10,4 +10,4 @@ returns-in_err-totals g c =
 pub returns : goal.returns
 returns g c =
     let totals = so_far g.B.Book c.in_ok-totals.ensures.keeps c.in_ok-totals.ensures.value in
-    record { tells = tells_so g.B.Book totals c.in_ok-totals.ensures.answered (λ w spelled known. told_decides w _ _ _ (g.met.B.Book.sound _ w spelled) refl (search rules) c.tell.ensures.edits); edits = c.tell.ensures.edits }
+    record { tells = tells_so g.B.Book totals (λ w spelled known. told_decides w _ _ _ (g.met.B.Book.sound _ w spelled) refl (search rules) c.tell.ensures.edits); edits = c.tell.ensures.edits }

@@ -10,7 +10,7 @@ returns-in_err-is_own g c = tells_fault g.B.Book _ c.in_err-is_own.ensures.keeps
 pub returns-then-not-branch : goal.returns-then-not-branch
 returns-then-not-branch g c =
     let own = so_far g.B.Book c.in_ok-is_own.ensures.keeps c.in_ok-is_own.ensures.value in
-    tells_so g.B.Book own c.in_ok-is_own.ensures.answered (λ w spelled known. foreign_decides w _ _ _ _ (g.met.B.Book.sound _ w spelled) (absent _ (sym known ∙ c.if-not-branch.true)) c.refuse.ensures.reply c.refuse.ensures.edits)
+    tells_so g.B.Book own (λ w spelled known. foreign_decides w _ _ _ _ (g.met.B.Book.sound _ w spelled) (absent _ (sym known ∙ c.if-not-branch.true)) c.refuse.ensures.reply c.refuse.ensures.edits)
 
 pub returns-in_err-has_message : goal.returns-in_err-has_message
 returns-in_err-has_message g c =
@@ -20,10 +20,10 @@ pub returns-then-not-branch-2 : goal.returns-then-not-branch-2
 returns-then-not-branch-2 g c =
     let own = so_far g.B.Book c.in_ok-is_own.ensures.keeps c.in_ok-is_own.ensures.value in
     let has_message = so_more g.B.Book own c.in_ok-has_message.ensures.keeps c.in_ok-has_message.ensures.value in
-    tells_so g.B.Book has_message c.in_ok-has_message.ensures.answered (λ w spelled known. no_message_decides w _ _ _ _ (g.met.B.Book.sound _ w spelled) (sym known.0 ∙ c.if-not-branch.false) (search rules) (search rules) (search rules))
+    tells_so g.B.Book has_message (λ w spelled known. no_message_decides w _ _ _ _ (g.met.B.Book.sound _ w spelled) (sym known.0 ∙ c.if-not-branch.false) (search rules) (search rules) (search rules))
 
 pub returns : goal.returns
 returns g c =
     let own = so_far g.B.Book c.in_ok-is_own.ensures.keeps c.in_ok-is_own.ensures.value in
     let has_message = so_more g.B.Book own c.in_ok-has_message.ensures.keeps c.in_ok-has_message.ensures.value in
-    tells_so g.B.Book has_message c.in_ok-has_message.ensures.answered (λ w spelled known. discard_decides w _ _ _ _ (g.met.B.Book.sound _ w spelled) (sym known.0 ∙ c.if-not-branch.false) (search rules) (search rules) (search rules))
+    tells_so g.B.Book has_message (λ w spelled known. discard_decides w _ _ _ _ (g.met.B.Book.sound _ w spelled) (sym known.0 ∙ c.if-not-branch.false) (search rules) (search rules) (search rules))

@@ -10,4 +10,4 @@ returns-in_err-names g c =
 pub returns : goal.returns
 returns g c =
     let names = so_far g.B.Book c.in_ok-names.ensures.keeps c.in_ok-names.ensures.value in
-    record { tells = tells_so g.B.Book names c.in_ok-names.ensures.answered (λ w spelled known. told_decides w _ _ _ (g.met.B.Book.sound _ w spelled) refl (search rules) c.tell.ensures.edits); edits = c.tell.ensures.edits }
+    record { tells = tells_so g.B.Book names (λ w spelled known. told_decides w _ _ _ (g.met.B.Book.sound _ w spelled) refl (search rules) c.tell.ensures.edits); edits = c.tell.ensures.edits }

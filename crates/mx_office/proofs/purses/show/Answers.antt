@@ -13,9 +13,9 @@ pub returns-in-Some : goal.returns-in-Some
 unfolding show
 returns-in-Some g c =
     let purse = so_far g.B.Book c.in_ok-purse.ensures.keeps c.in_ok-purse.ensures.value in
-    record { tells = tells_so g.B.Book purse c.in_ok-purse.ensures.answered (λ w spelled known. purse_told w _ _ c.in-Some.purse show (Shown c.in-Some.purse) _ (g.met.B.Book.sound _ w spelled) (sym known ∙ c.in-Some.is) (λ a is. rw is refl) c.tell.ensures.reply c.tell.ensures.edits); edits = c.tell.ensures.edits }
+    record { tells = tells_so g.B.Book purse (λ w spelled known. purse_told w _ _ c.in-Some.purse show (Shown c.in-Some.purse) _ (g.met.B.Book.sound _ w spelled) (sym known ∙ c.in-Some.is) (λ a is. rw is refl) c.tell.ensures.reply c.tell.ensures.edits); edits = c.tell.ensures.edits }
 
 pub returns-in-None : goal.returns-in-None
 returns-in-None g c =
     let purse = so_far g.B.Book c.in_ok-purse.ensures.keeps c.in_ok-purse.ensures.value in
-    record { tells = tells_so g.B.Book purse c.in_ok-purse.ensures.answered (λ w spelled known. foreign_decides w _ _ _ _ (g.met.B.Book.sound _ w spelled) (sym known ∙ c.in-None.is) c.refuse.ensures.reply c.refuse.ensures.edits); edits = c.refuse.ensures.edits }
+    record { tells = tells_so g.B.Book purse (λ w spelled known. foreign_decides w _ _ _ _ (g.met.B.Book.sound _ w spelled) (sym known ∙ c.in-None.is) c.refuse.ensures.reply c.refuse.ensures.edits); edits = c.refuse.ensures.edits }

@@ -13,7 +13,7 @@ returns-in_err-is_own g c =
 pub returns-then-not-branch : goal.returns-then-not-branch
 returns-then-not-branch g c =
     let own = so_far g.B.Book c.in_ok-is_own.ensures.keeps c.in_ok-is_own.ensures.value in
-    record { tells = tells_so g.B.Book own c.in_ok-is_own.ensures.answered (λ w spelled known. foreign_decides w _ _ _ _ (g.met.B.Book.sound _ w spelled) (absent _ (sym known ∙ c.if-not-branch.true)) c.refuse.ensures.reply c.refuse.ensures.edits); edits = c.refuse.ensures.edits; memory = λ w sure spelled. tt }
+    record { tells = tells_so g.B.Book own (λ w spelled known. foreign_decides w _ _ _ _ (g.met.B.Book.sound _ w spelled) (absent _ (sym known ∙ c.if-not-branch.true)) c.refuse.ensures.reply c.refuse.ensures.edits); edits = c.refuse.ensures.edits; memory = λ w sure spelled. tt }
 
 pub returns-in_err-lines : goal.returns-in_err-lines
 returns-in_err-lines g c =
@@ -23,4 +23,4 @@ pub returns : goal.returns
 returns g c =
     let own = so_far g.B.Book c.in_ok-is_own.ensures.keeps c.in_ok-is_own.ensures.value in
     let lines = so_more g.B.Book own c.in_ok-lines.ensures.keeps c.in_ok-lines.ensures.value in
-    record { tells = tells_so g.B.Book lines c.in_ok-lines.ensures.answered (λ w spelled known. statement_decides w _ _ _ _ (g.met.B.Book.sound _ w spelled) (sym known.0 ∙ c.if-not-branch.false) (search rules) c.tell.ensures.edits); edits = c.tell.ensures.edits; memory = λ w sure spelled. tt }
+    record { tells = tells_so g.B.Book lines (λ w spelled known. statement_decides w _ _ _ _ (g.met.B.Book.sound _ w spelled) (sym known.0 ∙ c.if-not-branch.false) (search rules) c.tell.ensures.edits); edits = c.tell.ensures.edits; memory = λ w sure spelled. tt }

@@ -1,72 +1,187 @@
-use Rattle.std.proofs.Common.{rules, ◌≡◌, ◌<◌, ◌∷◌, ◌++◌, [], Some, inr, refl, arith}
+use Rattle.std.proofs.Common.{rules, ◌≡◌, ◌≤◌, ◌<◌, ◌∷◌, ◌++◌, [], Some, inl, inr, refl, ◌∙◌, arith}
+use Rattle.std.proofs.lemmas.Result.{err_from_is_err_and}
 use Rattle.csv.specs.Reading.{owned_rows_left}
 use Rattle.csv.specs.Records.{fields_of}
-use Rattle.mx_report.specs.Import.{import}
+use Rattle.mx_book.proofs.StandLemmas.{sure_before}
+use Rattle.mx_report.specs.Import.{import, rows_counted, tally_of}
 use Rattle.mx_report.specs.Roll.{roll_header}
 use Rattle.mx_report.proofs.ReadingLemmas.{as_many, given_more}
 use Rattle.mx_report.proofs.ImportLemmas.{counts_more, going_more, odd_record, stands_balanced, stands_more, stands_none, whole_roll}
+use Rattle.mx_report.proofs.RoundLemmas.{ComeTo, Ended, broken_balanced, come_on, come_some, not_no_roll, round_ended, round_first, round_later, round_more, round_some, rows_undone, same_kept}
+use Rattle.mx_report.proofs.rolls.import_roll_telling.Given.{Over}
 use Rattle.mx_report.proofs.rolls.import_roll_telling.Goals as goal
+use Rattle.mx_report.proofs.rolls.import_roll_telling.Goals.{After-end_at, After-settle_some, In_err-kept, In_err-settle_rows}
 
 pub returns-in-Err-clause-reachable : goal.returns-in-Err-clause-reachable
-returns-in-Err-clause-reachable g c = λ w honest spelled reachable. stands_balanced _ w [] (stands_none _ w spelled) reachable
+returns-in-Err-clause-reachable g c = λ w sure was reachable. stands_balanced _ w [] (stands_none _ w (was.spelled sure)) reachable
 
-pub loop-record-preserved : goal.loop-record-preserved
-loop-record-preserved g c =
+pub loop-record-init : goal.loop-record-init
+loop-record-init g c = record {
+  within = search rules;
+  come = record { records = []; going = search rules; stands = λ w before. stands_none _ w before.1; counts = λ w before. search rules };
+  round = λ still. round_first g.B.Book _ _ still;
+}
+
+-- one record more was imported and counted
+come_more : (g : Over) (c : After-settle_some g) → ComeTo g.B.Book c.args.bytes.now c.args.office.now.book c.import_next.new.office.book c.next.new.self (tally_of c.import_next.new.report)
+come_more g c =
     let come = c.loop-record.invariant.come in
     let given = come.going.given in
     let text = c.args.bytes.now in
+    let it = c.next.new.self in
     let taken = c.in_default.ensures.taken in
     let one = taken.0 in
     let steps = rw (c.in-Some.is, taken.1) at (c.next.ensures.steps given.left given.trim) in
     let read = steps.0 given.ready in
     let fields = fields_of one in
-    let now = given_more text (roll_header ∷ come.records) (Some 4) c.loop-record.record-iterator c.next.new.self given one read steps.3 in
-    let four = as_many text (roll_header ∷ come.records) (Some 4) c.loop-record.record-iterator c.next.new.self given 4 one refl read in
-    let nearer : owned_rows_left c.next.new.self < owned_rows_left c.loop-record.record-iterator = omega (arith, (rw c.in-Some.is at (c.next.ensures.goes.on tt)).2) in
+    let now = given_more text (roll_header ∷ come.records) (Some 4) c.loop-record.record-iterator it given one read steps.3 in
+    let four = as_many text (roll_header ∷ come.records) (Some 4) c.loop-record.record-iterator it given 4 one refl read in
+    let nearer : owned_rows_left it < owned_rows_left c.loop-record.record-iterator = omega (arith, (rw c.in-Some.is at (c.next.ensures.goes.on tt)).2) in
     record {
-      later = search rules;
-      come = record {
-        records = come.records ++ fields ∷ [];
-        going = going_more text c.loop-record.record-iterator c.next.new.self _ _ come.records fields come.going now four c.in_default.ensures.counted nearer;
-        stands = λ w before.
-            let honest : g.B.Book.doubt c.loop-record.office.book ≡ 0 = let d = before.0 in search rules in
-            let so_far = come.stands w (honest, before.1) in
-            stands_more _ _ w come.records fields _ _ so_far (rw taken.1 at (c.in_default.ensures.ok (import w come.records).world before.0 so_far.stands));
-        counts = λ w before.
-            let honest : g.B.Book.doubt c.loop-record.office.book ≡ 0 = let d = before.0 in search rules in
-            let so_far = come.stands w (honest, before.1) in
-            counts_more _ w come.records fields _ _ (come.counts w (honest, before.1)) (rw taken.1 at (c.in_default.ensures.ok (import w come.records).world before.0 so_far.stands));
-      };
+      records = come.records ++ fields ∷ [];
+      going = going_more text c.loop-record.record-iterator it _ _ come.records fields come.going now four c.in_default.ensures.counted nearer;
+      stands = λ w before.
+          let so_far = come.stands w (sure_before c.import_next.ensures.later before.0, before.1) in
+          stands_more _ _ w come.records fields _ _ so_far (rw taken.1 at (c.in_default.ensures.ok (import w come.records).world before.0 so_far.stands));
+      counts = λ w before.
+          let honest = sure_before c.import_next.ensures.later before.0 in
+          let so_far = come.stands w (honest, before.1) in
+          counts_more _ w come.records fields _ _ (come.counts w (honest, before.1)) (rw taken.1 at (c.in_default.ensures.ok (import w come.records).world before.0 so_far.stands));
     }
 
--- a record that csv refuses for its number of fields
+pub loop-record-preserved : goal.loop-record-preserved
+loop-record-preserved g c =
+    let b = g.B.Book in
+    let text = c.args.bytes.now in
+    let first = c.args.office.now.book in
+    let x = c.import_next.new.office.book in
+    let y = c.settle_some.new.office.book in
+    let more = come_more g (goal.at.loop-record-preserved g c).After-settle_some in
+    let counted : c.rows-in-loop-record.result ≡ rows_counted (tally_of c.import_next.new.report) = search rules in
+    record {
+      within = search rules;
+      come = come_some b g.met.B.Book.rest g.met.B.Book.deep text first x y _ _ _ _ _ c.in_ok-kept.ensures.ok more;
+      round = λ still. round_some b g.met.B.Book.rest g.met.B.Book.deep text first x y _ _ _ _ _ c.in_ok-kept.ensures.ok counted more
+          (round_more b text first _ x _ (c.loop-record.invariant.round still) c.import_next.ensures.bides);
+    }
+
+-- ---- a record that csv refuses, or a fault of the book
+
+-- so many rows are kept, and no other
+ended_at : (g : Over) (c : After-end_at g) → Ended g.B.Book c.args.bytes.now c.args.office.now.book c.end_at.new.office.book c.end_at.result.done
+ended_at g c =
+    let b = g.B.Book in
+    let text = c.args.bytes.now in
+    let first = c.args.office.now.book in
+    let x = c.import_next.new.office.book in
+    let come = come_on b text first c.loop-record.office.book x _ _ (λ sure. (sure_before c.import_next.ensures.later sure, c.in-Err-import_next.ensures.err sure)) c.loop-record.invariant.come in
+    let counted : c.rows.result ≡ rows_counted (tally_of c.loop-record.report) = search rules in
+    round_ended b g.met.B.Book.rest g.met.B.Book.deep text first x c.end_at.new.office.book _ _ _ _ _ c.end_at.ensures.settles counted come
+    (λ still. round_more b text first _ x _ (c.loop-record.invariant.round still) c.import_next.ensures.bides)
+
+pub returns-in-Err-import_next-clause-later : goal.returns-in-Err-import_next-clause-later
+returns-in-Err-import_next-clause-later g c = (ended_at g (goal.at.returns-in-Err-import_next-clause-later g c).After-end_at).later
+
+pub returns-in-Err-import_next-clause-broken : goal.returns-in-Err-import_next-clause-broken
+returns-in-Err-import_next-clause-broken g c = (ended_at g (goal.at.returns-in-Err-import_next-clause-broken g c).After-end_at).broken
+
+pub returns-in-Err-import_next-clause-reachable : goal.returns-in-Err-import_next-clause-reachable
+returns-in-Err-import_next-clause-reachable g c = λ w sure was reachable.
+    broken_balanced _ w _ _ ((ended_at g (goal.at.returns-in-Err-import_next-clause-reachable g c).After-end_at).broken w sure was) reachable
+
+-- the number of fields of a record
 pub returns-in-Err-import_next-clause-not_roll : goal.returns-in-Err-import_next-clause-not_roll
 returns-in-Err-import_next-clause-not_roll g c = λ is.
     let come = c.loop-record.invariant.come in
     let given = come.going.given in
-    let why = c.in-Err-import_next.ensures.not_roll is in
+    let ended = c.end_at.ensures.not_roll is in
+    let why = c.in-Err-import_next.ensures.not_roll ended.0 in
     let steps = rw (c.in-Some.is, why.1) at (c.next.ensures.steps given.left given.trim) in
-    inr (odd_record c.args.bytes.now c.loop-record.record-iterator c.next.new.self _ come.records _ _ come.going (steps.0 given.ready) why.2 (search rules))
+    let counted : c.rows.result ≡ rows_counted (tally_of c.loop-record.report) = search rules in
+    inr (odd_record c.args.bytes.now c.loop-record.record-iterator c.next.new.self _ come.records _ _ come.going (steps.0 given.ready) why.2 (ended.1 ∙ counted))
 
--- a record that csv refuses, or a fault of the book
-pub returns-in-Err-import_next-clause-reachable : goal.returns-in-Err-import_next-clause-reachable
-returns-in-Err-import_next-clause-reachable g c = λ w honest spelled reachable.
-    let come = c.loop-record.invariant.come in
-    let before : g.B.Book.doubt c.loop-record.office.book ≡ 0 = search rules in
-    let stays = c.in-Err-import_next.ensures.err honest in
-    stands_balanced (g.B.Book.spells (g.B.Book.rows c.import_next.new.office.book)) w come.records (rw stays (come.stands w (before, spelled))) reachable
+pub returns-in-Err-import_next-clause-store : goal.returns-in-Err-import_next-clause-store
+returns-in-Err-import_next-clause-store g c = λ is. elim (c.end_at.ensures.store is) [
+  | inl kind ↦ c.in-Err-import_next.ensures.store kind
+  | inr fails ↦ fails
+]
 
--- the end of the roll
+-- ---- a settle that fails on the way
+
+ended_on_the_way : (g : Over) (c : In_err-kept g) → ComeTo g.B.Book c.args.bytes.now c.args.office.now.book c.import_next.new.office.book c.next.new.self (tally_of c.import_next.new.report)
+    → Ended g.B.Book c.args.bytes.now c.args.office.now.book c.settle_some.new.office.book c.in_err-kept.field-0.0.done
+ended_on_the_way g c more =
+    let b = g.B.Book in
+    let text = c.args.bytes.now in
+    let first = c.args.office.now.book in
+    let x = c.import_next.new.office.book in
+    let counted : c.rows-in-loop-record.result ≡ rows_counted (tally_of c.import_next.new.report) = search rules in
+    round_ended b g.met.B.Book.rest g.met.B.Book.deep text first x c.settle_some.new.office.book _ _ _ _ _ (rows_undone b c.in_err-kept.ensures.err c.in_err-kept.ensures.before) counted more
+    (λ still. round_more b text first _ x _ (c.loop-record.invariant.round still) c.import_next.ensures.bides)
+
+pub returns-in_err-kept-clause-later : goal.returns-in_err-kept-clause-later
+returns-in_err-kept-clause-later g c = (ended_on_the_way g (goal.at.returns-in_err-kept-clause-later g c).In_err-kept (come_more g (goal.at.returns-in_err-kept-clause-later g c).After-settle_some)).later
+
+pub returns-in_err-kept-clause-broken : goal.returns-in_err-kept-clause-broken
+returns-in_err-kept-clause-broken g c = λ w sure was.
+    let p = err_from_is_err_and c.from_residual.result c.from_residual.ensures.1 in
+    rw (p.1, p.2) ((ended_on_the_way g (goal.at.returns-in_err-kept-clause-broken g c).In_err-kept (come_more g (goal.at.returns-in_err-kept-clause-broken g c).After-settle_some)).broken w sure was)
+
+pub returns-in_err-kept-clause-reachable : goal.returns-in_err-kept-clause-reachable
+returns-in_err-kept-clause-reachable g c = λ w sure was reachable.
+    broken_balanced _ w _ _ ((ended_on_the_way g (goal.at.returns-in_err-kept-clause-reachable g c).In_err-kept (come_more g (goal.at.returns-in_err-kept-clause-reachable g c).After-settle_some)).broken w sure was) reachable
+
+pub returns-in_err-kept-clause-not_roll : goal.returns-in_err-kept-clause-not_roll
+returns-in_err-kept-clause-not_roll g c =
+    let p = err_from_is_err_and c.from_residual.result c.from_residual.ensures.1 in
+    rw (p.1, p.2) (not_no_roll _ _ _ c.in_err-kept.ensures.roll)
+
+-- ---- the end of the roll
+
+-- the last settle fails
+ended_last : (g : Over) (c : In_err-settle_rows g) → Ended g.B.Book c.args.bytes.now c.args.office.now.book c.settle_rows.new.office.book c.in_err-settle_rows.field-0.0.done
+ended_last g c =
+    let b = g.B.Book in
+    let text = c.args.bytes.now in
+    let first = c.args.office.now.book in
+    let counted : c.rows-2.result ≡ rows_counted (tally_of c.loop-record.report) = search rules in
+    round_ended b g.met.B.Book.rest g.met.B.Book.deep text first c.loop-record.office.book c.settle_rows.new.office.book _ _ _ _ _ (rows_undone b c.in_err-settle_rows.ensures.settles c.in_err-settle_rows.ensures.before) counted
+    c.loop-record.invariant.come c.loop-record.invariant.round
+
+pub returns-in_err-settle_rows-clause-later : goal.returns-in_err-settle_rows-clause-later
+returns-in_err-settle_rows-clause-later g c = (ended_last g (goal.at.returns-in_err-settle_rows-clause-later g c).In_err-settle_rows).later
+
+pub returns-in_err-settle_rows-clause-broken : goal.returns-in_err-settle_rows-clause-broken
+returns-in_err-settle_rows-clause-broken g c = λ w sure was.
+    let p = err_from_is_err_and c.from_residual-in_err-settle_rows.result c.from_residual-in_err-settle_rows.ensures.1 in
+    rw (p.1, p.2) ((ended_last g (goal.at.returns-in_err-settle_rows-clause-broken g c).In_err-settle_rows).broken w sure was)
+
+pub returns-in_err-settle_rows-clause-reachable : goal.returns-in_err-settle_rows-clause-reachable
+returns-in_err-settle_rows-clause-reachable g c = λ w sure was reachable.
+    broken_balanced _ w _ _ ((ended_last g (goal.at.returns-in_err-settle_rows-clause-reachable g c).In_err-settle_rows).broken w sure was) reachable
+
+pub returns-in_err-settle_rows-clause-not_roll : goal.returns-in_err-settle_rows-clause-not_roll
+returns-in_err-settle_rows-clause-not_roll g c =
+    let p = err_from_is_err_and c.from_residual-in_err-settle_rows.result c.from_residual-in_err-settle_rows.ensures.1 in
+    rw (p.1, p.2) (not_no_roll _ _ _ c.in_err-settle_rows.ensures.roll)
+
+-- the roll is imported whole
+pub returns-clause-later : goal.returns-clause-later
+returns-clause-later g c = λ still.
+    let settles = c.in_ok-settle_rows.ensures.settles in
+    round_later g.B.Book g.met.B.Book.rest g.met.B.Book.deep c.args.bytes.now c.args.office.now.book c.loop-record.office.book c.settle_rows.new.office.book _ (c.loop-record.invariant.round still) settles.lasts settles.ends
+
 pub returns-clause-done : goal.returns-clause-done
-returns-clause-done g c = λ w honest spelled.
+returns-clause-done g c = λ w sure spelled.
     let come = c.loop-record.invariant.come in
     let given = come.going.given in
     let read = (rw c.in-None.is at (c.next.ensures.steps given.left given.trim)).0 given.ready in
+    let same = same_kept g.B.Book g.met.B.Book.rest g.met.B.Book.deep c.args.bytes.now c.args.office.now.book c.loop-record.office.book c.settle_rows.new.office.book c.in_ok-settle_rows.ensures.settles sure in
     record {
       records = come.records;
       roll = whole_roll c.args.bytes.now c.loop-record.record-iterator c.next.new.self _ come.records come.going read;
-      stands = come.stands w (honest, spelled);
-      counts = come.counts w (honest, spelled);
+      stands = rw same.1 (come.stands w (same.0, spelled));
+      counts = come.counts w (same.0, spelled);
     }
 
 pub returns-clause-roll : goal.returns-clause-roll
@@ -77,5 +192,9 @@ returns-clause-roll g c =
     (come.records, whole_roll c.args.bytes.now c.loop-record.record-iterator c.next.new.self _ come.records come.going read)
 
 pub returns-clause-reachable : goal.returns-clause-reachable
-returns-clause-reachable g c = λ w honest spelled reachable.
-    let come = c.loop-record.invariant.come in stands_balanced _ w come.records (come.stands w (honest, spelled)) reachable
+returns-clause-reachable g c = λ w sure was reachable.
+    let b = g.B.Book in
+    let later : b.doubt c.args.office.now.book ≤ b.doubt c.settle_rows.new.office.book = returns-clause-later g c was.still in
+    let before : b.doubt c.args.office.now.book ≡ 0 = omega (arith, later, sure) in
+    let done = returns-clause-done g c w sure (was.spelled before) in
+    stands_balanced (b.spells (b.rows c.settle_rows.new.office.book)) w done.records done.stands reachable

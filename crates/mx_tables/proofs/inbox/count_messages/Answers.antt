@@ -1,7 +1,7 @@
 use Rattle.mx_tables.proofs.Common.{◌≡◌, arith, length, state, Database}
 use Rattle.std.proofs.Common.{subst, sym}
 use Rattle.mx_tables.specs.Known.{AtMost}
-use Rattle.mx_tables.proofs.StateLemmas.{sure_before}
+use Rattle.mx_tables.proofs.StateLemmas.{sound, sure_before}
 use Rattle.mx_tables.proofs.RecallLemmas.{at_most_found}
 use Rattle.mx_tables.proofs.CallLemmas.{reads_fault, reads_to}
 use Rattle.mx_tables.proofs.Texts.{select_held_numbers_is}
@@ -22,12 +22,12 @@ returns-clause-reads g c = reads_to g.S.Store c.in_ok-rows.ensures.reads (λ row
     omega (arith, found, c.len.ensures))
 
 pub returns-clause-most : goal.returns-clause-most
-returns-clause-most g c ours calm =
+returns-clause-most g c begun ours calm =
     let old = state g.S.Store c.args.conn.now in
     let new = state g.S.Store c.ask.new.conn in
     let stays = c.in_ok-rows.ensures.reads.stays ours in
-    let has = ours.schema (sure_before old new stays.later calm) in
-    let most = at_most_found c.args.purse.now old new c.in_ok-rows.rows.items (rw (c.text.ensures, c.as_str.ensures.text) at (c.in_ok-rows.ensures.shown calm)) has in
+    let has = ours.schema (sure_before old new stays.lasts (sound begun new calm)) in
+    let most = at_most_found c.args.purse.now old new c.in_ok-rows.rows.items (rw (c.text.ensures, c.as_str.ensures.text) at (c.in_ok-rows.ensures.shown (sound begun new calm))) has in
     let size : length c.in_ok-rows.rows.items ≡ c.len.result = omega (arith, c.len.ensures) in
     subst (λ (d : Database). AtMost (d.trees 10) c.args.purse.now c.len.result) (sym (stays.same calm)) (subst (AtMost (old.now.trees 10) c.args.purse.now) size most)
 

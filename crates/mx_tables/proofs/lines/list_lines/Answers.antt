@@ -1,4 +1,4 @@
-use Rattle.mx_tables.proofs.Common.{◌≡◌, ◌≤◌, ◌<◌, ℕ, [], ◌∷◌, ◌++◌, length, refl, rules, arith, ◌∙◌, Database, state, Holds}
+use Rattle.mx_tables.proofs.Common.{Bool, Ok, ◌≡◌, ◌≤◌, ◌<◌, ℕ, [], ◌∷◌, ◌++◌, length, refl, rules, arith, ◌∙◌, Database, state, Holds}
 use Rattle.std.proofs.Common.{ap, sym, subst}
 use Rattle.std.proofs.ByRecursion.{All-push}
 use Rattle.sqlite.specs.Given.{IsPlain}
@@ -6,17 +6,23 @@ use Rattle.sqlite.specs.Held.{Held}
 use Rattle.sqlite.specs.Listing.{understood}
 use Rattle.sqlite.proofs.Callers.{begun_plain}
 use Rattle.sqlite_trees.specs.declared.store.Store.{Ghosts}
-use Rattle.mx_tables.specs.States.{worry, IsAwake, IsOurs, Stays}
-use Rattle.mx_tables.proofs.StateLemmas.{awake, begun_live, sure, sure_before, stays_then, begun_stays, refused_stays}
+use Rattle.mx_tables.specs.States.{unsure, IsAwake, IsOurs, Stays}
+use Rattle.mx_tables.proofs.StateLemmas.{sound as is_sound, awake, begun_live, sure_in, sure_first, sure_before, stays_then, begun_stays, refused_stays}
 use Rattle.mx_tables.proofs.CallLemmas.{reads_to}
 use Rattle.mx_tables.proofs.LineLemmas.{no_page, Noted, select_lines, select_lines_is, one_more, no_more, begins, ended, full_page, last_page}
 use Rattle.mx_tables.proofs.ToldLemmas.{tell_lines, tells_fault}
 use Rattle.mx_tables.proofs.lines.list_lines.Goals as goal
 
 -- after one more row the rows of the tables still stay
-stays_on : {S : Type 0} (g : Ghosts S) (first before after last : Held S) → Stays (state g first) (state g before) → (IsOurs (state g before) → Stays (state g before) (state g after))
-    → after ≡ last → Stays (state g first) (state g last)
+stays_on : {S : Type 0} {begun : Bool} (g : Ghosts S) (first before after last : Held S) → Stays begun (state g first) (state g before) → (IsOurs begun (state g before) → Stays begun (state g before) (state g after))
+    → after ≡ last → Stays begun (state g first) (state g last)
 stays_on g first before after last was step same = rw (← same) (stays_then (state g first) (state g before) (state g after) was (step was.ours))
+
+same_stays : {S : Type 0} {begun : Bool} (g : Ghosts S) (first before last : Held S) → Stays begun (state g first) (state g before) → before ≡ last → Stays begun (state g first) (state g last)
+same_stays g first before last was same = rw (← same) was
+
+same_sure : {S : Type 0} (begun : Bool) (g : Ghosts S) (before last : Held S) → before ≡ last → unsure begun (state g last) ≡ 0 → unsure begun (state g before) ≡ 0
+same_sure begun g before last same h = rw same h
 
 fewer : (n k m : ℕ) → n ≡ k → k < m → n ≤ m
 fewer n k m is below = omega arith
@@ -44,13 +50,13 @@ rows-init g c =
       refl,
       ap length c.new-lines.ensures.items,
       rw c.new-lines.ensures.items tt,
-      λ ours. begun_stays g.S.Store select_lines _ c.args.conn.now c.in-Ok.rows.conn.now select_lines_is.query.plain select_lines_is.query.silent ours made.mode made.survives made.begun,
+      λ begun ours. begun_stays g.S.Store select_lines _ c.args.conn.now c.in-Ok.rows.conn.now select_lines_is.query.plain select_lines_is.query.silent ours made.mode made.survives made.begun,
       awake new (λ clean. begun_live g.S.Store select_lines _ c.args.conn.now c.in-Ok.rows.conn.now (made.begun clean)),
-      λ ours sound.
+      λ begun ours calm.
           let began = begun_stays g.S.Store select_lines _ c.args.conn.now c.in-Ok.rows.conn.now select_lines_is.query.plain select_lines_is.query.silent ours made.mode made.survives made.begun in
-          let has = ours.schema (sure_before old new began.later sound) in
+          let has = ours.schema (sure_before old new began.lasts (is_sound begun new calm)) in
           let plain = subst (λ s. IsPlain (understood s select_lines)) (sym has) select_lines_is.query.plain in
-          ([], rw (c.text.ensures, c.as_str.ensures.text, c.number.ensures) at (begun_plain g.S.Store select_lines _ c.args.conn.now c.in-Ok.rows.conn.now plain (made.begun (sure new sound).1)).0, rw c.new-lines.ensures.items refl),
+          ([], rw (c.text.ensures, c.as_str.ensures.text, c.number.ensures) at (begun_plain g.S.Store select_lines _ c.args.conn.now c.in-Ok.rows.conn.now plain (made.begun (sure_in begun new calm).1)).0, rw c.new-lines.ensures.items refl),
     )
 
 pub rows-preserved : goal.rows-preserved
@@ -63,41 +69,41 @@ rows-preserved g c =
       made.same_reference ∙ before.0,
       search rules,
       rw pushed (All-push Noted c.rows.lines.items c.in-Some.line before.2 (rw c.in-Some.is at made.valid)),
-      λ ours. let was = before.3 ours in stays_then (state g.S.Store c.args.conn.now) mid new was (made.stays was.ours),
+      λ begun ours. let was = before.3 begun ours in stays_then (state g.S.Store c.args.conn.now) mid new was (made.stays begun was.ours),
       made.live,
-      λ ours sound.
-          let step = made.stays (before.3 ours).ours in
-          let was = before.5 ours (sure_before mid new step.later sound) in
-          rw pushed (one_more g.S.Store select_lines _ c.rows.rows.conn.now c.next_line.new.rows.conn.now was.0 was.1 c.rows.lines.items was.2 c.in-Some.line (rw c.in-Some.is at made.shown sound)),
+      λ begun ours calm.
+          let step = made.stays begun (before.3 begun ours).ours in
+          let was = before.5 begun ours (sure_first step.later calm) in
+          rw pushed (one_more g.S.Store select_lines _ c.rows.rows.conn.now c.next_line.new.rows.conn.now was.0 was.1 c.rows.lines.items was.2 c.in-Some.line (rw c.in-Some.is at made.shown (is_sound begun new calm))),
     )
 
 pub returns-in_err-line : goal.returns-in_err-line
 returns-in_err-line g c = tell_lines g.S.Store _ _ _ (record {
   stays = λ ours.
       let same : c.next_line.new.rows.conn.now ≡ c.conn-in_err-line-1.given.0 = sym (c.conn-in_err-line-1.given.1 (sym (c.next_line.ensures.same_reference ∙ c.rows.invariant.0 ∙ c.in-Ok.ensures.same_reference)) ∙ c.drop-rows.ensures) in
-      stays_on g.S.Store c.args.conn.now c.rows.rows.conn.now c.next_line.new.rows.conn.now c.conn-in_err-line-1.given.0 (c.rows.invariant.3 ours) c.next_line.ensures.stays same;
+      stays_on g.S.Store c.args.conn.now c.rows.rows.conn.now c.next_line.new.rows.conn.now c.conn-in_err-line-1.given.0 (c.rows.invariant.3 _ ours) (c.next_line.ensures.stays _) same;
   value = λ ours sound kept holds. search rules;
   live = search rules;
 })
 
 pub returns-in_default : goal.returns-in_default
-returns-in_default g c = tell_lines g.S.Store _ _ _ (record {
+returns-in_default g c = tell_lines g.S.Store {r = Ok c.rows.lines} _ _ _ (record {
   stays = λ ours.
       let same : c.next_line.new.rows.conn.now ≡ c.conn-in_default-1.given.0 = sym (c.conn-in_default-1.given.1 (sym (c.next_line.ensures.same_reference ∙ c.rows.invariant.0 ∙ c.in-Ok.ensures.same_reference)) ∙ c.drop-rows-in_default.ensures) in
-      stays_on g.S.Store c.args.conn.now c.rows.rows.conn.now c.next_line.new.rows.conn.now c.conn-in_default-1.given.0 (c.rows.invariant.3 ours) c.next_line.ensures.stays same;
+      stays_on g.S.Store c.args.conn.now c.rows.rows.conn.now c.next_line.new.rows.conn.now c.conn-in_default-1.given.0 (c.rows.invariant.3 _ ours) (c.next_line.ensures.stays _) same;
   value = λ ours sound kept holds valid.
       let old = state g.S.Store c.args.conn.now in
       let mid = state g.S.Store c.rows.rows.conn.now in
       let new = state g.S.Store c.next_line.new.rows.conn.now in
       let before = c.rows.invariant in
       let made = c.in_ok-line.ensures in
-      let first = before.3 ours in
+      let first = before.3 _ ours in
       let same : c.next_line.new.rows.conn.now ≡ c.conn-in_default-1.given.0 = sym (c.conn-in_default-1.given.1 (sym (c.next_line.ensures.same_reference ∙ c.rows.invariant.0 ∙ c.in-Ok.ensures.same_reference)) ∙ c.drop-rows-in_default.ensures) in
-      let last : worry new ≡ 0 = subst (λ h. worry (state g.S.Store h) ≡ 0) (sym same) sound in
-      let early = sure_before mid new (made.stays first.ours).later last in
-      let was = before.5 ours early in
+      let last = same_sure _ g.S.Store c.next_line.new.rows.conn.now c.conn-in_default-1.given.0 same sound in
+      let early = sure_first (made.stays _ first.ours).later last in
+      let was = before.5 _ ours early in
       let there : Holds mid.now kept = subst (λ (d : Database). Holds d kept) (sym (first.same early)) holds in
-      let shown = no_more g.S.Store select_lines _ c.rows.rows.conn.now c.next_line.new.rows.conn.now was.0 was.1 (rw c.in_default.is at made.shown last) in
+      let shown = no_more g.S.Store select_lines _ c.rows.rows.conn.now c.next_line.new.rows.conn.now was.0 was.1 (rw c.in_default.is at made.shown (is_sound _ new last)) in
       let few : length c.rows.lines.items ≤ c.args.most = fewer _ _ _ before.1 c.rows-test.true in
       last_page c.args.purse.now c.args.after c.args.most kept valid was.0 c.rows.lines.items was.2 before.2 few (ended c.args.purse.now c.args.after mid new was.0 shown kept there);
   live =
@@ -109,23 +115,23 @@ pub returns-then-is_err : goal.returns-then-is_err
 returns-then-is_err g c = tell_lines g.S.Store _ _ _ (record {
   stays = λ ours.
       let same : c.next_line.new.rows.conn.now ≡ c.conn-then-is_err-1.given.0 = sym (c.conn-then-is_err-1.given.1 (sym (c.next_line.ensures.same_reference ∙ c.rows.invariant.0 ∙ c.in-Ok.ensures.same_reference)) ∙ c.drop-rows-then-is_err.ensures) in
-      stays_on g.S.Store c.args.conn.now c.rows.rows.conn.now c.next_line.new.rows.conn.now c.conn-then-is_err-1.given.0 (c.rows.invariant.3 ours) c.next_line.ensures.stays same;
+      stays_on g.S.Store c.args.conn.now c.rows.rows.conn.now c.next_line.new.rows.conn.now c.conn-then-is_err-1.given.0 (c.rows.invariant.3 _ ours) (c.next_line.ensures.stays _) same;
   value = λ ours sound kept holds. tt;
   live = tt;
 })
 
 pub returns : goal.returns
-returns g c = tell_lines g.S.Store _ _ _ (record {
+returns g c = tell_lines g.S.Store {r = Ok c.rows.lines} _ _ _ (record {
   stays = λ ours.
       let same : c.rows.rows.conn.now ≡ c.conn-2-1.given.0 = sym (c.conn-2-1.given.1 (sym (c.rows.invariant.0 ∙ c.in-Ok.ensures.same_reference)) ∙ c.drop-rows-2.ensures) in
-      subst (λ h. Stays (state g.S.Store c.args.conn.now) (state g.S.Store h)) same (c.rows.invariant.3 ours);
+      same_stays g.S.Store c.args.conn.now c.rows.rows.conn.now c.conn-2-1.given.0 (c.rows.invariant.3 _ ours) same;
   value = λ ours sound kept holds valid.
       let mid = state g.S.Store c.rows.rows.conn.now in
       let before = c.rows.invariant in
       let same : c.rows.rows.conn.now ≡ c.conn-2-1.given.0 = sym (c.conn-2-1.given.1 (sym (c.rows.invariant.0 ∙ c.in-Ok.ensures.same_reference)) ∙ c.drop-rows-2.ensures) in
-      let last : worry mid ≡ 0 = subst (λ h. worry (state g.S.Store h) ≡ 0) (sym same) sound in
-      let was = before.5 ours last in
-      let there : Holds mid.now kept = subst (λ (d : Database). Holds d kept) (sym ((before.3 ours).same last)) holds in
+      let last = same_sure _ g.S.Store c.rows.rows.conn.now c.conn-2-1.given.0 same sound in
+      let was = before.5 _ ours last in
+      let there : Holds mid.now kept = subst (λ (d : Database). Holds d kept) (sym ((before.3 _ ours).same last)) holds in
       let all = begins c.args.purse.now c.args.after g.S.Store c.rows.rows.conn.now was.0 was.1 kept there in
       let many : length c.rows.lines.items ≡ c.args.most = before.1 ∙ both_ways _ _ c.rows.auto.counter-end c.rows-test.false in
       full_page c.args.purse.now c.args.after c.args.most kept valid was.0 all.0 c.rows.lines.items was.2 before.2 many all.1;

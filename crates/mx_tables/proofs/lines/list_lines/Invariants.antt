@@ -1,8 +1,8 @@
-use Rattle.mx_tables.proofs.Common.{◌≡◌, List, length, AllByRecursion, Row, state}
+use Rattle.mx_tables.proofs.Common.{Bool, ◌≡◌, List, length, AllByRecursion, Row, state}
 use Rattle.std.proofs.Common.{map}
 use Rattle.sqlite.specs.Given.{HasGiven}
 use Rattle.mx_book.specs.Conditions.{IsNote}
-use Rattle.mx_tables.specs.States.{worry, IsAwake, IsOurs, Stays}
+use Rattle.mx_tables.specs.States.{unsure, IsAwake, IsOurs, Stays}
 use Rattle.mx_tables.specs.Pages.{first_five, line_shown}
 use Rattle.mx_tables.proofs.LineLemmas.{select_lines, given}
 use Rattle.mx_tables.proofs.lines.list_lines.Given as goal
@@ -15,6 +15,6 @@ invariant-rows g l =
     (l.rows.conn.ghost_name ≡ l.initial.rows.conn.ghost_name)
     × (length l.lines.items ≡ l.counter)
     × AllByRecursion (λ line. IsNote line.note) l.lines.items
-    × (IsOurs old → Stays old now)
+    × ((begun : Bool) → IsOurs begun old → Stays begun old now)
     × IsAwake now
-    × (IsOurs old → worry now ≡ 0 → (rows : List Row) × HasGiven g.S.Store select_lines (given l.purse l.after) l.rows.conn.now rows × (map first_five rows ≡ map line_shown l.lines.items))
+    × ((begun : Bool) → IsOurs begun old → unsure begun now ≡ 0 → (rows : List Row) × HasGiven g.S.Store select_lines (given l.purse l.after) l.rows.conn.now rows × (map first_five rows ≡ map line_shown l.lines.items))

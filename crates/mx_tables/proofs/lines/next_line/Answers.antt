@@ -5,24 +5,24 @@ use Rattle.mx_tables.proofs.StateLemmas.{awake, sure, step_stays, failed_quits}
 use Rattle.mx_tables.proofs.lines.next_line.Goals as goal
 
 pub returns-in-Err-clause-stays : goal.returns-in-Err-clause-stays
-returns-in-Err-clause-stays g c ours =
+returns-in-Err-clause-stays g c begun ours =
     step_stays (state g.S.Store c.args.rows.now.conn.now) (state g.S.Store c.advance.new.self.conn.now) ours c.in-Err.ensures.mode c.in-Err.ensures.survives
     (λ clean. failed_quits _ _ _ (c.in-Err.ensures.kept clean))
 
 pub returns-in_default-get-clause-stays : goal.returns-in_default-get-clause-stays
-returns-in_default-get-clause-stays g c ours =
+returns-in_default-get-clause-stays g c begun ours =
     step_stays (state g.S.Store c.args.rows.now.conn.now) (state g.S.Store c.advance.new.self.conn.now) ours c.in_default.ensures.mode c.in_default.ensures.survives (λ clean. inl (c.in_default.ensures.same clean))
 
 pub returns-in_err-note_at-clause-stays : goal.returns-in_err-note_at-clause-stays
-returns-in_err-note_at-clause-stays g c ours =
+returns-in_err-note_at-clause-stays g c begun ours =
     step_stays (state g.S.Store c.args.rows.now.conn.now) (state g.S.Store c.advance.new.self.conn.now) ours c.in_default.ensures.mode c.in_default.ensures.survives (λ clean. inl (c.in_default.ensures.same clean))
 
 pub returns-in_err-line_in-clause-stays : goal.returns-in_err-line_in-clause-stays
-returns-in_err-line_in-clause-stays g c ours =
+returns-in_err-line_in-clause-stays g c begun ours =
     step_stays (state g.S.Store c.args.rows.now.conn.now) (state g.S.Store c.advance.new.self.conn.now) ours c.in_default.ensures.mode c.in_default.ensures.survives (λ clean. inl (c.in_default.ensures.same clean))
 
 pub returns-clause-stays : goal.returns-clause-stays
-returns-clause-stays g c ours =
+returns-clause-stays g c begun ours =
     step_stays (state g.S.Store c.args.rows.now.conn.now) (state g.S.Store c.advance.new.self.conn.now) ours c.in_default.ensures.mode c.in_default.ensures.survives (λ clean. inl (c.in_default.ensures.same clean))
 
 pub returns-in_default-get-clause-live : goal.returns-in_default-get-clause-live

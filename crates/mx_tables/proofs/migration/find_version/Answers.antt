@@ -8,7 +8,7 @@ use Rattle.mx_tables.proofs.migration.find_version.Goals as goal
 pub returns-in-Ok-clause-rests : goal.returns-in-Ok-clause-rests
 returns-in-Ok-clause-rests g c =
     let found : c.args.store.now.schema ≡ schema_of c.in_ok-version.version = search rules in
-    rests_at (stays_found (state g.S.Store c.args.store.now) (state g.S.Store c.version_number.new.conn) c.version_number.ensures.stays c.requires.idle c.requires.steady found)
+    rests_at (state g.S.Store c.args.store.now) (state g.S.Store c.version_number.new.conn) c.requires.idle (stays_found (state g.S.Store c.args.store.now) (state g.S.Store c.version_number.new.conn) c.version_number.ensures.stays c.requires.idle c.requires.steady found)
 
 pub returns-in-Ok-clause-stays : goal.returns-in-Ok-clause-stays
 returns-in-Ok-clause-stays g c =
@@ -18,7 +18,7 @@ returns-in-Ok-clause-stays g c =
 pub returns-in-Ok-2-clause-rests : goal.returns-in-Ok-2-clause-rests
 returns-in-Ok-2-clause-rests g c =
     let found : c.args.store.now.schema ≡ schema_of c.in_ok-version.version = search rules in
-    rests_at (stays_found (state g.S.Store c.args.store.now) (state g.S.Store c.version_number.new.conn) c.version_number.ensures.stays c.requires.idle c.requires.steady found)
+    rests_at (state g.S.Store c.args.store.now) (state g.S.Store c.version_number.new.conn) c.requires.idle (stays_found (state g.S.Store c.args.store.now) (state g.S.Store c.version_number.new.conn) c.version_number.ensures.stays c.requires.idle c.requires.steady found)
 
 pub returns-in-Ok-2-clause-unknown : goal.returns-in-Ok-2-clause-unknown
 returns-in-Ok-2-clause-unknown g c sure _ =
@@ -30,7 +30,7 @@ returns-in-Ok-2-clause-unknown g c sure _ =
 pub returns-in-Err-clause-rests : goal.returns-in-Err-clause-rests
 returns-in-Err-clause-rests g c =
     let found : c.args.store.now.schema ≡ schema_of c.in_ok-version.version = search rules in
-    rests_at (stays_found (state g.S.Store c.args.store.now) (state g.S.Store c.version_number.new.conn) c.version_number.ensures.stays c.requires.idle c.requires.steady found)
+    rests_at (state g.S.Store c.args.store.now) (state g.S.Store c.version_number.new.conn) c.requires.idle (stays_found (state g.S.Store c.args.store.now) (state g.S.Store c.version_number.new.conn) c.version_number.ensures.stays c.requires.idle c.requires.steady found)
 
 pub returns-in-Err-clause-unknown : goal.returns-in-Err-clause-unknown
 returns-in-Err-clause-unknown g c sure e =

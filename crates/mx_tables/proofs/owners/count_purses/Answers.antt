@@ -1,11 +1,11 @@
 use Rattle.mx_tables.proofs.Common.{length, ◌∙◌}
 use Rattle.std.proofs.Common.{ap}
-use Rattle.mx_tables.proofs.CallLemmas.{reads_stopped}
+use Rattle.mx_tables.proofs.CallLemmas.{reads_at, reads_stopped}
 use Rattle.mx_tables.proofs.OwnerLemmas.{looks_under}
 use Rattle.mx_tables.proofs.owners.count_purses.Goals as goal
 
 pub returns-in_err-make_known : goal.returns-in_err-make_known
-returns-in_err-make_known g c = record { reads = λ ours was live. reads_stopped g.S.Store c.in_err-make_known.ensures.stays c.from_residual.ensures.0; known = c.in_err-make_known.ensures.knows }
+returns-in_err-make_known g c = record { reads = λ ours was live. reads_at g.S.Store (reads_stopped g.S.Store c.in_err-make_known.ensures.stays c.from_residual.ensures.0); known = λ ours was. c.in_err-make_known.ensures.knows _ ours was }
 
 pub returns : goal.returns
 returns g c =

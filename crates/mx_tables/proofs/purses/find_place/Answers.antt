@@ -41,26 +41,26 @@ pub returns-clause-why : goal.returns-clause-why
 returns-clause-why g c = why_then g.S.Store c.in_ok-ask_about.ensures.reads c.in_ok-ask_about.ensures.why (why_ok g.S.Store _ c.in_ok-held.ensures.why)
 
 pub returns-clause-knows : goal.returns-clause-knows
-returns-clause-knows g c ours was calm =
+returns-clause-knows g c begun ours was calm =
     let old = state g.S.Store c.args.conn.now in
     let mid = state g.S.Store c.ask_about.new.conn in
     let new = state g.S.Store c.count_messages.new.conn in
     let one = c.in_ok-ask_about.ensures.reads.stays ours in
     let two = c.in_ok-held.ensures.reads.stays one.ours in
     let had = two.known _ (one.known _ (was)) calm in
-    c.remember_waiting.ensures new.now.trees had (c.in_ok-held.ensures.most one.ours calm)
+    c.remember_waiting.ensures new.now.trees had (c.in_ok-held.ensures.most begun one.ours calm)
 
 pub returns-in_err-ask_about-clause-knows : goal.returns-in_err-ask_about-clause-knows
-returns-in_err-ask_about-clause-knows g c ours = (c.in_err-ask_about.ensures.reads.stays ours).known _
+returns-in_err-ask_about-clause-knows g c begun ours = (c.in_err-ask_about.ensures.reads.stays ours).known _
 
 pub returns-in_err-next_message-clause-knows : goal.returns-in_err-next_message-clause-knows
-returns-in_err-next_message-clause-knows g c ours = (c.in_ok-ask_about.ensures.reads.stays ours).known _
+returns-in_err-next_message-clause-knows g c begun ours = (c.in_ok-ask_about.ensures.reads.stays ours).known _
 
 pub returns-in_default-clause-knows : goal.returns-in_default-clause-knows
-returns-in_default-clause-knows g c ours = (c.in_ok-ask_about.ensures.reads.stays ours).known _
+returns-in_default-clause-knows g c begun ours = (c.in_ok-ask_about.ensures.reads.stays ours).known _
 
 pub returns-in_err-held-clause-knows : goal.returns-in_err-held-clause-knows
-returns-in_err-held-clause-knows g c ours was = let one = c.in_ok-ask_about.ensures.reads.stays ours in (c.in_err-held.ensures.reads.stays one.ours).known _ (one.known _ was)
+returns-in_err-held-clause-knows g c begun ours was = let one = c.in_ok-ask_about.ensures.reads.stays ours in (c.in_err-held.ensures.reads.stays one.ours).known _ (one.known _ was)
 
 pub returns-in_err-ask_about-clause-why : goal.returns-in_err-ask_about-clause-why
 returns-in_err-ask_about-clause-why g c = why_handed g.S.Store c.from_residual.result c.from_residual.ensures.1 c.in_err-ask_about.ensures.why

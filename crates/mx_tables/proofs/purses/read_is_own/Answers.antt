@@ -4,12 +4,12 @@ use Rattle.mx_book.specs.World.{is_of}
 use Rattle.mx_tables.proofs.PurseLemmas.{own_found}
 use Rattle.mx_tables.proofs.FaultLemmas.{why_handed, why_ok}
 use Rattle.mx_tables.proofs.RecallLemmas.{looks_known, looks_read, recalled_holder}
-use Rattle.mx_tables.proofs.ToldLemmas.{tell_is_own, tells_fault}
+use Rattle.mx_tables.proofs.ToldLemmas.{at_is_own, tells_at, tells_fault}
 use Rattle.mx_tables.proofs.purses.read_is_own.Goals as goal
 
 pub returns-in_err-find_live-clause-looks : goal.returns-in_err-find_live-clause-looks
 returns-in_err-find_live-clause-looks g c = record {
-  reads = λ ours was. tells_fault g.S.Store c.in_err-find_live.ensures.reads c.from_residual.ensures.0;
+  reads = λ ours was. tells_at g.S.Store (tells_fault g.S.Store c.in_err-find_live.ensures.reads c.from_residual.ensures.0);
   known = λ ours. (c.in_err-find_live.ensures.reads.stays ours).known _;
 }
 
@@ -21,7 +21,7 @@ returns-clause-looks g c =
     let looks = looks_known g.S.Store c.args.known.now c.in_ok-find_live.ensures.reads (λ rows holds known.
     let at = recalled_holder _ rows holds c.args.known.now known c.args.name.now c.in-Some.row.now c.in-Some.ensures in
     c.same_name.ensures.value ∙ ap (is_of c.args.holder.now) (sym at) ∙ sym (own_found rows c.args.holder.now c.args.name.now)) in
-    record { reads = λ ours was. tell_is_own g.S.Store _ _ (looks.reads ours was); known = looks.known }
+    record { reads = λ ours was. at_is_own g.S.Store _ _ (looks.reads ours was); known = looks.known }
 
 pub returns-in_err-find_live-clause-why : goal.returns-in_err-find_live-clause-why
 returns-in_err-find_live-clause-why g c = why_handed g.S.Store c.from_residual.result c.from_residual.ensures.1 c.in_err-find_live.ensures.why

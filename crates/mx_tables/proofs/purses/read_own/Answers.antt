@@ -6,6 +6,6 @@ returns g c =
     let made = c.try_known.ensures in
     let looks = c.own_known.ensures in
     record {
-      reads = λ ours was. tells_after g.S.Store made.stays (looks.reads (made.stays ours).ours (made.knows ours was));
-      known = λ ours was. looks.known (made.stays ours).ours (made.knows ours was);
+      reads = λ ours was. tells_after g.S.Store (made.stays _) (looks.reads (made.stays _ ours).ours (made.knows _ ours was));
+      known = λ ours was. looks.known (made.stays _ ours).ours (made.knows _ ours was);
     }

@@ -1,28 +1,32 @@
-use Rattle.std.proofs.Common.{◌++◌, [], rules, arith}
+use Rattle.std.proofs.Common.{◌++◌, [], arith}
 use Rattle.std.proofs.lemmas.Result.{err_from_is_err_and}
-use Rattle.mx_book.proofs.StandLemmas.{low_before}
+use Rattle.mx_book.proofs.StandLemmas.{later_then, low_before}
 use Rattle.mx_desk.proofs.MoveLemmas.{moves_on}
+use Rattle.mx_desk.proofs.RoundLemmas.{all_of-append}
 use Rattle.mx_tasks.specs.Connections.{none, then}
 use Rattle.mx_tasks.proofs.ConnectionLemmas.{connections_lawful, moves_nowhere}
 use Rattle.mx_tasks.proofs.connections.serve_connections.Goals as goal
 
 pub connections-init : goal.connections-init
 connections-init g c = record {
-  later = search rules;
-  serves = λ w low was. record { end = w; marked = []; holds = none; moves = moves_nowhere _ w was };
+  still = λ still. still;
+  later = λ _. omega arith;
+  serves = λ w low was. record { end = w; rounds = []; holds = none; moves = moves_nowhere _ w was };
 }
 
 pub connections-preserved : goal.connections-preserved
 connections-preserved g c = record {
-  later = search rules;
+  still = λ still. c.serve_connection.ensures.still (c.connections.invariant.still still);
+  later = λ still. later_then (c.connections.invariant.later still) (c.serve_connection.ensures.later (c.connections.invariant.still still));
   serves = λ w low was.
-      let had = c.connections.invariant.serves w (low_before c.serve_connection.ensures.later low) was in
-      let led = c.serve_connection.ensures.serves had.end low had.moves.spelled in
+      let later = c.serve_connection.ensures.later (c.connections.invariant.still was.still) in
+      let had = c.connections.invariant.serves w (low_before later low) was in
+      let led = c.serve_connection.ensures.serves had.end low had.moves.rests in
       record {
         end = led.end;
-        marked = had.marked ++ led.marked;
-        holds = then had.holds led.holds;
-        moves = moves_on w had.end led.end had.marked led.marked c.serve_connection.ensures.later had.moves led.moves;
+        rounds = had.rounds ++ led.rounds;
+        holds = rw all_of-append (then had.holds led.holds);
+        moves = moves_on w had.end led.end had.rounds led.rounds later had.moves led.moves;
       };
 }
 
@@ -33,7 +37,7 @@ returns-in_err-stream-clause-serves g c = λ w low was.
     let had = c.connections.invariant.serves w low was in
     rw (p.1) (record {
       end = had.end;
-      marked = had.marked;
+      rounds = had.rounds;
       holds = record { taken = c.connections.counter; most = omega arith; all = tt; connections = had.holds; lawful = connections_lawful _ _ _ _ _ had.holds };
       moves = had.moves;
     })
@@ -44,7 +48,7 @@ returns-clause-serves g c = λ w low was.
     let had = c.connections.invariant.serves w low was in
     record {
       end = had.end;
-      marked = had.marked;
+      rounds = had.rounds;
       holds = record { taken = c.connections.counter; most = omega arith; all = omega arith; connections = had.holds; lawful = connections_lawful _ _ _ _ _ had.holds };
       moves = had.moves;
     }

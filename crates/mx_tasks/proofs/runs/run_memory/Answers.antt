@@ -1,6 +1,7 @@
 use Rattle.std.proofs.Common.{refl}
 use Rattle.mx_book.specs.World.{opening}
 use Rattle.mx_book.proofs.StandLemmas.{low_sure}
+use Rattle.mx_desk.specs.Rounds.{all_of}
 use Rattle.mx_tasks.proofs.RunLemmas.{opening_reachable}
 use Rattle.mx_tasks.proofs.runs.run_memory.Goals as goal
 
@@ -9,5 +10,5 @@ returns-clause-begins g c = opening_reachable c.args.operator c.as_bytes-bytes.e
 
 pub returns-clause-runs : goal.returns-clause-runs
 returns-clause-runs g c =
-    let led = (c.run_over.ensures.runs (opening c.args.operator) (λ _. c.new.ensures)).1 (low_sure refl) in
-    (led.marked, led.end, led.holds)
+    let led = (c.run_over.ensures.runs (opening c.args.operator) (record { still = tt; spelled = λ _. c.new.ensures })).1 (low_sure refl) in
+    (all_of led.rounds, led.end, led.holds)

@@ -9,7 +9,7 @@ pub returns-in_err-served_text-in-Ok-clause-serves : goal.returns-in_err-served_
 returns-in_err-served_text-in-Ok-clause-serves g c = λ w low was.
     let p = err_from_is_err_and c.from_residual.result c.from_residual.ensures.1 in
     let led = c.in-Ok.ensures.serves w low was in
-    rw (p.1) (record { end = led.end; marked = led.marked; holds = (faulty_served _ _ _ _ _ _ p.0 (rw c.from.ensures at led.holds), tt); moves = led.moves })
+    rw (p.1) (record { end = led.end; rounds = led.rounds; holds = (faulty_served _ _ _ _ _ _ p.0 (rw c.from.ensures at led.holds), tt); moves = led.moves })
 
 pub returns-in_ok-served_text-in-Ok-clause-serves : goal.returns-in_ok-served_text-in-Ok-clause-serves
 returns-in_ok-served_text-in-Ok-clause-serves g c = λ w low was.
@@ -18,7 +18,7 @@ returns-in_ok-served_text-in-Ok-clause-serves g c = λ w low was.
     let line = c.in_ok-served_text-in-Ok.ensures ∙ ap served_text count in
     record {
       end = led.end;
-      marked = led.marked;
+      rounds = led.rounds;
       holds = (all_served _ _ _ _ _ _ c.said.result (rw c.from.ensures at led.holds), (c.said.ensures.0 ∙ ap (λ v. v.items) c.into_bytes.ensures.value ∙ line, c.said.ensures.1));
       moves = led.moves;
     }
@@ -27,4 +27,4 @@ returns-in_ok-served_text-in-Ok-clause-serves g c = λ w low was.
 pub returns-in-Err-clause-serves : goal.returns-in-Err-clause-serves
 returns-in-Err-clause-serves g c = λ w low was.
     let led = c.in-Err.ensures.serves w low was in
-    record { end = led.end; marked = led.marked; holds = (faulty_served _ _ _ _ _ _ _ (rw c.from.ensures at led.holds), tt); moves = led.moves }
+    record { end = led.end; rounds = led.rounds; holds = (faulty_served _ _ _ _ _ _ _ (rw c.from.ensures at led.holds), tt); moves = led.moves }

@@ -1,0 +1,266 @@
+-- Rounds that were settled, and rounds that were given up.
+use Rattle.std.proofs.Common.{◌≡◌, ◌+◌, ◌<◌, ◌≤◌, ℕ, zero, suc, Bool, true, false, List, [], ◌∷◌, ◌++◌, length, length-append, get_or, map, take, drop, Option, Some, None, refl, sym, ◌∙◌, ap, subst, inr, append_assoc, arith}
+use Rattle.std.specs.Prelude.{Result, Ok, Err, IfErr, OnOk, OnErr, is_ok, is_some}
+use Rattle.std.proofs.lemmas.Bool.{false≢true}
+use Rattle.std.proofs.lemmas.Grind.{flat_map-append}
+use Rattle.std.proofs.lemmas.List.{append-nil, take_more, take-append-drop, take-append-le}
+use Rattle.std.proofs.Math.Seq.{take-append-add}
+use Rattle.mx_book.specs.Keeps.{Bides}
+use Rattle.mx_book.specs.Stands.{Drafts, Settles, attempt_all, attempt_one}
+use Rattle.mx_book.specs.World.{World, Token}
+use Rattle.mx_book.specs.declared.contract.Book.{Ghosts}
+use Rattle.mx_book.specs.declared.contract.StoreFault.{StoreFault}
+use Rattle.mx_book.specs.declared.values.Caller.{Caller}
+use Rattle.mx_book.proofs.StandLemmas.{attempts_settled, low_harm, sure_before}
+use Rattle.mx_office.proofs.CallLemmas.{bides_none, bides_then}
+use Rattle.mx_wire.specs.Routes.{route_of}
+use Rattle.mx_wire.specs.Replies.{fixed_parts, sent}
+use Rattle.mx_wire.specs.declared.replies.Fixed.TheVariants as fixed
+use Rattle.mx_wire.specs.declared.replies.Response.TheVariants.{Always}
+use Rattle.mx_wire.specs.declared.replies.Response.{Response}
+use Rattle.mx_wire.specs.declared.routes.Route.{Route}
+use Rattle.mx_desk.specs.Answers.{IsAnswer}
+use Rattle.mx_desk.specs.declared.held.Held.{Held}
+use Rattle.mx_desk.specs.Held.{AreHeldFor, Drafted, Holds, HoldsMore, IsHeldFor, response_text, text_of, texts}
+use Rattle.mx_desk.specs.Knows.{KeptAt, Knows, Moves, RestsKnown}
+use Rattle.mx_desk.specs.Requests.{First, Request, Whole, more, none}
+use Rattle.mx_desk.specs.Respond.{after_route, is_head, respond, MayBeGivenUp}
+use Rattle.mx_desk.specs.Rounds.{Round, all_of, attempts, lost, marked_of}
+use Rattle.mx_desk.specs.Serve.{Marked, AllMayBeMarked, outputs, requests_of, response_to, world_after, world_after_one}
+use Rattle.mx_desk.proofs.LawLemmas.{marks-append, outputs-append, world_after-append}
+use Rattle.mx_desk.proofs.RequestLemmas.{Begins-then}
+
+-- ---- a round that is given up
+
+lost_one : (w : World) (m : Marked) → world_after_one w (lost m) ≡ w
+unfolding respond after_route
+lost_one w m = by (route_of m.request.method m.request.path) refl where
+  by : (o : Option Route) → route_of m.request.method m.request.path ≡ o → world_after_one w (lost m) ≡ w
+  by None is = rw is refl
+  by (Some route) is = rw is refl
+
+-- nothing is done in it
+pub lost_stays : (w : World) (ms : List Marked) → world_after w (map lost ms) ≡ w
+lost_stays w [] = refl
+lost_stays w (m ∷ ms) = ap (λ v. world_after v (map lost ms)) (lost_one w m) ∙ lost_stays w ms
+
+pub requests_lost : (ms : List Marked) → requests_of (map lost ms) ≡ requests_of ms
+requests_lost [] = refl
+requests_lost (m ∷ ms) = ap (λ rs. m.request ∷ rs) (requests_lost ms)
+
+-- each of its requests may be given up, since a call of the book failed
+lost_marks : (fails : StoreFault → Type 0) (e : StoreFault) → fails e → (w : World) (ms : List Marked) → AllMayBeMarked fails w (map lost ms)
+lost_marks fails e may w [] = tt
+lost_marks fails e may w (m ∷ ms) = (λ routed. (routed, inr (e, may)), subst (λ v. AllMayBeMarked fails v (map lost ms)) (sym (lost_one w m)) (lost_marks fails e may w ms))
+
+lost_response : (w : World) (m : Marked) (h : Held) → IsHeldFor h m.request → text_of false h ≡ response_to w (lost m)
+unfolding respond after_route
+lost_response w m h is = by (route_of m.request.method m.request.path) refl where
+  by : (o : Option Route) → route_of m.request.method m.request.path ≡ o → text_of false h ≡ response_to w (lost m)
+  by None none_is =
+      let routed : h.routed ≡ false = is.routed ∙ rw none_is refl in
+      rw (routed, none_is) (is.no_route routed)
+  by (Some route) some_is =
+      let routed : h.routed ≡ true = is.routed ∙ rw some_is refl in
+      rw (routed, some_is) refl
+
+lost_responses : (w : World) (ms : List Marked) (hs : List Held) → AreHeldFor hs (requests_of ms) → texts false hs ≡ outputs w (map lost ms)
+lost_responses w [] [] held = refl
+lost_responses w [] (h ∷ hs) held = absurd held
+lost_responses w (m ∷ ms) [] held = absurd held
+lost_responses w (m ∷ ms) (h ∷ hs) held =
+    (λ i. lost_response w m h held.0 i ++ lost_responses w ms hs held.1 i) ∙ ap (λ v. response_to w (lost m) ++ outputs v (map lost ms)) (sym (lost_one w m))
+
+-- ---- rounds as attempts
+
+round_leads : (w : World) (held : List Marked) (given_up : Bool) (few : length held ≤ 64) → world_after w (marked_of (record { held = held; few = few; given_up = given_up })) ≡ attempt_one w (record { given_up = given_up; change = λ v. world_after v held })
+round_leads w held true few = lost_stays w held
+round_leads w held false few = refl
+
+-- the World after the requests of rounds is that after their attempts
+pub attempts_lead : (w : World) (rs : List Round) → attempt_all w (attempts rs) ≡ world_after w (all_of rs)
+attempts_lead w [] = refl
+attempts_lead w (r ∷ rs) =
+    attempts_lead (attempt_one w (record { given_up = r.given_up; change = λ v. world_after v r.held })) rs ∙ ap (λ v. world_after v (all_of rs)) (sym (round_leads w r.held r.given_up r.few)) ∙ sym (world_after-append w (marked_of r) (all_of rs))
+
+pub all_of-append : (rs ss : List Round) → all_of (rs ++ ss) ≡ all_of rs ++ all_of ss
+all_of-append [] ss = refl
+all_of-append (r ∷ rs) ss = ap (λ l. marked_of r ++ l) (all_of-append rs ss) ∙ sym (append_assoc (marked_of r) (all_of rs) _)
+
+-- ---- what is held
+
+-- what is sent to one more
+pub texts_more : (kept : Bool) (hs : List Held) (i : ℕ) (h : Held) → i < length hs → h ≡ get_or hs i h → texts kept (take (i + 1) hs) ≡ texts kept (take i hs) ++ text_of kept h
+texts_more kept hs i h below is =
+    ap (texts kept) (take_more hs i h below ∙ ap (λ x. take i hs ++ x ∷ []) (sym is)) ∙ flat_map-append (text_of kept) (take i hs) (h ∷ []) ∙ ap (λ t. texts kept (take i hs) ++ t) (append-nil (text_of kept h))
+
+-- and where that is cut
+pub texts_cut : (kept : Bool) (hs : List Held) (i : ℕ) (h : Held) (count : ℕ) → i < length hs → h ≡ get_or hs i h → count < length (text_of kept h)
+    → (length (texts kept (take i hs)) + count < length (texts kept hs)) × (take (length (texts kept (take i hs)) + count) (texts kept hs) ≡ texts kept (take i hs) ++ take count (text_of kept h))
+texts_cut kept hs i h count below is less = (rw whole (simp length-append (omega arith)), rw whole (take-append-add before (text_of kept h ++ after) count ∙ ap (λ t. before ++ t) (take-append-le count (text_of kept h) after (omega (arith, less))))) where
+  before : List ℕ
+  before = texts kept (take i hs)
+
+  after : List ℕ
+  after = texts kept (drop (i + 1) hs)
+
+  whole : texts kept hs ≡ texts kept (take i hs) ++ (text_of kept h ++ texts kept (drop (i + 1) hs))
+  whole =
+      ap (texts kept) (sym (take-append-drop (i + 1) hs)) ∙ flat_map-append (text_of kept) (take (i + 1) hs) (drop (i + 1) hs)
+      ∙ ap (λ t. t ++ texts kept (drop (i + 1) hs)) (texts_more kept hs i h below is) ∙ append_assoc (texts kept (take i hs)) (text_of kept h) _
+
+held-append : (hs is : List Held) (rs ss : List Request) → AreHeldFor hs rs → AreHeldFor is ss → AreHeldFor (hs ++ is) (rs ++ ss)
+held-append [] is [] ss one two = two
+held-append [] is (r ∷ rs) ss one two = absurd one
+held-append (h ∷ hs) is [] ss one two = absurd one
+held-append (h ∷ hs) is (r ∷ rs) ss one two = (one.0, held-append hs is rs ss one.1 two)
+
+pub held_length : (hs : List Held) (rs : List Request) → AreHeldFor hs rs → length hs ≡ length rs
+held_length [] [] held = refl
+held_length [] (r ∷ rs) held = absurd held
+held_length (h ∷ hs) [] held = absurd held
+held_length (h ∷ hs) (r ∷ rs) held = ap suc (held_length hs rs held.1)
+
+requests-append : (ms ns : List Marked) → requests_of (ms ++ ns) ≡ requests_of ms ++ requests_of ns
+requests-append [] ns = refl
+requests-append (m ∷ ms) ns = ap (λ rs. m.request ∷ rs) (requests-append ms ns)
+
+pub requests_length : (ms : List Marked) → length (requests_of ms) ≡ length ms
+requests_length [] = refl
+requests_length (m ∷ ms) = ap suc (requests_length ms)
+
+few_marked : (hs : List Held) (rs : List Request) (ms : List Marked) → AreHeldFor hs rs → length hs ≤ 64 → requests_of ms ≡ rs → length ms ≤ 64
+few_marked hs rs ms held few same =
+    let one = held_length hs rs held in
+    let two = requests_length ms in
+    let three = ap length same in
+    omega arith
+
+abbrev unmarked : List Request → List Marked
+unmarked [] = []
+unmarked (r ∷ rs) = record { request = r; given_up = true } ∷ unmarked rs
+
+requests_unmarked : (rs : List Request) → requests_of (unmarked rs) ≡ rs
+requests_unmarked [] = refl
+requests_unmarked (r ∷ rs) = ap (λ l. r ∷ l) (requests_unmarked rs)
+
+-- what is held of a request whose route this is
+pub held_for : (response : Result Response StoreFault) (head_only routed : Bool) (route : Option Route) (r : Request) → routed ≡ is_some route → route ≡ route_of r.method r.path → head_only ≡ is_head r.method
+    → (route ≡ None → response ≡ Ok (Always fixed.NoRoute)) → IsHeldFor (record { response = response; head_only = head_only; routed = routed }) r
+held_for response head_only routed route r is found head alike = record { routed = is ∙ ap is_some found; no_route = λ other. by route refl (sym is ∙ other) } where
+  by : (o : Option Route) → route ≡ o → is_some route ≡ false → response_text head_only response ≡ sent (is_head r.method) (fixed_parts fixed.NoRoute)
+  by None none_is other = ap (response_text head_only) (alike none_is) ∙ ap (λ h. sent h (fixed_parts fixed.NoRoute)) head
+  by (Some x) some_is other = absurd (false≢true (sym other ∙ ap is_some some_is))
+
+-- a round was answered: each request by its response, or 503 where it is given up
+pub record IsAnswered {B : Type 0} (b : Ghosts B) (old new : B) (knows : List (Option (Token × Caller))) (w : World) (rs : List Request) (text : List ℕ) : Type 0 where
+  pub round : Round
+  pub requests : requests_of (marked_of round) ≡ rs
+  pub marks : AllMayBeMarked b.fails w (marked_of round)
+  pub responses : text ≡ outputs w (marked_of round)
+  pub moves : Moves b.doubt b.rows b.spells b.settled b.leaves old new knows w (attempts (round ∷ [])) (world_after w (marked_of round))
+
+module _ {B : Type 0} (b : Ghosts B) where
+  pub holds_none : (book : B) (known : List (Option (Token × Caller))) → Holds b book book known known [] []
+  holds_none book known = record {
+    later = omega arith;
+    bides = bides_none book;
+    held = tt;
+    drafted = λ w sure kept. record { marked = []; requests = refl; marks = tt; responses = refl; kept = kept };
+  }
+
+  -- one request
+  pub holds_one : (x y : B) (p q : List (Option (Token × Caller))) (h : Held) (r : Request) → b.doubt x ≤ b.doubt y → Bides b.harm b.base b.defers b.leaves x y → IsHeldFor h r → h.head_only ≡ is_head r.method
+      → ((w : World) → b.doubt y ≡ 0 → KeptAt b.doubt b.rows b.spells x p w → IsAnswer (KeptAt b.doubt b.rows b.spells y q) w (respond w r) (MayBeGivenUp b.fails w r) h.response)
+      → Holds b x y p q (h ∷ []) (r ∷ [])
+  holds_one x y p q h r later bides held head answers = record {
+    later = later;
+    bides = bides;
+    held = (held, tt);
+    drafted = λ w sure kept. by w h.response refl (answers w sure kept);
+  }
+    where
+      by : (w : World) (response : Result Response StoreFault) → h.response ≡ response → IsAnswer (KeptAt b.doubt b.rows b.spells y q) w (respond w r) (MayBeGivenUp b.fails w r) response → Drafted b y q w (h ∷ []) (r ∷ [])
+      by w (Ok response) is answer = record {
+        marked = record { request = r; given_up = false } ∷ [];
+        requests = refl;
+        marks = (λ e. cc, tt);
+        responses = ap (λ t. t ++ []) (ap (response_text h.head_only) is ∙ (λ i. sent (head i) (answer.0 i)));
+        kept = answer.1;
+      }
+      by w (Err e) is answer = record {
+        marked = record { request = r; given_up = true } ∷ [];
+        requests = refl;
+        marks = (λ _. answer.0, tt);
+        responses = ap (λ t. t ++ []) (ap (response_text h.head_only) is);
+        kept = answer.1;
+      }
+
+  pub holds_then : (x y z : B) (p q r : List (Option (Token × Caller))) (hs is : List Held) (rs ss : List Request) → Holds b x y p q hs rs → Holds b y z q r is ss → Holds b x z p r (hs ++ is) (rs ++ ss)
+  holds_then x y z p q r hs is rs ss one two = record {
+    later = (let f = one.later in let g = two.later in omega arith);
+    bides = bides_then one.bides two.bides;
+    held = held-append hs is rs ss one.held two.held;
+    drafted = λ w sure kept.
+        let d = one.drafted w (sure_before two.later sure) kept in
+        let e = two.drafted (world_after w d.marked) sure d.kept in record {
+          marked = d.marked ++ e.marked;
+          requests = requests-append d.marked e.marked ∙ (λ i. d.requests i ++ e.requests i);
+          marks = marks-append b.fails w d.marked e.marked d.marks e.marks;
+          responses = flat_map-append (text_of true) hs is ∙ (λ i. d.responses i ++ e.responses i) ∙ sym (outputs-append w d.marked e.marked);
+          kept = subst (KeptAt b.doubt b.rows b.spells z r) (sym (world_after-append w d.marked e.marked)) e.kept;
+        };
+  }
+
+  -- nothing more is held
+  pub more_none : (book : B) (known : List (Option (Token × Caller))) (hs : List Held) (input : List ℕ) → HoldsMore b book book known known hs hs input input
+  more_none book known hs input = record { hs = []; rs = []; items = sym (append-nil hs); begins = none; holds = holds_none book known }
+
+  -- one more request
+  pub more_then : (x y z : B) (p q r : List (Option (Token × Caller))) (before mid after : List Held) (input rest left : List ℕ) (h : Held) (one : Request) → HoldsMore b x y p q before mid input rest
+      → after ≡ mid ++ h ∷ [] → First rest (Whole one left) → Holds b y z q r (h ∷ []) (one ∷ []) → HoldsMore b x z p r before after input left
+  more_then x y z p q r before mid after input rest left h one had items first holds = record {
+    hs = had.hs ++ h ∷ [];
+    rs = had.rs ++ one ∷ [];
+    items = items ∙ ap (λ l. l ++ h ∷ []) had.items ∙ append_assoc before had.hs (h ∷ []);
+    begins = Begins-then input had.rs rest (one ∷ []) left had.begins (more first none);
+    holds = holds_then x y z p q r had.hs (h ∷ []) had.rs (one ∷ []) had.holds holds;
+  }
+
+  module _ (steady : (x : B) (r : b.Rows) → b.harm x ≡ 0 → b.leaves x r → r ≡ b.base x)
+      (rest : (x : B) → b.settled x → (b.doubt x ≡ b.harm x) × (b.harm x ≡ 0 → b.rows x ≡ b.base x)) (deep : (x : B) → b.harm x ≤ b.doubt x)
+      {T : Type 0} (x y z : B) (known held_known knows : List (Option (Token × Caller))) (w : World) (hs : List Held) (rs : List Request)
+      (kept : RestsKnown b.doubt b.rows b.spells b.settled x known w) (holds : Holds b x y known held_known hs rs) (few : length hs ≤ 64) (low : b.doubt z ≤ 1) where
+    -- with these marks, where that is so if there is no doubt
+    given_up_round : (e : StoreFault) → Settles {T = T} b.doubt b.rows b.harm b.base b.defers b.settled b.leaves y z (Err e) → b.fails e → ((v : World) → Knows v knows)
+        → (ms : List Marked) → requests_of ms ≡ rs → (b.doubt y ≡ 0 → b.spells (b.rows y) (world_after w ms)) → IsAnswered b x z knows w rs (texts false hs)
+    given_up_round e done may anew ms same spelled =
+        let drafts : Drafts b.doubt b.rows b.spells b.harm b.base b.defers b.leaves x y (world_after w ms) = record { later = holds.later; spelled = spelled; bides = holds.bides } in
+        let tried = attempts_settled b.doubt b.rows b.spells b.settled b.leaves b.harm b.base b.defers steady rest deep x y z w (λ v. world_after v ms) kept.0 (Err e) drafts done in
+        let round : Round = record { held = ms; few = few_marked hs rs ms holds.held few same; given_up = true } in record {
+          round = round;
+          requests = requests_lost ms ∙ same;
+          marks = lost_marks b.fails e may w ms;
+          responses = lost_responses w ms hs (subst (AreHeldFor hs) (sym same) holds.held);
+          moves = subst (λ v. Moves b.doubt b.rows b.spells b.settled b.leaves x z knows w (attempts (round ∷ [])) v) (sym (lost_stays w ms)) (tried.undone, anew w);
+        }
+
+    pub answered_round : (settled : Result T StoreFault) → Settles b.doubt b.rows b.harm b.base b.defers b.settled b.leaves y z settled → IfErr settled b.fails
+        → OnOk settled (knows ≡ held_known) → OnErr settled ((v : World) → Knows v knows) → IsAnswered b x z knows w rs (texts (is_ok settled) hs)
+    answered_round (Ok t) done may same anew =
+        let less = low_harm b.doubt b.rows b.spells b.settled b.leaves b.harm b.base b.defers steady rest deep z done.ends low in
+        let d = holds.drafted w (done.ok less).0 (kept.0.spelled, kept.1) in
+        let drafts : Drafts b.doubt b.rows b.spells b.harm b.base b.defers b.leaves x y (world_after w d.marked) = record { later = holds.later; spelled = d.kept.0; bides = holds.bides } in
+        let tried = attempts_settled b.doubt b.rows b.spells b.settled b.leaves b.harm b.base b.defers steady rest deep x y z w (λ v. world_after v d.marked) kept.0 (Ok t) drafts done in record {
+          round = record { held = d.marked; few = few_marked hs rs d.marked holds.held few d.requests; given_up = false };
+          requests = d.requests;
+          marks = d.marks;
+          responses = d.responses;
+          moves = (tried.made, subst (Knows (world_after w d.marked)) (sym same) d.kept.1);
+        }
+    answered_round (Err e) done may same anew = by (b.doubt y) refl where
+      by : (n : ℕ) → b.doubt y ≡ n → IsAnswered b x z knows w rs (texts false hs)
+      by zero sure =
+          let d = holds.drafted w sure (kept.0.spelled, kept.1) in
+          given_up_round e done may anew d.marked d.requests d.kept.0
+      by (suc n) doubted = given_up_round e done may anew (unmarked rs) (requests_unmarked rs) (λ sure. absurd (omega (arith, sure, doubted)))
