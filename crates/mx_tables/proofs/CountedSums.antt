@@ -20,7 +20,8 @@ use Rattle.mx_book.specs.declared.values.Scope.{Scope}
 use Rattle.mx_tables.specs.Counted.{number_of, owed_shown, counted_row, amounts_text, amounts_of, text_of, row_sums, sum_at, sums_at, member_listed, totals_with, totals_row, if_some, status_shown, waiting_shown, log_shown, result_shown, left_value, waiting_at, waiting_row, log_row, result_row, adds_text, row_adds, sum_of}
 use Rattle.mx_tables.specs.declared.sums.Amounts.{Amounts}
 use Rattle.mx_tables.specs.declared.sums.Amounts.TheVariants.{Uncollected, Issued, Redeemed, Balances}
-use Rattle.mx_tables.specs.Answers.{member_shown, ArePurses}
+use Rattle.mx_tables.specs.Answers.{ArePurses}
+use Rattle.mx_cells.specs.Cells.{member_shown}
 use Rattle.mx_tables.specs.States.{IsQuery}
 use Rattle.mx_tables.proofs.MemberLemmas.{filter_everything}
 use Rattle.mx_tables.proofs.Statements.{env, passes}

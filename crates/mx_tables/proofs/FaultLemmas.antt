@@ -26,7 +26,8 @@ use Rattle.mx_book.specs.declared.contract.StoreFault.{StoreFault}
 use Rattle.mx_book.specs.declared.contract.StoreFault.TheVariants.{Memory, Store}
 use Rattle.mx_book.specs.declared.values.PurseRow.{PurseRow}
 use Rattle.sqlite_sql.specs.Term.{eval_all}
-use Rattle.mx_tables.specs.Answers.{at_key, about_text, member_shown, text_shown, purse_shown, next_shown}
+use Rattle.mx_tables.specs.Answers.{at_key, about_text, text_shown, next_shown}
+use Rattle.mx_cells.specs.Cells.{member_shown, purse_shown}
 use Rattle.mx_tables.specs.Holds.{Spells}
 use Rattle.mx_tables.specs.declared.asking.About.{About}
 use Rattle.mx_tables.specs.declared.asking.About.TheVariants.{Member, Holder, Purse, Owner, Next}

@@ -6,9 +6,10 @@ use Rattle.mx_purse.specs.declared.message.Message.{Message}
 use Rattle.mx_purse.specs.Messages.{IsMessage}
 use Rattle.mx_purse.specs.Words.{message_word, message_details}
 use Rattle.mx_purse.proofs.WordLemmas.{same_message}
-use Rattle.mx_tables.specs.Schema.{message_cells}
-use Rattle.mx_tables.specs.Answers.{message_row, at_key, message_shown, first_three, AreMessages, HaveNumbers, Raises, one_or_none}
-use Rattle.mx_tables.proofs.ValueLemmas.{same_made, same_words}
+use Rattle.mx_cells.specs.Cells.{message_cells, message_row, message_shown, first_three}
+use Rattle.mx_tables.specs.Answers.{at_key, AreMessages, HaveNumbers, Raises, one_or_none}
+use Rattle.mx_tables.proofs.ValueLemmas.{same_made}
+use Rattle.mx_cells.proofs.TextLemmas.{same_words}
 use Rattle.std.specs.FinMap as fmap
 use Rattle.std.specs.Ordering.{ordering_then}
 use Rattle.std.specs.Cmp.{eq_by_cmp_equiv, nat_cmp_total, tied_then}

@@ -20,7 +20,8 @@ use Rattle.mx_book.proofs.UnderLemmas.{pair_total, pair_exact}
 use Rattle.mx_book.proofs.RowLemmas.{keys_total, keys_exact}
 use Rattle.mx_book.proofs.ResultLemmas.{results_total, results_exact}
 use Rattle.mx_tables.specs.Schema as schema
-use Rattle.mx_tables.specs.Schema.{Contents, member_cells, token_cells, holder_cells, purse_cells, message_cells, line_cells, result_cells, load_cells, redemption_cells, settled_cells, tokens_of, cells_of, rows_of, schema_of}
+use Rattle.mx_tables.specs.Schema.{Contents, tokens_of, cells_of, rows_of, schema_of}
+use Rattle.mx_cells.specs.Cells.{member_cells, token_cells, holder_cells, purse_cells, message_cells, line_cells, result_cells, load_cells, redemption_cells, settled_cells, purse_shown}
 use Rattle.mx_tables.specs.Holds.{HasContents, Spells, SpellsOne}
 use Rattle.hex.specs.Hex.{encode_lower}
 use Rattle.mx_pay.proofs.TextLemmas.{same_entry}
@@ -31,9 +32,9 @@ use Rattle.mx_book.specs.Spells as book
 use Rattle.mx_book.specs.Spells.{one_world}
 use Rattle.mx_book.specs.Conditions.{IsNote}
 use Rattle.mx_book.proofs.WordLemmas.{same_kind}
-use Rattle.mx_tables.proofs.ValueLemmas.{token_back, same_caller, purse_back, same_note}
+use Rattle.mx_tables.proofs.ValueLemmas.{same_caller, purse_back, same_note}
+use Rattle.mx_cells.proofs.TextLemmas.{token_back}
 use Rattle.mx_tables.proofs.SoundLemmas.{messages_valid, purses_valid, lines_valid, tray_valid, archive_valid, settled_valid}
-use Rattle.mx_tables.specs.Answers.{purse_shown}
 use Rattle.mx_book.specs.RowEdits.{all_rewritten}
 use Rattle.mx_book.specs.Edits.{Fits, all_edited}
 use Rattle.mx_book.specs.declared.edits.Edit.{Edit}

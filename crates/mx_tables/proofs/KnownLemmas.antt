@@ -27,11 +27,11 @@ use Rattle.sqlite_rules.specs.Lists.{Has}
 use Rattle.sqlite_rules.proofs.TableLemmas.{put_has, put_all_keeps}
 use Rattle.mx_book.proofs.NameLemmas.{names_total, same_name, name_itself}
 use Rattle.mx_purse.specs.State.{IsPurse}
-use Rattle.mx_tables.specs.Schema.{purse_cells}
+use Rattle.mx_cells.specs.Cells.{purse_cells}
 use Rattle.mx_tables.specs.Owners.{Owned}
 use Rattle.sqlite_trees.specs.Tree.{Trees}
 use Rattle.mx_tables.specs.Known.{Knowledge, AreNumbered, IsKnown, Lies, is_message_at, Stands, AtMost, is_under, purse_columns_of, changed_at, changed_where}
-use Rattle.mx_tables.proofs.ValueLemmas.{same_words}
+use Rattle.mx_cells.proofs.TextLemmas.{same_words}
 use Rattle.mx_tables.proofs.OwnerLemmas.{AreAlike, comes_from, goes_to}
 
 -- what is given where a test holds

@@ -42,7 +42,8 @@ use Rattle.mx_book.specs.RowReads.{row_lines_of, line_of_row}
 use Rattle.mx_book.specs.Conditions.{IsNote}
 use Rattle.mx_book.proofs.MapLemmas.{all_entries}
 use Rattle.mx_book.proofs.WordLemmas.{same_kind}
-use Rattle.mx_tables.specs.Pages.{line_shown, first_five, lines_above, GivesLine, AreLines}
+use Rattle.mx_tables.specs.Pages.{lines_above, GivesLine, AreLines}
+use Rattle.mx_cells.specs.Cells.{line_shown, first_five}
 use Rattle.mx_tables.proofs.ReadLemmas.{reads_in_order}
 use Rattle.mx_tables.proofs.InboxLemmas.{second_less, same_first}
 use Rattle.mx_tables.proofs.ValueLemmas.{same_made, same_note}

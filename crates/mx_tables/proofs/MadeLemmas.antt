@@ -14,7 +14,8 @@ use Rattle.sqlite.specs.Listing.{understood}
 use Rattle.sqlite.specs.State.{State, Writes, ExecutesInside, Shown}
 use Rattle.sqlite.proofs.Callers.{command_of, statement_of, runs_as, reads_as}
 use Rattle.sqlite_rules.proofs.ProbeLemmas.{has_mapped, mapped_has}
-use Rattle.mx_tables.specs.Schema.{meta, token_cells, opening_contents, schema_of}
+use Rattle.mx_tables.specs.Schema.{meta, opening_contents, schema_of}
+use Rattle.mx_cells.specs.Cells.{token_cells}
 use Rattle.mx_tables.specs.Made.{Creates, IsCreate, AddsTable, Blank, Fresh, new_cells, HasVersion, version_shown, Makes, made, also}
 use Rattle.std.proofs.ByRecursion.{All-push}
 use Rattle.sqlite_trees.proofs.ListLemmas.{all_both}

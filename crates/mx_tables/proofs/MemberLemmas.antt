@@ -9,9 +9,10 @@ use Rattle.sqlite.specs.State.{State, Shown}
 use Rattle.mx_book.specs.World.{Token}
 use Rattle.mx_book.specs.declared.values.MemberRow.{MemberRow}
 use Rattle.mx_book.proofs.NameLemmas.{names_total, names_exact, same_name, name_itself}
-use Rattle.mx_tables.specs.Schema.{Contents, token_cells, tokens_of, rows_of, AreTokens}
+use Rattle.mx_tables.specs.Schema.{Contents, tokens_of, rows_of, AreTokens}
+use Rattle.mx_cells.specs.Cells.{token_cells, caller_shown}
 use Rattle.mx_tables.specs.Holds.{HasContents, Stores}
-use Rattle.mx_tables.specs.Answers.{at_key, text_shown, caller_shown}
+use Rattle.mx_tables.specs.Answers.{at_key, text_shown}
 use Rattle.mx_tables.proofs.Texts.{select_members, select_members_is, insert_member, insert_member_is, update_member, update_member_is, insert_holder, insert_holder_is, select_token, select_token_is, insert_token, insert_token_is}
 use Rattle.mx_tables.proofs.StoredLemmas.{and_true, same_text, cast_int, cast_null, stores_put}
 use Rattle.mx_tables.proofs.ReadLemmas.{answers_in_order, answered}
@@ -21,7 +22,8 @@ use Rattle.mx_tables.proofs.Places.{stored, distinct}
 use Rattle.std.specs.Cmp.{both_ways}
 use Rattle.std.proofs.ByRecursion.{All-push}
 use Rattle.sqlite_trees.proofs.ListLemmas.{all_of, all_weaker, filter_all, filter_same}
-use Rattle.mx_tables.proofs.ValueLemmas.{same_made, same_words}
+use Rattle.mx_tables.proofs.ValueLemmas.{same_made}
+use Rattle.mx_cells.proofs.TextLemmas.{same_words}
 use Rattle.std.proofs.lemmas.List.{map-append}
 use Rattle.std.proofs.lemmas.List.Sorted.{IsPermutation-sym, IsPermutation-trans, IsPermutation-map, IsPermutation-cons}
 use Rattle.hex.specs.Hex.{encode_lower}
@@ -31,7 +33,7 @@ use Rattle.mx_book.specs.declared.values.Caller.{Caller}
 use Rattle.mx_book.specs.declared.values.Caller.TheVariants.{Operator}
 use Rattle.mx_tables.proofs.Statements.{inserted}
 use Rattle.mx_tables.proofs.MapLists.{entries_of, map_push}
-use Rattle.mx_tables.proofs.ValueLemmas.{token_back}
+use Rattle.mx_cells.proofs.TextLemmas.{token_back}
 use Rattle.mx_pay.proofs.SameLemmas.{names_turned}
 
 -- ---- members

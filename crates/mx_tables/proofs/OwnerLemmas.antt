@@ -27,7 +27,7 @@ use Rattle.std.proofs.lemmas.Bool.Decides.{nat_tests}
 use Rattle.std.proofs.lemmas.List.{take_more}
 use Rattle.mx_book.specs.declared.contract.StoreFault.{StoreFault}
 use Rattle.mx_tables.proofs.StateLemmas.{on_ok_anyway, sure_before, sound, sure_first}
-use Rattle.mx_tables.specs.Schema.{purse_cells}
+use Rattle.mx_cells.specs.Cells.{purse_cells}
 use Rattle.mx_tables.specs.Holds.{HaveCells}
 use Rattle.sqlite_trees.specs.declared.store.Store.{Ghosts}
 use Rattle.sqlite.specs.Held.{Held}

@@ -21,7 +21,7 @@ use Rattle.mx_book.specs.RowEdits.{on_purse, member_at}
 use Rattle.mx_book.specs.declared.edits.Edit.TheVariants.{NewPurse, SetPurse}
 use Rattle.mx_book.specs.RowReads.{row_own_purse, row_finds_place, row_inbox_of, of_name}
 use Rattle.mx_purse.specs.declared.message.Message.{Message}
-use Rattle.mx_tables.specs.Schema.{purse_cells}
+use Rattle.mx_cells.specs.Cells.{purse_cells, state_shown, state_columns, purse_shown}
 use Rattle.mx_tables.specs.Owners.{HasOwner, Owned}
 use Rattle.mx_tables.specs.Known.{Knowledge, IsKnown, Stands, AtMost, AreNumbered, Lies, purse_columns_of, known_after, known_raised, changed_at}
 use Rattle.mx_tables.specs.States.{Brings}
@@ -37,13 +37,14 @@ use Rattle.std.proofs.lemmas.Cmp.{tied_itself, nat_cmp_total}
 use Rattle.std.specs.Cmp.{first_so, second_so}
 use Rattle.sqlite_rules.specs.Calls.{ids_of}
 use Rattle.sqlite_rules.proofs.ListLemmas.{all_has, has_filtered}
-use Rattle.mx_tables.specs.Answers.{state_shown, state_columns, purse_shown, next_shown, place_of}
+use Rattle.mx_tables.specs.Answers.{next_shown, place_of}
 use Rattle.mx_tables.proofs.Texts.{is_given, insert_purse, insert_purse_is, update_purse, update_purse_is, raise_next, raise_next_is}
 use Rattle.mx_pay.proofs.TestLemmas.{is_equal}
 use Rattle.mx_tables.proofs.Statements.{env, passes, Wrote}
 use Rattle.mx_tables.proofs.StoredLemmas.{and_true, same_text, same_numbers, cast_int, cast_null, permuted}
 use Rattle.mx_tables.proofs.WriteLemmas.{adds_known, alters_one, was_there}
-use Rattle.mx_tables.proofs.ValueLemmas.{same_words, same_state}
+use Rattle.mx_tables.proofs.ValueLemmas.{same_state}
+use Rattle.mx_cells.proofs.TextLemmas.{same_words}
 use Rattle.mx_tables.proofs.KeptLemmas.{purse_place, purses}
 
 -- ---- writes

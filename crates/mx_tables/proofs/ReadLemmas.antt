@@ -5,7 +5,8 @@ use Rattle.std.proofs.lemmas.List.Sorted.{length_permutation, IsPermutation-sym,
 use Rattle.std.proofs.lemmas.Bool.{cases_Bool}
 use Rattle.std.specs.FinMap as fmap
 use Rattle.sqlite.proofs.Callers.{one_permutation, reads_as}
-use Rattle.mx_tables.specs.Answers.{at_key, one_or_none, about_text, shown_about, member_shown, text_shown, purse_shown, next_shown}
+use Rattle.mx_tables.specs.Answers.{at_key, one_or_none, about_text, shown_about, text_shown, next_shown}
+use Rattle.mx_cells.specs.Cells.{member_shown, purse_shown}
 use Rattle.std.specs.FinMap as fmap
 use Rattle.std.specs.FinMap.Entries.{is_sorted, below_all}
 use Rattle.sqlite_value.specs.declared.keys.Key.{Key}

@@ -32,10 +32,10 @@ use Rattle.mx_book.specs.World.{World}
 use Rattle.mx_book.specs.RowReads.{row_inbox_of, of_name}
 use Rattle.mx_book.specs.declared.contract.StoreFault.{StoreFault}
 use Rattle.mx_book.proofs.NameLemmas.{same_name}
-use Rattle.mx_tables.specs.Schema.{purse_cells}
+use Rattle.mx_cells.specs.Cells.{purse_cells, purse_shown, purse_columns, state_shown, state_columns}
 use Rattle.mx_tables.specs.Holds.{HaveCells, SpellsOne}
 use Rattle.mx_tables.specs.Owners.{HasOwner, HaveOwners}
-use Rattle.mx_tables.specs.Answers.{ArePurses, about_text, purse_shown, purse_columns, state_shown, state_columns, place_of}
+use Rattle.mx_tables.specs.Answers.{ArePurses, about_text, place_of}
 use Rattle.mx_tables.specs.declared.asking.About.TheVariants.{Purse}
 use Rattle.mx_tables.specs.declared.known.Known.{Known}
 use Rattle.mx_tables.specs.Known.{Stands, AtMost, AreKnown, IsPlace, Lies, Recalls, Saw, is_message_at, is_under, purse_columns_of}
@@ -49,7 +49,8 @@ use Rattle.mx_tables.proofs.StoredLemmas.{and_true, same_text, permuted}
 use Rattle.mx_tables.proofs.MapLists.{AreDistinct}
 use Rattle.mx_tables.proofs.Places.{distinct, in_map, stored}
 use Rattle.mx_tables.proofs.ReadLemmas.{asked, selects}
-use Rattle.mx_tables.proofs.ValueLemmas.{purse_back, same_words}
+use Rattle.mx_tables.proofs.ValueLemmas.{purse_back}
+use Rattle.mx_cells.proofs.TextLemmas.{same_words}
 use Rattle.mx_tables.proofs.KeptLemmas.{inbox, inbox_place, purse_place, purses}
 
 -- ---- the rows of a table and its map

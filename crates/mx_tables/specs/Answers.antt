@@ -4,8 +4,6 @@ use Rattle.std.specs.Ordering.{eq_by_cmp}
 use Rattle.std.specs.declared.cmp.Ordering.{Ordering}
 use Rattle.sqlite_value.specs.Order.{Row, column}
 use Rattle.sqlite_value.specs.declared.value.Value.TheVariants.{Text}
-use Rattle.mx_book.specs.declared.values.Caller.{Caller}
-use Rattle.mx_book.specs.declared.values.MemberRow.{MemberRow}
 use Rattle.std.specs.FinMap as fmap
 use Rattle.mx_purse.specs.declared.message.Message.{Message}
 use Rattle.mx_purse.specs.Messages.{IsMessage}
@@ -13,9 +11,7 @@ use Rattle.mx_book.specs.World.{Name}
 use Rattle.mx_book.specs.Rows.{Rows}
 use Rattle.mx_pay.specs.Limits.{most_number}
 use Rattle.mx_pay.specs.Names.{is_name}
-use Rattle.mx_pay.specs.Codes.{code}
 use Rattle.mx_purse.specs.State.{State, IsPurse}
-use Rattle.mx_purse.specs.Words.{status_word, status_details, message_word, message_details}
 use Rattle.mx_book.specs.declared.values.PurseRow.{PurseRow}
 use Rattle.sqlite.specs.State.{State as Connected}
 use Rattle.mx_book.specs.RowEdits.{on_purse}
@@ -25,33 +21,17 @@ use Rattle.mx_tables.specs.declared.asking.About.TheVariants.{Member, Holder, Pu
 use Rattle.mx_tables.specs.Holds.{Holds}
 use Rattle.mx_tables.specs.Known.{known_raised}
 use Rattle.mx_tables.specs.States.{Brings}
-use Rattle.mx_tables.specs.Schema.{number, kind_text, owner_text}
+use Rattle.mx_cells.specs.Cells.{member_shown, purse_shown, state_columns, state_shown, number}
 
 -- the entries at a key
 abbrev pub at_key : {K V : Type 0} → (K → K → Ordering) → K → List (K × V) → List (K × V)
 at_key {K} {V} R q = filter (λ (e : K × V). eq_by_cmp R q e.0)
-
-abbrev pub caller_shown : Caller → Row
-caller_shown c = Text (kind_text c) ∷ Text (owner_text c) ∷ []
-
-abbrev pub member_shown : MemberRow → Row
-member_shown m = number m.granted ∷ number m.float ∷ []
 
 abbrev pub text_shown : List ℕ → Row
 text_shown t = Text t ∷ []
 
 abbrev pub amount_shown : ℕ → Row
 amount_shown n = number n ∷ []
-
--- the first columns of a row
-abbrev pub first_two : Row → Row
-first_two r = column r 0 ∷ column r 1 ∷ []
-
-abbrev pub first_three : Row → Row
-first_three r = column r 0 ∷ column r 1 ∷ column r 2 ∷ []
-
-abbrev pub message_row : ℕ × Message → Row
-message_row e = number e.0 ∷ Text (message_word e.1) ∷ Text (message_details e.1) ∷ []
 
 -- each message is within its limits
 abbrev pub AreMessages : Rows → Type 0
@@ -61,32 +41,14 @@ AreMessages r = (k : Name × ℕ) (m : Message) → fmap.get r.inbox k ≡ Some 
 abbrev pub HaveNumbers : Rows → Type 0
 HaveNumbers r = (k : Name × ℕ) (m : Message) → fmap.get r.inbox k ≡ Some m → k.1 ≤ most_number
 
--- what a row of a purse shows of the purse, but for its name
-abbrev pub state_shown : State → Row
-state_shown p = number p.balance ∷ number p.next ∷ Text (status_word p.status) ∷ Text (status_details p.status) ∷ Text (code p.log) ∷ number p.lines ∷ []
-
--- the columns of the purse in a row of a purse
-abbrev pub state_columns : Row → Row
-state_columns r = column r 1 ∷ column r 2 ∷ column r 3 ∷ column r 4 ∷ column r 5 ∷ column r 6 ∷ []
-
 -- the row shows the purse of this name, which is the holder's, or another holder
 abbrev pub ShowsOwn : Name → Name → Row → Option State → Type 0
 ShowsOwn h p row None = (owner : Name) × (column row 0 ≡ Text owner) × (is_name h owner ≡ false)
 ShowsOwn h p row (Some s) = (column row 0 ≡ Text h) × (state_columns row ≡ state_shown s)
     × IsPurse s × (s.name ≡ p)
 
--- the columns of a row of a purse
-abbrev pub purse_columns : Row → Row
-purse_columns r = column r 0 ∷ column r 1 ∷ column r 2 ∷ column r 3 ∷ column r 4 ∷ column r 5 ∷ column r 6 ∷ column r 7 ∷ []
-
-abbrev pub purse_shown : PurseRow → Row
-purse_shown x = Text x.holder ∷ number x.purse.balance ∷ number x.purse.next ∷ Text (status_word x.purse.status) ∷ Text (status_details x.purse.status) ∷ Text (code x.purse.log) ∷ number x.purse.lines ∷ number x.next_message ∷ []
-
 abbrev pub next_shown : PurseRow → Row
 next_shown x = number x.next_message ∷ []
-
-abbrev pub message_shown : Message → Row
-message_shown m = Text (message_word m) ∷ Text (message_details m) ∷ []
 
 -- each purse is one, under its name
 abbrev pub ArePurses : Rows → Type 0

@@ -13,7 +13,7 @@ use Rattle.mx_book.specs.declared.values.PurseRow.{PurseRow}
 use Rattle.mx_book.specs.declared.values.Redemption.{Redemption}
 use Rattle.mx_book.specs.declared.values.Scope.{Scope}
 use Rattle.mx_tables.specs.declared.sums.Sums.{Sums}
-use Rattle.mx_tables.specs.Schema.{number}
+use Rattle.mx_cells.specs.Cells.{number}
 use Rattle.mx_tables.specs.declared.sums.Amounts.{Amounts}
 use Rattle.mx_tables.specs.declared.sums.Amounts.TheVariants.{Uncollected, Issued, Redeemed, Balances}
 use Rattle.mx_sorted.specs.Slots.{map_of}

@@ -12,7 +12,8 @@ use Rattle.mx_book.specs.Rows.{Rows}
 use Rattle.mx_book.specs.Spells as book
 use Rattle.mx_tables.specs.declared.making.Version.{Version}
 use Rattle.mx_tables.specs.declared.making.Version.TheVariants.{Two}
-use Rattle.mx_tables.specs.Schema.{schema_of, number_of, Contents, cells_in, number, rows_in, AreTokens}
+use Rattle.mx_tables.specs.Schema.{schema_of, number_of, Contents, cells_in, rows_in, AreTokens}
+use Rattle.mx_cells.specs.Cells.{number}
 
 -- the rows have these cells, each after a row number
 abbrev pub HaveCells : List Row → List Row → Type 0

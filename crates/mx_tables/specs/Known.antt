@@ -20,7 +20,7 @@ use Rattle.mx_pay.specs.Limits.{most_number}
 use Rattle.mx_book.specs.declared.values.PurseRow.{PurseRow}
 use Rattle.mx_book.specs.declared.edits.Edit.{Edit}
 use Rattle.mx_book.specs.declared.edits.Edit.TheVariants.{NewPurse, SetPurse, AddMessage, DropMessage}
-use Rattle.mx_tables.specs.Schema.{purse_cells, number}
+use Rattle.mx_cells.specs.Cells.{purse_cells, number}
 use Rattle.mx_book.specs.Under.{pair_cmp}
 use Rattle.std.specs.FinSet.{FinSet}
 use Rattle.std.specs.Ordering.{nat_cmp}

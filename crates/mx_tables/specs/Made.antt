@@ -1,5 +1,6 @@
 -- How the tables are made.
-use Rattle.mx_tables.specs.Schema.{office_schema, number, schema_of}
+use Rattle.mx_tables.specs.Schema.{office_schema, schema_of}
+use Rattle.mx_cells.specs.Cells.{number}
 use Rattle.mx_tables.specs.declared.making.Version.{Version}
 use Rattle.mx_tables.specs.Holds.{meta_rows, AllStore}
 use Rattle.sqlite_value.specs.Order.{Row, column}

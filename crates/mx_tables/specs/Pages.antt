@@ -1,8 +1,7 @@
 -- What the statements on lines answer from the typed rows.
-use Rattle.std.specs.Prelude.{◌≡◌, ℕ, ◌≤◌, ◌+◌, ◌&&◌, nat_lt, List, [], ◌∷◌, filter, Option, Some, option_map}
+use Rattle.std.specs.Prelude.{◌≡◌, ℕ, ◌≤◌, ◌+◌, ◌&&◌, nat_lt, List, filter, Option, Some, option_map}
 use Rattle.std.specs.FinMap as fmap
-use Rattle.sqlite_value.specs.Order.{Row, column}
-use Rattle.sqlite_value.specs.declared.value.Value.TheVariants.{Text}
+use Rattle.sqlite_value.specs.Order.{Row}
 use Rattle.sqlite_trees.specs.declared.store.Store.{Ghosts}
 use Rattle.sqlite.specs.Held.{Held}
 use Rattle.sqlite.specs.Given.{Advances}
@@ -11,17 +10,9 @@ use Rattle.mx_pay.specs.Names.{is_name}
 use Rattle.mx_book.specs.World.{Name}
 use Rattle.mx_book.specs.Rows.{Rows}
 use Rattle.mx_book.specs.Conditions.{IsNote}
-use Rattle.mx_book.specs.Words.{kind_text, note_text}
 use Rattle.mx_book.specs.declared.values.Line.{Line}
 use Rattle.mx_book.specs.declared.values.LineRow.{LineRow}
-use Rattle.mx_tables.specs.Schema.{number}
-
-abbrev pub line_shown : Line → Row
-line_shown l = number l.number ∷ Text (kind_text l.kind) ∷ number l.amount ∷ number l.balance ∷ Text (note_text l.note) ∷ []
-
--- the first five columns of a row
-abbrev pub first_five : Row → Row
-first_five r = column r 0 ∷ column r 1 ∷ column r 2 ∷ column r 3 ∷ column r 4 ∷ []
+use Rattle.mx_cells.specs.Cells.{first_five, line_shown}
 
 -- the connection gives one row more of its query, which shows this line, or none where the query ends
 abbrev pub GivesLine : {S : Type 0} → Ghosts S → Held S → Held S → Option Line → Type 0

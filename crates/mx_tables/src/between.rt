@@ -9,13 +9,13 @@ ghost use Rattle.mx_tables.specs.Counted.{left_value, log_row, result_row, waiti
 ghost use Rattle.mx_tables.specs.Results.{AreDetails, AreEntries};
 ghost use Rattle.mx_tables.specs.States.{IsAwake, Reads};
 
-use crate::cells::{entry_at, log_at, name_at, status_at};
 use crate::purses::find_purse;
 use crate::results::find_archived;
 use crate::settled::find_settled;
 use crate::sums::plus;
 use mx_book::sent::is_sent_by;
 use mx_book::{PurseRow, StoreFault};
+use mx_cells::cells::{entry_at, log_at, name_at, status_at};
 use mx_pay::names::same_name;
 use mx_pay::{Name, PayDetails};
 use mx_purse::Status;

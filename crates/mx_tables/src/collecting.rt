@@ -5,10 +5,10 @@ ghost use Rattle.mx_tables.specs.Counted.{collected_where, is_owned};
 ghost use Rattle.mx_tables.specs.States.{Writes};
 
 use crate::asking::{About, ask_about_inside, ask_inside, run};
-use crate::cells::{name_at, name_in};
 use crate::given;
 use crate::holders::is_of;
 use mx_book::StoreFault;
+use mx_cells::cells::{name_at, name_in};
 use mx_pay::Name;
 use sqlite::{Alter, Row, Savepoint};
 

@@ -2,7 +2,7 @@
 ghost use Rattle.std.specs.Prelude.{◌≡◌, ◌<◌, ◌^◌};
 ghost use Rattle.sqlite_value.specs.Value.{owned};
 ghost use Rattle.sqlite_value.specs.declared.value.Value.TheVariants.{Text};
-ghost use Rattle.mx_tables.specs.Schema.{number as cell};
+ghost use Rattle.mx_cells.specs.Cells.{number as cell};
 
 use sqlite_value::value::ValueRef;
 

@@ -6,11 +6,11 @@ ghost use Rattle.mx_tables.specs.States.{TellsAt, IsExplained, Looks, Reads, Tel
 ghost use Rattle.mx_book.specs.Reads.{holder_of};
 
 use crate::asking::{About, ask_about, run};
-use crate::cells::name_in;
 use crate::given;
 use crate::known::Known;
 use crate::owners::count_purses;
 use mx_book::{HolderRow, StoreFault};
+use mx_cells::cells::name_in;
 use mx_pay::Name;
 use mx_pay::names::same_name;
 use sqlite::{Alter, Connection, Savepoint};

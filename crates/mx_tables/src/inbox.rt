@@ -2,12 +2,9 @@
 ghost use Rattle.std.specs.Prelude.{Bool, ◌≡◌, ◌≤◌, ◌^◌, IfOk, is_some, length, map};
 ghost use Rattle.std.specs.FinMap as fmap;
 ghost use Rattle.std.specs.List.{AllByRecursion};
-ghost use Rattle.sqlite_value.specs.Order.{column};
-ghost use Rattle.sqlite_value.specs.declared.value.Value.TheVariants.{Text};
 ghost use Rattle.mx_purse.specs.Messages.{IsMessage};
-ghost use Rattle.mx_purse.specs.Words.{message_word, message_details};
 ghost use Rattle.mx_book.specs.RowReads.{row_inbox_of};
-ghost use Rattle.mx_tables.specs.Answers.{first_three, message_row};
+ghost use Rattle.mx_cells.specs.Cells.{first_three, message_row};
 ghost use Rattle.sqlite.specs.Held.{state};
 ghost use Rattle.mx_tables.specs.Known.{AtMost, known_after, known_sent};
 ghost use Rattle.mx_book.specs.declared.edits.Edit.TheVariants.{DropMessage};
@@ -15,40 +12,17 @@ ghost use Rattle.mx_tables.specs.States.{TellsAt, IsExplained, IsOurs, Looks, Re
 ghost use Rattle.mx_book.specs.Reads.{inbox_of, message_of};
 
 use crate::asking::{ask, ask_one, find_live, run_one};
-use crate::cells::{number_at, text_at};
-use crate::codes::message_code;
 use crate::given;
 use crate::known::{Known, recall_seen, remember_seen};
 use mx_book::StoreFault;
+use mx_cells::cells::{message_at, number_at};
+use mx_cells::codes::message_code;
+use mx_cells::shown::message_in;
 use mx_pay::{MOST_NUMBER, Name};
 use mx_purse::Message;
-use mx_purse::words::{message_word, read_message};
+use mx_purse::words::message_word;
 use sqlite::{Alter, Connection, Row, Savepoint};
 use std::alloc::Global;
-
-/// The message whose kind and details stand in these columns.
-fn message_at(row: &Row, kind: usize, details: usize) -> Result<Message, StoreFault>
-    ensures shown { IfOk result
-        (λ m. (column row.now kind ≡ Text (message_word m))
-        × (column row.now details ≡ Text (message_details m))) }
-    ensures valid { IfOk result IsMessage }
-{
-    let Some(word) = text_at(row, kind) else {
-        return Err(StoreFault::Store);
-    };
-    let Some(text) = text_at(row, details) else {
-        return Err(StoreFault::Store);
-    };
-    read_message(word, text).ok_or(StoreFault::Store)
-}
-
-/// The message that a row shows.
-fn message_in(row: &Row) -> Result<(u64, Message), StoreFault>
-    ensures shown { IfOk result (λ m. first_three row.now ≡ message_row m) }
-    ensures valid { IfOk result (λ m. IsMessage m.1) }
-{
-    Ok((number_at(row, 0)?, message_at(row, 1, 2)?))
-}
 
 /// The messages that rows show.
 fn messages_in(alloc: Global, rows: &[Row]) -> Result<Vec<(u64, Message)>, StoreFault>
@@ -120,7 +94,7 @@ pub fn find_message<S: Alter>(
     let Some(row) = row else {
         return Ok(None);
     };
-    let message = message_at(&row, 0, 1)?;
+    let message = message_at(&row, 0)?;
     remember_seen(alloc, known, *purse, number);
     Ok(Some(message))
 }

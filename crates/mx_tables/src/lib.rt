@@ -3,8 +3,6 @@
 
 mod asking;
 mod between;
-mod cells;
-mod codes;
 mod collecting;
 mod edits;
 mod given;
@@ -29,6 +27,9 @@ mod sums;
 pub mod tables;
 mod tokens;
 
+pub use asking::fault_of;
 pub use migration::{Migrated, migrate};
 pub use opening::{OpenFault, OpenRefused};
+pub use purses::find_purse;
+pub use results::find_archived;
 pub use tables::Tables;

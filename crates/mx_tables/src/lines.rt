@@ -1,24 +1,23 @@
 //! The lines of the statements of purses.
-ghost use Rattle.std.specs.Prelude.{Bool, ◌≡◌, ◌<◌, ◌^◌, IfOk, IfSome, OnOk, string_bytes};
+ghost use Rattle.std.specs.Prelude.{Bool, ◌≡◌, IfOk, IfSome, OnOk, string_bytes};
 ghost use Rattle.std.specs.FinMap as fmap;
 ghost use Rattle.sqlite.specs.Held.{state};
-ghost use Rattle.sqlite_value.specs.Order.{column};
-ghost use Rattle.sqlite_value.specs.declared.value.Value.TheVariants.{Text};
 ghost use Rattle.mx_book.specs.Conditions.{IsNote};
 ghost use Rattle.mx_book.specs.Rows.{line_row};
 ghost use Rattle.mx_book.specs.Words as words;
-ghost use Rattle.mx_tables.specs.Pages.{GivesLine, first_five, line_shown};
+ghost use Rattle.mx_tables.specs.Pages.{GivesLine};
 ghost use Rattle.mx_tables.specs.States.{IsAwake, IsOurs, Stays, Writes, worry, Tells};
 ghost use Rattle.mx_book.specs.Reads.{lines_of};
 
 use crate::asking::{fault_of, find_live, run};
-use crate::cells::{amount_at, entry_at, number_at, text_at};
-use crate::codes::MOST_ENTRY_BYTES;
 use crate::given::{self, MOST_KEPT};
-use mx_book::words::{kind_text, push_note, read_kind};
-use mx_book::{Line, LineKind, Note, StoreFault};
+use mx_book::words::{kind_text, push_note};
+use mx_book::{Line, Note, StoreFault};
+use mx_cells::cells::note_at;
+use mx_cells::codes::MOST_ENTRY_BYTES;
+use mx_cells::shown::line_in;
 use mx_pay::Name;
-use sqlite::{Alter, Connection, Row, Rows, Savepoint};
+use sqlite::{Alter, Connection, Rows, Savepoint};
 use std::alloc::Global;
 
 /// The text of what a line refers to.
@@ -60,45 +59,6 @@ pub fn insert_line<S: Alter>(
             given::text(&note),
         ],
     )
-}
-
-/// The kind of line in a column. Store where another value is there.
-fn kind_at(row: &Row, at: usize) -> Result<LineKind, StoreFault>
-    ensures { IfOk result (λ kind. column row.now at ≡ Text (words.kind_text kind)) }
-{
-    let Some(text) = text_at(row, at) else {
-        return Err(StoreFault::Store);
-    };
-    read_kind(text).ok_or(StoreFault::Store)
-}
-
-/// What the text in a column refers to: a reference or details. Store where another value is there.
-fn note_at(row: &Row, at: usize) -> Result<Note, StoreFault>
-    ensures shown { IfOk result (λ note. column row.now at ≡ Text (words.note_text note)) }
-    ensures valid { IfOk result IsNote }
-{
-    let Some(text) = text_at(row, at) else {
-        return Err(StoreFault::Store);
-    };
-    if let Some(reference) = Name::read(text) {
-        return Ok(Note::Reference(reference));
-    }
-    Ok(Note::Details(entry_at(row, at)?))
-}
-
-/// The line that a row shows, which refers to this.
-fn line_in(row: &Row, note: Note) -> Result<Line, StoreFault>
-    requires { column row.now 4 ≡ Text (words.note_text note) }
-    ensures shown { IfOk result (λ line. first_five row.now ≡ line_shown line) }
-    ensures noted { IfOk result (λ line. line.note ≡ note) }
-{
-    Ok(Line {
-        number: number_at(row, 0)?,
-        kind: kind_at(row, 1)?,
-        amount: amount_at(row, 2)?,
-        balance: number_at(row, 3)?,
-        note,
-    })
 }
 
 /// The next line that a query of lines gives, or None at its end.

@@ -9,9 +9,9 @@ ghost use Rattle.mx_tables.specs.States.{Reads, Tells};
 ghost use Rattle.mx_book.specs.Totals.{members_totals_of};
 
 use crate::asking::ask;
-use crate::cells::{money_at, name_at};
 use crate::sums::{Amounts, find_member_at, plus};
 use mx_book::{MemberTotals, StoreFault};
+use mx_cells::cells::{money_at, name_at};
 use mx_pay::Name;
 use mx_sorted::Table;
 use sqlite::{Alter, Connection, Row};

@@ -5,33 +5,31 @@ ghost use Rattle.mx_pay.specs.Limits.{most_number};
 ghost use Rattle.std.specs.FinMap as fmap;
 ghost use Rattle.sqlite_value.specs.Order.{column};
 ghost use Rattle.sqlite_value.specs.declared.value.Value.TheVariants.{Text};
-ghost use Rattle.mx_tables.specs.Schema.{number};
-ghost use Rattle.mx_tables.specs.Answers.{first_two, member_shown};
+ghost use Rattle.mx_cells.specs.Cells.{number, first_two, member_shown};
 ghost use Rattle.mx_tables.specs.States.{IsExplained, Reads, Writes, Tells};
 ghost use Rattle.mx_book.specs.Reads.{members_of};
 
 use crate::asking::{About, ask, ask_about, run, run_one};
-use crate::cells::{money_at, name_at};
 use crate::given;
 use mx_book::{MemberRow, StoreFault};
+use mx_cells::cells::name_at;
+use mx_cells::shown::member_in;
 use mx_pay::{MOST_NUMBER, Name};
 use sqlite::{Alter, Connection, Row, Savepoint};
 use std::alloc::Global;
 
 /// What a row says of a member, where there is a row: its grants and its float.
-fn member_in(row: Option<Row>) -> Result<Option<MemberRow>, StoreFault>
+fn member_found(row: Option<Row>) -> Result<Option<MemberRow>, StoreFault>
     ensures is { IfOk result (λ m. option_map first_two row ≡ option_map member_shown m) }
     ensures there { IfSome row
         (λ c. (x : MemberRow) × (x.granted ≤ most_number) × (x.float ≤ most_number)
         × (column c 0 ≡ number x.granted) × (column c 1 ≡ number x.float))
         → is_ok result ≡ true }
 {
-    let Some(row) = row else {
-        return Ok(None);
-    };
-    let granted = money_at(&row, 0)?;
-    let float = money_at(&row, 1)?;
-    Ok(Some(MemberRow { granted, float }))
+    match row {
+        Some(row) => Ok(Some(member_in(&row)?)),
+        None => Ok(None),
+    }
 }
 
 /// The grants and the float of a member, or None where there is no such member.
@@ -43,7 +41,7 @@ pub fn find_member<S: Alter>(
         (λ r v. v ≡ fmap.get r.members name.now) }
     ensures why { IsExplained S.Store conn.old conn.new result }
 {
-    member_in(ask_about(conn, About::Member, name)?)
+    member_found(ask_about(conn, About::Member, name)?)
 }
 
 /// Adds a member with grants 0 and float 0.

@@ -13,10 +13,10 @@ ghost use Rattle.mx_tables.specs.States.{Commits, IsAt, IsOurs, StaysAt, Steps, 
 ghost use Rattle.mx_tables.specs.declared.opening.OpenFault.TheVariants.{NotThisSchema};
 
 use crate::asking::ask;
-use crate::cells::number_at;
 use crate::making::{Version, fill, make_tables};
 use crate::same::same_schema;
 use mx_book::StoreFault;
+use mx_cells::cells::number_at;
 use mx_pay::Token;
 use sqlite::{Alter, Connection, Error, ErrorCode, Row, Savepoint};
 use sqlite_schema::schema::Schema;

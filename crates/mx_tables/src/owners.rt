@@ -8,10 +8,10 @@ ghost use Rattle.mx_tables.specs.Owners.{Lists, Rises, index_of};
 ghost use Rattle.mx_tables.specs.States.{TellsAt, ReadsAt, IsAwake, IsOurs, Looks, Reads, Stays, Tells, Knows, unsure};
 
 use crate::asking::{ask, find_live};
-use crate::cells::{integer_at, name_at};
 use crate::known::{Known, know};
 use mx_book::StoreFault;
 use mx_book::held::{Held, count_held, names_held};
+use mx_cells::cells::{integer_at, name_at};
 use mx_pay::Name;
 use sqlite::{Alter, Connection, Row};
 use std::alloc::Global;

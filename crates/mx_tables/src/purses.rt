@@ -3,27 +3,27 @@ ghost use Rattle.std.specs.Prelude.{Bool, ◌≡◌, ◌<◌, ◌^◌, if◌then
 ghost use Rattle.mx_pay.specs.Names.{is_name};
 ghost use Rattle.std.specs.FinMap as fmap;
 ghost use Rattle.sqlite.specs.Held.{state};
-ghost use Rattle.mx_purse.specs.State.{IsPurse};
 ghost use Rattle.mx_book.specs.RowEdits.{rewritten};
 ghost use Rattle.mx_book.specs.declared.edits.Edit.TheVariants.{NewPurse, SetPurse};
 ghost use Rattle.mx_book.specs.declared.values.PurseRow.{PurseRow};
-ghost use Rattle.mx_tables.specs.Answers.{ArePurses, Raises, ShowsOwn, place_of, purse_columns, purse_shown, state_columns, state_shown};
+ghost use Rattle.mx_tables.specs.Answers.{ArePurses, Raises, ShowsOwn, place_of};
 ghost use Rattle.mx_tables.specs.Known.{known_after};
 ghost use Rattle.mx_tables.specs.Schema.{office_schema};
 ghost use Rattle.mx_tables.specs.States.{TellsAt, ReadsAt, Finds, IsExplained, IsOurs, Knows, Looks, Reads, Steps, Tells, WritesWith};
 ghost use Rattle.mx_book.specs.Reads.{account_of, own_purse, has_purse};
 
 use crate::asking::{About, ask_about, ask_about_inside, find_live, run, run_one};
-use crate::cells::{log_at, name_at, name_in, number_at, number_in, status_at};
-use crate::codes::{log_code, status_code};
 use crate::given;
 use crate::holders::{find_holder, is_of};
 use crate::inbox::count_messages;
 use crate::known::{Known, learn_purse, recall_place, recall_purse, remember_waiting};
 use crate::owners::try_known;
 use mx_book::{Account, MOST_MESSAGES, PurseRow, StoreFault};
+use mx_cells::cells::{name_at, name_in, number_at, number_in};
+use mx_cells::codes::{log_code, status_code};
+use mx_cells::shown::{purse_in, state_in};
 use mx_pay::names::same_name;
-use mx_pay::{MOST_NUMBER, Name, Seq};
+use mx_pay::{MOST_NUMBER, Name};
 use mx_purse::Purse;
 use mx_purse::words::status_word;
 use sqlite::{Alter, Connection, Row, Savepoint};
@@ -44,33 +44,6 @@ pub fn insert_purse<S: Alter>(
         "INSERT INTO purse (name, holder, balance, next_number, status, details, log, line_count, next_message) VALUES (?1, ?2, 0, 0, 'eaFrom', '', '', 0, 0)",
         &[given::text(name.as_str()), given::text(holder.as_str())],
     )
-}
-
-/// The purse of that name that a row shows.
-fn state_in(name: &Name, row: &Row) -> Result<Purse, StoreFault>
-    ensures shown { IfOk result (λ p. state_columns row.now ≡ state_shown p) }
-    ensures valid { IfOk result IsPurse }
-    ensures named { IfOk result (λ p. p.name ≡ name.now) }
-{
-    let balance = number_at(row, 1)?;
-    let next = Seq::new(number_at(row, 2)?).ok_or(StoreFault::Store)?;
-    let status = status_at(row, 3)?;
-    let log = log_at(row, 5)?;
-    let lines = number_at(row, 6)?;
-    Purse::from_parts(*name, balance, next, status, log, lines).ok_or(StoreFault::Store)
-}
-
-/// What a row says of the purse of that name.
-fn purse_in(name: &Name, row: &Row) -> Result<PurseRow, StoreFault>
-    ensures shown { IfOk result (λ x. purse_columns row.now ≡ purse_shown x) }
-    ensures valid { IfOk result (λ x. IsPurse x.purse) }
-    ensures named { IfOk result (λ x. x.purse.name ≡ name.now) }
-{
-    Ok(PurseRow {
-        holder: name_at(row, 0)?,
-        purse: state_in(name, row)?,
-        next_message: number_at(row, 7)?,
-    })
 }
 
 /// What is kept of a purse, or None where there is no such purse.

@@ -5,9 +5,9 @@ ghost use Rattle.mx_tables.specs.States.{Writes, Tells};
 ghost use Rattle.mx_book.specs.Reads.{redemption_of};
 
 use crate::asking::{ask_one, run_one};
-use crate::cells::amount_in;
 use crate::given;
 use mx_book::StoreFault;
+use mx_cells::cells::amount_in;
 use mx_pay::{Amount, Name};
 use sqlite::{Alter, Connection, Savepoint};
 

@@ -11,10 +11,10 @@ ghost use Rattle.mx_tables.specs.States.{IsExplained, Reads, Steps, Tells, Write
 ghost use Rattle.mx_book.specs.Reads.{tray_of};
 
 use crate::asking::{ask, ask_inside, ask_one, run};
-use crate::cells::{entry_at, text_at};
-use crate::codes::entry_code;
 use crate::given;
 use mx_book::StoreFault;
+use mx_cells::cells::{entry_at, text_at};
+use mx_cells::codes::entry_code;
 use mx_pay::{Log, Name, PayDetails};
 use sqlite::{Alter, Connection, Row, Savepoint};
 use std::alloc::Global;

@@ -7,9 +7,9 @@ ghost use Rattle.mx_book.specs.declared.edits.Edit.TheVariants.{AddSettled};
 ghost use Rattle.mx_tables.specs.States.{IsExplained, Reads, Writes};
 
 use crate::asking::{ask_one, run};
-use crate::codes::entry_code;
 use crate::given;
 use mx_book::StoreFault;
+use mx_cells::codes::entry_code;
 use mx_pay::PayDetails;
 use sqlite::{Alter, Connection, Savepoint};
 use std::alloc::Global;

@@ -15,11 +15,11 @@ ghost use Rattle.mx_book.specs.Totals.{member_totals_of, totals_of};
 
 use crate::asking::ask;
 use crate::between::{await_row, lose_result, lose_row};
-use crate::cells::{amount_at, money_at, name_at};
 use crate::holders::{find_holder, is_of};
 use crate::members::find_member;
 use crate::purses::find_owner;
 use mx_book::{MemberTotals, Scope, StoreFault, Totals};
+use mx_cells::cells::{amount_at, money_at, name_at};
 use mx_pay::Name;
 use sqlite::{Alter, Connection, Row};
 use std::alloc::Global;

@@ -1,39 +1,21 @@
 //! The tokens of the operator, the clerks and the holders.
-ghost use Rattle.std.specs.Prelude.{◌≡◌, IfOk};
+ghost use Rattle.std.specs.Prelude.{◌≡◌};
 ghost use Rattle.std.specs.FinMap as fmap;
 ghost use Rattle.sqlite.specs.Held.{state};
-ghost use Rattle.sqlite_value.specs.Order.{column};
-ghost use Rattle.sqlite_value.specs.declared.value.Value.TheVariants.{Text};
 ghost use Rattle.mx_book.specs.Spells.{opening_rows};
 ghost use Rattle.mx_book.specs.declared.values.Caller.TheVariants.{Operator};
-ghost use Rattle.mx_tables.specs.Schema.{kind_text, owner_text};
+ghost use Rattle.mx_cells.specs.Cells.{kind_text, owner_text};
 ghost use Rattle.mx_tables.specs.Holds.{Holds};
 ghost use Rattle.mx_tables.specs.Made.{Fresh};
 ghost use Rattle.mx_tables.specs.States.{Steps, Writes, Tells};
 ghost use Rattle.mx_book.specs.Reads.{who_of};
 
 use crate::asking::{ask_one, run};
-use crate::cells::{name_at, text_at};
 use mx_book::{Caller, StoreFault};
+use mx_cells::shown::caller_in;
 use mx_pay::Token;
-use sqlite::{Alter, Connection, Row, Savepoint};
+use sqlite::{Alter, Connection, Savepoint};
 use sqlite_value::value::ValueRef;
-
-/// Who a row says that the token is of.
-fn caller_in(row: &Row) -> Result<Caller, StoreFault>
-    ensures { IfOk result
-        (λ c. (column row.now 0 ≡ Text (kind_text c)) × (column row.now 1 ≡ Text (owner_text c))) }
-{
-    match text_at(row, 0) {
-        Some("operator") => match text_at(row, 1) {
-            Some("") => Ok(Caller::Operator),
-            _ => Err(StoreFault::Store),
-        },
-        Some("clerk") => Ok(Caller::Clerk(name_at(row, 1)?)),
-        Some("holder") => Ok(Caller::Holder(name_at(row, 1)?)),
-        _ => Err(StoreFault::Store),
-    }
-}
 
 /// Whose token it is, or None where it is nobody's.
 pub fn find_caller<S: Alter>(

@@ -2,7 +2,7 @@ use Rattle.mx_tables.proofs.Common.{Some, ◌∙◌, arith, state, Database, ref
 use Rattle.std.proofs.Common.{sym, ap, subst}
 use Rattle.sqlite.specs.State.{Shown}
 use Rattle.std.specs.FinMap as fmap
-use Rattle.mx_tables.specs.Answers.{message_shown}
+use Rattle.mx_cells.specs.Cells.{message_shown}
 use Rattle.mx_tables.proofs.CallLemmas.{reads_to}
 use Rattle.mx_tables.proofs.InboxLemmas.{message_is, message_back, none_above}
 use Rattle.mx_tables.proofs.ReadLemmas.{one_mapped}

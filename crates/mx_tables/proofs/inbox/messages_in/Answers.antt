@@ -3,7 +3,7 @@ use Rattle.std.proofs.Common.{ap, map, sym}
 use Rattle.std.proofs.ByRecursion.{All-push}
 use Rattle.std.proofs.lemmas.List.{take_all}
 use Rattle.mx_purse.specs.Messages.{IsMessage}
-use Rattle.mx_tables.specs.Answers.{first_three, message_row}
+use Rattle.mx_cells.specs.Cells.{first_three, message_row}
 use Rattle.mx_tables.proofs.MapLists.{grown_alike}
 use Rattle.mx_tables.proofs.inbox.messages_in.Goals as goal
 

@@ -3,7 +3,7 @@ use Rattle.std.proofs.Common.{map}
 use Rattle.sqlite.specs.Given.{HasGiven}
 use Rattle.mx_book.specs.Conditions.{IsNote}
 use Rattle.mx_tables.specs.States.{unsure, IsAwake, IsOurs, Stays}
-use Rattle.mx_tables.specs.Pages.{first_five, line_shown}
+use Rattle.mx_cells.specs.Cells.{first_five, line_shown}
 use Rattle.mx_tables.proofs.LineLemmas.{select_lines, given}
 use Rattle.mx_tables.proofs.lines.list_lines.Given as goal
 

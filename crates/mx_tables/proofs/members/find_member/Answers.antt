@@ -8,7 +8,7 @@ returns-clause-reads g c = reads_to g.S.Store c.in_ok-ask_about.ensures.reads (Î
 
 pub returns-clause-why : goal.returns-clause-why
 returns-clause-why g c = why_to g.S.Store c.in_ok-ask_about.ensures.reads c.in_ok-ask_about.ensures.why (Î» w s is.
-    no_fault c.member_in.result _ (c.member_in.ensures.there (member_read s.rows w s.spells c.args.name.now _ is)))
+    no_fault c.member_found.result _ (c.member_found.ensures.there (member_read s.rows w s.spells c.args.name.now _ is)))
 
 pub returns-in_err-ask_about-clause-why : goal.returns-in_err-ask_about-clause-why
 returns-in_err-ask_about-clause-why g c = why_handed g.S.Store c.from_residual.result c.from_residual.ensures.1 c.in_err-ask_about.ensures.why

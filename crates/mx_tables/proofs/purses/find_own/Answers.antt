@@ -1,7 +1,7 @@
 use Rattle.mx_tables.proofs.Common.{◌≡◌, true, false, Some, refl, ◌∙◌, arith, is_name, state, Database}
 use Rattle.std.proofs.Common.{sym, ap, subst}
 use Rattle.std.specs.FinMap as fmap
-use Rattle.mx_tables.specs.Answers.{purse_shown}
+use Rattle.mx_cells.specs.Cells.{purse_shown}
 use Rattle.mx_tables.specs.Known.{AreKnown}
 use Rattle.mx_book.proofs.NameLemmas.{name_itself}
 use Rattle.mx_tables.proofs.CallLemmas.{reads_to}

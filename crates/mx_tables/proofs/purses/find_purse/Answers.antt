@@ -1,7 +1,7 @@
 use Rattle.mx_tables.proofs.Common.{Some, ◌∙◌, arith}
 use Rattle.std.proofs.Common.{sym, ap}
 use Rattle.std.specs.FinMap as fmap
-use Rattle.mx_tables.specs.Answers.{purse_shown}
+use Rattle.mx_cells.specs.Cells.{purse_shown}
 use Rattle.mx_tables.proofs.ValueLemmas.{purse_back}
 use Rattle.mx_tables.proofs.ReadLemmas.{one_mapped}
 use Rattle.mx_tables.proofs.CallLemmas.{reads_fault, reads_to}

@@ -3,7 +3,8 @@ use Rattle.std.proofs.Common.{cond, sym, ap}
 use Rattle.std.specs.FinMap as fmap
 use Rattle.mx_pay.specs.Tokens.{token_cmp, is_token}
 use Rattle.mx_book.specs.declared.values.Caller.TheVariants.{Operator}
-use Rattle.mx_tables.specs.Answers.{caller_shown, one_or_none}
+use Rattle.mx_tables.specs.Answers.{one_or_none}
+use Rattle.mx_cells.specs.Cells.{caller_shown}
 use Rattle.mx_tables.proofs.CallLemmas.{reads_to}
 use Rattle.mx_tables.proofs.ReadLemmas.{found_none, found_one}
 use Rattle.mx_tables.proofs.Texts.{select_token_is}
@@ -32,7 +33,7 @@ returns-in_ok-caller_in-in-Some g c = tell_caller g.S.Store _ (reads_to g.S.Stor
     let text = c.text.ensures in
     let found = finds_token t _ _ _ (rw text.value at shown) text.valid rows holds in
     let one = found_one token_cmp caller_shown t (book_tokens rows) _ c.in-Some.row found (ap one_or_none c.in-Some.is) in
-    let read = c.in_ok-caller_in-in-Some.ensures in
+    let read = c.in_ok-caller_in-in-Some.ensures.is in
     ap Some (caller_back one.0 c.in_ok-caller_in-in-Some.field-0 c.in-Some.row one.2 read.0 read.1) ∙ sym one.1 ∙ sym (ap (cond (is_token t rows.operator) (Some Operator)) (fmap.get-entries rows.tokens t))))
 
 pub returns-in_err-caller_in-in-Some : goal.returns-in_err-caller_in-in-Some

@@ -1,6 +1,6 @@
 use Rattle.mx_tables.proofs.Common.{◌∙◌}
 use Rattle.std.proofs.Common.{ap}
-use Rattle.mx_tables.specs.Schema.{kind_text, owner_text}
+use Rattle.mx_cells.specs.Cells.{kind_text, owner_text}
 use Rattle.mx_tables.proofs.CallLemmas.{runs_to, steps_to}
 use Rattle.mx_tables.proofs.MadeLemmas.{opens_with}
 use Rattle.mx_tables.proofs.MemberLemmas.{adds_token}

@@ -1,0 +1,9 @@
+pub mod Scans
+pub mod Sound
+pub mod Seen
+pub mod Typed
+pub mod Audit
+pub mod Fed
+pub mod Audited
+pub mod Raw
+pub mod Readings

@@ -1,0 +1,67 @@
+//! The rows of a query, handed on one at a time.
+ghost use Rattle.std.specs.Prelude.{Bool, ◌≡◌, List, [], OnOk};
+ghost use Rattle.sqlite.specs.Given.{Advances, row_if};
+ghost use Rattle.sqlite.specs.Held.{state};
+ghost use Rattle.sqlite.specs.State.{IsUnchanged, Shown};
+ghost use Rattle.sqlite_value.specs.Order as order;
+ghost use Rattle.mx_tables.specs.States.{IsAwake, IsOurs, IsQuery, Stays, worry};
+ghost use Rattle.mx_audit.specs.Scans.{Scans, TakesAll};
+
+use mx_book::StoreFault;
+use mx_tables::fault_of;
+use sqlite::{Alter, Connection, Row, Rows};
+
+/// What takes rows one at a time.
+pub trait Takes {
+    /// What it becomes by a row that it takes.
+    ghost takes: { Self → order.Row → Self → Type 0 };
+
+    /// Takes one more row. After a fault nothing is said of it.
+    fn take(&mut self, row: &Row) -> Result<(), StoreFault>
+        ensures { OnOk result (takes self.old row.now self.new) };
+}
+
+/// Moves to the next row of a query, or past the last. Memory where there is none, and Store where it fails otherwise.
+fn next<S: Alter>(rows: &mut Rows<'_, S>) -> Result<(), StoreFault>
+    ensures same_reference { rows.new.conn.ghost_name ≡ rows.old.conn.ghost_name }
+    ensures stays { (begun : Bool) → IsOurs begun (state S.Store rows.old.conn.now)
+        → Stays begun (state S.Store rows.old.conn.now) (state S.Store rows.new.conn.now) }
+    ensures shown { worry (state S.Store rows.new.conn.now) ≡ 0
+        → OnOk result (Advances S.Store rows.old.conn.now rows.new.conn.now
+        (row_if rows.new.has_row rows.new.conn.now)) }
+    ensures same { worry (state S.Store rows.new.conn.now) ≡ 0
+        → OnOk result (IsUnchanged (state S.Store rows.old.conn.now)
+        (state S.Store rows.new.conn.now)) }
+    ensures live { OnOk result (IsAwake (state S.Store rows.new.conn.now)) }
+{
+    match rows.advance() {
+        Ok(()) => Ok(()),
+        Err(error) => Err(fault_of(error)),
+    }
+}
+
+/// Hands all rows of a query to a taker, one at a time. Those behind one that it could not take are not asked for.
+/// Memory where there is none. Store where the query fails otherwise, or after 2^64 - 1 rows. Else the taker's fault.
+pub fn scan<S: Alter, T: Takes>(
+    conn: &mut Connection<S>,
+    sql: &str,
+    taker: &mut T,
+) -> Result<(), StoreFault>
+    requires { IsQuery sql.now }
+    ensures { Scans S.Store conn.old conn.new result ((rows : List order.Row)
+        × Shown sql.now [] (state S.Store conn.old) (state S.Store conn.new) rows
+        × TakesAll T.takes taker.old rows taker.new) }
+{
+    let mut rows = match conn.query(sql, &[]) {
+        Ok(rows) => rows,
+        Err(error) => return Err(fault_of(error)),
+    };
+    for _ in 0..u64::MAX {
+        next(&mut rows)?;
+        let Some(row) = rows.get() else {
+            return Ok(());
+        };
+        taker.take(row)?;
+    }
+    Err(StoreFault::Store)
+}
