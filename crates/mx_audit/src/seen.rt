@@ -240,7 +240,8 @@ impl Seen {
 
 /// Marks that a member has a token, and says whether the member is there. An AllocError changes nothing.
 fn mark_member(members: &mut Table<Name, bool>, member: Name) -> Result<bool, AllocError>
-    ensures there { IfOk result (λ there. there ≡ contains_key (map_of name_cmp members.old) member) }
+    ensures there { IfOk result (λ there.
+        there ≡ contains_key (map_of name_cmp members.old) member) }
     ensures ok { IfOk result (λ _. map_of name_cmp members.new
         ≡ changed_at (map_of name_cmp members.old) member (λ _. true)) }
     ensures err { IfErr result (λ _. map_of name_cmp members.new ≡ map_of name_cmp members.old) }
@@ -255,7 +256,8 @@ fn mark_member(members: &mut Table<Name, bool>, member: Name) -> Result<bool, Al
 
 /// Marks that a holder has a token, and says whether the holder is there. An AllocError changes nothing.
 fn mark_holder(holders: &mut Table<Name, HolderSeen>, holder: Name) -> Result<bool, AllocError>
-    ensures there { IfOk result (λ there. there ≡ contains_key (map_of name_cmp holders.old) holder) }
+    ensures there { IfOk result (λ there.
+        there ≡ contains_key (map_of name_cmp holders.old) holder) }
     ensures ok { IfOk result (λ _. map_of name_cmp holders.new
         ≡ changed_at (map_of name_cmp holders.old) holder (λ (x : OfHolder). record x { has_token = true })) }
     ensures err { IfErr result (λ _. map_of name_cmp holders.new ≡ map_of name_cmp holders.old) }
@@ -292,7 +294,8 @@ fn is_filled(message: &Message) -> bool
 
 /// Whether each of these members has a token.
 fn are_marked(mut rows: Rows<'_, Name, bool>) -> bool
-    ensures { result ≡ list_all (λ b. b) (map (λ (e : NameOf × Bool). e.1) (rows_left rows.entry)) }
+    ensures { result
+        ≡ list_all (λ b. b) (map (λ (e : NameOf × Bool). e.1) (rows_left rows.entry)) }
 {
     rows.all(|row| row.1)
 }
