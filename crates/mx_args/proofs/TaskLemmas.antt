@@ -11,7 +11,7 @@ use Rattle.mx_pay.specs.Tokens.{token_of}
 use Rattle.mx_pay.proofs.EntryLemmas.{bind_some, number_again, number_takes}
 use Rattle.mx_args.specs.Named.{Given, HasPurse, HasValue, IsFoundBy, IsNumber, IsToken, Names, NamesNone}
 use Rattle.mx_args.specs.declared.task.Task.{Task}
-use Rattle.mx_args.specs.declared.task.Task.TheVariants.{RunMemory, RunFile, Init, Serve, Import, Report, Migrate}
+use Rattle.mx_args.specs.declared.task.Task.TheVariants.{RunMemory, RunFile, Init, Serve, Import, Report, Check, Migrate}
 
 -- ---- numbers
 
@@ -93,9 +93,12 @@ purse_once rows (Some p) (Some q) h k = cc
 
 -- ---- one task at most
 
--- two names of commands that have the same length
+-- names of commands that have the same length
 import_report : codes "import" ≡ codes "report" → ⊥
 import_report e = let first : ◌≡◌ {A = ℕ} 105 114 = ap (λ (t : Text). slice_index t 0) e in absurd (omega arith)
+
+serve_check : codes "serve" ≡ codes "check" → ⊥
+serve_check e = let first : ◌≡◌ {A = ℕ} 115 99 = ap (λ (t : Text). slice_index t 0) e in absurd (omega arith)
 
 -- two tasks that the rows name are one
 pub names_once : (name : Text) (rows : List Row) (a b : Task) → Names name rows a → Names name rows b → a ≡ b
@@ -116,9 +119,12 @@ names_once name rows (Import f r) (Import g s) h k = cc
 names_once name rows (Report f p) (Report g q) h k =
     let purse = purse_once rows p q h.2 k.2 in
     cc
+names_once name rows (Check f) (Check g) h k = cc
 names_once name rows (Migrate f) (Migrate g) h k = cc
 names_once name rows (Import f r) (Report g p) h k = absurd (import_report (sym h.0 ∙ k.0))
 names_once name rows (Report f p) (Import g r) h k = absurd (import_report (sym k.0 ∙ h.0))
+names_once name rows (Serve f p m) (Check g) h k = absurd (serve_check (sym h.0 ∙ k.0))
+names_once name rows (Check f) (Serve g q n) h k = absurd (serve_check (sym k.0 ∙ h.0))
 names_once name rows a b h k = cc
 
 -- two tasks that the command which was found names are one
@@ -136,8 +142,10 @@ found_once found a b h k =
 -- `serve` takes a port and a count
 pub no_port : (rows : List Row) → ((n : ℕ) → ¬ HasValue rows (codes "port") (IsNumber 65535 n)) → NamesNone (codes "serve") rows
 no_port rows none (Serve file port count) h = none port h.2
+no_port rows none (Check file) h = absurd (serve_check h.0)
 no_port rows none task h = cc
 
 pub no_count : (rows : List Row) → ((n : ℕ) → ¬ HasValue rows (codes "count") (IsNumber 1000000 n)) → NamesNone (codes "serve") rows
 no_count rows none (Serve file port count) h = none count h.3
+no_count rows none (Check file) h = absurd (serve_check h.0)
 no_count rows none task h = cc

@@ -44,6 +44,10 @@ abbrev pub report_app : App
 report_app = with_rule (with_rule (new_app (codes "report")) (word_rule (codes "FILE") true))
     (option_rule (codes "purse") false)
 
+-- `check FILE`
+abbrev pub check_app : App
+check_app = with_rule (new_app (codes "check")) (word_rule (codes "FILE") true)
+
 -- `migrate FILE`
 abbrev pub migrate_app : App
 migrate_app = with_rule (new_app (codes "migrate")) (word_rule (codes "FILE") true)
@@ -62,4 +66,5 @@ program_app = record {
 -- the program with its commands
 abbrev pub line_app : App
 line_app = with_subcommand (with_subcommand (with_subcommand (with_subcommand (with_subcommand (with_subcommand
-    program_app run_app.top) init_app.top) serve_app.top) import_app.top) report_app.top) migrate_app.top
+    (with_subcommand program_app run_app.top) init_app.top) serve_app.top) import_app.top) report_app.top)
+    check_app.top) migrate_app.top

@@ -5,7 +5,7 @@ use Rattle.mx_pay.specs.Names.{is_name_text}
 use Rattle.mx_pay.specs.Tokens.{token_of}
 use Rattle.mx_args.specs.Line.{line_app}
 use Rattle.mx_args.specs.declared.task.Task.{Task}
-use Rattle.mx_args.specs.declared.task.Task.TheVariants.{RunMemory, RunFile, Init, Serve, Import, Report, Migrate}
+use Rattle.mx_args.specs.declared.task.Task.TheVariants.{RunMemory, RunFile, Init, Serve, Import, Report, Check, Migrate}
 
 -- the text is 32 hexadecimal digits, which spell these bytes
 abbrev pub IsToken : List ℕ → Text → Type 0
@@ -47,6 +47,7 @@ Names name rows (Import file roll) = (name ≡ codes "import") × Given rows (co
     × Given rows (codes "ROLL") roll
 Names name rows (Report file purse) = (name ≡ codes "report") × Given rows (codes "FILE") file
     × HasPurse rows purse
+Names name rows (Check file) = (name ≡ codes "check") × Given rows (codes "FILE") file
 Names name rows (Migrate file) = (name ≡ codes "migrate") × Given rows (codes "FILE") file
 
 -- the command of this name with these rows is no task

@@ -58,7 +58,7 @@ const TOKEN: Argument = Argument {
 };
 
 // The commands in the order of help.
-static FORMS: [Form; 6] = [
+static FORMS: [Form; 7] = [
     Form {
         name: "run",
         full_name: "purse-office run",
@@ -137,6 +137,12 @@ static FORMS: [Form; 6] = [
                 help: "The purse whose statement is printed",
             },
         ],
+    },
+    Form {
+        name: "check",
+        full_name: "purse-office check",
+        about: "Tells whether a file of books is sound, and what is wrong in it",
+        arguments: &[FILE],
     },
     Form {
         name: "migrate",

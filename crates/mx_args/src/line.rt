@@ -4,7 +4,8 @@ ghost use Rattle.std.specs.Prelude.{codes, map, option_map};
 ghost use Rattle.std.specs.Option.{option_and_then};
 ghost use Rattle.clap.specs.Words.{first_of, found_of, kind_of, rows_of, subcommand_rows_of};
 ghost use Rattle.mx_pay.specs.Tokens.{token_of};
-ghost use Rattle.mx_args.specs.Named.{HasPurse, HasValue, IsFoundBy, IsNamedBy, IsNumber, Names, NamesNone};
+ghost use Rattle.mx_args.specs.Named.{Absent, Given, HasPurse, HasValue};
+ghost use Rattle.mx_args.specs.Named.{IsFoundBy, IsNamedBy, IsNumber, Names, NamesNone};
 
 use crate::commands::{command_named, line_command};
 use crate::task::{LineFault, Task, Word};
@@ -68,6 +69,14 @@ fn word_of<'a>(matches: &ArgMatches<'a>, id: &str) -> Option<Word<'a>>
 {
     let text = text_of(matches, id)?;
     Some(Word::new(text))
+}
+
+// The same of a word that the command has to have.
+fn needed_word<'a>(matches: &ArgMatches<'a>, id: &str) -> Result<Word<'a>, Misfit>
+    ensures given { IfOk result (Given (rows_of (found_of matches.now)) id.now) }
+    ensures absent { OnErr result (Absent (rows_of (found_of matches.now)) id.now) }
+{
+    word_of(matches, id).ok_or(Misfit::Missing)
 }
 
 // The token that the value of `--token` spells.
@@ -138,9 +147,7 @@ fn init_task<'a>(matches: &ArgMatches<'a>) -> Result<Task<'a>, Misfit>
     ensures named { IfOk result (Names (codes "init") (rows_of (found_of matches.now))) }
     ensures unnamed { OnErr result (NamesNone (codes "init") (rows_of (found_of matches.now))) }
 {
-    let Some(file) = word_of(matches, "FILE") else {
-        return Err(Misfit::Missing);
-    };
+    let file = needed_word(matches, "FILE")?;
     let Some(token) = token_of(matches) else {
         return Err(Misfit::Token);
     };
@@ -151,9 +158,7 @@ fn serve_task<'a>(matches: &ArgMatches<'a>) -> Result<Task<'a>, Misfit>
     ensures named { IfOk result (Names (codes "serve") (rows_of (found_of matches.now))) }
     ensures unnamed { OnErr result (NamesNone (codes "serve") (rows_of (found_of matches.now))) }
 {
-    let Some(file) = word_of(matches, "FILE") else {
-        return Err(Misfit::Missing);
-    };
+    let file = needed_word(matches, "FILE")?;
     let Some(port) = number_of(matches, "port", MOST_PORT) else {
         return Err(Misfit::Port);
     };
@@ -171,12 +176,8 @@ fn import_task<'a>(matches: &ArgMatches<'a>) -> Result<Task<'a>, Misfit>
     ensures named { IfOk result (Names (codes "import") (rows_of (found_of matches.now))) }
     ensures unnamed { OnErr result (NamesNone (codes "import") (rows_of (found_of matches.now))) }
 {
-    let Some(file) = word_of(matches, "FILE") else {
-        return Err(Misfit::Missing);
-    };
-    let Some(roll) = word_of(matches, "ROLL") else {
-        return Err(Misfit::Missing);
-    };
+    let file = needed_word(matches, "FILE")?;
+    let roll = needed_word(matches, "ROLL")?;
     Ok(Task::Import { file, roll })
 }
 
@@ -184,21 +185,25 @@ fn report_task<'a>(matches: &ArgMatches<'a>) -> Result<Task<'a>, Misfit>
     ensures named { IfOk result (Names (codes "report") (rows_of (found_of matches.now))) }
     ensures unnamed { OnErr result (NamesNone (codes "report") (rows_of (found_of matches.now))) }
 {
-    let Some(file) = word_of(matches, "FILE") else {
-        return Err(Misfit::Missing);
-    };
+    let file = needed_word(matches, "FILE")?;
     let purse = purse_of(matches)?;
     Ok(Task::Report { file, purse })
+}
+
+fn check_task<'a>(matches: &ArgMatches<'a>) -> Result<Task<'a>, Misfit>
+    ensures named { IfOk result (Names (codes "check") (rows_of (found_of matches.now))) }
+    ensures unnamed { OnErr result (NamesNone (codes "check") (rows_of (found_of matches.now))) }
+{
+    let file = needed_word(matches, "FILE")?;
+    Ok(Task::Check(file))
 }
 
 fn migrate_task<'a>(matches: &ArgMatches<'a>) -> Result<Task<'a>, Misfit>
     ensures named { IfOk result (Names (codes "migrate") (rows_of (found_of matches.now))) }
     ensures unnamed { OnErr result (NamesNone (codes "migrate") (rows_of (found_of matches.now))) }
 {
-    match word_of(matches, "FILE") {
-        Some(file) => Ok(Task::Migrate(file)),
-        None => Err(Misfit::Missing),
-    }
+    let file = needed_word(matches, "FILE")?;
+    Ok(Task::Migrate(file))
 }
 
 fn task_of<'a>(name: &str, matches: &ArgMatches<'a>) -> Result<Task<'a>, Misfit>
@@ -211,6 +216,7 @@ fn task_of<'a>(name: &str, matches: &ArgMatches<'a>) -> Result<Task<'a>, Misfit>
         "serve" => serve_task(matches),
         "import" => import_task(matches),
         "report" => report_task(matches),
+        "check" => check_task(matches),
         "migrate" => migrate_task(matches),
         _ => Err(Misfit::Missing),
     }

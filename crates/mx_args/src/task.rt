@@ -74,6 +74,8 @@ pub enum Task<'a> {
         /// The purse, where one is named.
         purse: Option<Name>,
     },
+    /// `check FILE`: whether the books in a file are sound, and what is wrong in them if not.
+    Check(Word<'a>),
     /// `migrate FILE`: the books in a file, which are of the schema before, are brought to the schema of this version.
     Migrate(Word<'a>),
 }

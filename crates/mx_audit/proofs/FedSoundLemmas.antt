@@ -160,6 +160,7 @@ module _ (f : Fed) (r : Rows) (is : Lists f r) where
       purses = all_purses _ sound.purses.holder;
       inbox = all_messages _ awaited;
       lines = all_lines _ line_counted;
+      tray = all_laid _ (λ p d at. let entry = sound.results.logged p d at in some_of _ entry.0 entry.1);
       archive = all_archived _ sound.results.archived;
       loads = all_loads _ (λ p reference amount at. let x = load_purse p reference amount at in some_of _ x.0 x.1);
       redemptions = all_redemptions _ (λ p reference e at. let x = redemption_purse p reference e at in some_of _ x.0 x.1);

@@ -7,7 +7,7 @@ use Rattle.mx_book.specs.declared.values.Caller.{Caller}
 use Rattle.mx_book.specs.declared.values.Caller.TheVariants.{Operator, Clerk, Holder}
 use Rattle.mx_book.specs.declared.values.Redemption.{Redemption}
 use Rattle.mx_audit.specs.Seen.{Seen, nothing_seen, seen_all, is_whole, fits_member, with_member, fits_holder, with_holder, fits_token, with_token, fits_purse, with_purse, fits_message, with_message, fits_line, with_line, has_purse}
-use Rattle.mx_audit.specs.Fed.{Fed, and_all, and_of_purses, seen_members, seen_holders, seen_tokens, seen_purses, seen_inbox, seen_lines, seen_archive, seen_loads, seen_fed}
+use Rattle.mx_audit.specs.Fed.{Fed, and_all, and_of_purses, seen_members, seen_holders, seen_tokens, seen_purses, seen_inbox, seen_lines, seen_tray, seen_archive, seen_loads, seen_fed}
 use Rattle.mx_audit.proofs.PassLemmas.{after, kept}
 use Rattle.mx_audit.proofs.FitLemmas.{chained}
 
@@ -40,10 +40,11 @@ since_tokens f =
     let tokens = seen_tokens f in
     of_purses_kept (λ (e : (Name × Name) × Redemption). e.0.0) f.redemptions tokens (seen_loads f)
     (of_purses_kept (λ (e : (Name × Name) × ℕ). e.0.0) f.loads tokens (seen_archive f)
-    (of_purses_kept (λ (e : Name × Details). e.0) f.archive tokens (seen_lines f)
+    (of_purses_kept (λ (e : Name × Details). e.0) f.archive tokens (seen_tray f)
+    (of_purses_kept (λ (e : Name × Details). e.0) f.tray tokens (seen_lines f)
     (operator_kept fits_line with_line (λ _ _. refl) f.lines tokens (seen_inbox f)
     (operator_kept fits_message with_message (λ _ _. refl) f.inbox tokens (seen_purses f)
-    (operator_kept fits_purse with_purse (λ _ _. refl) f.purses tokens (seen_tokens f) (λ t h. (t, h, refl)))))))
+    (operator_kept fits_purse with_purse (λ _ _. refl) f.purses tokens (seen_tokens f) (λ t h. (t, h, refl))))))))
 
 none_before : (f : Fed) (s : Seen) → seen_holders f ≡ Some s → s.operator ≡ None
 none_before f s h =

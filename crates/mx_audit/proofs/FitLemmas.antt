@@ -16,7 +16,7 @@ use Rattle.mx_book.specs.declared.values.MemberRow.{MemberRow}
 use Rattle.mx_book.specs.declared.values.PurseRow.{PurseRow}
 use Rattle.mx_book.specs.declared.values.Redemption.{Redemption}
 use Rattle.mx_audit.specs.Seen.{Seen, nothing_seen, seen_all, fits_member, with_member, fits_holder, with_holder, fits_caller, fits_token, with_token, fits_purse, with_purse, fits_message, with_message, fits_line, with_line, has_purse}
-use Rattle.mx_audit.specs.Fed.{Fed, Lists, and_all, and_of_purses, seen_members, seen_holders, seen_tokens, seen_purses, seen_inbox, seen_lines, seen_archive, seen_loads, seen_fed}
+use Rattle.mx_audit.specs.Fed.{Fed, Lists, and_all, and_of_purses, seen_members, seen_holders, seen_tokens, seen_purses, seen_inbox, seen_lines, seen_tray, seen_archive, seen_loads, seen_fed}
 use Rattle.mx_audit.proofs.PassLemmas.{after, kept, keeps, Pass, AllPass, still, fitted, fitting}
 use Rattle.mx_audit.proofs.SeenLemmas.{after_members, after_holders, after_tokens, after_purses, after_inbox, after_all, members_at_first, holders_at_first, purses_at_first, new_purse}
 use Rattle.mx_audit.proofs.KnownLemmas.{has_member, has_owner, has_holder, is_awaited, is_counted, OfPurses, KnowsMembers, KnowsHolders, KnowsOwners, KnowsPurses, numbers, numbers_of, there_mapped, token_holders, holder_pass, token_pass, purse_pass, message_pass, line_pass, there_pass}
@@ -29,6 +29,7 @@ pub record Fits (f : Fed) (r : Rows) (rest : List (Token × Caller)) : Type 0 wh
   pub purses : AllByRecursion (λ e. has_holder r e ≡ true) f.purses
   pub inbox : AllByRecursion (λ e. is_awaited r e ≡ true) f.inbox
   pub lines : AllByRecursion (λ e. is_counted r e ≡ true) f.lines
+  pub tray : OfPurses r (λ (e : Name × Details). e.0) f.tray
   pub archive : OfPurses r (λ (e : Name × Details). e.0) f.archive
   pub loads : OfPurses r (λ (e : (Name × Name) × ℕ). e.0.0) f.loads
   pub redemptions : OfPurses r (λ (e : (Name × Name) × Redemption). e.0.0) f.redemptions
@@ -171,8 +172,11 @@ module _ (f : Fed) (r : Rows) (is : Lists f r) where
   abbrev Lines : Type 0
   Lines = Inbox × AllByRecursion (λ e. is_counted r e ≡ true) f.lines
 
+  abbrev Tray : Type 0
+  Tray = Lines × OfPurses r (λ (e : Name × Details). e.0) f.tray
+
   abbrev Archive : Type 0
-  Archive = Lines × OfPurses r (λ (e : Name × Details). e.0) f.archive
+  Archive = Tray × OfPurses r (λ (e : Name × Details). e.0) f.archive
 
   abbrev Loads : Type 0
   Loads = Archive × OfPurses r (λ (e : (Name × Name) × ℕ). e.0.0) f.loads
@@ -201,8 +205,11 @@ module _ (f : Fed) (r : Rows) (is : Lists f r) where
   lines_end : Ends (seen_lines f) (after_all f) Lines
   lines_end = and_fitted fits_line with_line (line_pass r) f.lines (seen_inbox f) (after_inbox f) purses_then Inbox inbox_end
 
+  tray_end : Ends (seen_tray f) (after_all f) Tray
+  tray_end = of_purses_fitted (λ (e : Name × Details). e.0) f.tray (seen_lines f) Lines lines_end
+
   archive_end : Ends (seen_archive f) (after_all f) Archive
-  archive_end = of_purses_fitted (λ (e : Name × Details). e.0) f.archive (seen_lines f) Lines lines_end
+  archive_end = of_purses_fitted (λ (e : Name × Details). e.0) f.archive (seen_tray f) Tray tray_end
 
   loads_end : Ends (seen_loads f) (after_all f) Loads
   loads_end = of_purses_fitted (λ (e : (Name × Name) × ℕ). e.0.0) f.loads (seen_archive f) Archive archive_end
@@ -212,12 +219,13 @@ module _ (f : Fed) (r : Rows) (is : Lists f r) where
       let end = of_purses_fitted (λ (e : (Name × Name) × Redemption). e.0.0) f.redemptions (seen_loads f) Loads loads_end t h in
       let q = end.0 in (
         record {
-          granted = q.0.0.0.0.0.0.0.0;
-          holders = q.0.0.0.0.0.0.0.1;
-          tokens = q.0.0.0.0.0.0.1;
-          purses = q.0.0.0.0.0.1;
-          inbox = q.0.0.0.0.1;
-          lines = q.0.0.0.1;
+          granted = q.0.0.0.0.0.0.0.0.0;
+          holders = q.0.0.0.0.0.0.0.0.1;
+          tokens = q.0.0.0.0.0.0.0.1;
+          purses = q.0.0.0.0.0.0.1;
+          inbox = q.0.0.0.0.0.1;
+          lines = q.0.0.0.0.1;
+          tray = q.0.0.0.1;
           archive = q.0.0.1;
           loads = q.0.1;
           redemptions = q.1;
@@ -253,4 +261,5 @@ module _ (f : Fed) (r : Rows) (is : Lists f r) where
     fits_seen =
         of_purses_fitting (λ (e : (Name × Name) × Redemption). e.0.0) f.redemptions (seen_loads f)
         (of_purses_fitting (λ (e : (Name × Name) × ℕ). e.0.0) f.loads (seen_archive f)
-        (of_purses_fitting (λ (e : Name × Details). e.0) f.archive (seen_lines f) lines_pass h.archive) h.loads) h.redemptions
+        (of_purses_fitting (λ (e : Name × Details). e.0) f.archive (seen_tray f)
+        (of_purses_fitting (λ (e : Name × Details). e.0) f.tray (seen_lines f) lines_pass h.tray) h.archive) h.loads) h.redemptions

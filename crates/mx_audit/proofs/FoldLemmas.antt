@@ -6,7 +6,7 @@ use Rattle.sqlite_value.specs.Order.{Row}
 use Rattle.sqlite_trees.specs.Tree.{Trees}
 use Rattle.mx_audit.specs.Audit.{IsBegun, fits_row, with_row, cleared_of}
 use Rattle.mx_audit.specs.Audited.{GoesOver, IsScan, sources}
-use Rattle.mx_audit.specs.Fed.{and_all, seen_members, seen_holders, seen_tokens, seen_purses, seen_inbox, seen_lines, seen_archive, seen_loads, seen_fed}
+use Rattle.mx_audit.specs.Fed.{and_all, seen_members, seen_holders, seen_tokens, seen_purses, seen_inbox, seen_lines, seen_tray, seen_archive, seen_loads, seen_fed}
 use Rattle.mx_audit.specs.Readings.{AreRead, fed_of, tokens_of, members_of, holders_of, purses_of, messages_of, lines_of, laid_of, archived_of, loads_of, redemptions_of}
 use Rattle.mx_audit.specs.Seen.{Seen, nothing_seen, seen_all, is_whole, fits_member, with_member, fits_holder, with_holder, fits_token, with_token, fits_purse, with_purse, fits_message, with_message, fits_line, with_line, has_purse}
 use Rattle.mx_audit.specs.Typed.{IsSource, source_of}
@@ -56,6 +56,10 @@ is_line : (e : TypedRow) → source_of e ≡ Lines → IsAs lines_of fits_line w
 is_line (Line purse number line) is = record { value = ((purse, number), line); only = refl; same = λ s. refl; then = λ s. refl }
 is_line e is = absurd (cc)
 
+is_laid : (e : TypedRow) → source_of e ≡ Tray → IsAs laid_of (λ s d. has_purse s d.0) (λ s d. s) e
+is_laid (Laid purse details) is = record { value = (purse, details); only = refl; same = λ s. refl; then = λ s. refl }
+is_laid e is = absurd (cc)
+
 is_archived : (e : TypedRow) → source_of e ≡ Archive → IsAs archived_of (λ s d. has_purse s d.0) (λ s d. s) e
 is_archived (Archived purse details) is = record { value = (purse, details); only = refl; same = λ s. refl; then = λ s. refl }
 is_archived e is = absurd (cc)
@@ -71,10 +75,6 @@ is_redemption e is = absurd (cc)
 idle_version : (e : TypedRow) → source_of e ≡ Meta → IsIdle e
 idle_version Version is = record { fits = λ s. refl; then = λ s. refl }
 idle_version e is = absurd (cc)
-
-is_laid : (e : TypedRow) → source_of e ≡ Tray → IsIdle e
-is_laid (Laid purse details) is = record { fits = λ s. refl; then = λ s. refl }
-is_laid e is = absurd (cc)
 
 is_settled : (e : TypedRow) → source_of e ≡ Settled → IsIdle e
 is_settled (row_settled details) is = record { fits = λ s. refl; then = λ s. refl }
@@ -322,9 +322,10 @@ module _ (db : Trees) (begin final : Audit) (all : Tables (WasRead db) begin fin
       sees_as db Inbox messages_of fits_message with_message is_message _ _ all.inbox _ purses in
       let lines : seen_lines (fed_of read_of) ≡ Some all.after_lines.seen =
       sees_as db Lines lines_of fits_line with_line is_line _ _ all.lines _ inbox in
-      let tray = sees_none db Tray _ _ is_laid all.tray in
+      let tray : seen_tray (fed_of read_of) ≡ Some all.after_tray.seen =
+      sees_as db Tray laid_of (λ s d. has_purse s d.0) (λ s d. s) is_laid _ _ all.tray _ lines in
       let archive : seen_archive (fed_of read_of) ≡ Some all.after_archive.seen =
-      sees_as db Archive archived_of (λ s d. has_purse s d.0) (λ s d. s) is_archived _ _ all.archive _ (lines ∙ ap (λ (s : Seen). Some s) (sym tray)) in
+      sees_as db Archive archived_of (λ s d. has_purse s d.0) (λ s d. s) is_archived _ _ all.archive _ tray in
       let loads : seen_loads (fed_of read_of) ≡ Some all.after_loads.seen =
       sees_as db Loads loads_of (λ s d. has_purse s d.0.0) (λ s d. s) is_load _ _ all.loads _ archive in
       let redemptions : seen_fed (fed_of read_of) ≡ Some all.after_redemptions.seen =
@@ -402,8 +403,9 @@ module _ (db : Trees) (begin final : Audit) (all : Tables (IsGiven db) begin fin
   all_at once s seen at =
       let redemptions = chained _ (seen_loads (fed_of given_of)) s seen in
       let loads = chained _ (seen_archive (fed_of given_of)) _ redemptions.1 in
-      let archive = chained _ (seen_lines (fed_of given_of)) _ loads.1 in
-      let lines = chained _ (seen_inbox (fed_of given_of)) _ archive.1 in
+      let archive = chained _ (seen_tray (fed_of given_of)) _ loads.1 in
+      let tray = chained _ (seen_lines (fed_of given_of)) _ archive.1 in
+      let lines = chained _ (seen_inbox (fed_of given_of)) _ tray.1 in
       let inbox = chained _ (seen_purses (fed_of given_of)) _ lines.1 in
       let purses = chained _ (seen_tokens (fed_of given_of)) _ inbox.1 in
       let tokens = chained _ (seen_holders (fed_of given_of)) _ purses.1 in
@@ -415,7 +417,8 @@ module _ (db : Trees) (begin final : Audit) (all : Tables (IsGiven db) begin fin
       let after_purses = row_at db Purses _ _ (once Purses) all.purses purses_of fits_purse with_purse is_purse _ _ purses.2 after_tokens in
       let after_inbox = row_at db Inbox _ _ (once Inbox) all.inbox messages_of fits_message with_message is_message _ _ inbox.2 after_purses in
       let after_lines = row_at db Lines _ _ (once Lines) all.lines lines_of fits_line with_line is_line _ _ lines.2 after_inbox in
-      let after_tray = idle_at db Tray _ _ (once Tray) all.tray is_laid _ after_lines in
+      let after_tray =
+      row_at db Tray _ _ (once Tray) all.tray laid_of (λ s d. has_purse s d.0) (λ s d. s) is_laid _ _ tray.2 after_lines in
       let after_archive =
       row_at db Archive _ _ (once Archive) all.archive archived_of (λ s d. has_purse s d.0) (λ s d. s) is_archived _ _ archive.2 after_tray in
       let after_loads = row_at db Loads _ _ (once Loads) all.loads loads_of (λ s d. has_purse s d.0.0) (λ s d. s) is_load _ _ loads.2 after_archive in

@@ -2,7 +2,6 @@ pub mod NumberLemmas
 pub mod ScanLemmas
 pub mod SoundLemmas
 pub mod RawLemmas
-pub mod FileLemmas
 pub mod CellLemmas
 pub mod KeepLemmas
 pub mod LookLemmas
@@ -17,6 +16,7 @@ pub mod FedSoundLemmas
 pub mod OverLemmas
 pub mod AuditLemmas
 pub mod DecideLemmas
+pub mod OpeningLemmas
 pub mod ReadLemmas
 pub mod FoldLemmas
 pub mod TypedLemmas

@@ -1,6 +1,6 @@
 -- The queries of the audit, and what each shows of the rows of its table, whatever these are.
 use Rattle.mx_tables.proofs.Common.{◌≡◌, ℕ, List, [], ◌∷◌, codes, refl, IsPermutation, Binary, Row, column, Term, col, office_schema}
-use Rattle.std.proofs.Common.{Bool, Less, Ok, Result, OnOk, ap, map, subst, ◌∙◌}
+use Rattle.std.proofs.Common.{Bool, Less, Ok, Err, Result, IfOk, OnOk, ap, map, subst, ◌∙◌}
 use Rattle.std.proofs.lemmas.Result.{on_ok_weaker}
 use Rattle.std.specs.Result.{IsErr}
 use Rattle.sqlite_value.specs.declared.keys.Key.{Key}
@@ -19,7 +19,7 @@ use Rattle.sqlite.specs.State.{State, Shown}
 use Rattle.sqlite.specs.Held.{Held, state}
 use Rattle.sqlite_trees.specs.declared.store.Store.{Ghosts}
 use Rattle.mx_book.specs.declared.contract.StoreFault.{StoreFault}
-use Rattle.mx_tables.specs.States.{IsOurs, Stays, unsure}
+use Rattle.mx_tables.specs.States.{IsOurs, IsQuery, Reads, Stays, unsure}
 use Rattle.mx_tables.proofs.StateLemmas.{sound, stays_then, sure_before, sure_first, on_ok_anyway, on_ok_never}
 use Rattle.mx_audit.specs.Scans.{Scans}
 use Rattle.sqlite.proofs.Callers.{reads_as}
@@ -124,6 +124,11 @@ pub scan_tokens_is : IsSelect scan_tokens 3 [] token_project token_order token_n
 unfolding understood everything
 scan_tokens_is = record { is = refl; query = record { plain = (refl, refl); silent = λ _ _. refl }; unlisted = refl }
 
+-- the numbers of a purse's lines
+pub numbers_query : IsQuery (codes "SELECT number FROM line WHERE purse = ?1 ORDER BY number")
+unfolding understood everything
+numbers_query = record { plain = (refl, refl); silent = λ _ _. refl }
+
 -- ---- what they show
 
 module _ (old new : State) (rows : List Row) (has : old.now.schema ≡ office_schema) where
@@ -174,6 +179,10 @@ module _ (old new : State) (rows : List Row) (has : old.now.schema ≡ office_sc
 
 -- ---- scans one after another
 
+nothing_said : {T E : Type 0} (r : Result T E) → IfOk r (λ _. Unit {0})
+nothing_said (Ok x) = tt
+nothing_said (Err e) = tt
+
 module _ {S : Type 0} (g : Ghosts S) where
   -- without doubt the schema was that of the office
   was_office : {begun : Bool} (old new : Held S) → IsOurs begun (state g old) → Stays begun (state g old) (state g new) → unsure begun (state g new) ≡ 0 → (state g old).now.schema ≡ office_schema
@@ -193,6 +202,13 @@ module _ {S : Type 0} (g : Ghosts S) where
   pub scans_fault : {T U : Type 0} {old new : Held S} {q : Result T StoreFault} {r : Result U StoreFault} {did other : Type 0}
       → Scans g old new q did → IsErr r → Scans g old new r other
   scans_fault {r = r} {other = other} h fault = record { stays = h.stays; value = λ ours calm. on_ok_never r other fault; live = on_ok_never r _ fault }
+
+  -- a scan as a read that says nothing of the rows
+  pub scans_read : {T U : Type 0} {old new : Held S} {x : T} {r : Result U StoreFault} {did : Type 0} → Scans g old new (Ok x) did → Reads g old new r (λ _ _. Unit {0})
+  scans_read {r = r} h = record { stays = h.stays; value = λ ours calm rows holds. nothing_said r; live = on_ok_anyway r h.live }
+
+  pub scan_fails : {T U : Type 0} {old new : Held S} {q : Result T StoreFault} {r : Result U StoreFault} {did : Type 0} → Scans g old new q did → IsErr r → Reads g old new r (λ _ _. Unit {0})
+  scan_fails {r = r} h fault = record { stays = h.stays; value = λ ours calm rows holds. nothing_said r; live = on_ok_never r _ fault }
 
   -- a scan after a scan: both are of the same database
   pub scans_then : {T U : Type 0} {a b c : Held S} {x : T} {r : Result U StoreFault} {one two : Type 0}

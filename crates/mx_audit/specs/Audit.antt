@@ -14,7 +14,7 @@ use Rattle.mx_audit.specs.declared.typed.TypedRow.{TypedRow}
 use Rattle.mx_audit.specs.declared.typed.TypedRow.TheVariants as row
 use Rattle.mx_audit.specs.declared.typed.TypedRow.TheVariants.{Version, Member, Holder, Token, Purse, Line, Laid, Archived, Load, Redemption, Settled}
 
--- whether it fits what was seen before it. What is in the tray of a purse, and what is settled, is tested by itself.
+-- whether it fits what was seen before it. What is settled is tested by itself.
 abbrev pub fits_row : Seen → TypedRow → Bool
 fits_row s Version = true
 fits_row s (Member name member) = fits_member s (name, member)
@@ -23,7 +23,7 @@ fits_row s (Token token caller) = fits_token s (token, caller)
 fits_row s (Purse name purse) = fits_purse s (name, purse)
 fits_row s (row.Message purse number message) = fits_message s ((purse, number), message)
 fits_row s (Line purse number line) = fits_line s ((purse, number), line)
-fits_row s (Laid purse details) = true
+fits_row s (Laid purse details) = has_purse s purse
 fits_row s (Archived purse details) = has_purse s purse
 fits_row s (Load purse reference amount) = has_purse s purse
 fits_row s (Redemption purse reference redemption) = has_purse s purse

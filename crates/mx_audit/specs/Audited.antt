@@ -1,5 +1,5 @@
 -- What an audit of all tables is.
-use Rattle.std.specs.Prelude.{◌≡◌, ℕ, Bool, true, ◌&&◌, not, List, [], ◌∷◌, map, Result, IfOk, OnOk}
+use Rattle.std.specs.Prelude.{◌≡◌, ℕ, Bool, true, false, ◌&&◌, not, List, [], ◌∷◌, map, Result, IfOk, OnOk}
 use Rattle.std.specs.List.{list_all}
 use Rattle.std.specs.List.Sorted.{IsPermutation}
 use Rattle.sqlite_value.specs.Order.{Row, column}
@@ -16,9 +16,8 @@ use Rattle.mx_book.specs.declared.contract.StoreFault.{StoreFault}
 use Rattle.std.specs.FinMap as fmap
 use Rattle.mx_tables.specs.Holds.{Spells, SpellsOne}
 use Rattle.mx_tables.specs.Made.{HasVersion}
-use Rattle.mx_tables.specs.States.{IsAwake, IsOurs, Stays, unsure}
+use Rattle.mx_tables.specs.States.{IsAwake, IsOurs, Stays, unsure, worry}
 use Rattle.mx_audit.specs.Audit.{Goes}
-use Rattle.mx_audit.specs.Raw.{AreInOrder}
 use Rattle.mx_audit.specs.Scans.{TakesAll}
 use Rattle.mx_audit.specs.declared.audit.Audit.{Audit}
 use Rattle.mx_audit.specs.declared.typed.Source.{Source}
@@ -84,11 +83,11 @@ IsLookedUp r a = (list_all (is_laid_well r) a.laid.items ≡ true) × (list_all 
 
 -- ---- what is promised of it
 
--- An audit: the connection is as it was but for a fault. Without doubt, of tables of version 2 whose rows the store keeps in order,
--- it finds nothing exactly where the database spells a World.
+-- An audit: the connection is as it was but for a fault. Without doubt, of tables of version 2, it finds nothing exactly where the
+-- database spells a World; outside a round, where it finds nothing.
 pub record Audits {S : Type 0} (g : Ghosts S) (old new : Held S) (result : Result ℕ StoreFault) : Type 0 where
   pub stays : {begun : Bool} → IsOurs begun (state g old) → Stays begun (state g old) (state g new)
-  pub sound : {begun : Bool} → IsOurs begun (state g old) → unsure begun (state g new) ≡ 0 → AreInOrder (state g old).now → HasVersion 2 (state g old).now
+  pub sound : IsOurs false (state g old) → worry (state g new) ≡ 0 → HasVersion 2 (state g old).now
       → IfOk result (λ found. found ≡ 0 → (w : World) × SpellsOne (state g old).now w)
   pub whole : {begun : Bool} → IsOurs begun (state g old) → unsure begun (state g new) ≡ 0 → (w : World) → Spells (state g old).now w
       → IfOk result (λ found. found ≡ 0)

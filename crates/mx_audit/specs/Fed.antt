@@ -67,8 +67,11 @@ seen_inbox f = and_all fits_message with_message f.inbox (seen_purses f)
 abbrev pub seen_lines : Fed → Option Seen
 seen_lines f = and_all fits_line with_line f.lines (seen_inbox f)
 
+abbrev pub seen_tray : Fed → Option Seen
+seen_tray f = and_of_purses (λ (e : Name × Details). e.0) f.tray (seen_lines f)
+
 abbrev pub seen_archive : Fed → Option Seen
-seen_archive f = and_of_purses (λ (e : Name × Details). e.0) f.archive (seen_lines f)
+seen_archive f = and_of_purses (λ (e : Name × Details). e.0) f.archive (seen_tray f)
 
 abbrev pub seen_loads : Fed → Option Seen
 seen_loads f = and_of_purses (λ (e : (Name × Name) × ℕ). e.0.0) f.loads (seen_archive f)

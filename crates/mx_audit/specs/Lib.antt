@@ -6,4 +6,5 @@ pub mod Audit
 pub mod Fed
 pub mod Audited
 pub mod Raw
+pub mod Ordered
 pub mod Readings

@@ -101,7 +101,7 @@ fits_line s e = so_where (λ x. nat_le 1 e.0.1 && nat_le e.0.1 x.line_count) (fm
 abbrev pub with_line : Seen → (Name × ℕ) × LineRow → Seen
 with_line s e = record s { purses = changed_at s.purses e.0.0 (λ x. record x { lines = x.lines + 1 }) }
 
--- what is archived, and each load and redemption, is of a purse that is there
+-- what is in a tray or archived, and each load and redemption, is of a purse that is there
 abbrev pub has_purse : Seen → Name → Bool
 has_purse s p = fmap.contains_key s.purses p
 

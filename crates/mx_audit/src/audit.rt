@@ -4,8 +4,10 @@ ghost use Rattle.mx_audit.specs.Audit.{Goes, IsBegun, TakesIn, all_of, cleared_o
 ghost use Rattle.mx_audit.specs.Readings.{laid_of};
 ghost use Rattle.mx_audit.specs.Seen.{Sees};
 
+use crate::findings::Findings;
 use crate::scan::Takes;
 use crate::seen::Seen;
+use crate::tables::Counts;
 use crate::typed::{Source, TypedRow, read_row};
 use mx_book::StoreFault;
 use mx_pay::{Log, Name, PayDetails};
@@ -29,11 +31,15 @@ pub struct Audit {
     pub laid: Results,
     /// What clears in inboxes would clear.
     pub cleared: Results,
+    /// How many rows of some tables fit.
+    pub counts: Counts,
+    /// The first findings.
+    pub findings: Findings,
 }
 
 impl Audit {
-    /// Nothing is gone over yet.
-    pub fn new(alloc: Global) -> Audit
+    /// Nothing is gone over yet. So many findings are to be kept at most.
+    pub fn new(alloc: Global, most: usize) -> Audit
         ensures { IsBegun result }
     {
         Audit {
@@ -42,6 +48,8 @@ impl Audit {
             found: 0,
             laid: Vec::new(alloc),
             cleared: Vec::new(alloc),
+            counts: Counts::new(),
+            findings: Findings::new(alloc, most),
         }
     }
 
@@ -59,6 +67,7 @@ impl Audit {
             Err(_) => return Err(StoreFault::Memory),
         }
         keep(&mut self.laid, &mut self.cleared, row)?;
+        self.counts.add(row);
         Ok(true)
     }
 }
@@ -77,10 +86,11 @@ fn see(seen: &mut Seen, row: &TypedRow) -> Result<bool, AllocError>
         TypedRow::Purse(name, purse) => seen.see_purse(*name, purse),
         TypedRow::Message(purse, number, message) => seen.see_message(*purse, *number, message),
         TypedRow::Line(purse, number, _) => seen.see_line(*purse, *number),
-        TypedRow::Archived(purse, _)
+        TypedRow::Laid(purse, _)
+        | TypedRow::Archived(purse, _)
         | TypedRow::Load(purse, _, _)
         | TypedRow::Redemption(purse, _, _) => Ok(seen.has_purse(*purse)),
-        TypedRow::Version | TypedRow::Laid(_, _) | TypedRow::Settled(_) => Ok(true),
+        TypedRow::Version | TypedRow::Settled(_) => Ok(true),
     }
 }
 
@@ -128,6 +138,7 @@ impl Takes for Audit {
         };
         if !fits {
             self.found = self.found.saturating_add(1);
+            self.findings.tell_row(&self.seen, self.source, row)?;
         }
         Ok(())
     }

@@ -2,8 +2,17 @@
 #![tactic(auto)]
 
 mod audit;
+mod columns;
+mod findings;
 mod look;
+mod misfits;
+mod missing;
+pub mod opening;
+pub mod ordered;
 mod scan;
 mod seen;
 pub mod tables;
 mod typed;
+
+pub use opening::{migrate, open};
+pub use ordered::Ordered;

@@ -10,6 +10,7 @@ ghost use Rattle.mx_tables.specs.Results.{AreDetails};
 ghost use Rattle.mx_tables.specs.States.{IsAwake, Reads};
 ghost use Rattle.mx_audit.specs.Audited.{is_laid_well};
 
+use crate::findings::{Findings, Subject, Wrong};
 use mx_book::{PurseRow, StoreFault};
 use mx_pay::{Name, PayDetails};
 use mx_tables::{find_archived, find_purse};
@@ -27,11 +28,12 @@ fn is_logged(purse: &Option<PurseRow>, details: &PayDetails) -> bool
     }
 }
 
-/// Whether a result that lies in the tray of a purse is an entry of its log, and isn't archived. Memory where there is
-/// none. Store where a query fails otherwise, or the row of the purse shows none.
+/// Whether a result that lies in the tray of a purse is an entry of its log, and isn't archived. It tells where it isn't
+/// so. Memory where there is none. Store where a query fails otherwise, or the row of the purse shows none.
 fn is_laid_well<S: Alter>(
     alloc: Global,
     conn: &mut Connection<S>,
+    findings: &mut Findings,
     purse: &Name,
     details: &PayDetails,
 ) -> Result<bool, StoreFault>
@@ -41,17 +43,28 @@ fn is_laid_well<S: Alter>(
 {
     let row = find_purse(conn, purse)?;
     if !is_logged(&row, details) {
+        findings.tell(
+            &Subject::Laid(*purse, *details),
+            &Wrong::Told("not in the purse's log"),
+        )?;
         return Ok(false);
     }
     let archived = find_archived(alloc, conn, purse, details)?;
+    if archived {
+        findings.tell(
+            &Subject::Laid(*purse, *details),
+            &Wrong::Told("it is archived"),
+        )?;
+    }
     Ok(!archived)
 }
 
-/// How many of these results that lie in trays are no entry of their purse's log, or are archived for it. Memory where
+/// How many of these results that lie in trays are no entry of their purse's log, or are archived for it. Each is told. Memory where
 /// there is none. Store where a query fails otherwise, or the row of a purse shows none. The connection was found open.
 pub fn look_up_laid<S: Alter>(
     alloc: Global,
     conn: &mut Connection<S>,
+    findings: &mut Findings,
     laid: &[(Name, PayDetails)],
 ) -> Result<u64, StoreFault>
     ensures { IsAwake (state S.Store conn.old) → Reads S.Store conn.old conn.new result
@@ -60,7 +73,7 @@ pub fn look_up_laid<S: Alter>(
 {
     let mut found: u64 = 0;
     for (purse, details) in laid {
-        let well = is_laid_well(alloc, conn, purse, details)?;
+        let well = is_laid_well(alloc, conn, findings, purse, details)?;
         if !well {
             found = found.saturating_add(1);
         }
@@ -68,11 +81,12 @@ pub fn look_up_laid<S: Alter>(
     Ok(found)
 }
 
-/// How many of these results, which clears in inboxes would clear, aren't archived for their purse. Memory where there
-/// is none. Store where a query fails otherwise. The connection was found open.
+/// How many of these results, which clears in inboxes would clear, aren't archived for their purse. Each is told. Memory
+/// where there is none. Store where a query fails otherwise. The connection was found open.
 pub fn look_up_cleared<S: Alter>(
     alloc: Global,
     conn: &mut Connection<S>,
+    findings: &mut Findings,
     cleared: &[(Name, PayDetails)],
 ) -> Result<u64, StoreFault>
     ensures { IsAwake (state S.Store conn.old) → Reads S.Store conn.old conn.new result
@@ -84,6 +98,7 @@ pub fn look_up_cleared<S: Alter>(
         let archived = find_archived(alloc, conn, purse, details)?;
         if !archived {
             found = found.saturating_add(1);
+            findings.tell(&Subject::Named("purse", *purse), &Wrong::Clears(*details))?;
         }
     }
     Ok(found)

@@ -1,8 +1,9 @@
 //! The rows of a query, handed on one at a time.
-ghost use Rattle.std.specs.Prelude.{Bool, ◌≡◌, List, [], OnOk};
+ghost use Rattle.std.specs.Prelude.{Bool, ◌≡◌, List, OnOk};
 ghost use Rattle.sqlite.specs.Given.{Advances, row_if};
 ghost use Rattle.sqlite.specs.Held.{state};
 ghost use Rattle.sqlite.specs.State.{IsUnchanged, Shown};
+ghost use Rattle.sqlite.specs.Values.{bound};
 ghost use Rattle.sqlite_value.specs.Order as order;
 ghost use Rattle.mx_tables.specs.States.{IsAwake, IsOurs, IsQuery, Stays, worry};
 ghost use Rattle.mx_audit.specs.Scans.{Scans, TakesAll};
@@ -10,6 +11,7 @@ ghost use Rattle.mx_audit.specs.Scans.{Scans, TakesAll};
 use mx_book::StoreFault;
 use mx_tables::fault_of;
 use sqlite::{Alter, Connection, Row, Rows};
+use sqlite_value::value::ValueRef;
 
 /// What takes rows one at a time.
 pub trait Takes {
@@ -40,19 +42,20 @@ fn next<S: Alter>(rows: &mut Rows<'_, S>) -> Result<(), StoreFault>
     }
 }
 
-/// Hands all rows of a query to a taker, one at a time. Those behind one that it could not take are not asked for.
+/// Hands all rows of a query with these parameters to a taker, one at a time. Those behind one that it could not take are not asked for.
 /// Memory where there is none. Store where the query fails otherwise, or after 2^64 - 1 rows. Else the taker's fault.
 pub fn scan<S: Alter, T: Takes>(
     conn: &mut Connection<S>,
     sql: &str,
+    params: &[ValueRef<'_>],
     taker: &mut T,
 ) -> Result<(), StoreFault>
     requires { IsQuery sql.now }
     ensures { Scans S.Store conn.old conn.new result ((rows : List order.Row)
-        × Shown sql.now [] (state S.Store conn.old) (state S.Store conn.new) rows
+        × Shown sql.now (bound params.now) (state S.Store conn.old) (state S.Store conn.new) rows
         × TakesAll T.takes taker.old rows taker.new) }
 {
-    let mut rows = match conn.query(sql, &[]) {
+    let mut rows = match conn.query(sql, params) {
         Ok(rows) => rows,
         Err(error) => return Err(fault_of(error)),
     };

@@ -1,5 +1,5 @@
 //! What the audit has seen of the rows so far.
-ghost use Rattle.std.specs.Prelude.{◌≡◌, ◌≤◌, ◌+◌, ◌^◌, Bool, IfErr, IfOk, map, true};
+ghost use Rattle.std.specs.Prelude.{◌≡◌, ◌≤◌, ◌+◌, ◌^◌, Bool, IfErr, IfOk, is_some, map, true};
 ghost use Rattle.std.specs.FinMap.{contains_key};
 ghost use Rattle.mx_pay.specs.Names.{name_cmp};
 ghost use Rattle.mx_sorted.specs.Slots.{map_of};
@@ -226,12 +226,39 @@ impl Seen {
         self.purses.get(purse).is_some()
     }
 
+    /// Whether the operator has a token.
+    pub fn has_operator(&self) -> bool
+        ensures { result ≡ is_some self.now.operator }
+    {
+        self.operator.is_some()
+    }
+
+    /// What was seen of a purse.
+    pub fn purse(&self, name: Name) -> Option<&PurseSeen> {
+        self.purses.get(name)
+    }
+
+    /// Each member that was seen, and whether it has a token.
+    pub fn members(&self) -> Rows<'_, Name, bool> {
+        self.members.rows()
+    }
+
+    /// What was seen of each holder.
+    pub fn holders(&self) -> Rows<'_, Name, HolderSeen> {
+        self.holders.rows()
+    }
+
+    /// What was seen of each purse.
+    pub fn purses(&self) -> Rows<'_, Name, PurseSeen> {
+        self.purses.rows()
+    }
+
     /// Whether what was seen is whole: whether the operator, each member and each holder has a token, no holder has
     /// more than 64 purses, and each purse has at most 32 messages and as many lines as it has to have.
     pub fn is_whole(&self) -> bool
         ensures { result ≡ is_whole self.now }
     {
-        self.operator.is_some()
+        self.has_operator()
             && are_marked(self.members.rows())
             && are_whole_holders(self.holders.rows())
             && are_whole_purses(self.purses.rows())

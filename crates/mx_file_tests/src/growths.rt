@@ -14,11 +14,13 @@ serve book.db --port 8080 --count 3 -> serve book.db, port 8080, count 3
 import book.db roll.csv -> import book.db, roll.csv
 report book.db -> report book.db
 report book.db --purse p1 -> report book.db, purse p1
+check book.db -> check book.db
 migrate book.db -> migrate book.db
 run -> error: run takes FILE, or --memory and --token||Usage: purse-office run [OPTIONS] [FILE]||For more information, try '--help'.|
 serve book.db --port 0 --count 3 -> error: the value of --port has to be a number from 1 to 65535, without leading zeros||Usage: purse-office serve --port <N> --count <K> <FILE>||For more information, try '--help'.|
 report book.db --purse P1 -> error: the value of --purse has to be 1 to 24 of a to z, 0 to 9 and -, the first a letter||Usage: purse-office report [OPTIONS] <FILE>||For more information, try '--help'.|
 --version -> purse-office 1.0.0|
+check -> error: the following required arguments were not provided:|  <FILE>||Usage: purse-office check <FILE>||For more information, try '--help'.|
 migrate -> error: the following required arguments were not provided:|  <FILE>||Usage: purse-office migrate <FILE>||For more information, try '--help'.|
 ";
 
@@ -48,6 +50,7 @@ fn task_words(alloc: Global, task: &Task<'_>) -> Result<String, AllocError> {
             file,
             purse: Some(purse),
         } => format!(in alloc; "report {}, purse {}", file.as_str(), purse.as_str()),
+        Task::Check(file) => format!(in alloc; "check {}", file.as_str()),
         Task::Migrate(file) => format!(in alloc; "migrate {}", file.as_str()),
     }
 }

@@ -31,3 +31,5 @@ mod scratch;
 mod scripts;
 #[cfg(test)]
 mod tasks;
+#[cfg(test)]
+mod unsound;

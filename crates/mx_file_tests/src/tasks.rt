@@ -17,6 +17,7 @@ const TASKS: &str = "
 run FILE -> fault: file
 report FILE -> fault: file
 migrate FILE -> fault: file
+check FILE -> fault: file
 init FILE --token 0000000000000000000000000000000f -> created|
 init FILE --token 0000000000000000000000000000000f -> fault: file exists
 report FILE -> row,name,granted,float,uncollected,issued,redeemed,balances,transit,lost|scheme,,0,0,0,0,0,0,0,0|
@@ -28,6 +29,7 @@ import FILE ROLL -> added 0|same 3|refused 0|
 import FILE FILE -> fault: roll
 report FILE --purse p1 -> number,kind,amount,balance,note|
 report FILE --purse p2 -> fault: no such purse
+check FILE -> sound: 1 members, 1 holders, 1 purses, 0 lines|even: the sums add up, and each statement leads to its purse's balance|
 migrate FILE -> already schema 2|
 run --memory --token 0000000000000000000000000000000f -> RESPONSES
 run --memory --token 00000000000000000000000000000001 -> STRANGER

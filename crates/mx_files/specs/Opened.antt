@@ -9,3 +9,4 @@ abbrev pub open_fault_of : OpenFault → TaskFault
 open_fault_of open_fault.Memory = Memory
 open_fault_of open_fault.Store = Store
 open_fault_of open_fault.NotThisSchema = NotThisSchema
+open_fault_of open_fault.Unsound = Store

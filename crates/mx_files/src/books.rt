@@ -10,6 +10,7 @@ ghost use Rattle.mx_tasks.specs.Works.{Works};
 ghost use Rattle.mx_files.specs.Durable.{Endures};
 ghost use Rattle.mx_files.specs.Opened.{open_fault_of};
 
+use mx_audit::{Ordered, open};
 use mx_book::Book;
 use mx_desk::{Counted, Outlet};
 use mx_pay::Token;
@@ -25,7 +26,7 @@ pub fn unmade(fault: OpenFault) -> TaskFault
 {
     match fault {
         OpenFault::Memory => TaskFault::Memory,
-        OpenFault::Store => TaskFault::Store,
+        OpenFault::Store | OpenFault::Unsound => TaskFault::Store,
         OpenFault::NotThisSchema => TaskFault::NotThisSchema,
     }
 }
@@ -54,15 +55,15 @@ pub fn make_in_store<S: Alter + Drop>(
     }
 }
 
-/// Does a piece of work over the books in a store, and gives what came of it, with the store (`works`). Of requests it
-/// says what an opening finds after a stop at that moment (`Endures`). A stop in the midst of the work is a store that
-/// fails from there on.
+/// Does a piece of work over the books in a store, which spell a World, and gives what came of it, with the store
+/// (`works`). Of requests it says what an opening finds after a stop at that moment (`Endures`). A stop in the midst of the
+/// work is a store that fails from there on.
 ///
 /// # Errors
 ///
-/// `NotThisSchema` where the store has no books of this version; `Store` where it has other tables, or refuses a
-/// statement; `Memory`. Nothing was read or written then, and the store is given up.
-pub fn over_store<S: Alter + Drop, R: Read, W: Outlet>(
+/// `NotThisSchema` where the store has no books of this version; `Store` where it has other tables, its rows spell no World,
+/// or it refuses a statement; `Memory`. Nothing was read or written then, and the store is given up.
+pub fn over_store<S: Ordered + Drop, R: Read, W: Outlet>(
     rt: &HostRuntime,
     store: Connection<S>,
     work: &Work<'_>,
@@ -70,9 +71,9 @@ pub fn over_store<S: Alter + Drop, R: Read, W: Outlet>(
     writer: &mut Counted<W>,
 ) -> Result<(Result<Done, TaskFault>, Connection<S>), TaskFault>
     ensures later { IfOk result (λ x. worry (state_of S.Store store) ≤ worry (state_of S.Store x.1)) }
-    ensures works { (w : World) → SpellsOne (state_of S.Store store).now w
-        → IfOk result (λ x. worry (state_of S.Store x.1) ≤ 1
-        → Works ⟦<Tables<S> as Book>⟧.fails (worry (state_of S.Store x.1) ≡ 0)
+    ensures works { IfOk result (λ x. worry (state_of S.Store x.1) ≤ 1
+        → (w : World) × SpellsOne (state_of S.Store store).now w
+        × Works ⟦<Tables<S> as Book>⟧.fails (worry (state_of S.Store x.1) ≡ 0)
         (SpellsOne (state_of S.Store x.1).now) (Endures (state_of S.Store x.1))
         (state [] (R.remaining reader.old.device) (W.contents writer.old.device) w) work.now x.0
         (R.remaining reader.new.device) (W.contents writer.new.device)) }
@@ -80,7 +81,7 @@ pub fn over_store<S: Alter + Drop, R: Read, W: Outlet>(
         → Leaves (state_of S.Store x.1) (state_of S.Store x.1).now) }
     ensures unopened { IsErr result → Untouched reader.old reader.new writer.old writer.new }
 {
-    match Tables::open(rt.alloc(), store) {
+    match open(rt.alloc(), store) {
         Ok(book) => {
             let (answer, left) = work_over(rt, work, book, reader, writer);
             Ok((answer, left.into_store()))

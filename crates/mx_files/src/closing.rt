@@ -2,9 +2,11 @@
 ghost use Rattle.std.specs.Prelude.{◌≡◌, IfOk, IfErr};
 
 use crate::books::{make_in_store, over_store, unmade};
+use crate::check::check_store;
+use mx_audit::migrate;
 use mx_desk::{Counted, Outlet};
 use mx_pay::Token;
-use mx_tables::{Migrated, migrate};
+use mx_tables::Migrated;
 use mx_tasks::{Done, TaskFault, Work};
 use sqlite::{Connection, FileStore};
 use sqlite_disk::Disk;
@@ -46,7 +48,16 @@ pub(crate) fn work_and_close<D: Disk + Drop, R: Read, W: Outlet>(
     once_closed(answer, left.close().is_ok())
 }
 
-/// Brings the books in files to the schema of this version, and closes the files.
+/// Tells whether the books in files are sound, and closes the files.
+pub(crate) fn check_and_close<D: Disk + Drop>(
+    rt: &HostRuntime,
+    store: Connection<FileStore<D>>,
+) -> Result<Done, TaskFault> {
+    let (answer, left) = check_store(rt, store)?;
+    once_closed(Ok(answer), left.close().is_ok())
+}
+
+/// Brings the books in files to the schema of this version, audits them, and closes the files.
 pub(crate) fn migrate_and_close<D: Disk + Drop>(
     alloc: Global,
     mut store: Connection<FileStore<D>>,

@@ -1,12 +1,13 @@
 //! The files of books.
 
-use crate::closing::{make_and_close, migrate_and_close, work_and_close};
+use crate::closing::{check_and_close, make_and_close, migrate_and_close, work_and_close};
 use crate::unopened::unopened;
 use mx_desk::{Counted, Outlet};
 use mx_pay::Token;
 use mx_tables::Migrated;
 use mx_tasks::{Cause, Done, TaskFault, Work};
 use sqlite::{Connection, File, FileStore};
+use std::alloc::Global;
 use std::fs::{Metadata, OpenOptions};
 use std::io::{ErrorKind, Read};
 use std::os::unix::fs::{MetadataExt, OpenOptionsExt};
@@ -219,8 +220,8 @@ pub fn make_file(rt: &HostRuntime, path: &str, operator: Token) -> Result<(), Ta
 ///
 /// The first that is met, in this order. `File` where the file isn't there, isn't a database, can't be opened, another process
 /// has it open, or another file stands where its log belongs, and a terminal is told which; `NotThisSchema` where it is empty
-/// or has no books of this version; `Store` where it has other tables, or refuses a statement; those of the work; `Store`
-/// where the file can't be closed. `Memory` comes at any step.
+/// or has no books of this version; `Store` where it has other tables, its rows spell no World, or it refuses a statement;
+/// those of the work; `Store` where the file can't be closed. `Memory` comes at any step.
 pub fn over_file<R: Read, W: Outlet>(
     rt: &HostRuntime,
     path: &str,
@@ -234,13 +235,37 @@ pub fn over_file<R: Read, W: Outlet>(
     }
 }
 
-/// Brings the books in a file that is there to the schema of this version.
+/// The line that says why a file isn't opened, with the fault of that.
+fn unopened_done(alloc: Global, path: &str, cause: &Cause) -> Result<Done, TaskFault> {
+    let line = format!(in alloc; "{path}: {cause}\n")?;
+    Ok(Done {
+        text: line.into_bytes(),
+        fault: Some(cause.fault()),
+    })
+}
+
+/// Tells whether the books in a file that is there are sound, closes the file, and gives the lines that say so, or what is wrong.
+/// Where the file isn't opened, a line says why.
+///
+/// # Errors
+///
+/// As of `over_file`, but where the file isn't opened, or its rows spell no World.
+pub fn check_file(rt: &HostRuntime, path: &str) -> Result<Done, TaskFault> {
+    match open_found(rt, path) {
+        Ok(store) => check_and_close(rt, store),
+        Err(cause) => unopened_done(rt.alloc(), path, &cause),
+    }
+}
+
+/// Brings the books in a file that is there to the schema of this version, and audits them. Where the audit has a finding, the
+/// file is of this schema then, with its rows as they were.
 ///
 /// # Errors
 ///
 /// `File` where the file isn't there, isn't a database, can't be opened, another process has it open, or another file stands
 /// where its log belongs, and a terminal is told which; `NotThisSchema` where it is empty or has no books of this version or
-/// the one before; `Store` where it has other tables, refuses a statement or can't be closed; `Memory`.
+/// the one before; `Store` where it has other tables, its rows spell no World, it refuses a statement or can't be closed;
+/// `Memory`.
 pub fn migrate_file(rt: &HostRuntime, path: &str) -> Result<Migrated, TaskFault> {
     match open_found(rt, path) {
         Ok(store) => migrate_and_close(rt.alloc(), store),

@@ -2,6 +2,7 @@
 #![tactic(auto)]
 
 pub mod books;
+pub mod check;
 mod closing;
 pub mod files;
 pub mod perform;

@@ -6,7 +6,7 @@ ghost use Rattle.mx_book.specs.World.{Token, opening};
 ghost use Rattle.mx_desk.specs.Steps.{state};
 ghost use Rattle.mx_files.specs.Performed.{PerformsRun};
 
-use crate::files::{make_file, migrate_file, over_file};
+use crate::files::{check_file, make_file, migrate_file, over_file};
 use mx_args::Task;
 use mx_book::Book;
 use mx_desk::{Counted, Outlet};
@@ -14,7 +14,7 @@ use mx_memory::PlainBook;
 use mx_pay::Token;
 use mx_tables::Migrated;
 use mx_tasks::runs::run_memory;
-use mx_tasks::{TaskFault, Work};
+use mx_tasks::{Done, TaskFault, Work};
 use std::alloc::Global;
 use std::io::{Read, Write};
 
@@ -29,8 +29,16 @@ fn say<W: Write>(writer: &mut W, text: &[u8]) -> Result<(), TaskFault>
     Ok(())
 }
 
-/// Does the work over the books in a file, and writes its text once that is closed. A fault of the work that leaves a text
-/// comes behind it.
+/// Writes what came of a task. A fault that leaves a text comes behind it.
+fn say_done<W: Write>(writer: &mut W, done: &Done) -> Result<(), TaskFault> {
+    say(writer, done.text.as_slice())?;
+    match done.fault {
+        Some(fault) => Err(fault),
+        None => Ok(()),
+    }
+}
+
+/// Does the work over the books in a file, and writes its text once that is closed.
 fn say_work<R: Read, W: Outlet>(
     rt: &HostRuntime,
     path: &str,
@@ -39,11 +47,7 @@ fn say_work<R: Read, W: Outlet>(
     writer: &mut Counted<W>,
 ) -> Result<(), TaskFault> {
     let done = over_file(rt, path, work, reader, writer)?;
-    say(writer, done.text.as_slice())?;
-    match done.fault {
-        Some(fault) => Err(fault),
-        None => Ok(()),
-    }
+    say_done(writer, &done)
 }
 
 /// Answers the requests of the input over new books in memory, and passes on what the writer holds.
@@ -62,8 +66,8 @@ fn perform_memory<R: Read, W: Outlet>(
 }
 
 /// Does a task. A run reads requests from the reader and writes their responses to the writer; any other task writes what it
-/// prints once it is done, and only where there is no fault; but a report is written also where it doesn't add up, which is
-/// `Store`. What the writer holds is passed on at the end, and the file of the books is closed. Of a run over books in memory
+/// prints once it is done, and only where there is no fault; but a report is written also where it doesn't add up, and a check
+/// where it finds something wrong, which is `Store`. What the writer holds is passed on at the end, and the file of the books is closed. Of a run over books in memory
 /// all is said (`memory`); of the others, what `over_store` and `make_in_store` say of the store in the file.
 ///
 /// # Errors
@@ -103,6 +107,10 @@ pub fn perform<R: Read, W: Outlet>(
         }
         Task::Report { file, purse } => {
             say_work(rt, file.as_str(), &Work::Report(*purse), reader, writer)
+        }
+        Task::Check(file) => {
+            let done = check_file(rt, file.as_str())?;
+            say_done(writer, &done)
         }
         Task::Migrate(file) => match migrate_file(rt, file.as_str())? {
             Migrated::Done => say(writer, b"migrated\n"),

@@ -28,9 +28,9 @@ low_at false = omega arith
 pub low_if_clean : (s : Connected) → HasCleanDisk s → worry s ≤ 1
 low_if_clean s clean = rw (clean_of s.is_clean clean) (low_at s.is_open)
 
--- books that are opened spell what their database does, which has the schema of the office then
-pub opened_spells : (was : Database) (book : Connected) (w : World) → IsOurs false book → book.now ≡ was → worry book ≡ 0 → (was.schema ≡ office_schema → SpellsOne was w) → SpellsOne book.now w
-opened_spells was book w ours same sure spelled = rw same (spelled (sym (ap (λ (db : Database). db.schema) same) ∙ ours.schema sure))
+-- tables that spell a World have the schema of the office, and spell no other
+pub one_world : {db : Database} (u w : World) → SpellsOne db u → (db.schema ≡ office_schema → SpellsOne db w) → w ≡ u
+one_world u w one spelled = one.only w (spelled one.spelled.holds.has.schema).spelled
 
 -- ---- lives
 

@@ -20,3 +20,4 @@ pub unmade : (f : OpenFault) → ¬ (f ≡ open_fault.NotThisSchema) → IsUnbeg
 unmade open_fault.Memory other = inl refl
 unmade open_fault.Store other = inr refl
 unmade open_fault.NotThisSchema other = absurd (other refl)
+unmade open_fault.Unsound other = inr refl

@@ -10,18 +10,18 @@ ghost use Rattle.mx_book.specs.World.{World, opening};
 ghost use Rattle.mx_desk.specs.Rounds.{Leads};
 ghost use Rattle.mx_office.specs.Reachable.{IsReachable};
 ghost use Rattle.mx_tables.specs.Holds.{SpellsOne};
-ghost use Rattle.mx_tables.specs.Schema.{office_schema};
 ghost use Rattle.mx_tables.specs.States.{IsOurs, worry};
 ghost use Rattle.mx_lives.specs.InFiles.{AreClosed, AreLeft, HoldBooks};
 ghost use Rattle.mx_lives.specs.Lived.{LivedTo, RunsOver};
 
 use crate::answered::{Life, answered};
 use crate::lives::live_on;
+use mx_audit::{Ordered, open};
 use mx_book::Book;
 use mx_files::books::make_in_store;
 use mx_pay::Token;
 use mx_tables::Tables;
-use sqlite::{Alter, Connection, FileStore, Files, Options};
+use sqlite::{Connection, FileStore, Files, Options};
 use sqlite_disk::{Crash, Disk};
 use std::alloc::Global;
 
@@ -81,8 +81,9 @@ pub fn new_files<D: Disk + Drop>(
     closed(made)
 }
 
-/// Opens the books in a store, answers the requests of an input, and gives the store back. None where it has no books.
-fn life_over<S: Alter + Drop>(
+/// Opens the books in a store, which spell a World, answers the requests of an input, and gives the store back. None where it
+/// has no books.
+fn life_over<S: Ordered + Drop>(
     alloc: Global,
     store: Connection<S>,
     input: &[u8],
@@ -90,13 +91,12 @@ fn life_over<S: Alter + Drop>(
     ensures later { IfSome result
         (λ r. worry (state S.Store store) ≤ worry (state S.Store r.0)) }
     ensures ours { IfSome result (λ r. IsOurs false (state S.Store r.0)) }
-    ensures lives { (w : World) → ((state S.Store store).now.schema ≡ office_schema
-        → SpellsOne (state S.Store store).now w)
-        → IfSome result (λ r. worry (state S.Store r.0) ≡ 0
-        → Leads (RunsOver ⟦<Tables<S> as Book>⟧.fails w input.now r.1)
+    ensures lives { IfSome result (λ r. worry (state S.Store r.0) ≡ 0
+        → (w : World) × SpellsOne (state S.Store store).now w
+        × Leads (RunsOver ⟦<Tables<S> as Book>⟧.fails w input.now r.1)
         (λ _ now. SpellsOne (state S.Store r.0).now now)) }
 {
-    let Ok(book) = Tables::open(alloc, store) else {
+    let Ok(book) = open(alloc, store) else {
         return None;
     };
     let (left, life) = answered(alloc, book, input);

@@ -6,19 +6,19 @@ ghost use Rattle.mx_desk.specs.Durable.{Lasts};
 ghost use Rattle.mx_desk.specs.Rounds.{Leads};
 ghost use Rattle.mx_tables.specs.Holds.{SpellsOne};
 ghost use Rattle.mx_tables.specs.Rounds.{IsSettled};
-ghost use Rattle.mx_tables.specs.Schema.{office_schema};
 ghost use Rattle.mx_tables.specs.States.{IsAwake, IsOurs, Leaves, worry};
 ghost use Rattle.mx_lives.specs.Lived.{LivedTo, RunsOver};
 
 use crate::answered::{Life, answered};
+use mx_audit::{Ordered, open};
 use mx_book::Book;
 use mx_tables::Tables;
-use sqlite::{Alter, Connection};
+use sqlite::Connection;
 use sqlite_trees::store::Reopen;
 use std::alloc::Global;
 
 /// Stops at this moment, and opens the books again. They are found as a stop may leave them. None where they can't be opened.
-fn stopped<S: Alter + Reopen + Drop>(alloc: Global, book: Tables<S>) -> Option<Tables<S>>
+fn stopped<S: Ordered + Reopen + Drop>(alloc: Global, book: Tables<S>) -> Option<Tables<S>>
     ensures calm { IfSome result (λ again. worry (state S.Store again.0) ≡ 0
         → worry (state S.Store book.0) ≤ 1) }
     ensures left { IsSettled S.Store book → IfSome result (λ again. worry (state S.Store again.0) ≡ 0
@@ -33,7 +33,7 @@ fn stopped<S: Alter + Reopen + Drop>(alloc: Global, book: Tables<S>) -> Option<T
     let Ok(found) = Connection::over(alloc, store) else {
         return None;
     };
-    match Tables::open(alloc, found) {
+    match open(alloc, found) {
         Ok(again) => Some(again),
         Err(_) => None,
     }
@@ -41,7 +41,7 @@ fn stopped<S: Alter + Reopen + Drop>(alloc: Global, book: Tables<S>) -> Option<T
 
 /// One life: answers the requests of an input over books that are open, stops, and opens them again. None where they can't be
 /// opened.
-fn live<S: Alter + Reopen + Drop>(
+fn live<S: Ordered + Reopen + Drop>(
     alloc: Global,
     book: Tables<S>,
     input: &[u8],
@@ -64,9 +64,9 @@ fn live<S: Alter + Reopen + Drop>(
 /// ended by a stop (`crash_and_reopen`), behind which the books are opened again. Gives back the store as it was opened
 /// last, with what came of each life; None where the books couldn't be opened, or there is no memory.
 ///
-/// All lives together are one list of requests (`lives`): of the rounds that a life gave up, one at most was done after
-/// all.
-pub fn live_on<S: Alter + Reopen + Drop>(
+/// The books that are found spell a World. All lives together are one list of requests (`lives`): of the rounds that a life
+/// gave up, one at most was done after all.
+pub fn live_on<S: Ordered + Reopen + Drop>(
     alloc: Global,
     store: Connection<S>,
     inputs: &[&[u8]],
@@ -74,13 +74,12 @@ pub fn live_on<S: Alter + Reopen + Drop>(
     ensures calm { IfSome result (λ end. worry (state S.Store end.0) ≡ 0
         → worry (state S.Store store) ≡ 0) }
     ensures ours { IfSome result (λ end. IsOurs false (state S.Store end.0)) }
-    ensures lives { (w : World) → ((state S.Store store).now.schema ≡ office_schema
-        → SpellsOne (state S.Store store).now w)
-        → IfSome result (λ end. worry (state S.Store end.0) ≡ 0
-        → LivedTo ⟦<Tables<S> as Book>⟧.fails true (SpellsOne (state S.Store end.0).now)
+    ensures lives { IfSome result (λ end. worry (state S.Store end.0) ≡ 0
+        → (w : World) × SpellsOne (state S.Store store).now w
+        × LivedTo ⟦<Tables<S> as Book>⟧.fails true (SpellsOne (state S.Store end.0).now)
         (map (λ input. input.now) inputs.now) end.1.items w) }
 {
-    let Ok(opened) = Tables::open(alloc, store) else {
+    let Ok(opened) = open(alloc, store) else {
         return None;
     };
     let mut book = opened;

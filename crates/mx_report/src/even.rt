@@ -18,7 +18,7 @@ fn without(sum: u128, first: u128, second: u128, third: u128) -> Option<u128>
 }
 
 /// Whether what was issued is held, under way, lost or redeemed.
-fn is_even_scheme(sums: &Totals) -> bool
+pub fn is_even_scheme(sums: &Totals) -> bool
     ensures { result ≡ is_even_scheme sums.now }
 {
     match without(sums.issued, sums.balances, sums.transit, sums.lost) {
@@ -29,7 +29,7 @@ fn is_even_scheme(sums: &Totals) -> bool
 
 /// Whether what a member was granted, and what its purses redeemed, is left to it, to be collected or was issued. Sums that
 /// are no sums of books, and pass the largest u128 together, aren't.
-fn is_even_member(sums: &MemberTotals) -> bool
+pub fn is_even_member(sums: &MemberTotals) -> bool
     ensures { result ≡ is_even_member sums.now }
 {
     match sums.granted.checked_add(sums.redeemed) {

@@ -11,7 +11,7 @@ pub mod rows;
 pub mod statements;
 mod texts;
 
-pub use even::is_even_statement;
+pub use even::{is_even_member, is_even_scheme, is_even_statement};
 pub use progress::{Nobody, Progress};
 pub use reconciliation::{Report, reconcile, reconcile_text};
 pub use rolls::{

@@ -1,6 +1,9 @@
 -- How tables of version 1 become those of version 2.
 use Rattle.mx_tables.proofs.Common.{◌≡◌, ℕ, ◌≤◌, false, true, List, [], ◌∷◌, ◌++◌, length, filter, Ok, refl, ◌∙◌, inl, inr, pos, arith, is_eq, Null, Int, Text, Row, column, col, number, Database, Executes, IsPermutation, Rows, Holds, office_schema, state}
-use Rattle.std.proofs.Common.{◌≢◌, ◌⊎◌, Err, IsTrue, Result, OnOk, OnErr, drop, map, sym, ap, ap₂, subst}
+use Rattle.std.proofs.Common.{◌≢◌, ◌⊎◌, Err, IsTrue, Result, OnOk, OnErr, drop, map, not, sym, ap, ap₂, subst}
+use Rattle.std.specs.Prelude.{◌==◌}
+use Rattle.std.specs.Cmp.{first_so, second_so}
+use Rattle.std.specs.List.{AllByRecursion, list_all}
 use Rattle.std.proofs.lemmas.Cmp.{tied_itself}
 use Rattle.std.proofs.lemmas.List.Sorted.{IsPermutation-sym}
 use Rattle.sqlite_value.specs.declared.value.Value.{Value}
@@ -40,7 +43,7 @@ use Rattle.mx_tables.proofs.Statements.{updated, picked, env, passes}
 use Rattle.mx_tables.proofs.StoredLemmas.{cast_int, cast_null, permuted}
 use Rattle.mx_tables.proofs.StateLemmas.{sure, sure_before, idle_sure, no_worry, not_lied, worry_later}
 use Rattle.mx_tables.proofs.MadeLemmas.{meta_table, one_meta, passes_first}
-use Rattle.mx_tables.proofs.WriteLemmas.{no_actions, one_stores}
+use Rattle.mx_tables.proofs.WriteLemmas.{differs, no_actions, one_stores}
 use Rattle.mx_tables.proofs.Places.{trees_apart}
 use Rattle.mx_tables.proofs.KeptLemmas.{spelled_one}
 
@@ -129,6 +132,13 @@ one_more db t c it ts cs all = absurd all
 
 -- ---- both
 
+-- the rows of tables with other trees than this one stay by both steps
+kept_on : (tree : ℕ) (old mid new : Trees) (ts more : List Table) → list_all (λ (u : Table). not (tree == u.tree)) ts ≡ true → KeepsRows ts old mid → AllByRecursion (λ t. t.tree ≢ tree → new t.tree ≡ mid t.tree) (ts ++ more)
+    → KeepsRows ts old new
+kept_on tree old mid new [] more apart one two = tt
+kept_on tree old mid new (t ∷ ts) more apart one two =
+    (two.0 (λ e. differs tree t.tree (first_so _ _ apart) (sym e)) ∙ one.0, kept_on tree old mid new ts more (second_so _ _ apart) one.1 two.1)
+
 module _ (old mid new : State) (made : AddsTable schema_11 settled old mid) (sets : SetsVersion mid.now new.now) where
   -- the rows are the same, and version 2 has no settled details yet
   holds_on : (r : Rows) → HoldsIn One old.now r → Holds new.now r
@@ -153,6 +163,7 @@ module _ (old mid new : State) (made : AddsTable schema_11 settled old mid) (set
   pub upgrades : Upgrades old.now new.now
   upgrades = record {
     whole = sets.whole;
+    others = kept_on 0 old.now.trees mid.now.trees new.now.trees (drop 1 schema_11.tables) (drop 11 office_schema.tables) refl made.others.1 sets.others.1;
     spells = λ w h.
         let it = h.spelled in (
           spelled_one (record { rows = it.rows; holds = holds_on it.rows it.holds; spells = it.spells }),

@@ -38,7 +38,7 @@ use Rattle.mx_tables.proofs.StoredLemmas.{stores_put, stores_changed, stores_lef
 use Rattle.mx_tables.proofs.MapLists.{AreDistinct, map_push, map_anew, map_left}
 use Rattle.mx_tables.proofs.Places.{Place, Belongs, are_apart, trees_apart, uncounted, stored, distinct}
 
-differs : (m n : ℕ) → not (m == n) ≡ true → m ≢ n
+pub differs : (m n : ℕ) → not (m == n) ≡ true → m ≢ n
 differs m n h e = grind (arith, nat_tests, h, e)
 
 -- a write to one table keeps what the others store

@@ -1,10 +1,11 @@
 -- What the step from version 1 to version 2 does to a database.
-use Rattle.std.specs.Prelude.{◌≡◌, ◌≢◌, ◌⊎◌, IsTrue}
+use Rattle.std.specs.Prelude.{◌≡◌, ◌≢◌, ◌⊎◌, IsTrue, drop}
 use Rattle.std.specs.List.{AllByRecursion}
 use Rattle.std.specs.FinMap as fmap
 use Rattle.sqlite_trees.specs.Tree.{Trees}
 use Rattle.sqlite_schema.specs.declared.schema.Constraint.TheVariants.{Unique}
 use Rattle.sqlite_schema.specs.Rules.{Keeps}
+use Rattle.sqlite_catalog.specs.Change.{KeepsRows}
 use Rattle.sqlite.specs.Effect.{Database}
 use Rattle.sqlite.specs.State.{State, HasCleanDisk}
 use Rattle.mx_book.specs.World.{World}
@@ -21,9 +22,11 @@ pub record IsWhole (v : Version) (db : Database) : Type 0 where
   pub schema : db.schema ≡ schema_of v
   pub version : HasVersion (number_of v) db
 
--- the database is of version 2, and spells the World that it spelled as version 1, which has no settled details
+-- The database is of version 2, and spells the World that it spelled as version 1, which has no settled details. The rows of all
+-- tables but `meta` are as they were.
 pub record Upgrades (old new : Database) : Type 0 where
   pub whole : IsWhole Two new
+  pub others : KeepsRows (drop 1 (schema_of One).tables) old.trees new.trees
   pub spells : (w : World) → SpellsOneIn One old w → SpellsOne new w × (w.settled ≡ fmap.empty)
 
 -- what each answer says of the database before and after

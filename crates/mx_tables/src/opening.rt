@@ -32,6 +32,8 @@ pub enum OpenFault {
     Store,
     /// The tables can't be made beside those that are there, or `meta` hasn't a version that is asked for.
     NotThisSchema,
+    /// The rows of the tables are no books: an audit has a finding. No call of this crate answers it.
+    Unsound,
 }
 
 /// Why a store was refused, and the store.

@@ -146,15 +146,24 @@ impl<S: Alter> Tables<S> {
             });
         }
         match check_office(alloc, &mut store) {
-            Ok(()) => Ok(Tables {
-                alloc,
-                conn: store,
-                begun: false,
-                expected: None,
-                known: None,
-                tried: false,
-            }),
+            Ok(()) => Ok(Tables::over(alloc, store)),
             Err(fault) => Err(OpenRefused { fault, store }),
+        }
+    }
+
+    /// A book of the tables of a store that `open` took, and that was only read since.
+    pub fn over(alloc: Global, store: Connection<S>) -> Tables<S>
+        requires { IsOurs false (state S.Store store) }
+        ensures same { result.0 ≡ store }
+        ensures settled { IsSettled S.Store result }
+    {
+        Tables {
+            alloc,
+            conn: store,
+            begun: false,
+            expected: None,
+            known: None,
+            tried: false,
         }
     }
 

@@ -4,6 +4,7 @@
 pub mod alarm;
 pub mod cause;
 pub mod connections;
+pub mod evenness;
 pub mod exits;
 pub mod fault;
 pub mod rolls;

@@ -92,9 +92,9 @@ pub fn import_from<B: Book>(
         Ok(bytes) => bytes,
         Err(cause) => return Err(cause.tell(rt, path)),
     };
-    let mut teller = Teller::new(rt);
+    let mut teller = Teller::new(rt, "rows");
     let answer = import_over(rt.alloc(), office, bytes.as_slice(), &mut teller);
     teller.end();
-    tell_end(rt, path, &answer, teller.rows());
+    tell_end(rt, path, &answer, teller.count());
     answer
 }

@@ -1,19 +1,21 @@
-//! What is told, while an import is under way, of how far it is.
+//! What is told of how far a task is, while it is under way.
 use mx_report::Progress;
 use std::io::IsTerminal;
 use std::time::{Duration, Instant};
 
-/// Tells on standard error how many rows of a roll are done, where that is a terminal: once the import has taken a second,
+/// Tells on standard error how many rows, or what else, are done, where that is a terminal: once the task has taken a second,
 /// and then once a second.
 #[derive(Drop)]
 pub struct Teller<'a> {
     rt: &'a HostRuntime,
+    /// What is counted.
+    what: &'static str,
     /// When the next line is due. None where nothing is ever told.
     due: Option<Instant>,
     /// Whether something was told.
     has_told: bool,
-    /// How many rows are done.
-    rows: u64,
+    /// How many are done.
+    done: u64,
 }
 
 /// A second from now, or None where no clock tells.
@@ -31,8 +33,8 @@ fn has_come(rt: &HostRuntime, due: Option<Instant>) -> bool {
 }
 
 impl<'a> Teller<'a> {
-    /// Nothing is told yet.
-    pub fn new(rt: &'a HostRuntime) -> Teller<'a> {
+    /// Nothing is told yet. What is counted stands behind the number.
+    pub fn new(rt: &'a HostRuntime, what: &'static str) -> Teller<'a> {
         let due = if rt.stderr().is_terminal() {
             in_a_second(rt)
         } else {
@@ -40,15 +42,16 @@ impl<'a> Teller<'a> {
         };
         Teller {
             rt,
+            what,
             due,
             has_told: false,
-            rows: 0,
+            done: 0,
         }
     }
 
-    /// How many rows are done.
-    pub fn rows(&self) -> u64 {
-        self.rows
+    /// How many are done.
+    pub fn count(&self) -> u64 {
+        self.done
     }
 
     /// Ends the line of what was told, if something was.
@@ -60,10 +63,11 @@ impl<'a> Teller<'a> {
 }
 
 impl Progress for Teller<'_> {
-    fn done(&mut self, rows: u64) {
-        self.rows = rows;
+    fn done(&mut self, count: u64) {
+        self.done = count;
         if has_come(self.rt, self.due) {
-            let _ = eprint!(self.rt; "\r{rows} rows");
+            let what = self.what;
+            let _ = eprint!(self.rt; "\r{count} {what}");
             self.has_told = true;
             self.due = in_a_second(self.rt);
         }

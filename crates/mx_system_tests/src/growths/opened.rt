@@ -16,7 +16,7 @@ use std::test::Fail;
 fn wanting(refused: OpenRefused<MemStore>) -> Result<Connection<MemStore>, Fail> {
     match refused.fault {
         OpenFault::Memory | OpenFault::Store => Ok(refused.store),
-        OpenFault::NotThisSchema => Err("another schema")?,
+        OpenFault::NotThisSchema | OpenFault::Unsound => Err("another fault")?,
     }
 }
 

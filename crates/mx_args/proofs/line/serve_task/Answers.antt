@@ -4,10 +4,10 @@ use Rattle.clap.specs.Words.{found_of, rows_of}
 use Rattle.mx_args.proofs.TaskLemmas.{no_count, no_port}
 use Rattle.mx_args.proofs.line.serve_task.Goals as goal
 
+pub returns-in_default-clause-unnamed : goal.returns-in_default-clause-unnamed
+returns-in_default-clause-unnamed c =
+    no_port (rows_of (found_of c.args.matches.now)) (λ n h. c.in_default.ensures.none refl n h)
+
 pub returns-in_default-number_of-clause-unnamed : goal.returns-in_default-number_of-clause-unnamed
 returns-in_default-number_of-clause-unnamed c =
-    no_port (rows_of (found_of c.args.matches.now)) (λ n h. c.in_default-number_of.ensures.none refl n h)
-
-pub returns-in_default-number_of-2-clause-unnamed : goal.returns-in_default-number_of-2-clause-unnamed
-returns-in_default-number_of-2-clause-unnamed c =
-    no_count (rows_of (found_of c.args.matches.now)) (λ n h. c.in_default-number_of-2.ensures.none refl n h)
+    no_count (rows_of (found_of c.args.matches.now)) (λ n h. c.in_default-number_of.ensures.none refl n h)

@@ -7,6 +7,7 @@ use Rattle.sqlite.specs.Listing.{understood, reads_listing, IsSourceOf}
 use Rattle.sqlite.specs.Clock.{timed}
 use Rattle.sqlite.specs.Effect.{Database}
 use Rattle.sqlite.specs.State.{State, Shown, ShowsRows, IsUnchanged}
+use Rattle.sqlite.specs.Values.{bound}
 use Rattle.sqlite.proofs.Callers.{begun_plain, unchanged_then}
 use Rattle.mx_tables.specs.States.{IsOurs}
 use Rattle.mx_tables.proofs.StateLemmas.{sound as is_sound, sure_in, sure_first, sure_before, stays_then, begun_stays, refused_stays}
@@ -71,7 +72,7 @@ loop-preserved g c =
           let was = before.2 begun ours (sure_first step.later calm) in
           let row : Some c.in-Some.row.now ≡ row_if c.next.new.rows.has_row c.next.new.rows.conn.now = rw c.in-Some.is at c.get.ensures in
           let gives : Advances g.S.Store c.loop.rows.conn.now c.next.new.rows.conn.now (Some c.in-Some.row.now) = rw (sym row) at made.shown (is_sound begun new calm) in
-          (was.0 ++ c.in-Some.row.now ∷ [], gives c.args.sql.now [] was.0 was.1, unchanged_then _ mid new was.2 (made.same (is_sound begun new calm)), one_more g.T.Takes.takes was.0 c.in-Some.row.now _ c.loop.taker _ was.3 c.in_ok-take.ensures),
+          (was.0 ++ c.in-Some.row.now ∷ [], gives c.args.sql.now (bound c.args.params.now) was.0 was.1, unchanged_then _ mid new was.2 (made.same (is_sound begun new calm)), one_more g.T.Takes.takes was.0 c.in-Some.row.now _ c.loop.taker _ was.3 c.in_ok-take.ensures),
     )
 
 pub returns-in_default : goal.returns-in_default
@@ -81,7 +82,7 @@ returns-in_default g c =
     let old = state g.S.Store c.args.conn.now in
     let mid = state g.S.Store c.loop.rows.conn.now in
     let new = state g.S.Store c.next.new.rows.conn.now in
-    at_last g.S.Store c.args.conn.now c.next.new.rows.conn.now _ (λ h. (rows : List Row) × Shown c.args.sql.now [] old (state g.S.Store h) rows × TakesAll g.T.Takes.takes c.args.taker.now rows c.loop.taker) (record {
+    at_last g.S.Store c.args.conn.now c.next.new.rows.conn.now _ (λ h. (rows : List Row) × Shown c.args.sql.now (bound c.args.params.now) old (state g.S.Store h) rows × TakesAll g.T.Takes.takes c.args.taker.now rows c.loop.taker) (record {
       stays = λ ours. let was = before.1 _ ours in stays_then old mid new was (made.stays _ was.ours);
       value = λ {begun} ours calm.
           let first = before.1 begun ours in
@@ -91,6 +92,6 @@ returns-in_default g c =
           let ends : Advances g.S.Store c.loop.rows.conn.now c.next.new.rows.conn.now None = rw (sym end) at made.shown (is_sound begun new calm) in
           let has = first.ours.schema (is_sound begun mid early) in
           let plain = subst (λ s. IsPlain (understood s c.args.sql.now)) (sym has) c.requires.plain in
-          (was.0, shown_from c.args.sql.now [] old mid new was.0 plain was.2 (ends c.args.sql.now [] was.0 was.1), was.3);
+          (was.0, shown_from c.args.sql.now (bound c.args.params.now) old mid new was.0 plain was.2 (ends c.args.sql.now (bound c.args.params.now) was.0 was.1), was.3);
       live = made.live;
     }) (search rules)

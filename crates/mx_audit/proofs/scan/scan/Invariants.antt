@@ -1,8 +1,9 @@
-use Rattle.std.proofs.Common.{Bool, ◌≡◌, List, []}
+use Rattle.std.proofs.Common.{Bool, ◌≡◌, List}
 use Rattle.sqlite_value.specs.Order.{Row}
 use Rattle.sqlite.specs.Given.{HasGiven}
 use Rattle.sqlite.specs.Held.{state}
 use Rattle.sqlite.specs.State.{IsUnchanged}
+use Rattle.sqlite.specs.Values.{bound}
 use Rattle.mx_tables.specs.States.{unsure, IsOurs, Stays}
 use Rattle.mx_audit.specs.Scans.{TakesAll}
 use Rattle.mx_audit.proofs.scan.scan.Given as goal
@@ -14,4 +15,4 @@ invariant-loop g l =
     let now = state g.S.Store l.rows.conn.now in
     (l.rows.conn.ghost_name ≡ l.initial.rows.conn.ghost_name)
     × ((begun : Bool) → IsOurs begun old → Stays begun old now)
-    × ((begun : Bool) → IsOurs begun old → unsure begun now ≡ 0 → (rows : List Row) × HasGiven g.S.Store l.fn.sql [] l.rows.conn.now rows × IsUnchanged old now × TakesAll g.T.Takes.takes l.fn.taker rows l.taker)
+    × ((begun : Bool) → IsOurs begun old → unsure begun now ≡ 0 → (rows : List Row) × HasGiven g.S.Store l.fn.sql (bound l.fn.params) l.rows.conn.now rows × IsUnchanged old now × TakesAll g.T.Takes.takes l.fn.taker rows l.taker)

@@ -1,8 +1,14 @@
-use Rattle.std.proofs.Common.{◌≡◌, refl}
+use Rattle.std.proofs.Common.{◌≡◌, refl, subst, sym}
 use Rattle.sqlite.specs.Files.{file_state}
+use Rattle.mx_book.specs.World.{World}
+use Rattle.mx_desk.specs.Rounds.{Leads}
+use Rattle.mx_tables.specs.Holds.{SpellsOne}
 use Rattle.mx_tables.specs.States.{worry}
 use Rattle.mx_tables.proofs.StateLemmas.{no_worry, sure, sure_before}
+use Rattle.mx_tables.specs.Schema.{office_schema}
 use Rattle.mx_lives.proofs.FileLemmas.{books_closed, books_found}
+use Rattle.mx_lives.specs.Lived.{RunsOver}
+use Rattle.mx_lives.proofs.LifeLemmas.{one_world}
 use Rattle.mx_lives.proofs.files.closed_life.Goals as goal
 
 pub returns-clause-clean : goal.returns-clause-clean
@@ -23,7 +29,9 @@ returns-clause-lives g c = λ w books clean.
     let was = (sure first start).1 in
     let finds = c.in_ok-store.ensures.found was in
     let opens = (c.in_ok-store.ensures.opened was).0 in
-    let led = c.in_ok-left.ensures.lives w (books_found c.in_ok-store.store c.args.files w first.now books finds opens refl) end in
+    let all = c.in_ok-left.ensures.lives end in
+    let spelled = λ (schema : first.now.schema ≡ office_schema). books_found c.in_ok-store.store c.args.files w first.now books finds opens refl schema in
+    let led = subst (λ (v : World). Leads (RunsOver (λ _. Unit {0}) v c.args.input.now c.in_ok-left.life) (λ _ now. SpellsOne last.now now)) (sym (one_world all.0 w all.1 spelled)) all.2 in
     record {
       end = led.end;
       rounds = led.rounds;

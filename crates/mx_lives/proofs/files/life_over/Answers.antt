@@ -3,7 +3,6 @@ use Rattle.sqlite.specs.Held.{state}
 use Rattle.mx_tables.specs.Holds.{SpellsOne}
 use Rattle.mx_tables.specs.States.{worry}
 use Rattle.mx_tables.specs.Steady.{rest_of}
-use Rattle.mx_lives.proofs.LifeLemmas.{opened_spells}
 use Rattle.mx_lives.proofs.files.life_over.Goals as goal
 
 pub returns-clause-later : goal.returns-clause-later
@@ -19,7 +18,7 @@ pub returns-clause-ours : goal.returns-clause-ours
 returns-clause-ours g c = c.into_store.ensures.ours (c.answered-left.ensures.still c.in-Ok.ensures.settled)
 
 pub returns-clause-lives : goal.returns-clause-lives
-returns-clause-lives g c = λ w was sure_end.
+returns-clause-lives g c = λ sure_end.
     let book = state g.S.Store c.in-Ok.book.0 in
     let still = c.in-Ok.ensures.settled in
     let first = (rest_of g.S.Store c.in-Ok.book still).0 in
@@ -27,6 +26,7 @@ returns-clause-lives g c = λ w was sure_end.
     let later = c.answered-left.ensures.later still in
     let end : worry (state g.S.Store c.answered-left.result.0.0) ≡ 0 = rw c.into_store.ensures.same at sure_end in
     let start : worry book ≡ 0 = (let none = end in omega (arith, none, first, last, later)) in
-    let spelled : SpellsOne book.now w = opened_spells (state g.S.Store c.args.store).now book w c.in-Ok.ensures.ours (c.in-Ok.ensures.same start) start was in
-    let led = c.answered-left.ensures.runs w (omega (arith, end, last)) (record { still = still; spelled = λ _. spelled }) in
-    rw c.into_store.ensures.same (record { end = led.end; rounds = led.rounds; holds = led.holds; moves = led.moves.rests.spelled (last ∙ end) })
+    let found = c.in-Ok.ensures.sound start in
+    let spelled : SpellsOne book.now found.0 = rw (c.in-Ok.ensures.same start) found.1 in
+    let led = c.answered-left.ensures.runs found.0 (omega (arith, end, last)) (record { still = still; spelled = λ _. spelled }) in
+    (found.0, found.1, rw c.into_store.ensures.same (record { end = led.end; rounds = led.rounds; holds = led.holds; moves = led.moves.rests.spelled (last ∙ end) }))

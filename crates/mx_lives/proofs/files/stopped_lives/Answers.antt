@@ -1,8 +1,13 @@
-use Rattle.std.proofs.Common.{◌≡◌, refl}
+use Rattle.std.proofs.Common.{◌≡◌, map, refl, subst, sym, true}
 use Rattle.sqlite.specs.Files.{file_state}
+use Rattle.mx_book.specs.World.{World}
+use Rattle.mx_tables.specs.Holds.{SpellsOne}
 use Rattle.mx_tables.specs.States.{worry}
 use Rattle.mx_tables.proofs.StateLemmas.{no_worry, sure}
+use Rattle.mx_tables.specs.Schema.{office_schema}
 use Rattle.mx_lives.proofs.FileLemmas.{books_closed, books_found}
+use Rattle.mx_lives.specs.Lived.{LivedTo}
+use Rattle.mx_lives.proofs.LifeLemmas.{one_world}
 use Rattle.mx_lives.proofs.files.stopped_lives.Goals as goal
 
 pub returns : goal.returns
@@ -15,7 +20,9 @@ returns g c = record {
       let was = (sure first (c.in_ok-end.ensures.calm end)).1 in
       let finds = c.in_ok-store.ensures.found was in
       let opens = (c.in_ok-store.ensures.opened was).0 in
-      let led = c.in_ok-end.ensures.lives w (books_found c.in_ok-store.store c.args.files w first.now books finds opens refl) end in
+      let all = c.in_ok-end.ensures.lives end in
+      let spelled = λ (schema : first.now.schema ≡ office_schema). books_found c.in_ok-store.store c.args.files w first.now books finds opens refl schema in
+      let led = subst (λ (v : World). LivedTo (λ _. Unit {0}) true (SpellsOne (file_state last).now) (map (λ input. input.now) c.args.inputs.now) c.in_ok-end.lives.items v) (sym (one_world all.0 w all.1 spelled)) all.2 in
       record {
         marked = led.marked;
         end = led.end;

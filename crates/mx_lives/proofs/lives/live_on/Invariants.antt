@@ -3,7 +3,6 @@ use Rattle.sqlite.specs.Held.{state}
 use Rattle.mx_book.specs.World.{World}
 use Rattle.mx_tables.specs.Holds.{SpellsOne}
 use Rattle.mx_tables.specs.Rounds.{IsSettled}
-use Rattle.mx_tables.specs.Schema.{office_schema}
 use Rattle.mx_tables.specs.States.{IsAwake, worry}
 use Rattle.mx_lives.specs.Lived.{LivedTo}
 use Rattle.mx_lives.proofs.lives.live_on.Given as goal
@@ -14,6 +13,6 @@ invariant-inputs g l = record {
   awake : IsAwake (state g.S.Store l.book.0);
   settled : IsSettled g.S.Store l.book;
   calm : worry (state g.S.Store l.book.0) ≡ 0 → worry (state g.S.Store l.fn.store) ≡ 0;
-  led : (w : World) → ((state g.S.Store l.fn.store).now.schema ≡ office_schema → SpellsOne (state g.S.Store l.fn.store).now w) → worry (state g.S.Store l.book.0) ≡ 0
-      → LivedTo (λ _. Unit {0}) true (SpellsOne (state g.S.Store l.book.0).now) (take l.input-index (map (λ input. input.now) l.fn.inputs)) l.lives.items w;
+  led : worry (state g.S.Store l.book.0) ≡ 0 → (w : World) × SpellsOne (state g.S.Store l.fn.store).now w
+      × LivedTo (λ _. Unit {0}) true (SpellsOne (state g.S.Store l.book.0).now) (take l.input-index (map (λ input. input.now) l.fn.inputs)) l.lives.items w;
 }

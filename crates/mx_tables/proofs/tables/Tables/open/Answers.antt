@@ -1,13 +1,6 @@
 use Rattle.mx_tables.proofs.Common.{state}
 use Rattle.mx_tables.proofs.StateLemmas.{awake}
-use Rattle.mx_tables.proofs.BookLemmas.{kept_of, rests_ours}
 use Rattle.mx_tables.proofs.tables.Tables.open.Goals as goal
 
-pub returns-in-Ok-clause-settled : goal.returns-in-Ok-clause-settled
-returns-in-Ok-clause-settled g c = rests_ours g.S.Store c.check_office.new.conn c.in-Ok.ensures.ours
-
 pub returns-in-Ok-clause-live : goal.returns-in-Ok-clause-live
-returns-in-Ok-clause-live g c = awake (state g.S.Store c.check_office.new.conn) c.in-Ok.ensures.live
-
-pub invariant_of-result : goal.invariant_of-result
-invariant_of-result g c = (kept_of _ (state g.S.Store c.check_office.new.conn) c.in-Ok.ensures.ours, λ h. tt)
+returns-in-Ok-clause-live g c = rw c.over.ensures.same (awake (state g.S.Store c.check_office.new.conn) c.in-Ok.ensures.live)

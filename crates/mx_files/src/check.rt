@@ -1,0 +1,90 @@
+//! Whether the books in a store are sound, in words.
+use crate::books::unmade;
+use mx_audit::Ordered;
+use mx_audit::tables::{Checked, check};
+use mx_tables::Tables;
+use mx_tasks::evenness::{uneven_purses, uneven_sums};
+use mx_tasks::{Done, TaskFault};
+use sqlite::Connection;
+use std::alloc::{AllocError, Global};
+
+/// The most findings that are printed.
+const MOST_FINDINGS: usize = 1_000;
+
+/// The lines of what was found, and one that says how many findings more there are, if any.
+fn findings_text(alloc: Global, checked: &Checked) -> Result<String, AllocError> {
+    let mut text = String::new(alloc);
+    for finding in checked.findings.as_slice() {
+        text.push_str(finding.as_str())?;
+        text.push_str("\n")?;
+    }
+    let more = checked.found.saturating_sub(checked.findings.len() as u64);
+    if more > 0 {
+        let line = format!(in alloc; "and {more} more\n")?;
+        text.push_str(line.as_str())?;
+    }
+    Ok(text)
+}
+
+/// The line of books in which nothing was found.
+fn sound_line(alloc: Global, checked: &Checked) -> Result<String, AllocError> {
+    let counts = &checked.counts;
+    format!(in alloc;
+        "sound: {} members, {} holders, {} purses, {} lines\n",
+        counts.members, counts.holders, counts.purses, counts.lines
+    )
+}
+
+/// A text, with the fault `Store` where it tells of one.
+fn done(text: String, is_well: bool) -> Done {
+    Done {
+        text: text.into_bytes(),
+        fault: (!is_well).then_some(TaskFault::Store),
+    }
+}
+
+/// What the check of books in which nothing was found says of their sums and statements.
+fn sums_done<S: Ordered>(
+    rt: &HostRuntime,
+    book: &mut Tables<S>,
+    checked: &Checked,
+) -> Result<Done, TaskFault> {
+    let names = checked.purses(rt.alloc())?;
+    let sums = uneven_sums(rt.alloc(), book)?;
+    let purses = uneven_purses(rt, book, names.as_slice())?;
+    let is_well = sums.is_empty() && purses.is_empty();
+    let mut text = sound_line(rt.alloc(), checked)?;
+    text.push_str(sums.as_str())?;
+    text.push_str(purses.as_str())?;
+    if is_well {
+        text.push_str("even: the sums add up, and each statement leads to its purse's balance\n")?;
+    }
+    Ok(done(text, is_well))
+}
+
+/// Tells whether the books in a store are sound, and gives the store back. Where the audit has findings, a line tells each of the
+/// first 1,000, and one how many more there are. Else a line tells how many members, holders, purses and lines there are, and
+/// lines which member's sums, whether the scheme's, and which purse's statement don't add up. `Store` comes with a text that
+/// tells of something wrong.
+///
+/// # Errors
+///
+/// `NotThisSchema` where the store has no books of this version; `Store` where it has other tables, or refuses a statement;
+/// `Memory`. The store is given up then.
+pub fn check_store<S: Ordered + Drop>(
+    rt: &HostRuntime,
+    store: Connection<S>,
+) -> Result<(Done, Connection<S>), TaskFault> {
+    let mut store = match Tables::open(rt.alloc(), store) {
+        Ok(book) => book.into_store(),
+        Err(refused) => return Err(unmade(refused.fault)),
+    };
+    let checked = check(rt.alloc(), &mut store, MOST_FINDINGS)?;
+    if checked.found > 0 {
+        let text = findings_text(rt.alloc(), &checked)?;
+        return Ok((done(text, false), store));
+    }
+    let mut book = Tables::over(rt.alloc(), store);
+    let answer = sums_done(rt, &mut book, &checked)?;
+    Ok((answer, book.into_store()))
+}
