@@ -1,0 +1,19 @@
+use Rattle.mx_book.specs.Edits.{Fits, all_edited}
+use Rattle.mx_standing.proofs.ShownLemmas.{changes, fits_each, kept_bides, left_bides, one_changed}
+use Rattle.mx_standing.proofs.standing.StandingWorldBook.apply.Goals as goal
+
+pub apply-requires : goal.apply-requires
+apply-requires g c = fits_each g.B.Book (λ w. Fits w c.args.edits.now) c.args.self.now.book c.args.self.now.one c.requires
+
+pub invariant_of-self : goal.invariant_of-self
+invariant_of-self g c =
+    let one = one_changed g.B.Book (λ w. all_edited w c.args.edits.now) _ _ c.apply.ensures.later g.met.B.Book.single c.apply.result c.apply.ensures.ok c.apply.ensures.err c.args.self.now.one in
+    record {
+      one = one;
+      kept = kept_bides g.B.Book g.met.B.Book.rest _ _ c.apply.ensures.bides c.args.self.now.waits one c.args.self.now.kept;
+      left = left_bides g.B.Book _ _ c.apply.ensures.bides c.args.self.now.left;
+      waits = c.args.self.now.waits;
+    }
+
+pub returns : goal.returns
+returns g c = changes g.B.Book (λ w. all_edited w c.args.edits.now) _ _ c.apply.ensures.later _ _ _ _ _ _ c.apply.ensures.ok c.apply.ensures.err c.apply.ensures.bides c.apply.ensures.fault

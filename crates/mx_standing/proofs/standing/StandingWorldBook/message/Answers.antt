@@ -1,0 +1,16 @@
+use Rattle.std.proofs.Props.{props}
+use Rattle.mx_standing.proofs.ShownLemmas.{answers, kept_bides, left_bides, one_kept, message_set}
+use Rattle.mx_standing.proofs.standing.StandingWorldBook.message.Goals as goal
+
+pub invariant_of-self : goal.invariant_of-self
+invariant_of-self g c =
+    let one = one_kept g.B.Book _ _ c.message.ensures.keeps c.args.self.now.one in
+    record {
+      one = one;
+      kept = kept_bides g.B.Book g.met.B.Book.rest _ _ c.message.ensures.keeps.bides c.args.self.now.waits one c.args.self.now.kept;
+      left = left_bides g.B.Book _ _ c.message.ensures.keeps.bides c.args.self.now.left;
+      waits = c.args.self.now.waits;
+    }
+
+pub returns : goal.returns
+returns g c = answers g.B.Book _ _ _ _ _ _ _ _ _ (λ w x. hlevel (props, message_set)) c.message.ensures.keeps c.message.ensures.value c.message.ensures.fault

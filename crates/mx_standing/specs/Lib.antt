@@ -1,0 +1,5 @@
+pub mod One
+pub mod Props
+pub mod The
+pub mod Views
+pub mod Shown
