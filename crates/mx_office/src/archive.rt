@@ -1,9 +1,8 @@
 //! The operator's commands on the results of read log: archives, clears and settlements.
 ghost use Rattle.std.specs.Prelude.{◌≡◌, [], false, nat_lt, OnOk, IfErr};
 ghost use Rattle.mx_pay.specs.Log.{log_len};
-ghost use Rattle.mx_book.specs.Keeps.{Keeps, Gives};
 ghost use Rattle.mx_book.specs.Reads.{finds_place, tray_of};
-ghost use Rattle.mx_office.specs.Calls.{Tells};
+ghost use Rattle.mx_standing.specs.Views.{Answers};
 ghost use Rattle.mx_command.specs.Commands.{IsCommand};
 ghost use Rattle.mx_office.specs.Decides.{Decides, settlement_edits};
 ghost use Rattle.mx_office.specs.Step.{archive, clear, is_archived_for_both, may_clear, settle};
@@ -11,22 +10,23 @@ ghost use Rattle.mx_command.specs.declared.values.Command.{Command};
 
 use crate::decisions::{Outgoing, credit_refusal, make, make_purse, payment_line, refuse, tell};
 use crate::values::Decided;
-use mx_book::contract::{Book, StoreFault};
+use mx_book::contract::StoreFault;
 use mx_book::edits::Edit;
 use mx_book::values::LineKind;
 use mx_command::{Refusal, Reply};
 use mx_pay::{Log, Name, PayDetails};
 use mx_purse::{Message, Purse};
+use mx_standing::WorldBook;
 use std::alloc::Global;
 
 /// What lies in the tray of the purse goes to the archive. Where nothing lies there, nothing is to change.
-pub(crate) fn archive<B: Book>(
+pub(crate) fn archive<B: WorldBook>(
     book: &mut B,
     alloc: Global,
     purse: Name,
     decided: &mut Decided,
 ) -> Result<(), StoreFault>
-    ensures { Tells B.Book B.fails book.old book.new result
+    ensures { Answers B.fails (B.view book.old) (B.view book.new) result
         (λ w _. Decides w (archive w purse) decided.new
         × (nat_lt 0 (log_len (tray_of w purse)) ≡ false → decided.new.edits ≡ [])) }
 {
@@ -49,16 +49,14 @@ pub(crate) fn archive<B: Book>(
 
 /// Whether these details may be cleared from the log of the purse: they are some, and each is archived for it. The book
 /// is asked once for each, until one isn't archived.
-fn may_clear<B: Book>(
+fn may_clear<B: WorldBook>(
     book: &mut B,
     alloc: Global,
     purse: Name,
     details: &Log,
 ) -> Result<bool, StoreFault>
-    ensures keeps { Keeps B.doubt B.rows B.harm B.base B.defers B.settled B.leaves book.old book.new }
-    ensures value { Gives B.doubt B.rows B.spells book.old book.new result
+    ensures { Answers B.fails (B.view book.old) (B.view book.new) result
         (λ w b. b ≡ may_clear w purse details.now) }
-    ensures fault { IfErr result B.fails }
 {
     for place in 0..details.len() {
         if let Some(entry) = details.at(place) {
@@ -71,14 +69,14 @@ fn may_clear<B: Book>(
 }
 
 /// A message is sent to the purse that clears its log of these details, where they are some and all archived for it.
-pub(crate) fn clear<B: Book>(
+pub(crate) fn clear<B: WorldBook>(
     book: &mut B,
     alloc: Global,
     purse: Name,
     details: &Log,
     decided: &mut Decided,
 ) -> Result<(), StoreFault>
-    ensures { Tells B.Book B.fails book.old book.new result
+    ensures { Answers B.fails (B.view book.old) (B.view book.new) result
         (λ w _. (IsCommand (Command.Clear purse details.now)
         → Decides w (clear w purse details.now) decided.new)
         × (finds_place w purse ≡ false → decided.new.edits ≡ [])) }
@@ -101,12 +99,12 @@ pub(crate) fn clear<B: Book>(
 }
 
 /// Whether these details are archived for both of their purses.
-fn is_archived_for_both<B: Book>(
+fn is_archived_for_both<B: WorldBook>(
     book: &mut B,
     alloc: Global,
     details: &PayDetails,
 ) -> Result<bool, StoreFault>
-    ensures { Tells B.Book B.fails book.old book.new result
+    ensures { Answers B.fails (B.view book.old) (B.view book.new) result
         (λ w b. b ≡ is_archived_for_both w details.now) }
 {
     if !book.archived(alloc, details.from(), details)? {
@@ -132,13 +130,13 @@ fn make_settlement(decided: &mut Decided, purse: &Purse, details: &PayDetails)
 }
 
 /// The lost value of a payment comes back to the purse that paid it, where the details are archived for both purses, once.
-pub(crate) fn settle<B: Book>(
+pub(crate) fn settle<B: WorldBook>(
     book: &mut B,
     alloc: Global,
     details: &PayDetails,
     decided: &mut Decided,
 ) -> Result<(), StoreFault>
-    ensures { Tells B.Book B.fails book.old book.new result
+    ensures { Answers B.fails (B.view book.old) (B.view book.new) result
         (λ w _. IsCommand (Command.Settle details.now)
         → Decides w (settle w details.now) decided.new) }
 {

@@ -1,6 +1,6 @@
 //! The commands of the operator and of clerks.
 ghost use Rattle.std.specs.Prelude.{◌≡◌};
-ghost use Rattle.mx_office.specs.Calls.{Tells};
+ghost use Rattle.mx_standing.specs.Views.{Answers};
 ghost use Rattle.mx_command.specs.Commands.{IsCommand};
 ghost use Rattle.mx_office.specs.Decides.{Decides, purse_count};
 ghost use Rattle.mx_office.specs.Step.{new_member, new_holder, new_purse};
@@ -8,23 +8,24 @@ ghost use Rattle.mx_command.specs.declared.values.Command.{Command};
 
 use crate::decisions::{make, refuse};
 use crate::values::Decided;
-use mx_book::contract::{Book, StoreFault};
+use mx_book::contract::StoreFault;
 use mx_book::edits::Edit;
 use mx_book::values::MOST_PURSES;
 use mx_command::{Refusal, Reply};
 use mx_pay::names::same_name;
 use mx_pay::{Name, Token};
+use mx_standing::WorldBook;
 use std::alloc::Global;
 
 /// A new member with the token of its clerk.
-pub(crate) fn new_member<B: Book>(
+pub(crate) fn new_member<B: WorldBook>(
     book: &mut B,
     alloc: Global,
     member: Name,
     token: Token,
     decided: &mut Decided,
 ) -> Result<(), StoreFault>
-    ensures { Tells B.Book B.fails book.old book.new result
+    ensures { Answers B.fails (B.view book.old) (B.view book.new) result
         (λ w _. IsCommand (Command.NewMember member token)
         → Decides w (new_member w member token) decided.new) }
 {
@@ -45,7 +46,7 @@ pub(crate) fn new_member<B: Book>(
 }
 
 /// A new holder of a member with the holder's token.
-pub(crate) fn new_holder<B: Book>(
+pub(crate) fn new_holder<B: WorldBook>(
     book: &mut B,
     alloc: Global,
     member: Name,
@@ -53,7 +54,7 @@ pub(crate) fn new_holder<B: Book>(
     token: Token,
     decided: &mut Decided,
 ) -> Result<(), StoreFault>
-    ensures { Tells B.Book B.fails book.old book.new result
+    ensures { Answers B.fails (B.view book.old) (B.view book.new) result
         (λ w _. IsCommand (Command.NewHolder holder token)
         → Decides w (new_holder w member holder token) decided.new) }
 {
@@ -79,13 +80,13 @@ pub(crate) fn new_holder<B: Book>(
 }
 
 /// How many purses a holder of a member has. None where the member has no such holder.
-fn purse_count<B: Book>(
+fn purse_count<B: WorldBook>(
     book: &mut B,
     alloc: Global,
     member: Name,
     holder: Name,
 ) -> Result<Option<usize>, StoreFault>
-    ensures { Tells B.Book B.fails book.old book.new result
+    ensures { Answers B.fails (B.view book.old) (B.view book.new) result
         (λ w o. o ≡ purse_count w member holder) }
 {
     match book.holder(alloc, holder)? {
@@ -95,7 +96,7 @@ fn purse_count<B: Book>(
 }
 
 /// A new purse of a holder of a member.
-pub(crate) fn new_purse<B: Book>(
+pub(crate) fn new_purse<B: WorldBook>(
     book: &mut B,
     alloc: Global,
     member: Name,
@@ -103,7 +104,7 @@ pub(crate) fn new_purse<B: Book>(
     holder: Name,
     decided: &mut Decided,
 ) -> Result<(), StoreFault>
-    ensures { Tells B.Book B.fails book.old book.new result
+    ensures { Answers B.fails (B.view book.old) (B.view book.new) result
         (λ w _. IsCommand (Command.NewPurse purse holder)
         → Decides w (new_purse w member purse holder) decided.new) }
 {

@@ -3,8 +3,7 @@ ghost use Rattle.std.specs.Prelude.{◌≡◌, ◌≤◌, ◌⊎◌, [], OnOk, I
 ghost use Rattle.mx_book.specs.declared.contract.StoreFault.TheVariants.{Memory};
 ghost use Rattle.mx_book.specs.Conditions.{all_granted};
 ghost use Rattle.mx_book.specs.Reads.{load_of, member_of};
-ghost use Rattle.mx_book.specs.World.{World};
-ghost use Rattle.mx_office.specs.Calls.{Tells};
+ghost use Rattle.mx_standing.specs.Views.{Answers};
 ghost use Rattle.mx_command.specs.Commands.{IsCommand};
 ghost use Rattle.mx_office.specs.Decides.{Decides, granted_to, load_edits, member_purse};
 ghost use Rattle.mx_office.specs.Faults.{FailsFor};
@@ -13,7 +12,7 @@ ghost use Rattle.mx_command.specs.declared.values.Command.{Command};
 
 use crate::decisions::{Outgoing, again, load_refusal, make, make_purse, money_line, refuse, tell};
 use crate::values::Decided;
-use mx_book::contract::{Book, StoreFault};
+use mx_book::contract::StoreFault;
 use mx_book::edits::Edit;
 use mx_book::values::{LineKind, MemberRow};
 use mx_command::{Refusal, Reply};
@@ -21,14 +20,15 @@ use mx_pay::names::same_name;
 use mx_pay::numbers::MOST_NUMBER;
 use mx_pay::{Amount, Name};
 use mx_purse::Purse;
+use mx_standing::WorldBook;
 use std::alloc::Global;
 
 /// The most of a float, and of all grants together.
 const MOST: u128 = MOST_NUMBER as u128;
 
 /// How much a member was granted; 0 where there is no such member.
-fn granted_of<B: Book>(book: &mut B, alloc: Global, member: Name) -> Result<u64, StoreFault>
-    ensures { Tells B.Book B.fails book.old book.new result
+fn granted_of<B: WorldBook>(book: &mut B, alloc: Global, member: Name) -> Result<u64, StoreFault>
+    ensures { Answers B.fails (B.view book.old) (B.view book.new) result
         (λ w n. n ≡ granted_to w member) }
 {
     match book.member(alloc, member)? {
@@ -38,8 +38,8 @@ fn granted_of<B: Book>(book: &mut B, alloc: Global, member: Name) -> Result<u64,
 }
 
 /// The sum of all grants.
-fn all_granted<B: Book>(book: &mut B, alloc: Global) -> Result<u128, StoreFault>
-    ensures { Tells B.Book (λ e. (e ≡ Memory) ⊎ B.fails e) book.old book.new result
+fn all_granted<B: WorldBook>(book: &mut B, alloc: Global) -> Result<u128, StoreFault>
+    ensures { Answers (λ e. (e ≡ Memory) ⊎ B.fails e) (B.view book.old) (B.view book.new) result
         (λ w n. n ≡ all_granted w) }
 {
     let members = book.members(alloc)?;
@@ -51,17 +51,17 @@ fn all_granted<B: Book>(book: &mut B, alloc: Global) -> Result<u128, StoreFault>
 }
 
 /// A grant to a member, by which its grants and its float rise.
-pub(crate) fn grant<B: Book>(
+pub(crate) fn grant<B: WorldBook>(
     book: &mut B,
     alloc: Global,
     member: Name,
     amount: Amount,
     decided: &mut Decided,
 ) -> Result<(), StoreFault>
-    ensures tells { Tells B.Book (λ e. (e ≡ Memory) ⊎ B.fails e) book.old book.new result
+    ensures tells { Answers (λ e. (e ≡ Memory) ⊎ B.fails e) (B.view book.old) (B.view book.new) result
         (λ w _. Decides w (grant w member amount) decided.new) }
-    ensures memory { (w : World) → B.doubt book.new ≡ 0 → B.spells (B.rows book.old) w
-        → IfErr result (FailsFor B.fails (is_some (member_of w member))) }
+    ensures memory { (B.view book.new).doubt ≡ 0
+        → IfErr result (FailsFor B.fails (is_some (member_of (B.view book.old).world member))) }
 {
     let Some(row) = book.member(alloc, member)? else {
         refuse(decided, Refusal::NoSuchMember);
@@ -120,7 +120,7 @@ fn make_load(
 }
 
 /// A load of a purse of a holder of the member, from the member's float.
-pub(crate) fn load<B: Book>(
+pub(crate) fn load<B: WorldBook>(
     book: &mut B,
     alloc: Global,
     member: Name,
@@ -129,7 +129,7 @@ pub(crate) fn load<B: Book>(
     reference: Name,
     decided: &mut Decided,
 ) -> Result<(), StoreFault>
-    ensures { Tells B.Book B.fails book.old book.new result
+    ensures { Answers B.fails (B.view book.old) (B.view book.new) result
         (λ w _. (IsCommand (Command.Load purse amount reference)
         → Decides w (load_purse w member purse amount reference) decided.new)
         × (IsTrue (is_some (load_of w purse reference)) → decided.new.edits ≡ [])) }
@@ -163,13 +163,13 @@ pub(crate) fn load<B: Book>(
 }
 
 /// The purse of that name, where it is of a holder of the member.
-fn member_purse<B: Book>(
+fn member_purse<B: WorldBook>(
     book: &mut B,
     alloc: Global,
     member: Name,
     purse: Name,
 ) -> Result<Option<Purse>, StoreFault>
-    ensures { Tells B.Book B.fails book.old book.new result
+    ensures { Answers B.fails (B.view book.old) (B.view book.new) result
         (λ w o. o ≡ member_purse w member purse) }
 {
     match book.purse(alloc, purse)? {
@@ -179,13 +179,13 @@ fn member_purse<B: Book>(
 }
 
 /// A collect of what the purses of the member's holders redeemed, by which its float rises.
-pub(crate) fn collect<B: Book>(
+pub(crate) fn collect<B: WorldBook>(
     book: &mut B,
     alloc: Global,
     member: Name,
     decided: &mut Decided,
 ) -> Result<(), StoreFault>
-    ensures { Tells B.Book B.fails book.old book.new result
+    ensures { Answers B.fails (B.view book.old) (B.view book.new) result
         (λ w _. Decides w (collect w member) decided.new) }
 {
     let Some(row) = book.member(alloc, member)? else {
@@ -212,12 +212,12 @@ pub(crate) fn collect<B: Book>(
 }
 
 /// What the books come to.
-pub(crate) fn reconcile<B: Book>(
+pub(crate) fn reconcile<B: WorldBook>(
     book: &mut B,
     alloc: Global,
     decided: &mut Decided,
 ) -> Result<(), StoreFault>
-    ensures tells { Tells B.Book B.fails book.old book.new result
+    ensures tells { Answers B.fails (B.view book.old) (B.view book.new) result
         (λ w _. Decides w (reconcile w) decided.new) }
     ensures edits { OnOk result (decided.new.edits ≡ []) }
 {

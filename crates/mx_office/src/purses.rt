@@ -1,9 +1,8 @@
 //! The commands of holders.
 ghost use Rattle.std.specs.Prelude.{◌≡◌, ◌⊎◌, [], OnOk, IfErr, IsTrue, is_some, option_map};
 ghost use Rattle.mx_book.specs.declared.contract.StoreFault.TheVariants.{Memory};
-ghost use Rattle.mx_book.specs.World.{World};
 ghost use Rattle.mx_book.specs.Reads.{own_purse, purses_of, redemption_of};
-ghost use Rattle.mx_office.specs.Calls.{Tells};
+ghost use Rattle.mx_standing.specs.Views.{Answers};
 ghost use Rattle.mx_command.specs.Commands.{IsCommand};
 ghost use Rattle.mx_office.specs.Decides.{Decides, not_kept, placed};
 ghost use Rattle.mx_office.specs.Faults.{FailsFor};
@@ -16,20 +15,21 @@ use crate::decisions::{
     peer_of, redeem_refusal, refuse, sent_for, start_refusal, tell,
 };
 use crate::values::Decided;
-use mx_book::contract::{Book, StoreFault};
+use mx_book::contract::StoreFault;
 use mx_book::edits::Edit;
 use mx_book::values::MOST_LINES;
 use mx_command::{Lines, Messages, Names, Refusal, Reply};
 use mx_pay::{Amount, Name, PayDetails, Seq};
+use mx_standing::WorldBook;
 use std::alloc::Global;
 
 /// What is sent, where it finds a place. Elsewhere it vanishes.
-pub(crate) fn placed<B: Book>(
+pub(crate) fn placed<B: WorldBook>(
     book: &mut B,
     alloc: Global,
     sent: Outgoing,
 ) -> Result<Outgoing, StoreFault>
-    ensures { Tells B.Book B.fails book.old book.new result
+    ensures { Answers B.fails (B.view book.old) (B.view book.new) result
         (λ w s. carried s ≡ placed w (carried sent)) }
 {
     let Some(peer) = peer_of(&sent) else {
@@ -44,13 +44,13 @@ pub(crate) fn placed<B: Book>(
 
 /// The names of the holder's purses.
 #[inline(never)]
-pub(crate) fn purses<B: Book>(
+pub(crate) fn purses<B: WorldBook>(
     book: &mut B,
     alloc: Global,
     holder: Name,
     decided: &mut Decided,
 ) -> Result<(), StoreFault>
-    ensures tells { Tells B.Book (λ e. (e ≡ Memory) ⊎ B.fails e) book.old book.new result
+    ensures tells { Answers (λ e. (e ≡ Memory) ⊎ B.fails e) (B.view book.old) (B.view book.new) result
         (λ w _. Decides w (tell w (Reply.Purses (purses_of w holder))) decided.new) }
     ensures edits { OnOk result (decided.new.edits ≡ []) }
 {
@@ -61,14 +61,14 @@ pub(crate) fn purses<B: Book>(
 
 /// The purse.
 #[inline(never)]
-pub(crate) fn show<B: Book>(
+pub(crate) fn show<B: WorldBook>(
     book: &mut B,
     alloc: Global,
     holder: Name,
     purse: Name,
     decided: &mut Decided,
 ) -> Result<(), StoreFault>
-    ensures tells { Tells B.Book B.fails book.old book.new result
+    ensures tells { Answers B.fails (B.view book.old) (B.view book.new) result
         (λ w _. Decides w (on_own w holder purse show) decided.new) }
     ensures edits { OnOk result (decided.new.edits ≡ []) }
 {
@@ -86,18 +86,18 @@ pub(crate) fn show<B: Book>(
 
 /// The messages in the inbox of the purse.
 #[inline(never)]
-pub(crate) fn inbox<B: Book>(
+pub(crate) fn inbox<B: WorldBook>(
     book: &mut B,
     alloc: Global,
     holder: Name,
     purse: Name,
     decided: &mut Decided,
 ) -> Result<(), StoreFault>
-    ensures tells { Tells B.Book (λ e. (e ≡ Memory) ⊎ B.fails e) book.old book.new result
+    ensures tells { Answers (λ e. (e ≡ Memory) ⊎ B.fails e) (B.view book.old) (B.view book.new) result
         (λ w _. Decides w (on_own w holder purse inbox) decided.new) }
     ensures edits { OnOk result (decided.new.edits ≡ []) }
-    ensures memory { (w : World) → B.doubt book.new ≡ 0 → B.spells (B.rows book.old) w
-        → IfErr result (FailsFor B.fails (is_some (own_purse w holder purse))) }
+    ensures memory { (B.view book.new).doubt ≡ 0
+        → IfErr result (FailsFor B.fails (is_some (own_purse (B.view book.old).world holder purse))) }
 {
     if !book.is_own(alloc, holder, purse)? {
         refuse(decided, Refusal::NoSuchPurse);
@@ -110,7 +110,7 @@ pub(crate) fn inbox<B: Book>(
 
 /// The first 50 lines of the purse that are numbered above `after`.
 #[inline(never)]
-pub(crate) fn statement<B: Book>(
+pub(crate) fn statement<B: WorldBook>(
     book: &mut B,
     alloc: Global,
     holder: Name,
@@ -118,11 +118,11 @@ pub(crate) fn statement<B: Book>(
     after: Seq,
     decided: &mut Decided,
 ) -> Result<(), StoreFault>
-    ensures tells { Tells B.Book (λ e. (e ≡ Memory) ⊎ B.fails e) book.old book.new result
+    ensures tells { Answers (λ e. (e ≡ Memory) ⊎ B.fails e) (B.view book.old) (B.view book.new) result
         (λ w _. Decides w (on_own w holder purse (statement after)) decided.new) }
     ensures edits { OnOk result (decided.new.edits ≡ []) }
-    ensures memory { (w : World) → B.doubt book.new ≡ 0 → B.spells (B.rows book.old) w
-        → IfErr result (FailsFor B.fails (is_some (own_purse w holder purse))) }
+    ensures memory { (B.view book.new).doubt ≡ 0
+        → IfErr result (FailsFor B.fails (is_some (own_purse (B.view book.old).world holder purse))) }
 {
     if !book.is_own(alloc, holder, purse)? {
         refuse(decided, Refusal::NoSuchPurse);
@@ -135,7 +135,7 @@ pub(crate) fn statement<B: Book>(
 
 /// A payment from the purse to a peer.
 #[inline(never)]
-pub(crate) fn start_from<B: Book>(
+pub(crate) fn start_from<B: WorldBook>(
     book: &mut B,
     alloc: Global,
     holder: Name,
@@ -145,7 +145,7 @@ pub(crate) fn start_from<B: Book>(
     seq: Seq,
     decided: &mut Decided,
 ) -> Result<(), StoreFault>
-    ensures { Tells B.Book B.fails book.old book.new result
+    ensures { Answers B.fails (B.view book.old) (B.view book.new) result
         (λ w _. Decides w (on_own w holder purse (start_from peer value seq)) decided.new) }
 {
     let mut own = book.own_purse(alloc, holder, purse)?;
@@ -175,7 +175,7 @@ pub(crate) fn start_from<B: Book>(
 
 /// A payment to the purse from a peer, which is sent a request for it.
 #[inline(never)]
-pub(crate) fn start_to<B: Book>(
+pub(crate) fn start_to<B: WorldBook>(
     book: &mut B,
     alloc: Global,
     holder: Name,
@@ -185,7 +185,7 @@ pub(crate) fn start_to<B: Book>(
     seq: Seq,
     decided: &mut Decided,
 ) -> Result<(), StoreFault>
-    ensures { Tells B.Book B.fails book.old book.new result
+    ensures { Answers B.fails (B.view book.old) (B.view book.new) result
         (λ w _. Decides w (on_own w holder purse (start_to peer value seq)) decided.new) }
 {
     let mut own = book.own_purse(alloc, holder, purse)?;
@@ -210,7 +210,7 @@ pub(crate) fn start_to<B: Book>(
 
 /// A message in the inbox of the purse is handled, and stays there. What the purse sends for it is put.
 #[inline(never)]
-pub(crate) fn handle<B: Book>(
+pub(crate) fn handle<B: WorldBook>(
     book: &mut B,
     alloc: Global,
     holder: Name,
@@ -218,7 +218,7 @@ pub(crate) fn handle<B: Book>(
     number: Seq,
     decided: &mut Decided,
 ) -> Result<(), StoreFault>
-    ensures { Tells B.Book B.fails book.old book.new result
+    ensures { Answers B.fails (B.view book.old) (B.view book.new) result
         (λ w _. Decides w (on_own w holder purse (handle number)) decided.new) }
 {
     let mut own = book.own_purse(alloc, holder, purse)?;
@@ -240,7 +240,7 @@ pub(crate) fn handle<B: Book>(
 
 /// A message in the inbox of the purse is thrown away.
 #[inline(never)]
-pub(crate) fn discard<B: Book>(
+pub(crate) fn discard<B: WorldBook>(
     book: &mut B,
     alloc: Global,
     holder: Name,
@@ -248,7 +248,7 @@ pub(crate) fn discard<B: Book>(
     number: Seq,
     decided: &mut Decided,
 ) -> Result<(), StoreFault>
-    ensures { Tells B.Book B.fails book.old book.new result
+    ensures { Answers B.fails (B.view book.old) (B.view book.new) result
         (λ w _. Decides w (on_own w holder purse (discard number)) decided.new) }
 {
     if !book.is_own(alloc, holder, purse)? {
@@ -270,14 +270,14 @@ pub(crate) fn discard<B: Book>(
 
 /// The payment of the purse is aborted.
 #[inline(never)]
-pub(crate) fn abort<B: Book>(
+pub(crate) fn abort<B: WorldBook>(
     book: &mut B,
     alloc: Global,
     holder: Name,
     purse: Name,
     decided: &mut Decided,
 ) -> Result<(), StoreFault>
-    ensures { Tells B.Book B.fails book.old book.new result
+    ensures { Answers B.fails (B.view book.old) (B.view book.new) result
         (λ w _. Decides w (on_own w holder purse abort) decided.new) }
 {
     let mut own = book.own_purse(alloc, holder, purse)?;
@@ -296,13 +296,13 @@ pub(crate) fn abort<B: Book>(
 
 /// An entry of the log of the purse that was read, where it isn't kept as a result yet: where it is in neither the tray
 /// nor the archive.
-fn not_kept<B: Book>(
+fn not_kept<B: WorldBook>(
     book: &mut B,
     alloc: Global,
     purse: Name,
     entry: Option<&PayDetails>,
 ) -> Result<Option<PayDetails>, StoreFault>
-    ensures { Tells B.Book B.fails book.old book.new result
+    ensures { Answers B.fails (B.view book.old) (B.view book.new) result
         (λ w o. o ≡ not_kept w purse (option_map (λ d. d.now) entry.entry)) }
 {
     let Some(details) = entry else {
@@ -320,7 +320,7 @@ fn not_kept<B: Book>(
 
 /// The entry at a place of the log of the purse, which is at rest then. What is read is sent to the archive.
 #[inline(never)]
-pub(crate) fn read_log<B: Book>(
+pub(crate) fn read_log<B: WorldBook>(
     book: &mut B,
     alloc: Global,
     holder: Name,
@@ -328,7 +328,7 @@ pub(crate) fn read_log<B: Book>(
     place: u64,
     decided: &mut Decided,
 ) -> Result<(), StoreFault>
-    ensures { Tells B.Book B.fails book.old book.new result
+    ensures { Answers B.fails (B.view book.old) (B.view book.new) result
         (λ w _. Decides w (on_own w holder purse (read_log place)) decided.new) }
 {
     let mut own = book.own_purse(alloc, holder, purse)?;
@@ -346,7 +346,7 @@ pub(crate) fn read_log<B: Book>(
 
 /// An amount of the purse is redeemed.
 #[inline(never)]
-pub(crate) fn redeem<B: Book>(
+pub(crate) fn redeem<B: WorldBook>(
     book: &mut B,
     alloc: Global,
     holder: Name,
@@ -355,7 +355,7 @@ pub(crate) fn redeem<B: Book>(
     reference: Name,
     decided: &mut Decided,
 ) -> Result<(), StoreFault>
-    ensures { Tells B.Book B.fails book.old book.new result
+    ensures { Answers B.fails (B.view book.old) (B.view book.new) result
         (λ w _. (IsCommand (Command.Redeem purse amount reference)
         → Decides w (on_own w holder purse (redeem amount reference)) decided.new)
         × (IsTrue (is_some (redemption_of w purse reference)) → decided.new.edits ≡ [])) }

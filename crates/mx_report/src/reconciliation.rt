@@ -1,15 +1,16 @@
 //! The reconciliation of the scheme.
 ghost use Rattle.std.specs.Prelude.{◌≡◌, ◌⊎◌, ◌++◌, IfOk, IfErr};
 ghost use Rattle.mx_book.specs.declared.contract.StoreFault.TheVariants.{Memory};
-ghost use Rattle.mx_book.specs.Keeps.{Keeps, Gives};
+ghost use Rattle.mx_standing.specs.Views.{Keeps, Gives};
 ghost use Rattle.mx_book.specs.Totals.{members_totals_of, totals_of};
 ghost use Rattle.mx_report.specs.Statement.{record_text};
 ghost use Rattle.mx_report.specs.Reconciliation.{members_text, reconciliation_text, scheme_text, six, sums_fields};
 
 use crate::texts::Text;
+use mx_book::StoreFault;
 use mx_book::values::{MemberTotals, Totals};
-use mx_book::{Book, StoreFault};
 use mx_pay::Name;
+use mx_standing::WorldBook;
 use std::alloc::{AllocError, Global};
 
 /// What the books come to, for each member and for the whole scheme.
@@ -22,9 +23,9 @@ pub struct Report {
 }
 
 /// What the books come to. A fault is one of the book's reads, or `Memory`.
-pub fn reconcile<B: Book>(alloc: Global, book: &mut B) -> Result<Report, StoreFault>
-    ensures keeps { Keeps B.doubt B.rows B.harm B.base B.defers B.settled B.leaves book.old book.new }
-    ensures value { Gives B.doubt B.rows B.spells book.old book.new result
+pub fn reconcile<B: WorldBook>(alloc: Global, book: &mut B) -> Result<Report, StoreFault>
+    ensures keeps { Keeps (B.view book.old) (B.view book.new) }
+    ensures value { Gives (B.view book.old) (B.view book.new) result
         (λ w report. (report.members.items ≡ members_totals_of w) × (report.scheme ≡ totals_of w)) }
     ensures fault { IfErr result (λ e. (e ≡ Memory) ⊎ B.fails e) }
 {

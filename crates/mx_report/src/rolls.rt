@@ -5,8 +5,8 @@ ghost use Rattle.csv.specs.Reading.{error_kind};
 ghost use Rattle.csv.specs.declared.error.Error.{Error};
 ghost use Rattle.csv.specs.Records.{Row, fields_of};
 ghost use Rattle.mx_book.specs.declared.contract.StoreFault.TheVariants as fault;
-ghost use Rattle.mx_book.specs.Keeps.{Bides, Keeps, Gives};
-ghost use Rattle.mx_book.specs.Stands.{RestsAt, Settles};
+ghost use Rattle.mx_standing.specs.Views.{Bides, Keeps, Gives};
+ghost use Rattle.mx_standing.specs.Views.{Settles};
 ghost use Rattle.mx_book.specs.World.{World, is_of};
 ghost use Rattle.mx_office.specs.Reachable.{IsReachable, StandsBalanced};
 ghost use Rattle.mx_report.specs.declared.rolls.RollFaultKind.TheVariants.{NotRoll, Memory, Store};
@@ -17,12 +17,13 @@ ghost use Rattle.mx_report.specs.Reading.{HasGiven, book_fault, record_fault};
 use crate::progress::{Nobody, Progress};
 use crate::roll_rows::{RollRow, is_roll_header, row_of};
 use csv::{ByteRecord, ByteRecordsIntoIter, Error, ErrorKind, ReaderBuilder};
+use mx_book::StoreFault;
 use mx_book::values::{Caller, HolderRow};
-use mx_book::{Book, StoreFault};
 use mx_command::{Refusal, Reply};
 use mx_office::Office;
 use mx_pay::Name;
 use mx_pay::names::same_name;
+use mx_standing::WorldBook;
 use std::alloc::Global;
 
 /// How many rows wait for a settle at most.
@@ -177,9 +178,9 @@ fn is_of(member: &Name, holder: &Option<HolderRow>) -> bool
 
 /// Whether what a row says stands already.
 #[tactic(auto, unfolding(crate::specs::Roll::is_same))]
-fn is_same<B: Book>(book: &mut B, alloc: Global, row: &RollRow) -> Result<bool, StoreFault>
-    ensures keeps { Keeps B.doubt B.rows B.harm B.base B.defers B.settled B.leaves book.old book.new }
-    ensures value { Gives B.doubt B.rows B.spells book.old book.new result
+fn is_same<B: WorldBook>(book: &mut B, alloc: Global, row: &RollRow) -> Result<bool, StoreFault>
+    ensures keeps { Keeps (B.view book.old) (B.view book.new) }
+    ensures value { Gives (B.view book.old) (B.view book.new) result
         (λ w b. b ≡ is_same w row.now) }
     ensures fault { IfErr result B.fails }
 {
@@ -204,9 +205,13 @@ fn is_same<B: Book>(book: &mut B, alloc: Global, row: &RollRow) -> Result<bool, 
 /// Who is to ask for what a row says: the operator for a member, the member's clerk for a holder, and the clerk of the
 /// holder's member for a purse. None where that holder isn't there.
 #[tactic(auto, unfolding(crate::specs::Roll::asker))]
-fn asker<B: Book>(book: &mut B, alloc: Global, row: &RollRow) -> Result<Option<Caller>, StoreFault>
-    ensures keeps { Keeps B.doubt B.rows B.harm B.base B.defers B.settled B.leaves book.old book.new }
-    ensures value { Gives B.doubt B.rows B.spells book.old book.new result
+fn asker<B: WorldBook>(
+    book: &mut B,
+    alloc: Global,
+    row: &RollRow,
+) -> Result<Option<Caller>, StoreFault>
+    ensures keeps { Keeps (B.view book.old) (B.view book.new) }
+    ensures value { Gives (B.view book.old) (B.view book.new) result
         (λ w o. o ≡ asker w row.now) }
     ensures fault { IfErr result B.fails }
 {
@@ -232,17 +237,17 @@ fn outcome_of(reply: &Reply) -> RowOutcome
 
 /// Imports a row: nothing where it is same, and else its command, which the office answers as it answers a request. What it
 /// changes waits for a settle.
-fn import_row<B: Book>(
+fn import_row<B: WorldBook>(
     office: &mut Office<B>,
     alloc: Global,
     row: &RollRow,
 ) -> Result<RowOutcome, StoreFault>
-    ensures later { B.doubt office.old.book ≤ B.doubt office.new.book }
-    ensures bides { Bides B.harm B.base B.defers B.leaves office.old.book office.new.book }
-    ensures ok { (w : World) → B.doubt office.new.book ≡ 0 → B.spells (B.rows office.old.book) w
-        → IfOk result (IsRowImported (B.spells (B.rows office.new.book)) w (Some row.now)) }
-    ensures err { B.doubt office.new.book ≡ 0
-        → OnErr result (B.rows office.new.book ≡ B.rows office.old.book) }
+    ensures later { (B.view office.old.book).doubt ≤ (B.view office.new.book).doubt }
+    ensures bides { Bides (B.view office.old.book) (B.view office.new.book) }
+    ensures ok { (B.view office.new.book).doubt ≡ 0
+        → IfOk result (IsRowImported (λ v. (B.view office.new.book).world ≡ v) (B.view office.old.book).world (Some row.now)) }
+    ensures err { (B.view office.new.book).doubt ≡ 0
+        → OnErr result ((B.view office.new.book).world ≡ (B.view office.old.book).world) }
     ensures fault { IfErr result (λ e. (e ≡ fault.Memory) ⊎ B.fails e) }
 {
     if is_same(&mut office.book, alloc, row)? {
@@ -257,22 +262,22 @@ fn import_row<B: Book>(
 
 /// Imports the row that a record spells, and counts it. Room among the refused rows is made first, so that what was done
 /// is always counted.
-fn import_record<B: Book>(
+fn import_record<B: WorldBook>(
     office: &mut Office<B>,
     alloc: Global,
     entry: &ByteRecord,
     report: &mut RollReport,
 ) -> Result<(), StoreFault>
     requires few { rows_counted (tally_of report.old) < 2 ^ 64 - 1 }
-    ensures later { B.doubt office.old.book ≤ B.doubt office.new.book }
-    ensures bides { Bides B.harm B.base B.defers B.leaves office.old.book office.new.book }
-    ensures ok { (w : World) → B.doubt office.new.book ≡ 0 → B.spells (B.rows office.old.book) w
-        → OnOk result (IsRecordImported (B.spells (B.rows office.new.book)) w
+    ensures later { (B.view office.old.book).doubt ≤ (B.view office.new.book).doubt }
+    ensures bides { Bides (B.view office.old.book) (B.view office.new.book) }
+    ensures ok { (B.view office.new.book).doubt ≡ 0
+        → OnOk result (IsRecordImported (λ v. (B.view office.new.book).world ≡ v) (B.view office.old.book).world
         (fields_of entry.now) (tally_of report.old) (tally_of report.new)) }
     ensures counted { OnOk result
         (rows_counted (tally_of report.new) ≡ rows_counted (tally_of report.old) + 1) }
-    ensures err { B.doubt office.new.book ≡ 0
-        → OnErr result (B.rows office.new.book ≡ B.rows office.old.book) }
+    ensures err { (B.view office.new.book).doubt ≡ 0
+        → OnErr result ((B.view office.new.book).world ≡ (B.view office.old.book).world) }
     ensures uncounted { OnErr result (tally_of report.new ≡ tally_of report.old) }
     ensures fault { IfErr result (λ e. (e ≡ fault.Memory) ⊎ B.fails e) }
 {
@@ -320,23 +325,23 @@ fn records_of(alloc: Global, bytes: &[u8]) -> Result<ByteRecordsIntoIter<&[u8]>,
 }
 
 /// Imports what comes next in a roll, and counts it, where it is a record.
-fn import_next<B: Book>(
+fn import_next<B: WorldBook>(
     office: &mut Office<B>,
     alloc: Global,
     next: Result<ByteRecord, Error>,
     report: &mut RollReport,
 ) -> Result<(), RollFaultKind>
     requires few { rows_counted (tally_of report.old) < 2 ^ 64 - 1 }
-    ensures later { B.doubt office.old.book ≤ B.doubt office.new.book }
-    ensures bides { Bides B.harm B.base B.defers B.leaves office.old.book office.new.book }
+    ensures later { (B.view office.old.book).doubt ≤ (B.view office.new.book).doubt }
+    ensures bides { Bides (B.view office.old.book) (B.view office.new.book) }
     ensures taken { OnOk result ((r : Row) × (next ≡ Ok r)) }
-    ensures ok { (w : World) → B.doubt office.new.book ≡ 0 → B.spells (B.rows office.old.book) w
-        → OnOk result (IfOk next (λ r. IsRecordImported (B.spells (B.rows office.new.book)) w
+    ensures ok { (B.view office.new.book).doubt ≡ 0
+        → OnOk result (IfOk next (λ r. IsRecordImported (λ v. (B.view office.new.book).world ≡ v) (B.view office.old.book).world
         (fields_of r) (tally_of report.old) (tally_of report.new))) }
     ensures counted { OnOk result
         (rows_counted (tally_of report.new) ≡ rows_counted (tally_of report.old) + 1) }
-    ensures err { B.doubt office.new.book ≡ 0
-        → OnErr result (B.rows office.new.book ≡ B.rows office.old.book) }
+    ensures err { (B.view office.new.book).doubt ≡ 0
+        → OnErr result ((B.view office.new.book).world ≡ (B.view office.old.book).world) }
     ensures uncounted { OnErr result (tally_of report.new ≡ tally_of report.old) }
     ensures not_roll { IfErr result (λ kind. kind ≡ NotRoll
         → (error : Error) × (next ≡ Err error) × (record_fault (error_kind error) ≡ NotRoll)) }
@@ -353,14 +358,13 @@ fn import_next<B: Book>(
 
 /// Settles what waits, so that all rows so far are kept, and tells and gives how many. Where it fails, as many are kept as
 /// before.
-fn settle_rows<B: Book, P: Progress>(
+fn settle_rows<B: WorldBook, P: Progress>(
     office: &mut Office<B>,
     rows: u64,
     kept: u64,
     progress: &mut P,
 ) -> Result<u64, RollFault>
-    ensures settles { Settles B.doubt B.rows B.harm B.base B.defers B.settled B.leaves
-        office.old.book office.new.book result }
+    ensures settles { Settles (B.view office.old.book) (B.view office.new.book) result }
     ensures all { IfOk result (λ n. n ≡ rows) }
     ensures before { IfErr result (λ f. f.done ≡ kept) }
     ensures roll { IfErr result (λ f. f.kind ≢ NotRoll) }
@@ -379,7 +383,7 @@ fn settle_rows<B: Book, P: Progress>(
 }
 
 /// Settles the rows so far where enough of them wait, and gives how many are kept.
-fn settle_some<B: Book, P: Progress>(
+fn settle_some<B: WorldBook, P: Progress>(
     office: &mut Office<B>,
     rows: u64,
     kept: u64,
@@ -388,10 +392,8 @@ fn settle_some<B: Book, P: Progress>(
     requires few { kept ≤ rows }
     ensures ok { IfOk result (λ n.
         ((n ≡ kept) × (office.new.book ≡ office.old.book))
-        ⊎ ((n ≡ rows) × Settles B.doubt B.rows B.harm B.base B.defers B.settled B.leaves
-        office.old.book office.new.book result)) }
-    ensures err { OnErr result (Settles B.doubt B.rows B.harm B.base B.defers B.settled B.leaves
-        office.old.book office.new.book result) }
+        ⊎ ((n ≡ rows) × Settles (B.view office.old.book) (B.view office.new.book) result)) }
+    ensures err { OnErr result (Settles (B.view office.old.book) (B.view office.new.book) result) }
     ensures within { IfOk result (λ n. n ≤ rows) }
     ensures before { IfErr result (λ f. f.done ≡ kept) }
     ensures roll { IfErr result (λ f. f.kind ≢ NotRoll) }
@@ -405,14 +407,14 @@ fn settle_some<B: Book, P: Progress>(
 
 /// The fault of an import that ends behind so many rows: these are settled first. Where that fails, fewer rows stand than come
 /// before a record that makes the roll none, and in place of `NotRoll` the fault is that of the settle.
-fn end_at<B: Book, P: Progress>(
+fn end_at<B: WorldBook, P: Progress>(
     office: &mut Office<B>,
     kind: RollFaultKind,
     rows: u64,
     kept: u64,
     progress: &mut P,
 ) -> RollFault
-    ensures settles { SettlesRows B.Book office.old.book office.new.book rows kept result.done }
+    ensures settles { SettlesRows (B.view office.old.book) (B.view office.new.book) rows kept result.done }
     ensures not_roll { result.kind ≡ NotRoll → (kind ≡ NotRoll) × (result.done ≡ rows) }
     ensures store { result.kind ≡ Store → (kind ≡ Store) ⊎ B.fails fault.Store }
 {
@@ -434,50 +436,48 @@ fn end_at<B: Book, P: Progress>(
 /// no row's form, doesn't stop the import.
 ///
 /// It settles every 64 rows, and at the end. After a fault `done` rows stand, and no other.
-pub fn import_roll<B: Book>(
+pub fn import_roll<B: WorldBook>(
     alloc: Global,
     office: &mut Office<B>,
     bytes: &[u8],
 ) -> Result<RollReport, RollFault>
-    ensures still { B.settled office.old.book → B.settled office.new.book }
-    ensures later { B.settled office.old.book → B.doubt office.old.book ≤ B.doubt office.new.book }
-    ensures done { (w : World) → B.doubt office.new.book ≡ 0 → B.spells (B.rows office.old.book) w
-        → IfOk result (λ report. IsImported (B.spells (B.rows office.new.book)) w bytes.now
+    ensures still { (B.view office.old.book).IsSettled → (B.view office.new.book).IsSettled }
+    ensures later { (B.view office.old.book).IsSettled → (B.view office.old.book).doubt ≤ (B.view office.new.book).doubt }
+    ensures done { (B.view office.new.book).doubt ≡ 0
+        → IfOk result (λ report. IsImported (λ v. (B.view office.new.book).world ≡ v) (B.view office.old.book).world bytes.now
         (tally_of report)) }
-    ensures broken { (w : World) → B.doubt office.new.book ≡ 0
-        → RestsAt B.doubt B.rows B.spells B.settled office.old.book w
-        → IfErr result (λ f. IsBroken (B.spells (B.rows office.new.book)) w bytes.now f.done) }
+    ensures broken { (B.view office.old.book).IsSettled → (B.view office.new.book).doubt ≡ 0
+        → IfErr result (λ f. IsBroken (λ v. (B.view office.new.book).world ≡ v) (B.view office.old.book).world bytes.now f.done) }
     ensures roll { IfOk result (λ _. (records : List Fields) × IsRoll bytes.now records) }
     ensures not_roll { IfErr result (λ f. f.kind ≡ NotRoll → IsNoRoll bytes.now f.done) }
     ensures store { IfErr result (λ f. f.kind ≡ Store → B.fails fault.Store) }
-    ensures reachable { (w : World) → B.doubt office.new.book ≡ 0
-        → RestsAt B.doubt B.rows B.spells B.settled office.old.book w → IsReachable w
-        → StandsBalanced (B.spells (B.rows office.new.book)) }
+    ensures reachable { (B.view office.old.book).IsSettled → (B.view office.new.book).doubt ≡ 0
+        → IsReachable (B.view office.old.book).world
+        → StandsBalanced (B.view office.new.book).world }
 {
     import_roll_telling(alloc, office, bytes, &mut Nobody)
 }
 
 /// The same, where somebody is told after each settle how many rows are kept.
-pub fn import_roll_telling<B: Book, P: Progress>(
+pub fn import_roll_telling<B: WorldBook, P: Progress>(
     alloc: Global,
     office: &mut Office<B>,
     bytes: &[u8],
     progress: &mut P,
 ) -> Result<RollReport, RollFault>
-    ensures still { B.settled office.old.book → B.settled office.new.book }
-    ensures later { B.settled office.old.book → B.doubt office.old.book ≤ B.doubt office.new.book }
-    ensures done { (w : World) → B.doubt office.new.book ≡ 0 → B.spells (B.rows office.old.book) w
-        → IfOk result (λ report. IsImported (B.spells (B.rows office.new.book)) w bytes.now
+    ensures still { (B.view office.old.book).IsSettled → (B.view office.new.book).IsSettled }
+    ensures later { (B.view office.old.book).IsSettled → (B.view office.old.book).doubt ≤ (B.view office.new.book).doubt }
+    ensures done { (B.view office.new.book).doubt ≡ 0
+        → IfOk result (λ report. IsImported (λ v. (B.view office.new.book).world ≡ v) (B.view office.old.book).world bytes.now
         (tally_of report)) }
-    ensures broken { (w : World) → B.doubt office.new.book ≡ 0
-        → RestsAt B.doubt B.rows B.spells B.settled office.old.book w
-        → IfErr result (λ f. IsBroken (B.spells (B.rows office.new.book)) w bytes.now f.done) }
+    ensures broken { (B.view office.old.book).IsSettled → (B.view office.new.book).doubt ≡ 0
+        → IfErr result (λ f. IsBroken (λ v. (B.view office.new.book).world ≡ v) (B.view office.old.book).world bytes.now f.done) }
     ensures roll { IfOk result (λ _. (records : List Fields) × IsRoll bytes.now records) }
     ensures not_roll { IfErr result (λ f. f.kind ≡ NotRoll → IsNoRoll bytes.now f.done) }
     ensures store { IfErr result (λ f. f.kind ≡ Store → B.fails fault.Store) }
-    ensures reachable { (w : World) → B.doubt office.new.book ≡ 0
-        → RestsAt B.doubt B.rows B.spells B.settled office.old.book w → IsReachable w
-        → StandsBalanced (B.spells (B.rows office.new.book)) }
+    ensures reachable { (B.view office.old.book).IsSettled → (B.view office.new.book).doubt ≡ 0
+        → IsReachable (B.view office.old.book).world
+        → StandsBalanced (B.view office.new.book).world }
 {
     let records = match records_of(alloc, bytes) {
         Ok(records) => records,

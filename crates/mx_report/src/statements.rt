@@ -1,20 +1,25 @@
 //! The statement of a purse.
 ghost use Rattle.std.specs.Prelude.{◌≡◌, ◌⊎◌, ◌++◌, IfOk, IfErr, option_map};
 ghost use Rattle.mx_book.specs.declared.contract.StoreFault.TheVariants.{Memory};
-ghost use Rattle.mx_book.specs.Keeps.{Keeps, Gives};
+ghost use Rattle.mx_standing.specs.Views.{Keeps, Gives};
 ghost use Rattle.mx_report.specs.Statement.{record_text, line_fields, own_lines, statement_of, statement_text};
 
 use crate::texts::Text;
+use mx_book::StoreFault;
 use mx_book::values::{Line, MOST_LINES};
 use mx_book::words::{kind_text, push_note};
-use mx_book::{Book, StoreFault};
 use mx_pay::Name;
+use mx_standing::WorldBook;
 use std::alloc::{AllocError, Global};
 
 /// The lines of a purse, by number, read page by page.
-fn read_lines<B: Book>(alloc: Global, book: &mut B, purse: Name) -> Result<Vec<Line>, StoreFault>
-    ensures keeps { Keeps B.doubt B.rows B.harm B.base B.defers B.settled B.leaves book.old book.new }
-    ensures value { Gives B.doubt B.rows B.spells book.old book.new result
+fn read_lines<B: WorldBook>(
+    alloc: Global,
+    book: &mut B,
+    purse: Name,
+) -> Result<Vec<Line>, StoreFault>
+    ensures keeps { Keeps (B.view book.old) (B.view book.new) }
+    ensures value { Gives (B.view book.old) (B.view book.new) result
         (λ w lines. lines.items ≡ own_lines w purse) }
     ensures fault { IfErr result (λ e. (e ≡ Memory) ⊎ B.fails e) }
 {
@@ -34,13 +39,13 @@ fn read_lines<B: Book>(alloc: Global, book: &mut B, purse: Name) -> Result<Vec<L
 
 /// The lines of a purse, by number; None where there is no such purse. They are read by pages of 50, until a page has
 /// fewer. A fault is one of the book's reads, or `Memory`.
-pub fn statement<B: Book>(
+pub fn statement<B: WorldBook>(
     alloc: Global,
     book: &mut B,
     purse: Name,
 ) -> Result<Option<Vec<Line>>, StoreFault>
-    ensures keeps { Keeps B.doubt B.rows B.harm B.base B.defers B.settled B.leaves book.old book.new }
-    ensures value { Gives B.doubt B.rows B.spells book.old book.new result
+    ensures keeps { Keeps (B.view book.old) (B.view book.new) }
+    ensures value { Gives (B.view book.old) (B.view book.new) result
         (λ w o. option_map (λ lines. lines.items) o ≡ statement_of w purse) }
     ensures fault { IfErr result (λ e. (e ≡ Memory) ⊎ B.fails e) }
 {
