@@ -81,15 +81,18 @@ fn needed_word<'a>(matches: &ArgMatches<'a>, id: &str) -> Result<Word<'a>, Misfi
 
 // The token that the value of `--token` spells.
 fn token_of(matches: &ArgMatches<'_>) -> Option<Token>
-    ensures { result ≡ option_and_then token_of (first_of (codes "token") (rows_of (found_of matches.now))) }
+    ensures { result ≡ option_and_then token_of
+        (first_of (codes "token") (rows_of (found_of matches.now))) }
 {
     Token::read(text_of(matches, "token")?)
 }
 
 // The number from 1 to `most` that is the value of `id`.
 fn number_of(matches: &ArgMatches<'_>, id: &str, most: u32) -> Option<u32>
-    ensures some { IfSome result (λ n. HasValue (rows_of (found_of matches.now)) id.now (IsNumber most n)) }
-    ensures none { IsNone result → (n : ℕ) → ¬ HasValue (rows_of (found_of matches.now)) id.now (IsNumber most n) }
+    ensures some { IfSome result
+        (λ n. HasValue (rows_of (found_of matches.now)) id.now (IsNumber most n)) }
+    ensures none { IsNone result → (n : ℕ)
+        → ¬ HasValue (rows_of (found_of matches.now)) id.now (IsNumber most n) }
 {
     let number = read_seq(text_of(matches, id)?)?.get();
     if 1 <= number && number <= u64::from(most) {
@@ -102,7 +105,8 @@ fn number_of(matches: &ArgMatches<'_>, id: &str, most: u32) -> Option<u32>
 // The purse that the value of `--purse` names, if there is one.
 fn purse_of(matches: &ArgMatches<'_>) -> Result<Option<Name>, Misfit>
     ensures named { IfOk result (HasPurse (rows_of (found_of matches.now))) }
-    ensures unnamed { OnErr result ((purse : Option (List ℕ)) → ¬ HasPurse (rows_of (found_of matches.now)) purse) }
+    ensures unnamed { OnErr result
+        ((purse : Option (List ℕ)) → ¬ HasPurse (rows_of (found_of matches.now)) purse) }
 {
     let Some(text) = text_of(matches, "purse") else {
         return Ok(None);

@@ -16,7 +16,7 @@ use Rattle.mx_book.specs.declared.contract.StoreFault.{StoreFault}
 use Rattle.std.specs.FinMap as fmap
 use Rattle.mx_tables.specs.Holds.{Spells, SpellsOne}
 use Rattle.mx_tables.specs.Made.{HasVersion}
-use Rattle.mx_tables.specs.States.{IsAwake, IsOurs, Stays, unsure, worry}
+use Rattle.mx_tables.specs.States.{IsAwake, IsOurs, Stays, unsure, IsSound}
 use Rattle.mx_audit.specs.Audit.{Goes}
 use Rattle.mx_audit.specs.Scans.{TakesAll}
 use Rattle.mx_audit.specs.declared.audit.Audit.{Audit}
@@ -87,7 +87,7 @@ IsLookedUp r a = (list_all (is_laid_well r) a.laid.items ≡ true) × (list_all 
 -- database spells a World; outside a round, where it finds nothing.
 pub record Audits {S : Type 0} (g : Ghosts S) (old new : Held S) (result : Result ℕ StoreFault) : Type 0 where
   pub stays : {begun : Bool} → IsOurs begun (state g old) → Stays begun (state g old) (state g new)
-  pub sound : IsOurs false (state g old) → worry (state g new) ≡ 0 → HasVersion 2 (state g old).now
+  pub sound : IsOurs false (state g old) → IsSound (state g new) → HasVersion 2 (state g old).now
       → IfOk result (λ found. found ≡ 0 → (w : World) × SpellsOne (state g old).now w)
   pub whole : {begun : Bool} → IsOurs begun (state g old) → unsure begun (state g new) ≡ 0 → (w : World) → Spells (state g old).now w
       → IfOk result (λ found. found ≡ 0)

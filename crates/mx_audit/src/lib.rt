@@ -14,5 +14,5 @@ mod seen;
 pub mod tables;
 mod typed;
 
-pub use opening::{migrate, open};
+pub use opening::{Refusal, Refused, migrate, open};
 pub use ordered::Ordered;

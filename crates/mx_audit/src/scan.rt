@@ -5,7 +5,7 @@ ghost use Rattle.sqlite.specs.Held.{state};
 ghost use Rattle.sqlite.specs.State.{IsUnchanged, Shown};
 ghost use Rattle.sqlite.specs.Values.{bound};
 ghost use Rattle.sqlite_value.specs.Order as order;
-ghost use Rattle.mx_tables.specs.States.{IsAwake, IsOurs, IsQuery, Stays, worry};
+ghost use Rattle.mx_tables.specs.States.{IsAwake, IsOurs, IsQuery, Stays, IsSound};
 ghost use Rattle.mx_audit.specs.Scans.{Scans, TakesAll};
 
 use mx_book::StoreFault;
@@ -28,10 +28,10 @@ fn next<S: Alter>(rows: &mut Rows<'_, S>) -> Result<(), StoreFault>
     ensures same_reference { rows.new.conn.ghost_name ≡ rows.old.conn.ghost_name }
     ensures stays { (begun : Bool) → IsOurs begun (state S.Store rows.old.conn.now)
         → Stays begun (state S.Store rows.old.conn.now) (state S.Store rows.new.conn.now) }
-    ensures shown { worry (state S.Store rows.new.conn.now) ≡ 0
+    ensures shown { IsSound (state S.Store rows.new.conn.now)
         → OnOk result (Advances S.Store rows.old.conn.now rows.new.conn.now
         (row_if rows.new.has_row rows.new.conn.now)) }
-    ensures same { worry (state S.Store rows.new.conn.now) ≡ 0
+    ensures same { IsSound (state S.Store rows.new.conn.now)
         → OnOk result (IsUnchanged (state S.Store rows.old.conn.now)
         (state S.Store rows.new.conn.now)) }
     ensures live { OnOk result (IsAwake (state S.Store rows.new.conn.now)) }

@@ -286,7 +286,8 @@ fn mark_holder(holders: &mut Table<Name, HolderSeen>, holder: Name) -> Result<bo
     ensures there { IfOk result (λ there.
         there ≡ contains_key (map_of name_cmp holders.old) holder) }
     ensures ok { IfOk result (λ _. map_of name_cmp holders.new
-        ≡ changed_at (map_of name_cmp holders.old) holder (λ (x : OfHolder). record x { has_token = true })) }
+        ≡ changed_at (map_of name_cmp holders.old) holder
+        (λ (x : OfHolder). record x { has_token = true })) }
     ensures err { IfErr result (λ _. map_of name_cmp holders.new ≡ map_of name_cmp holders.old) }
 {
     let Some(seen) = holders.get(holder) else {

@@ -167,12 +167,3 @@ pub fn check<S: Ordered>(
         seen: audit.seen,
     })
 }
-
-/// How many findings there are in the tables of a store. Memory where there is none, and Store where a query fails
-/// otherwise.
-pub fn audit<S: Ordered>(alloc: Global, conn: &mut Connection<S>) -> Result<u64, StoreFault>
-    ensures { Audits S.Store conn.old conn.new result }
-{
-    let checked = check(alloc, conn, 0)?;
-    Ok(checked.found)
-}

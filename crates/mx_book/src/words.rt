@@ -37,7 +37,8 @@ pub fn read_kind(word: &str) -> Option<LineKind>
 
 /// Writes what a line refers to at the end of a text: its reference, or its details as one entry.
 pub fn push_note(text: &mut String, note: &Note) -> Result<(), AllocError>
-    ensures { IfOk result (λ _. string_bytes text.new ≡ string_bytes text.old ++ note_text note.now) }
+    ensures { IfOk result (λ _. string_bytes text.new
+        ≡ string_bytes text.old ++ note_text note.now) }
 {
     match note {
         Note::Reference(reference) => text.push_str(reference.as_str()),

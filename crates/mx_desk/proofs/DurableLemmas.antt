@@ -1,10 +1,12 @@
 -- What a stop leaves of rounds, and lives with stops between them.
-use Rattle.std.proofs.Common.{◌≡◌, ◌≤◌, ℕ, inl, inr, List, [], ◌∷◌, ◌++◌, refl, sym, ◌∙◌, ap, subst}
-use Rattle.mx_book.specs.Stands.{attempt_all, attempt_one, IsLeft, MovesTo, OneMore}
+use Rattle.std.proofs.Common.{◌≡◌, ◌≤◌, ◌⊎◌, inl, inr, List, [], ◌∷◌, ◌++◌, refl, sym, ◌∙◌, ap}
+use Rattle.mx_book.specs.Stands.{attempt_all, attempt_one, OneMore}
+use Rattle.mx_book.specs.Views.{View, RestsAt}
 use Rattle.mx_book.specs.World.{World}
+use Rattle.mx_book.proofs.ViewLemmas.{left_moved}
 use Rattle.mx_desk.specs.Durable.{IsGivenUpOf, Lasts, Lives, ended, stopped, unborn}
 use Rattle.mx_desk.specs.Leaves.{Lawful}
-use Rattle.mx_desk.specs.Rounds.{Round, all_of, attempts}
+use Rattle.mx_desk.specs.Rounds.{Moves, Round, all_of, attempts}
 use Rattle.mx_desk.specs.Serve.{Marked, world_after}
 use Rattle.mx_desk.proofs.LawfulLemmas.{lawful_requests, lawful_then}
 use Rattle.mx_desk.proofs.RoundLemmas.{attempts_lead}
@@ -23,21 +25,27 @@ more_rounds w (q ∷ rs) v (inr one) =
     let same : world_after after (all_of rs) ≡ world_after w (all_of (q ∷ rs)) = sym (attempts_lead after rs) ∙ attempts_lead w (q ∷ rs) in
     (more.0, (q ∷ place.0, place.1, ap (λ l. q ∷ l) place.2, place.3), more.2 ∙ ap (λ u. world_after u more.0.held) same)
 
-module _ {B R : Type 0} {doubt : B → ℕ} {rows : B → R} {spells : R → World → Type 0} {settled : B → Type 0} {leaves : B → R → Type 0} where
-  -- of a book that was sure, a stop leaves nothing else
-  pub moves_last : (old new : B) (w now : World) (rs : List Round) → ((r : R) → leaves old r → spells r w) → MovesTo doubt rows spells settled leaves old new w (attempts rs) now
-      → doubt new ≤ 1 → (r : R) → leaves new r → Lasts (spells r) rs now
-  moves_last old new w now rs was moved low r left = by (moved.left low r left) where
-    is : now ≡ world_after w (all_of rs)
-    is = moved.world ∙ attempts_lead w rs
+-- a stop leaves what it could leave before, where nothing was done, or the World now, or that with one round more
+pub left_last : {old new : View} {w now : World} (rs : List Round) → RestsAt old w → Moves old new w rs now → new.doubt ≤ 1 → (v : World) → new.leaves v
+    → (old.leaves v × (now ≡ w)) ⊎ Lasts (λ u. v ≡ u) rs now
+left_last {old} {w = w} {now = now} rs at moved low v left = by (left_moved (attempts rs) at moved.moves low v left) where
+  is : now ≡ world_after w (all_of rs)
+  is = moved.world ∙ attempts_lead w rs
 
-    by : IsLeft (leaves old r) (spells r) w (attempts rs) now → Lasts (spells r) rs now
-    by (inl before) = inl (rw before.1 (was r before.0))
-    by (inr (inl here)) = inl here
-    by (inr (inr more)) =
-        let one = more_rounds w rs more.0 more.1 in
-        let there : spells r (world_after (world_after w (all_of rs)) one.0.held) = subst (spells r) one.2 more.2 in
-        inr (one.0, one.1, subst (λ u. spells r (world_after u one.0.held)) (sym is) there)
+  by : (old.leaves v × (attempt_all w (attempts rs) ≡ w)) ⊎ ((v ≡ attempt_all w (attempts rs)) ⊎ OneMore w (attempts rs) v) → (old.leaves v × (now ≡ w)) ⊎ Lasts (λ u. v ≡ u) rs now
+  by (inl before) = inl (before.0, moved.world ∙ before.1)
+  by (inr (inl here)) = inr (inl (here ∙ sym moved.world))
+  by (inr (inr more)) =
+      let one = more_rounds w rs v more in
+      inr (inr (one.0, one.1, one.2 ∙ ap (λ u. world_after u one.0.held) (sym is)))
+
+-- of a book that left nothing but its World, a stop leaves nothing else
+pub moves_last : {old new : View} {w now : World} (rs : List Round) → ((v : World) → old.leaves v → v ≡ w) → RestsAt old w → Moves old new w rs now → new.doubt ≤ 1 → (v : World) → new.leaves v
+    → Lasts (λ u. v ≡ u) rs now
+moves_last {old} {w = w} {now = now} rs was at moved low v left = by (left_last rs at moved low v left) where
+  by : (old.leaves v × (now ≡ w)) ⊎ Lasts (λ u. v ≡ u) rs now → Lasts (λ u. v ≡ u) rs now
+  by (inl before) = inl (was v before.0 ∙ sym before.1)
+  by (inr lasts) = lasts
 
 -- ---- lives
 

@@ -1,8 +1,9 @@
 -- What is given up takes memory, or a read of the book may fail.
-use Rattle.std.proofs.Common.{◌≡◌, Bool, true, false, Option, Some, refl, ap, subst, ◌∙◌, inl, inr, Result, Ok, Err}
+use Rattle.std.proofs.Common.{◌≡◌, Bool, true, false, List, Option, Some, refl, sym, ap, subst, ◌∙◌, inl, inr, Result, Ok, Err}
 use Rattle.std.specs.Option.{option_map_or}
 use Rattle.std.specs.Prelude.{◌⊎◌, ◌&&◌, ◌||◌, IsTrue}
-use Rattle.mx_book.specs.World.{World}
+use Rattle.mx_book.specs.Views.{View}
+use Rattle.mx_book.specs.World.{World, Token}
 use Rattle.mx_book.specs.declared.contract.StoreFault.{StoreFault}
 use Rattle.mx_book.specs.declared.contract.StoreFault.TheVariants.{Memory}
 use Rattle.mx_book.specs.declared.values.Caller.{Caller}
@@ -17,6 +18,7 @@ use Rattle.mx_wire.specs.Routes.{class_of}
 use Rattle.mx_wire.specs.declared.routes.Route.{Route}
 use Rattle.mx_wire.specs.declared.replies.Response.{Response}
 use Rattle.mx_desk.specs.Answers.{IsAnswer}
+use Rattle.mx_desk.specs.Knows.{Has, Knows}
 use Rattle.mx_desk.specs.Requests.{Request}
 use Rattle.mx_desk.specs.Respond.{after_body, after_caller, caller_takes, command_takes, is_of_class, IsGivenUpFor}
 
@@ -75,3 +77,10 @@ unfolding after_caller
 answer_of_command fails Has w r route caller command found (Ok x) is class body answer = rw (is, class, body) answer
 answer_of_command fails Has w r route caller command found (Err e) is class body answer =
     rw is (command_given_up fails w r route caller command class body answer.0, answer.1)
+
+-- the answer to a command from a World by another name
+pub answered_from : (fails : StoreFault → Type 0) (new : View) (places : List (Option (Token × Caller))) (known : List (Option (Token × Caller))) (v w : World) (caller : Caller) (command : Command) (result : Result Response StoreFault)
+    → v ≡ w → Knows w known → (Knows v known → IsAnswer (Has new places) v (after_body v caller (Some command)) (IsGivenUpFor fails (command_takes v caller command)) result)
+    → IsAnswer (Has new places) w (after_body w caller (Some command)) (IsGivenUpFor fails (command_takes w caller command)) result
+answered_from fails new places known v w caller command result same knows answer =
+    subst (λ u. IsAnswer (Has new places) u (after_body u caller (Some command)) (IsGivenUpFor fails (command_takes u caller command)) result) same (answer (subst (λ u. Knows u known) (sym same) knows))

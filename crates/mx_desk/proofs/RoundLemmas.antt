@@ -5,14 +5,13 @@ use Rattle.std.proofs.lemmas.Bool.{false≢true}
 use Rattle.std.proofs.lemmas.Grind.{flat_map-append}
 use Rattle.std.proofs.lemmas.List.{append-nil, take_more, take-append-drop, take-append-le}
 use Rattle.std.proofs.Math.Seq.{take-append-add}
-use Rattle.mx_book.specs.Keeps.{Bides}
-use Rattle.mx_book.specs.Stands.{Drafts, Settles, attempt_all, attempt_one}
+use Rattle.mx_book.specs.Stands.{attempt_all, attempt_one}
+use Rattle.mx_book.specs.Views.{View, IsLawful, Bides, Drafts, Settles}
 use Rattle.mx_book.specs.World.{World, Token}
-use Rattle.mx_book.specs.declared.contract.Book.{Ghosts}
 use Rattle.mx_book.specs.declared.contract.StoreFault.{StoreFault}
 use Rattle.mx_book.specs.declared.values.Caller.{Caller}
-use Rattle.mx_book.proofs.StandLemmas.{attempts_settled, low_harm, sure_before}
-use Rattle.mx_office.proofs.CallLemmas.{bides_none, bides_then}
+use Rattle.mx_book.proofs.StandLemmas.{later_then, sure_before}
+use Rattle.mx_book.proofs.ViewLemmas.{attempts_settled, bides_none, bides_then}
 use Rattle.mx_wire.specs.Routes.{route_of}
 use Rattle.mx_wire.specs.Replies.{fixed_parts, sent}
 use Rattle.mx_wire.specs.declared.replies.Fixed.TheVariants as fixed
@@ -22,10 +21,10 @@ use Rattle.mx_wire.specs.declared.routes.Route.{Route}
 use Rattle.mx_desk.specs.Answers.{IsAnswer}
 use Rattle.mx_desk.specs.declared.held.Held.{Held}
 use Rattle.mx_desk.specs.Held.{AreHeldFor, Drafted, Holds, HoldsMore, IsHeldFor, response_text, text_of, texts}
-use Rattle.mx_desk.specs.Knows.{KeptAt, Knows, Moves, RestsKnown}
+use Rattle.mx_desk.specs.Knows.{Has, Knows, RestsKnown}
 use Rattle.mx_desk.specs.Requests.{First, Request, Whole, more, none}
 use Rattle.mx_desk.specs.Respond.{after_route, is_head, respond, MayBeGivenUp}
-use Rattle.mx_desk.specs.Rounds.{Round, all_of, attempts, lost, marked_of}
+use Rattle.mx_desk.specs.Rounds.{Moves, Round, all_of, attempts, lost, marked_of}
 use Rattle.mx_desk.specs.Serve.{Marked, AllMayBeMarked, outputs, requests_of, response_to, world_after, world_after_one}
 use Rattle.mx_desk.proofs.LawLemmas.{marks-append, outputs-append, world_after-append}
 use Rattle.mx_desk.proofs.RequestLemmas.{Begins-then}
@@ -152,43 +151,48 @@ held_for response head_only routed route r is found head alike = record { routed
   by None none_is other = ap (response_text head_only) (alike none_is) ∙ ap (λ h. sent h (fixed_parts fixed.NoRoute)) head
   by (Some x) some_is other = absurd (false≢true (sym other ∙ ap is_some some_is))
 
+-- a store that told no lie did none
+low_harm : {v : View} → IsLawful v → v.doubt ≤ 1 → v.harm ≤ 1
+low_harm law low = let deep = law.deep in omega (arith, deep, low)
+
 -- a round was answered: each request by its response, or 503 where it is given up
-pub record IsAnswered {B : Type 0} (b : Ghosts B) (old new : B) (knows : List (Option (Token × Caller))) (w : World) (rs : List Request) (text : List ℕ) : Type 0 where
+pub record IsAnswered (fails : StoreFault → Type 0) (old new : View) (knows : List (Option (Token × Caller))) (w : World) (rs : List Request) (text : List ℕ) : Type 0 where
   pub round : Round
   pub requests : requests_of (marked_of round) ≡ rs
-  pub marks : AllMayBeMarked b.fails w (marked_of round)
+  pub marks : AllMayBeMarked fails w (marked_of round)
   pub responses : text ≡ outputs w (marked_of round)
-  pub moves : Moves b.doubt b.rows b.spells b.settled b.leaves old new knows w (attempts (round ∷ [])) (world_after w (marked_of round))
+  pub moves : Moves old new w (round ∷ []) (world_after w (marked_of round))
+  pub knows_now : Knows (world_after w (marked_of round)) knows
 
-module _ {B : Type 0} (b : Ghosts B) where
-  pub holds_none : (book : B) (known : List (Option (Token × Caller))) → Holds b book book known known [] []
-  holds_none book known = record {
+module _ (fails : StoreFault → Type 0) where
+  pub holds_none : (v : View) (known : List (Option (Token × Caller))) → Holds fails v v known known [] []
+  holds_none v known = record {
     later = omega arith;
-    bides = bides_none book;
+    bides = bides_none v;
     held = tt;
-    drafted = λ w sure kept. record { marked = []; requests = refl; marks = tt; responses = refl; kept = kept };
+    drafted = λ sure knows. record { marked = []; requests = refl; marks = tt; responses = refl; kept = (refl, knows) };
   }
 
   -- one request
-  pub holds_one : (x y : B) (p q : List (Option (Token × Caller))) (h : Held) (r : Request) → b.doubt x ≤ b.doubt y → Bides b.harm b.base b.defers b.leaves x y → IsHeldFor h r → h.head_only ≡ is_head r.method
-      → ((w : World) → b.doubt y ≡ 0 → KeptAt b.doubt b.rows b.spells x p w → IsAnswer (KeptAt b.doubt b.rows b.spells y q) w (respond w r) (MayBeGivenUp b.fails w r) h.response)
-      → Holds b x y p q (h ∷ []) (r ∷ [])
+  pub holds_one : (x y : View) (p q : List (Option (Token × Caller))) (h : Held) (r : Request) → x.doubt ≤ y.doubt → Bides x y → IsHeldFor h r → h.head_only ≡ is_head r.method
+      → (y.doubt ≡ 0 → Knows x.world p → IsAnswer (Has y q) x.world (respond x.world r) (MayBeGivenUp fails x.world r) h.response)
+      → Holds fails x y p q (h ∷ []) (r ∷ [])
   holds_one x y p q h r later bides held head answers = record {
     later = later;
     bides = bides;
     held = (held, tt);
-    drafted = λ w sure kept. by w h.response refl (answers w sure kept);
+    drafted = λ sure knows. by h.response refl (answers sure knows);
   }
     where
-      by : (w : World) (response : Result Response StoreFault) → h.response ≡ response → IsAnswer (KeptAt b.doubt b.rows b.spells y q) w (respond w r) (MayBeGivenUp b.fails w r) response → Drafted b y q w (h ∷ []) (r ∷ [])
-      by w (Ok response) is answer = record {
+      by : (response : Result Response StoreFault) → h.response ≡ response → IsAnswer (Has y q) x.world (respond x.world r) (MayBeGivenUp fails x.world r) response → Drafted fails y q x.world (h ∷ []) (r ∷ [])
+      by (Ok response) is answer = record {
         marked = record { request = r; given_up = false } ∷ [];
         requests = refl;
         marks = (λ e. cc, tt);
         responses = ap (λ t. t ++ []) (ap (response_text h.head_only) is ∙ (λ i. sent (head i) (answer.0 i)));
         kept = answer.1;
       }
-      by w (Err e) is answer = record {
+      by (Err e) is answer = record {
         marked = record { request = r; given_up = true } ∷ [];
         requests = refl;
         marks = (λ _. answer.0, tt);
@@ -196,29 +200,29 @@ module _ {B : Type 0} (b : Ghosts B) where
         kept = answer.1;
       }
 
-  pub holds_then : (x y z : B) (p q r : List (Option (Token × Caller))) (hs is : List Held) (rs ss : List Request) → Holds b x y p q hs rs → Holds b y z q r is ss → Holds b x z p r (hs ++ is) (rs ++ ss)
+  pub holds_then : (x y z : View) (p q r : List (Option (Token × Caller))) (hs is : List Held) (rs ss : List Request) → Holds fails x y p q hs rs → Holds fails y z q r is ss → Holds fails x z p r (hs ++ is) (rs ++ ss)
   holds_then x y z p q r hs is rs ss one two = record {
-    later = (let f = one.later in let g = two.later in omega arith);
+    later = later_then one.later two.later;
     bides = bides_then one.bides two.bides;
     held = held-append hs is rs ss one.held two.held;
-    drafted = λ w sure kept.
-        let d = one.drafted w (sure_before two.later sure) kept in
-        let e = two.drafted (world_after w d.marked) sure d.kept in record {
+    drafted = λ sure knows.
+        let d = one.drafted (sure_before two.later sure) knows in
+        let e = subst (λ w. Drafted fails z r w is ss) d.kept.0 (two.drafted sure (subst (λ w. Knows w q) (sym d.kept.0) d.kept.1)) in record {
           marked = d.marked ++ e.marked;
           requests = requests-append d.marked e.marked ∙ (λ i. d.requests i ++ e.requests i);
-          marks = marks-append b.fails w d.marked e.marked d.marks e.marks;
-          responses = flat_map-append (text_of true) hs is ∙ (λ i. d.responses i ++ e.responses i) ∙ sym (outputs-append w d.marked e.marked);
-          kept = subst (KeptAt b.doubt b.rows b.spells z r) (sym (world_after-append w d.marked e.marked)) e.kept;
+          marks = marks-append fails x.world d.marked e.marked d.marks e.marks;
+          responses = flat_map-append (text_of true) hs is ∙ (λ i. d.responses i ++ e.responses i) ∙ sym (outputs-append x.world d.marked e.marked);
+          kept = subst (Has z r) (sym (world_after-append x.world d.marked e.marked)) e.kept;
         };
   }
 
   -- nothing more is held
-  pub more_none : (book : B) (known : List (Option (Token × Caller))) (hs : List Held) (input : List ℕ) → HoldsMore b book book known known hs hs input input
-  more_none book known hs input = record { hs = []; rs = []; items = sym (append-nil hs); begins = none; holds = holds_none book known }
+  pub more_none : (v : View) (known : List (Option (Token × Caller))) (hs : List Held) (input : List ℕ) → HoldsMore fails v v known known hs hs input input
+  more_none v known hs input = record { hs = []; rs = []; items = sym (append-nil hs); begins = none; holds = holds_none v known }
 
   -- one more request
-  pub more_then : (x y z : B) (p q r : List (Option (Token × Caller))) (before mid after : List Held) (input rest left : List ℕ) (h : Held) (one : Request) → HoldsMore b x y p q before mid input rest
-      → after ≡ mid ++ h ∷ [] → First rest (Whole one left) → Holds b y z q r (h ∷ []) (one ∷ []) → HoldsMore b x z p r before after input left
+  pub more_then : (x y z : View) (p q r : List (Option (Token × Caller))) (before mid after : List Held) (input rest left : List ℕ) (h : Held) (one : Request) → HoldsMore fails x y p q before mid input rest
+      → after ≡ mid ++ h ∷ [] → First rest (Whole one left) → Holds fails y z q r (h ∷ []) (one ∷ []) → HoldsMore fails x z p r before after input left
   more_then x y z p q r before mid after input rest left h one had items first holds = record {
     hs = had.hs ++ h ∷ [];
     rs = had.rs ++ one ∷ [];
@@ -227,40 +231,42 @@ module _ {B : Type 0} (b : Ghosts B) where
     holds = holds_then x y z p q r had.hs (h ∷ []) had.rs (one ∷ []) had.holds holds;
   }
 
-  module _ (steady : (x : B) (r : b.Rows) → b.harm x ≡ 0 → b.leaves x r → r ≡ b.base x)
-      (rest : (x : B) → b.settled x → (b.doubt x ≡ b.harm x) × (b.harm x ≡ 0 → b.rows x ≡ b.base x)) (deep : (x : B) → b.harm x ≤ b.doubt x)
-      {T : Type 0} (x y z : B) (known held_known knows : List (Option (Token × Caller))) (w : World) (hs : List Held) (rs : List Request)
-      (kept : RestsKnown b.doubt b.rows b.spells b.settled x known w) (holds : Holds b x y known held_known hs rs) (few : length hs ≤ 64) (low : b.doubt z ≤ 1) where
-    -- with these marks, where that is so if there is no doubt
-    given_up_round : (e : StoreFault) → Settles {T = T} b.doubt b.rows b.harm b.base b.defers b.settled b.leaves y z (Err e) → b.fails e → ((v : World) → Knows v knows)
-        → (ms : List Marked) → requests_of ms ≡ rs → (b.doubt y ≡ 0 → b.spells (b.rows y) (world_after w ms)) → IsAnswered b x z knows w rs (texts false hs)
-    given_up_round e done may anew ms same spelled =
-        let drafts : Drafts b.doubt b.rows b.spells b.harm b.base b.defers b.leaves x y (world_after w ms) = record { later = holds.later; spelled = spelled; bides = holds.bides } in
-        let tried = attempts_settled b.doubt b.rows b.spells b.settled b.leaves b.harm b.base b.defers steady rest deep x y z w (λ v. world_after v ms) kept.0 (Err e) drafts done in
-        let round : Round = record { held = ms; few = few_marked hs rs ms holds.held few same; given_up = true } in record {
-          round = round;
-          requests = requests_lost ms ∙ same;
-          marks = lost_marks b.fails e may w ms;
-          responses = lost_responses w ms hs (subst (AreHeldFor hs) (sym same) holds.held);
-          moves = subst (λ v. Moves b.doubt b.rows b.spells b.settled b.leaves x z knows w (attempts (round ∷ [])) v) (sym (lost_stays w ms)) (tried.undone, anew w);
-        }
+  module _ {x y z : View} (first : IsLawful x) (last : IsLawful z) (known held_known knows : List (Option (Token × Caller))) (w : World) (hs : List Held) (rs : List Request)
+      (kept : RestsKnown x known w) (holds : Holds fails x y known held_known hs rs) (few : length hs ≤ 64) where
+    -- while there is no doubt the World is the one before the round
+    here : y.doubt ≡ 0 → x.world ≡ w
+    here sure = kept.0.is (sure_before holds.later sure)
 
-    pub answered_round : (settled : Result T StoreFault) → Settles b.doubt b.rows b.harm b.base b.defers b.settled b.leaves y z settled → IfErr settled b.fails
-        → OnOk settled (knows ≡ held_known) → OnErr settled ((v : World) → Knows v knows) → IsAnswered b x z knows w rs (texts (is_ok settled) hs)
-    answered_round (Ok t) done may same anew =
-        let less = low_harm b.doubt b.rows b.spells b.settled b.leaves b.harm b.base b.defers steady rest deep z done.ends low in
-        let d = holds.drafted w (done.ok less).0 (kept.0.spelled, kept.1) in
-        let drafts : Drafts b.doubt b.rows b.spells b.harm b.base b.defers b.leaves x y (world_after w d.marked) = record { later = holds.later; spelled = d.kept.0; bides = holds.bides } in
-        let tried = attempts_settled b.doubt b.rows b.spells b.settled b.leaves b.harm b.base b.defers steady rest deep x y z w (λ v. world_after v d.marked) kept.0 (Ok t) drafts done in record {
+    drafted_here : y.doubt ≡ 0 → Drafted fails y held_known w hs rs
+    drafted_here sure = subst (λ v. Drafted fails y held_known v hs rs) (here sure) (holds.drafted sure (subst (λ v. Knows v known) (sym (here sure)) kept.1))
+
+    drafts : (ms : List Marked) → (y.doubt ≡ 0 → y.world ≡ world_after w ms) → Drafts x y (λ v. world_after v ms)
+    drafts ms is = record { later = holds.later; world = λ sure. is sure ∙ ap (λ v. world_after v ms) (sym (here sure)); bides = holds.bides }
+
+    -- with these marks, where that is so if there is no doubt
+    given_up_round : {T : Type 0} (e : StoreFault) → Settles {T = T} y z (Err e) → fails e → ((v : World) → Knows v knows)
+        → (ms : List Marked) → requests_of ms ≡ rs → (y.doubt ≡ 0 → y.world ≡ world_after w ms) → IsAnswered fails x z knows w rs (texts false hs)
+    given_up_round e done may anew ms same is = record {
+      round = record { held = ms; few = few_marked hs rs ms holds.held few same; given_up = true };
+      requests = requests_lost ms ∙ same;
+      marks = lost_marks fails e may w ms;
+      responses = lost_responses w ms hs (subst (AreHeldFor hs) (sym same) holds.held);
+      moves = record { moves = (attempts_settled first last kept.0.still (Err e) (λ v. world_after v ms) (drafts ms is) done).undone; world = lost_stays w ms };
+      knows_now = anew (world_after w (map lost ms));
+    }
+
+    pub answered_round : {T : Type 0} (settled : Result T StoreFault) → Settles y z settled → IfErr settled fails → OnOk settled (knows ≡ held_known) → OnErr settled ((v : World) → Knows v knows) → z.doubt ≤ 1
+        → IsAnswered fails x z knows w rs (texts (is_ok settled) hs)
+    answered_round (Ok t) done may same anew low =
+        let d = drafted_here (done.ok (low_harm last low)).0 in record {
           round = record { held = d.marked; few = few_marked hs rs d.marked holds.held few d.requests; given_up = false };
           requests = d.requests;
           marks = d.marks;
           responses = d.responses;
-          moves = (tried.made, subst (Knows (world_after w d.marked)) (sym same) d.kept.1);
+          moves = record { moves = (attempts_settled first last kept.0.still (Ok t) (λ v. world_after v d.marked) (drafts d.marked (λ sure. d.kept.0)) done).made; world = refl };
+          knows_now = subst (Knows (world_after w d.marked)) (sym same) d.kept.1;
         }
-    answered_round (Err e) done may same anew = by (b.doubt y) refl where
-      by : (n : ℕ) → b.doubt y ≡ n → IsAnswered b x z knows w rs (texts false hs)
-      by zero sure =
-          let d = holds.drafted w sure (kept.0.spelled, kept.1) in
-          given_up_round e done may anew d.marked d.requests d.kept.0
+    answered_round (Err e) done may same anew low = by y.doubt refl where
+      by : (n : ℕ) → y.doubt ≡ n → IsAnswered fails x z knows w rs (texts false hs)
+      by zero sure = let d = drafted_here sure in given_up_round e done may anew d.marked d.requests (λ sure. d.kept.0)
       by (suc n) doubted = given_up_round e done may anew (unmarked rs) (requests_unmarked rs) (λ sure. absurd (omega (arith, sure, doubted)))

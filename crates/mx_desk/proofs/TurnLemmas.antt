@@ -3,38 +3,40 @@ use Rattle.std.proofs.Common.{◌≡◌, ◌+◌, ◌<◌, ◌≤◌, ℕ, List,
 use Rattle.std.specs.Prelude.{Result, Ok, Err, OnOk, OnErr, is_ok}
 use Rattle.std.proofs.lemmas.Result.{on_ok_weaker, on_err_weaker}
 use Rattle.std.specs.Io.KnownBytes.{Appends}
+use Rattle.mx_book.specs.Views.{View, IsLawful}
 use Rattle.mx_book.specs.World.{World, Token}
-use Rattle.mx_book.specs.declared.contract.Book.{Ghosts}
+use Rattle.mx_book.specs.declared.contract.StoreFault.{StoreFault}
 use Rattle.mx_book.specs.declared.values.Caller.{Caller}
 use Rattle.mx_desk.specs.declared.fault.DeskFault.{DeskFault}
 use Rattle.mx_desk.specs.declared.held.Held.{Held}
 use Rattle.mx_desk.specs.Held.{Holds, HoldsMore, Responds, texts}
-use Rattle.mx_desk.specs.Knows.{Moves, RestsKnown}
+use Rattle.mx_desk.specs.Knows.{Knows, RestsKnown}
 use Rattle.mx_desk.specs.Requests.{Begins, First, Request, Whole, more}
-use Rattle.mx_desk.specs.Rounds.{Round, attempts, marked_of}
+use Rattle.mx_desk.specs.Rounds.{Moves, Round, marked_of}
 use Rattle.mx_desk.specs.Serve.{AllMayBeMarked, outputs, requests_of, world_after}
 use Rattle.mx_desk.proofs.RequestLemmas.{Begins-shorter}
 use Rattle.mx_desk.proofs.RoundLemmas.{answered_round, held_length, holds_then, requests_length, IsAnswered}
 
 -- a round was answered, of which these bytes are the first
-pub record IsTurned {B T : Type 0} (b : Ghosts B) (old new : B) (knows : List (Option (Token × Caller))) (w : World) (pending rest : List ℕ) (n : ℕ) (output written : Option (List ℕ)) (result : Result T DeskFault) : Type 0 where
+pub record IsTurned {T : Type 0} (fails : StoreFault → Type 0) (old new : View) (knows : List (Option (Token × Caller))) (w : World) (pending rest : List ℕ) (n : ℕ) (output written : Option (List ℕ)) (result : Result T DeskFault) : Type 0 where
   pub round : Round
   pub few : length (marked_of round) ≤ 64
-  pub marks : AllMayBeMarked b.fails w (marked_of round)
+  pub marks : AllMayBeMarked fails w (marked_of round)
   pub begins : Begins pending (requests_of (marked_of round)) rest
   pub count : n ≡ length (marked_of round)
   pub ok : (x : T) → result ≡ Ok x → Appends output written (outputs w (marked_of round))
   pub err : (e : DeskFault) → result ≡ Err e → ((count : ℕ) × (count < length (outputs w (marked_of round))) × Appends output written (take count (outputs w (marked_of round))))
-  pub moves : Moves b.doubt b.rows b.spells b.settled b.leaves old new knows w (attempts (round ∷ [])) (world_after w (marked_of round))
+  pub moves : Moves old new w (round ∷ []) (world_after w (marked_of round))
+  pub knows_now : Knows (world_after w (marked_of round)) knows
 
-module _ {B : Type 0} (b : Ghosts B) (v x y : B) (known k1 k2 : List (Option (Token × Caller))) (h : Held) (r : Request) (before after : List Held) (pending input rest : List ℕ)
-    (first : First pending (Whole r input)) (one : Holds b v x known k1 (h ∷ []) (r ∷ [])) (others : HoldsMore b x y k1 k2 before after input rest) (is_one : before ≡ h ∷ []) where
+module _ (fails : StoreFault → Type 0) (v x y : View) (known k1 k2 : List (Option (Token × Caller))) (h : Held) (r : Request) (before after : List Held) (pending input rest : List ℕ)
+    (first : First pending (Whole r input)) (one : Holds fails v x known k1 (h ∷ []) (r ∷ [])) (others : HoldsMore fails x y k1 k2 before after input rest) (is_one : before ≡ h ∷ []) where
   -- what is held in all
   items : after ≡ h ∷ others.hs
   items = others.items ∙ ap (λ l. l ++ others.hs) is_one
 
-  all_held : Holds b v y known k2 (h ∷ others.hs) (r ∷ others.rs)
-  all_held = holds_then b v x y known k1 k2 (h ∷ []) others.hs (r ∷ []) others.rs one others.holds
+  all_held : Holds fails v y known k2 (h ∷ others.hs) (r ∷ others.rs)
+  all_held = holds_then fails v x y known k1 k2 (h ∷ []) others.hs (r ∷ []) others.rs one others.holds
 
   all_begin : Begins pending (r ∷ others.rs) rest
   all_begin = more first others.begins
@@ -49,17 +51,16 @@ module _ {B : Type 0} (b : Ghosts B) (v x y : B) (known k1 k2 : List (Option (To
       let same = many in
       (omega (arith, same), omega (arith, few, same))
 
-  module _ {T : Type 0} (z : B) (steady : (x : B) (r : b.Rows) → b.harm x ≡ 0 → b.leaves x r → r ≡ b.base x)
-      (law : (x : B) → b.settled x → (b.doubt x ≡ b.harm x) × (b.harm x ≡ 0 → b.rows x ≡ b.base x)) (deep : (x : B) → b.harm x ≤ b.doubt x)
+  module _ {T : Type 0} (z : View) (law : IsLawful v) (last : IsLawful z)
       (knows : List (Option (Token × Caller))) (w : World) (output written : Option (List ℕ)) (result : Result T DeskFault)
-      (kept : RestsKnown b.doubt b.rows b.spells b.settled v known w) (few : length after ≤ 64) (done : Responds b y z k2 knows after output written result) (low : b.doubt z ≤ 1) where
+      (kept : RestsKnown v known w) (few : length after ≤ 64) (done : Responds fails y z k2 knows after output written result) (low : z.doubt ≤ 1) where
     abbrev IsCut : List ℕ → Type 0
     IsCut t = (count : ℕ) × (count < length t) × Appends output written (take count t)
 
-    answered : IsAnswered b v z knows w (r ∷ others.rs) (texts (is_ok done.settled) (h ∷ others.hs))
+    answered : IsAnswered fails v z knows w (r ∷ others.rs) (texts (is_ok done.settled) (h ∷ others.hs))
     answered =
-        answered_round b steady law deep v y z known k2 knows w (h ∷ others.hs) (r ∷ others.rs) kept all_held (subst (λ l. length l ≤ 64) items few) low
-        done.settled done.settles done.fault done.same done.anew
+        answered_round fails law last known k2 knows w (h ∷ others.hs) (r ∷ others.rs) kept all_held (subst (λ l. length l ≤ 64) items few)
+        done.settled done.settles done.fault done.same done.anew low
 
     text : texts (is_ok done.settled) after ≡ outputs w (marked_of answered.round)
     text = ap (texts (is_ok done.settled)) items ∙ answered.responses
@@ -67,7 +68,7 @@ module _ {B : Type 0} (b : Ghosts B) (v x y : B) (known k1 k2 : List (Option (To
     count : length after ≡ length (marked_of answered.round)
     count = many ∙ ap length (sym answered.requests) ∙ requests_length (marked_of answered.round)
 
-    pub turned : IsTurned b v z knows w pending rest (length after) output written result
+    pub turned : IsTurned fails v z knows w pending rest (length after) output written result
     turned = record {
       round = answered.round;
       few = (let same = count in omega (arith, same, few));
@@ -78,4 +79,5 @@ module _ {B : Type 0} (b : Ghosts B) (v x y : B) (known k1 k2 : List (Option (To
       err = λ e is. subst (λ r. OnErr r (IsCut (outputs w (marked_of answered.round)))) is
           (on_err_weaker result (λ cut. (cut.0, subst (λ t. cut.0 < length t) text cut.1, subst (λ t. Appends output written (take cut.0 t)) text cut.2)) done.err);
       moves = answered.moves;
+      knows_now = answered.knows_now;
     }

@@ -2,10 +2,8 @@
 use Rattle.std.specs.Prelude.{◌≡◌, ◌≤◌, ℕ, Bool, true, false, List, [], ◌∷◌, ◌++◌, Option, Result, Ok, Err, IfErr, OnOk, OnErr, is_ok, length, take, ◌<◌, if◌then◌else◌}
 use Rattle.std.specs.Io.KnownBytes.{Appends}
 use Rattle.std.specs.List.{flat_map}
-use Rattle.mx_book.specs.Keeps.{Bides}
-use Rattle.mx_book.specs.Stands.{Settles}
+use Rattle.mx_book.specs.Views.{View, Bides, Settles, IsSure}
 use Rattle.mx_book.specs.World.{World, Token}
-use Rattle.mx_book.specs.declared.contract.Book.{Ghosts}
 use Rattle.mx_book.specs.declared.contract.StoreFault.{StoreFault}
 use Rattle.mx_book.specs.declared.values.Caller.{Caller}
 use Rattle.mx_wire.specs.Made.{parts_of}
@@ -14,7 +12,7 @@ use Rattle.mx_wire.specs.declared.replies.Fixed.TheVariants as fixed
 use Rattle.mx_wire.specs.declared.replies.Response.{Response}
 use Rattle.mx_desk.specs.declared.fault.DeskFault.{DeskFault}
 use Rattle.mx_desk.specs.declared.held.Held.{Held}
-use Rattle.mx_desk.specs.Knows.{KeptAt, Knows}
+use Rattle.mx_desk.specs.Knows.{Has, Knows}
 use Rattle.mx_desk.specs.Requests.{Begins, Request}
 use Rattle.mx_desk.specs.Respond.{is_head, is_routed}
 use Rattle.mx_desk.specs.Serve.{Marked, AllMayBeMarked, outputs, requests_of, world_after}
@@ -42,34 +40,34 @@ AreHeldFor (h ∷ hs) (r ∷ rs) = IsHeldFor h r × AreHeldFor hs rs
 AreHeldFor _ _ = ⊥
 
 -- requests are answered by the definitions, or given up where they may be, and the book has what they changed
-pub record Drafted {B : Type 0} (b : Ghosts B) (new : B) (places : List (Option (Token × Caller))) (w : World) (hs : List Held) (rs : List Request) : Type 0 where
+pub record Drafted (fails : StoreFault → Type 0) (new : View) (places : List (Option (Token × Caller))) (w : World) (hs : List Held) (rs : List Request) : Type 0 where
   pub marked : List Marked
   pub requests : requests_of marked ≡ rs
-  pub marks : AllMayBeMarked b.fails w marked
+  pub marks : AllMayBeMarked fails w marked
   pub responses : texts true hs ≡ outputs w marked
-  pub kept : KeptAt b.doubt b.rows b.spells new places (world_after w marked)
+  pub kept : Has new places (world_after w marked)
 
 -- This is held of requests that were answered in a round. It is so while there is no doubt.
-pub record Holds {B : Type 0} (b : Ghosts B) (old new : B) (known knows : List (Option (Token × Caller))) (hs : List Held) (rs : List Request) : Type 0 where
-  pub later : b.doubt old ≤ b.doubt new
-  pub bides : Bides b.harm b.base b.defers b.leaves old new
+pub record Holds (fails : StoreFault → Type 0) (old new : View) (known knows : List (Option (Token × Caller))) (hs : List Held) (rs : List Request) : Type 0 where
+  pub later : old.doubt ≤ new.doubt
+  pub bides : Bides old new
   pub held : AreHeldFor hs rs
-  pub drafted : (w : World) → b.doubt new ≡ 0 → KeptAt b.doubt b.rows b.spells old known w → Drafted b new knows w hs rs
+  pub drafted : IsSure new → Knows old.world known → Drafted fails new knows old.world hs rs
 
 -- This is held of more requests, with which the input begins.
-pub record HoldsMore {B : Type 0} (b : Ghosts B) (old new : B) (known knows : List (Option (Token × Caller))) (before after : List Held) (input rest : List ℕ) : Type 0 where
+pub record HoldsMore (fails : StoreFault → Type 0) (old new : View) (known knows : List (Option (Token × Caller))) (before after : List Held) (input rest : List ℕ) : Type 0 where
   pub hs : List Held
   pub rs : List Request
   pub items : after ≡ before ++ hs
   pub begins : Begins input rs rest
-  pub holds : Holds b old new known knows hs rs
+  pub holds : Holds fails old new known knows hs rs
 
 -- A round is settled or given up, and then the responses are written, all or the first bytes of them. What is remembered stays,
 -- or is so in every World.
-pub record Responds {B T : Type 0} (b : Ghosts B) (old new : B) (known knows : List (Option (Token × Caller))) (hs : List Held) (output written : Option (List ℕ)) (result : Result T DeskFault) : Type 0 where
+pub record Responds {T : Type 0} (fails : StoreFault → Type 0) (old new : View) (known knows : List (Option (Token × Caller))) (hs : List Held) (output written : Option (List ℕ)) (result : Result T DeskFault) : Type 0 where
   pub settled : Result T StoreFault
-  pub settles : Settles b.doubt b.rows b.harm b.base b.defers b.settled b.leaves old new settled
-  pub fault : IfErr settled b.fails
+  pub settles : Settles old new settled
+  pub fault : IfErr settled fails
   pub same : OnOk settled (knows ≡ known)
   pub anew : OnErr settled ((w : World) → Knows w knows)
   pub ok : OnOk result (Appends output written (texts (is_ok settled) hs))

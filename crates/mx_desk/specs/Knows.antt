@@ -2,7 +2,7 @@
 use Rattle.std.specs.Prelude.{◌≡◌, ℕ, ◌%◌, List, Option, Some, None, replicate, slice_index_or, slice_set, if◌then◌else◌, All, IfSome}
 use Rattle.std.specs.Int.{w128, from_be_bytes}
 use Rattle.mx_pay.specs.Tokens.{is_token}
-use Rattle.mx_book.specs.Stands.{Attempt, MovesTo, RestsAt}
+use Rattle.mx_book.specs.Views.{View, RestsAt}
 use Rattle.mx_book.specs.World.{World, Token}
 use Rattle.mx_book.specs.Reads.{who_of}
 use Rattle.mx_book.specs.declared.values.Caller.{Caller}
@@ -32,18 +32,10 @@ remembering places token caller = slice_set places (place token) (Some (token, c
 abbrev pub Knows : World → List (Option (Token × Caller)) → Type 0
 Knows w places = All (λ (place : Option (Token × Caller)). IfSome place (λ e. who_of w e.0 ≡ Some e.1)) places
 
--- a World is spelled, and what is remembered is so in it
-abbrev pub Stands : (World → Type 0) → List (Option (Token × Caller)) → World → Type 0
-Stands spells places w = spells w × Knows w places
+-- a book has this World, in which what is remembered is so
+abbrev pub Has : View → List (Option (Token × Caller)) → World → Type 0
+Has v places w = (v.world ≡ w) × Knows w places
 
--- the World that a book spells, where it isn't doubted, and in which what is remembered is so
-abbrev pub KeptAt : {B R : Type 0} → (B → ℕ) → (B → R) → (R → World → Type 0) → B → List (Option (Token × Caller)) → World → Type 0
-KeptAt doubt rows spells book = Stands (λ w. doubt book ≡ 0 → spells (rows book) w)
-
--- the World at which a book rests, and in which what is remembered is so
-abbrev pub RestsKnown : {B R : Type 0} → (B → ℕ) → (B → R) → (R → World → Type 0) → (B → Type 0) → B → List (Option (Token × Caller)) → World → Type 0
-RestsKnown doubt rows spells settled book = Stands (RestsAt doubt rows spells settled book)
-
--- attempts lead a book from one World to another, in which what is remembered is so
-abbrev pub Moves : {B R : Type 0} → (B → ℕ) → (B → R) → (R → World → Type 0) → (B → Type 0) → (B → R → Type 0) → B → B → List (Option (Token × Caller)) → World → List Attempt → World → Type 0
-Moves doubt rows spells settled leaves old new places w ts = Stands (MovesTo doubt rows spells settled leaves old new w ts) places
+-- a book rests at this World, in which what is remembered is so
+abbrev pub RestsKnown : View → List (Option (Token × Caller)) → World → Type 0
+RestsKnown v places w = RestsAt v w × Knows w places

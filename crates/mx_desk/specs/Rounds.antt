@@ -1,6 +1,7 @@
 -- Requests that are answered together: one settle keeps what all of them change.
-use Rattle.std.specs.Prelude.{◌≤◌, Bool, true, false, List, [], ◌∷◌, ◌++◌, length, map, if◌then◌else◌}
-use Rattle.mx_book.specs.Stands.{Attempt}
+use Rattle.std.specs.Prelude.{◌≡◌, ◌≤◌, Bool, true, false, List, [], ◌∷◌, ◌++◌, length, map, if◌then◌else◌}
+use Rattle.mx_book.specs.Stands.{Attempt, attempt_all}
+use Rattle.mx_book.specs.Views.{View, MovesTo}
 use Rattle.mx_book.specs.World.{World}
 use Rattle.mx_command.specs.declared.values.Command.{Command}
 use Rattle.mx_command.specs.declared.values.Command.TheVariants.{NewMember, NewHolder}
@@ -36,6 +37,11 @@ all_of (r ∷ rs) = marked_of r ++ all_of rs
 -- rounds as attempts to change the World
 abbrev pub attempts : List Round → List Attempt
 attempts rs = map (λ (r : Round). record { given_up = r.given_up; change = λ w. world_after w r.held }) rs
+
+-- Rounds lead a book from where it rests to where it rests again, and one World to another, also where the book's isn't known.
+pub record Moves (old new : View) (w : World) (rs : List Round) (now : World) : Type 0 where
+  pub moves : MovesTo old new (attempts rs)
+  pub world : now ≡ attempt_all w (attempts rs)
 
 -- rounds were answered, of whose requests and of the World then this holds, and the book moved so
 pub record Leads (Holds : List Marked → World → Type 0) (Moves : List Round → World → Type 0) : Type 0 where

@@ -1,10 +1,9 @@
 //! One request: who sent it, what it asks, and the response.
 ghost use Rattle.std.specs.Prelude.{◌≡◌, ◌≤◌, Some, None, Ok, IfOk, IfErr, OnErr, option_map};
-ghost use Rattle.mx_book.specs.Keeps.{Bides, Keeps};
-ghost use Rattle.mx_book.specs.World.{World};
+ghost use Rattle.mx_book.specs.Views.{Bides, Keeps, IsSure};
 ghost use Rattle.mx_desk.specs.Answers.{IsAnswer};
 ghost use Rattle.mx_desk.specs.Found.{request_view};
-ghost use Rattle.mx_desk.specs.Knows.{KeptAt, Knows};
+ghost use Rattle.mx_desk.specs.Knows.{Has, Knows};
 ghost use Rattle.mx_desk.specs.Respond.{is_of_class, caller_of, after_body, after_caller, caller_takes, command_takes, respond, IsGivenUpFor, MayBeGivenUp};
 ghost use Rattle.mx_wire.specs.Routes.{route_of};
 
@@ -39,12 +38,12 @@ fn caller_of<B: Book>(
     office: &mut Office<B>,
     field: Option<&[u8]>,
 ) -> Result<Option<Caller>, StoreFault>
-    ensures keeps { Keeps B.doubt B.rows B.harm B.base B.defers B.settled B.leaves office.old.book office.new.book }
-    ensures value { (w : World) → B.doubt office.new.book ≡ 0
-        → KeptAt B.doubt B.rows B.spells office.old.book callers.old w
+    ensures keeps { Keeps (B.view office.old.book) (B.view office.new.book) }
+    ensures value { let w = (B.view office.old.book).world in IsSure (B.view office.new.book)
+        → Knows w callers.old
         → IfOk result (λ r. r ≡ caller_of w (option_map (λ x. x.now) field.entry)) }
-    ensures known { (w : World) → B.doubt office.new.book ≡ 0
-        → KeptAt B.doubt B.rows B.spells office.old.book callers.old w → Knows w callers.new }
+    ensures known { let w = (B.view office.old.book).world in IsSure (B.view office.new.book)
+        → Knows w callers.old → Knows w callers.new }
     ensures fault { IfErr result B.fails }
 {
     let Some(text) = field else {
@@ -71,15 +70,16 @@ fn answer_command<B: Book>(
     office: &mut Office<B>,
     caller: Caller,
 ) -> Result<Response, StoreFault>
-    ensures later { B.doubt office.old.book ≤ B.doubt office.new.book }
-    ensures bides { Bides B.harm B.base B.defers B.leaves office.old.book office.new.book }
+    ensures later { (B.view office.old.book).doubt ≤ (B.view office.new.book).doubt }
+    ensures bides { Bides (B.view office.old.book) (B.view office.new.book) }
     ensures round { workspace.new.round ≡ workspace.old.round }
-    ensures answers { (w : World) → B.doubt office.new.book ≡ 0
-        → KeptAt B.doubt B.rows B.spells office.old.book workspace.old.callers w
-        → IsAnswer (KeptAt B.doubt B.rows B.spells office.new.book workspace.new.callers) w
+    ensures answers { let w = (B.view office.old.book).world in IsSure (B.view office.new.book)
+        → Knows w workspace.old.callers
+        → IsAnswer (Has (B.view office.new.book) workspace.new.callers) w
         (after_body w caller (Some workspace.old.command))
         (IsGivenUpFor B.fails (command_takes w caller workspace.old.command)) result }
-    ensures err { B.doubt office.new.book ≡ 0 → OnErr result (B.rows office.new.book ≡ B.rows office.old.book) }
+    ensures err { IsSure (B.view office.new.book)
+        → OnErr result ((B.view office.new.book).world ≡ (B.view office.old.book).world) }
 {
     let decided = &mut workspace.decided;
     office.decide_into(alloc, caller, &workspace.command, decided)?;
@@ -102,16 +102,18 @@ fn answer_routed<B: Book>(
     route: &Route,
     request: &Received<'_>,
 ) -> Result<Response, StoreFault>
-    ensures later { B.doubt office.old.book ≤ B.doubt office.new.book }
-    ensures bides { Bides B.harm B.base B.defers B.leaves office.old.book office.new.book }
+    ensures later { (B.view office.old.book).doubt ≤ (B.view office.new.book).doubt }
+    ensures bides { Bides (B.view office.old.book) (B.view office.new.book) }
     ensures round { workspace.new.round ≡ workspace.old.round }
-    ensures answers { (w : World) → B.doubt office.new.book ≡ 0
-        → KeptAt B.doubt B.rows B.spells office.old.book workspace.old.callers w
-        → IsAnswer (KeptAt B.doubt B.rows B.spells office.new.book workspace.new.callers) w
-        (after_caller w (request_view request.now) route.now (caller_of w (request_view request.now).token))
+    ensures answers { let w = (B.view office.old.book).world in IsSure (B.view office.new.book)
+        → Knows w workspace.old.callers
+        → IsAnswer (Has (B.view office.new.book) workspace.new.callers) w
+        (after_caller w (request_view request.now) route.now
+        (caller_of w (request_view request.now).token))
         (IsGivenUpFor B.fails (caller_takes w (request_view request.now) route.now
         (caller_of w (request_view request.now).token))) result }
-    ensures err { B.doubt office.new.book ≡ 0 → OnErr result (B.rows office.new.book ≡ B.rows office.old.book) }
+    ensures err { IsSure (B.view office.new.book)
+        → OnErr result ((B.view office.new.book).world ≡ (B.view office.old.book).world) }
 {
     let Some(caller) = caller_of(alloc, &mut workspace.callers, office, request.token)? else {
         return Ok(Response::Always(Fixed::TokenUnknown));
@@ -146,15 +148,17 @@ pub fn answer_request<B: Book>(
     route: &Option<Route>,
     request: &Received<'_>,
 ) -> Result<Response, StoreFault>
-    ensures later { B.doubt office.old.book ≤ B.doubt office.new.book }
-    ensures bides { Bides B.harm B.base B.defers B.leaves office.old.book office.new.book }
+    ensures later { (B.view office.old.book).doubt ≤ (B.view office.new.book).doubt }
+    ensures bides { Bides (B.view office.old.book) (B.view office.new.book) }
     ensures round { workspace.new.round ≡ workspace.old.round }
-    ensures answers { (w : World) → B.doubt office.new.book ≡ 0
-        → KeptAt B.doubt B.rows B.spells office.old.book workspace.old.callers w
+    ensures answers { let w = (B.view office.old.book).world in IsSure (B.view office.new.book)
+        → Knows w workspace.old.callers
         → route.now ≡ route_of (request_view request.now).method (request_view request.now).path
-        → IsAnswer (KeptAt B.doubt B.rows B.spells office.new.book workspace.new.callers) w
-        (respond w (request_view request.now)) (MayBeGivenUp B.fails w (request_view request.now)) result }
-    ensures err { B.doubt office.new.book ≡ 0 → OnErr result (B.rows office.new.book ≡ B.rows office.old.book) }
+        → IsAnswer (Has (B.view office.new.book) workspace.new.callers) w
+        (respond w (request_view request.now))
+        (MayBeGivenUp B.fails w (request_view request.now)) result }
+    ensures err { IsSure (B.view office.new.book)
+        → OnErr result ((B.view office.new.book).world ≡ (B.view office.old.book).world) }
     ensures no_route { route.now ≡ None → result ≡ Ok (Response.Always Fixed.NoRoute) }
 {
     match route {

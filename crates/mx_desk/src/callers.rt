@@ -75,7 +75,8 @@ impl Callers {
     /// Whose token it is, where that is remembered: the last that was added at its place.
     pub fn find(&self, token: &Token) -> Option<Caller>
         ensures value { result ≡ remembered self.now token.now }
-        ensures knows { (w : World) → Knows w self.now → IfSome result (λ caller. who_of w token.now ≡ Some caller) }
+        ensures knows { (w : World) → Knows w self.now
+            → IfSome result (λ caller. who_of w token.now ≡ Some caller) }
     {
         let (known, caller) = self.at(place_of(token))?;
         if same_token(&known, token) {
@@ -88,7 +89,8 @@ impl Callers {
     /// Remembers whose token it is, where there are places.
     pub fn add(&mut self, token: &Token, caller: &Caller)
         ensures places { self.new ≡ remembering self.old token.now caller.now }
-        ensures knows { (w : World) → Knows w self.old → who_of w token.now ≡ Some caller.now → Knows w self.new }
+        ensures knows { (w : World) → Knows w self.old → who_of w token.now ≡ Some caller.now
+            → Knows w self.new }
     {
         let place = place_of(token);
         if place < self.places.len() {

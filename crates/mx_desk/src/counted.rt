@@ -81,9 +81,11 @@ impl<D: Read> Read for Counted<D> {
 
     fn read(&mut self, buf: &mut [u8]) -> io::Result<usize>
         ensures bound { ReadsAtMost result buf.new }
-        ensures bytes { ReadConsumes (D.remaining self.old.device) (D.remaining self.new.device) result buf.new }
+        ensures bytes { ReadConsumes (D.remaining self.old.device)
+            (D.remaining self.new.device) result buf.new }
         ensures calls { self.new.calls ≡ capped (self.old.calls + 1) }
-        ensures failures { MatchResult result (λ _. self.new.failures ≡ self.old.failures) (λ _. self.new.failures ≡ capped (self.old.failures + 1)) }
+        ensures failures { MatchResult result (λ _. self.new.failures ≡ self.old.failures)
+            (λ _. self.new.failures ≡ capped (self.old.failures + 1)) }
     {
         self.note_call();
         let answer = self.device.read(buf);
@@ -99,10 +101,12 @@ impl<D: Write> Write for Counted<D> {
 
     fn write(&mut self, buf: &[u8]) -> io::Result<usize>
         ensures bound { WritesAtMost result buf.now }
-        ensures bytes { WriteAppends (D.contents self.old.device) (D.contents self.new.device) result buf.now }
+        ensures bytes { WriteAppends (D.contents self.old.device)
+            (D.contents self.new.device) result buf.now }
         ensures calls { self.new.calls ≡ capped (self.old.calls + 1) }
         ensures ok { IfOk result (λ n. n ≢ 0 → self.new.failures ≡ self.old.failures) }
-        ensures none { IfOk result (λ n. n ≡ 0 → 0 < length buf.now → self.new.failures ≡ capped (self.old.failures + 1)) }
+        ensures none { IfOk result
+            (λ n. n ≡ 0 → 0 < length buf.now → self.new.failures ≡ capped (self.old.failures + 1)) }
         ensures nothing { IfOk result (λ n. n ≡ 0 → length buf.now ≡ 0
             → self.new.failures ≡ self.old.failures) }
         ensures err { OnErr result (self.new.failures ≡ capped (self.old.failures + 1)) }
@@ -122,7 +126,8 @@ impl<D: Write> Write for Counted<D> {
     fn flush(&mut self) -> io::Result<()>
         ensures bytes { Keeps (D.contents self.old.device) (D.contents self.new.device) }
         ensures calls { self.new.calls ≡ self.old.calls }
-        ensures failures { MatchResult result (λ _. self.new.failures ≡ self.old.failures) (λ _. self.new.failures ≡ capped (self.old.failures + 1)) }
+        ensures failures { MatchResult result (λ _. self.new.failures ≡ self.old.failures)
+            (λ _. self.new.failures ≡ capped (self.old.failures + 1)) }
     {
         let answer = self.device.flush();
         if answer.is_err() {

@@ -1,12 +1,12 @@
 //! Requests one after another.
 ghost use Rattle.std.specs.Prelude.{◌≡◌, ◌+◌, ◌*◌, ◌<◌, ◌≤◌, ℕ, [], true, Ok, Err, OnOk, OnErr, IfErr, ◌≢◌, length, take};
 ghost use Rattle.std.specs.Io.KnownBytes.{Appends, Keeps};
-ghost use Rattle.mx_book.specs.Stands.{MovesTo, RestsAt};
+ghost use Rattle.mx_book.specs.Views.{RestsAt, IsHonest};
 ghost use Rattle.mx_book.specs.World.{World};
 ghost use Rattle.mx_desk.specs.Devices.{capped};
-ghost use Rattle.mx_desk.specs.Knows.{Moves, RestsKnown};
+ghost use Rattle.mx_desk.specs.Knows.{Knows, RestsKnown};
 ghost use Rattle.mx_desk.specs.Leaves.{Runs, Serves};
-ghost use Rattle.mx_desk.specs.Rounds.{Leads, attempts};
+ghost use Rattle.mx_desk.specs.Rounds.{Leads, Moves};
 ghost use Rattle.mx_desk.specs.Serve.{stop_text, stop_fixed};
 ghost use Rattle.mx_desk.specs.Steps.{state, Turns};
 
@@ -60,10 +60,12 @@ fn text_of_stop(stop: Stop) -> &'static [u8]
 
 /// Writes the response to a fault of the input, and passes it on.
 fn write_stop<W: Write>(writer: &mut Counted<W>, stop: Stop) -> Result<(), DeskFault>
-    ensures ok { OnOk result (Appends (W.contents writer.old.device) (W.contents writer.new.device) (stop_text stop)
+    ensures ok { OnOk result (Appends (W.contents writer.old.device) (W.contents writer.new.device)
+        (stop_text stop)
         × (writer.new.failures ≡ writer.old.failures)) }
     ensures err { OnErr result ((count : ℕ) × (count ≤ length (stop_text stop))
-        × Appends (W.contents writer.old.device) (W.contents writer.new.device) (take count (stop_text stop))
+        × Appends (W.contents writer.old.device) (W.contents writer.new.device)
+        (take count (stop_text stop))
         × (writer.new.failures ≡ capped (writer.old.failures + 1))) }
     ensures fault { IfErr result (λ e. e ≡ DeskFault.Write) }
 {
@@ -83,23 +85,31 @@ fn serve_next<R: Read, W: Outlet, B: Book>(
     routes: &Routes,
     office: &mut Office<B>,
 ) -> Result<Served, DeskFault>
-    ensures later { B.settled office.old.book → B.doubt office.old.book ≤ B.doubt office.new.book }
-    ensures still { B.settled office.old.book → B.settled office.new.book }
-    ensures steps { (w : World) → B.doubt office.new.book ≤ 1
-        → RestsKnown B.doubt B.rows B.spells B.settled office.old.book workspace.old.callers w
+    ensures later { (B.view office.old.book).IsSettled
+        → (B.view office.old.book).doubt ≤ (B.view office.new.book).doubt }
+    ensures still { (B.view office.old.book).IsSettled → (B.view office.new.book).IsSettled }
+    ensures steps { (w : World) → IsHonest (B.view office.new.book)
+        → RestsKnown (B.view office.old.book) workspace.old.callers w
         → Leads (λ ms v. Turns B.fails
         (state input.old (R.remaining reader.old.device) (W.contents writer.old.device) w) result ms
         (state input.new (R.remaining reader.new.device) (W.contents writer.new.device) v)
         × (workspace.old.round.alone ≡ true → length ms ≤ 1))
-        (λ rs. Moves B.doubt B.rows B.spells B.settled B.leaves office.old.book office.new.book workspace.new.callers w (attempts rs)) }
-    ensures reads { (reads : ℕ) × (turns.old ≡ turns.new + reads) × (0 < reads → reads + length input.old ≤ 12288)
+        (λ rs v. Moves (B.view office.old.book) (B.view office.new.book) w rs v
+        × Knows v workspace.new.callers) }
+    ensures reads { (reads : ℕ) × (turns.old ≡ turns.new + reads)
+        × (0 < reads → reads + length input.old ≤ 12288)
         × (reader.new.calls ≡ capped (reader.old.calls + reads)) }
-    ensures turns { result ≡ Err DeskFault.Turns → (turns.new ≡ 0) × (turns.old + length input.old < 12288) }
+    ensures turns { result ≡ Err DeskFault.Turns
+        → (turns.new ≡ 0) × (turns.old + length input.old < 12288) }
     ensures smaller { (n : ℕ) → result ≡ Ok (Served.Answered n) → (0 < n)
         × (n + (12289 * turns.new + length input.new) ≤ 12289 * turns.old + length input.old) }
-    ensures read_failed { result ≡ Err DeskFault.Read → reader.new.failures ≡ capped (reader.old.failures + 1) }
-    ensures write_failed { result ≡ Err DeskFault.Write → writer.new.failures ≡ capped (writer.old.failures + 1) }
-    ensures whole { OnOk result ((reader.new.failures ≡ reader.old.failures) × (writer.new.failures ≡ writer.old.failures)) }
+    ensures read_failed { result ≡ Err DeskFault.Read
+        → reader.new.failures ≡ capped (reader.old.failures + 1) }
+    ensures write_failed { result ≡ Err DeskFault.Write
+        → writer.new.failures ≡ capped (writer.old.failures + 1) }
+    ensures whole { OnOk result
+        ((reader.new.failures ≡ reader.old.failures)
+        × (writer.new.failures ≡ writer.old.failures)) }
 {
     let _calls = reader.calls();
     let mut ended = false;
@@ -149,18 +159,22 @@ pub fn serve_one<R: Read, W: Outlet, B: Book>(
     routes: &Routes,
     office: &mut Office<B>,
 ) -> Result<Served, DeskFault>
-    ensures later { B.settled office.old.book → B.doubt office.old.book ≤ B.doubt office.new.book }
-    ensures still { B.settled office.old.book → B.settled office.new.book }
-    ensures serves { (w : World) → B.doubt office.new.book ≤ 1
-        → RestsAt B.doubt B.rows B.spells B.settled office.old.book w
+    ensures later { (B.view office.old.book).IsSettled
+        → (B.view office.old.book).doubt ≤ (B.view office.new.book).doubt }
+    ensures still { (B.view office.old.book).IsSettled → (B.view office.new.book).IsSettled }
+    ensures serves { (w : World) → IsHonest (B.view office.new.book)
+        → RestsAt (B.view office.old.book) w
         → Leads (λ ms now. Serves B.fails
         (state [] (R.remaining reader.old.device) (W.contents writer.old.device) w) result ms
         (state [] (R.remaining reader.new.device) (W.contents writer.new.device) now))
-        (λ rs. MovesTo B.doubt B.rows B.spells B.settled B.leaves office.old.book office.new.book w (attempts rs)) }
-    ensures reads { (reads : ℕ) × (reads ≤ 12288) × (reader.new.calls ≡ capped (reader.old.calls + reads)) }
+        (Moves (B.view office.old.book) (B.view office.new.book) w) }
+    ensures reads { (reads : ℕ) × (reads ≤ 12288)
+        × (reader.new.calls ≡ capped (reader.old.calls + reads)) }
     ensures never { result ≢ Err DeskFault.Turns }
-    ensures read_failed { result ≡ Err DeskFault.Read → reader.new.failures ≡ capped (reader.old.failures + 1) }
-    ensures write_failed { result ≡ Err DeskFault.Write → writer.new.failures ≡ capped (writer.old.failures + 1) }
+    ensures read_failed { result ≡ Err DeskFault.Read
+        → reader.new.failures ≡ capped (reader.old.failures + 1) }
+    ensures write_failed { result ≡ Err DeskFault.Write
+        → writer.new.failures ≡ capped (writer.old.failures + 1) }
 {
     let mut workspace = Workspace::new(alloc, Callers::none(alloc), true);
     let mut input = Input::new();
@@ -197,18 +211,23 @@ pub fn run<R: Read, W: Outlet, B: Book>(
     routes: &Routes,
     office: &mut Office<B>,
 ) -> Result<u64, DeskFault>
-    ensures later { B.settled office.old.book → B.doubt office.old.book ≤ B.doubt office.new.book }
-    ensures still { B.settled office.old.book → B.settled office.new.book }
-    ensures runs { (w : World) → B.doubt office.new.book ≤ 1
-        → RestsAt B.doubt B.rows B.spells B.settled office.old.book w
+    ensures later { (B.view office.old.book).IsSettled
+        → (B.view office.old.book).doubt ≤ (B.view office.new.book).doubt }
+    ensures still { (B.view office.old.book).IsSettled → (B.view office.new.book).IsSettled }
+    ensures runs { (w : World) → IsHonest (B.view office.new.book)
+        → RestsAt (B.view office.old.book) w
         → Leads (λ ms now. Runs B.fails
         (state [] (R.remaining reader.old.device) (W.contents writer.old.device) w) result ms
         (state [] (R.remaining reader.new.device) (W.contents writer.new.device) now))
-        (λ rs. MovesTo B.doubt B.rows B.spells B.settled B.leaves office.old.book office.new.book w (attempts rs)) }
-    ensures reads { (reads : ℕ) × (reads ≤ 1000000000) × (reader.new.calls ≡ capped (reader.old.calls + reads)) }
-    ensures turns { result ≡ Err DeskFault.Turns → reader.new.calls ≡ capped (reader.old.calls + 1000000000) }
-    ensures read_failed { result ≡ Err DeskFault.Read → reader.new.failures ≡ capped (reader.old.failures + 1) }
-    ensures write_failed { result ≡ Err DeskFault.Write → writer.new.failures ≡ capped (writer.old.failures + 1) }
+        (Moves (B.view office.old.book) (B.view office.new.book) w) }
+    ensures reads { (reads : ℕ) × (reads ≤ 1000000000)
+        × (reader.new.calls ≡ capped (reader.old.calls + reads)) }
+    ensures turns { result ≡ Err DeskFault.Turns
+        → reader.new.calls ≡ capped (reader.old.calls + 1000000000) }
+    ensures read_failed { result ≡ Err DeskFault.Read
+        → reader.new.failures ≡ capped (reader.old.failures + 1) }
+    ensures write_failed { result ≡ Err DeskFault.Write
+        → writer.new.failures ≡ capped (writer.old.failures + 1) }
 {
     let _calls = reader.calls();
     let mut workspace = Workspace::new(alloc, Callers::new(alloc), false);

@@ -17,7 +17,8 @@ pub enum Only<'a> {
 
 /// What it is with one value more.
 fn one_more<'a>(found: Only<'a>, value: &'a [u8]) -> Only<'a>
-    ensures { (values : List (List ℕ)) → IsOnly found.entry values → IsOnly result (values ++ value.now ∷ []) }
+    ensures { (values : List (List ℕ)) → IsOnly found.entry values
+        → IsOnly result (values ++ value.now ∷ []) }
 {
     match found {
         Only::Absent => Only::One(value),
@@ -82,7 +83,8 @@ pub fn body_len(bytes: &[u8], fields: &[HeaderSpan]) -> Result<usize, Reason>
 /// The value of the `purse-token` field. None where there is no such field, or more than one.
 pub fn token<'a>(bytes: &'a [u8], fields: &[HeaderSpan]) -> Option<&'a [u8]>
     requires { All (IsHeaderWithin (length bytes.now)) fields.now }
-    ensures { option_map (λ x. x.now) result ≡ only (values_of (codes "purse-token") (map (header_bytes bytes.now) fields.now)) }
+    ensures { option_map (λ x. x.now) result ≡ only
+        (values_of (codes "purse-token") (map (header_bytes bytes.now) fields.now)) }
 {
     match values(bytes, fields, b"purse-token") {
         Only::One(value) => Some(value),

@@ -61,7 +61,8 @@ impl Input {
     /// end. A fault is `Read`, where the read failed.
     pub fn read_from<R: Read>(&mut self, reader: &mut Counted<R>) -> Result<usize, DeskFault>
         requires { length self.old < 12288 }
-        ensures ok { IfOk result (λ n. (more : List ℕ) × (length more ≡ n) × (self.new ≡ self.old ++ more)
+        ensures ok { IfOk result (λ n. (more : List ℕ) × (length more ≡ n)
+            × (self.new ≡ self.old ++ more)
             × Consumes (R.remaining reader.old.device) (R.remaining reader.new.device) more) }
         ensures end { result ≡ Ok 0 → IsAtEnd (R.remaining reader.new.device) }
         ensures err { OnErr result ((self.new ≡ self.old)

@@ -10,10 +10,12 @@ use std::io::Write;
 /// Writes the text, by as many writes as it takes. An error is `Write`, where a write failed or took nothing; then
 /// the first part of the text was written, and not all of it.
 pub fn write_out<W: Write>(writer: &mut Counted<W>, text: &[u8]) -> Result<(), DeskFault>
-    ensures ok { OnOk result (Appends (W.contents writer.old.device) (W.contents writer.new.device) text.now
+    ensures ok { OnOk result (Appends (W.contents writer.old.device)
+        (W.contents writer.new.device) text.now
         × (writer.new.failures ≡ writer.old.failures)) }
     ensures err { OnErr result ((count : ℕ) × (count < length text.now)
-        × Appends (W.contents writer.old.device) (W.contents writer.new.device) (take count text.now)
+        × Appends (W.contents writer.old.device) (W.contents writer.new.device)
+        (take count text.now)
         × (writer.new.failures ≡ capped (writer.old.failures + 1))) }
     ensures fault { IfErr result (λ e. e ≡ DeskFault.Write) }
 {

@@ -47,9 +47,10 @@ pub(crate) fn hold<B: Book>(
     request: &Received<'_>,
 ) -> bool
     requires { length workspace.old.round.held.items < 64 }
-    ensures holds { (h : Held) × (workspace.new.round.held.items ≡ workspace.old.round.held.items ++ h ∷ [])
-        × Holds B.Book office.old.book office.new.book workspace.old.callers workspace.new.callers
-        (h ∷ []) (request_view request.now ∷ []) }
+    ensures holds { (h : Held)
+        × (workspace.new.round.held.items ≡ workspace.old.round.held.items ++ h ∷ [])
+        × Holds B.fails (B.view office.old.book) (B.view office.new.book)
+        workspace.old.callers workspace.new.callers (h ∷ []) (request_view request.now ∷ []) }
     ensures alone { workspace.new.round.alone ≡ workspace.old.round.alone }
     ensures room { result ≡ true → (workspace.new.round.alone ≡ false)
         × (length workspace.new.round.held.items < 64) }
@@ -79,7 +80,8 @@ pub(crate) fn hold_more<B: Book>(
 )
     requires { goes_on ≡ true → (workspace.old.round.alone ≡ false)
         × (length workspace.old.round.held.items < 64) }
-    ensures holds { HoldsMore B.Book office.old.book office.new.book workspace.old.callers workspace.new.callers
+    ensures holds { HoldsMore B.fails (B.view office.old.book) (B.view office.new.book)
+        workspace.old.callers workspace.new.callers
         workspace.old.round.held.items workspace.new.round.held.items input.old input.new }
     ensures alone { workspace.new.round.alone ≡ workspace.old.round.alone }
     ensures one { workspace.old.round.alone ≡ true
@@ -97,10 +99,12 @@ pub(crate) fn hold_more<B: Book>(
 
 /// Writes what is to be sent to each request. A fault is `Write`, and then the first part of it was written, and not all.
 fn write_all<W: Write>(writer: &mut Counted<W>, held: &[Held], kept: bool) -> Result<(), DeskFault>
-    ensures ok { OnOk result (Appends (W.contents writer.old.device) (W.contents writer.new.device) (texts kept held.now)
+    ensures ok { OnOk result (Appends (W.contents writer.old.device) (W.contents writer.new.device)
+        (texts kept held.now)
         × (writer.new.failures ≡ writer.old.failures)) }
     ensures err { OnErr result ((count : ℕ) × (count < length (texts kept held.now))
-        × Appends (W.contents writer.old.device) (W.contents writer.new.device) (take count (texts kept held.now))
+        × Appends (W.contents writer.old.device) (W.contents writer.new.device)
+        (take count (texts kept held.now))
         × (writer.new.failures ≡ capped (writer.old.failures + 1))) }
     ensures fault { IfErr result (λ e. e ≡ DeskFault.Write) }
 {
@@ -132,9 +136,12 @@ pub fn respond<W: Outlet, B: Book>(
     writer: &mut Counted<W>,
     office: &mut Office<B>,
 ) -> Result<(), DeskFault>
-    ensures responds { Responds B.Book office.old.book office.new.book workspace.old.callers workspace.new.callers
-        workspace.old.round.held.items (W.contents writer.old.device) (W.contents writer.new.device) result }
-    ensures fault { IfErr result (λ e. (e ≡ DeskFault.Write) × (writer.new.failures ≡ capped (writer.old.failures + 1))) }
+    ensures responds { Responds B.fails (B.view office.old.book) (B.view office.new.book)
+        workspace.old.callers workspace.new.callers
+        workspace.old.round.held.items (W.contents writer.old.device)
+        (W.contents writer.new.device) result }
+    ensures fault { IfErr result
+        (λ e. (e ≡ DeskFault.Write) × (writer.new.failures ≡ capped (writer.old.failures + 1))) }
     ensures whole { OnOk result (writer.new.failures ≡ writer.old.failures) }
 {
     let settled = office.settle();

@@ -1,5 +1,6 @@
 //! A database file and its log, in memory, of which one stops at a call, and what is done with a connection to them.
-use sqlite::{Alter, Connection, FileStore, Files, Options};
+use mx_audit::Ordered;
+use sqlite::{Connection, FileStore, Files, Options};
 use sqlite_disk::{Crash, Disk, Fuse, Memory};
 use std::alloc::Global;
 use std::io;
@@ -147,7 +148,7 @@ pub(super) trait Deed {
     type Done: Drop;
 
     /// Does it, and gives the connection back. None where it isn't done.
-    fn act<S: Alter + Drop>(
+    fn act<S: Ordered + Drop>(
         &self,
         rt: &(impl Abort + AllocGlobal),
         conn: Connection<S>,

@@ -5,6 +5,7 @@ use crate::disks::{
 };
 use crate::offices::{operator, serve_in};
 use crate::scripts::{Coming, length_of};
+use mx_audit::Ordered;
 use mx_pay::Token;
 use mx_tables::{OpenFault, Tables};
 use mx_wire::Routes;
@@ -42,7 +43,7 @@ struct Created(Token);
 impl Deed for Created {
     type Done = Found;
 
-    fn act<S: Alter + Drop>(
+    fn act<S: Ordered + Drop>(
         &self,
         rt: &(impl Abort + AllocGlobal),
         conn: Connection<S>,
@@ -58,7 +59,7 @@ struct OpenedOrCreated(Token);
 impl Deed for OpenedOrCreated {
     type Done = Found;
 
-    fn act<S: Alter + Drop>(
+    fn act<S: Ordered + Drop>(
         &self,
         rt: &(impl Abort + AllocGlobal),
         conn: Connection<S>,

@@ -5,6 +5,7 @@ use crate::disks::{
 };
 use crate::offices::serve_in;
 use crate::scripts::{Coming, length_of};
+use mx_audit::Ordered;
 use mx_tables::{Migrated, OpenFault, migrate};
 use mx_wire::Routes;
 use sqlite::{Alter, Connection, Error, Files};
@@ -70,7 +71,7 @@ struct VersionOne;
 impl Deed for VersionOne {
     type Done = ();
 
-    fn act<S: Alter + Drop>(
+    fn act<S: Ordered + Drop>(
         &self,
         _rt: &(impl Abort + AllocGlobal),
         mut conn: Connection<S>,
@@ -96,7 +97,7 @@ struct Migration;
 impl Deed for Migration {
     type Done = Result<Migrated, OpenFault>;
 
-    fn act<S: Alter + Drop>(
+    fn act<S: Ordered + Drop>(
         &self,
         rt: &(impl Abort + AllocGlobal),
         mut conn: Connection<S>,

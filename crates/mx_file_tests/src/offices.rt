@@ -1,13 +1,13 @@
 //! Offices over files, and over a book in memory, and what is asked of them.
 use crate::disks::{Deed, Disks, Ended, done_in};
 use crate::scripts::{Coming, serve, serve_together, shown};
+use mx_audit::{Ordered, open};
 use mx_book::Book;
-use mx_memory::PlainBook;
+use mx_memory::new_book;
 use mx_office::Office;
 use mx_pay::Token;
-use mx_tables::Tables;
 use mx_wire::Routes;
-use sqlite::{Alter, Connection};
+use sqlite::Connection;
 use std::process::Abort;
 
 /// The operator's token: zeros and a 1.
@@ -43,7 +43,7 @@ pub(super) fn told_in_memory<Q: Question>(
     rt: &(impl Abort + AllocGlobal),
     question: &Q,
 ) -> Option<Q::Told> {
-    told_by(rt, PlainBook::new(rt.alloc(), operator()?), question)
+    told_by(rt, new_book(rt.alloc(), operator()?), question)
 }
 
 /// What is asked of an office over the books that are there, if these can be opened.
@@ -53,16 +53,16 @@ struct InOffice<'a, Q>(&'a Q);
 impl<Q: Question> Deed for InOffice<'_, Q> {
     type Done = Option<Q::Told>;
 
-    fn act<S: Alter + Drop>(
+    fn act<S: Ordered + Drop>(
         &self,
         rt: &(impl Abort + AllocGlobal),
         conn: Connection<S>,
     ) -> (Option<Self::Done>, Connection<S>) {
-        match Tables::open(rt.alloc(), conn) {
-            Ok(book) => {
+        match open(rt.alloc(), conn, 0) {
+            Ok((book, _)) => {
                 let mut office = Office::new(book);
                 let told = self.0.ask(rt, &mut office);
-                (Some(told), office.into_book().into_store())
+                (Some(told), office.into_book().into_inner().into_store())
             }
             Err(refused) => (None, refused.store),
         }

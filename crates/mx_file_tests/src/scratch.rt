@@ -1,6 +1,6 @@
 //! What the tests stand on: a folder of their own, an office, requests and responses.
 use mx_book::Book;
-use mx_memory::PlainBook;
+use mx_memory::new_book;
 use mx_office::Office;
 use mx_pay::Token;
 use mx_wire::Routes;
@@ -38,7 +38,7 @@ fn in_office(rt: &HostRuntime, book: impl Book + Drop, trial: &impl Trial) -> Re
 /// The same over a new book in memory, whose operator's token ends in f.
 pub(super) fn in_memory(rt: &HostRuntime, trial: &impl Trial) -> Result<(), Fail> {
     let operator = Token::read("0000000000000000000000000000000f").ok_or("no token")?;
-    in_office(rt, PlainBook::new(rt.alloc(), operator), trial)
+    in_office(rt, new_book(rt.alloc(), operator), trial)
 }
 
 /// The text with a line end in place of each `|`.

@@ -1,1 +1,2 @@
-pub mod WorkLemmas
+pub mod RowLemmas
+pub mod TableLemmas

@@ -6,10 +6,14 @@ use Rattle.mx_book.specs.World.{World}
 use Rattle.mx_desk.specs.Durable.{Lasts}
 use Rattle.mx_desk.specs.Rounds.{Round}
 use Rattle.mx_tables.specs.Holds.{SpellsOne}
-use Rattle.mx_tables.specs.States.{Leaves, worry}
+use Rattle.mx_tables.specs.States.{Leaves, IsSound, IsHonest}
 
--- After these rounds the tables spell the World now, while the store works. While the disk told no lie, what a stop leaves
--- spells that, or it with one of the rounds that were given up done after all.
+-- the database is one of tables of the office, whose rows spell this World, and no other
+abbrev pub Represents : Database → World → Type 0
+Represents db w = ∥ SpellsOne db w ∥₁
+
+-- After these rounds the tables represent the World now, while the store works. While the disk told no lie, what a stop leaves
+-- represents that, or it with one of the rounds that were given up done after all.
 pub record Endures (s : State) (rs : List Round) (now : World) : Type 0 where
-  pub spelled : worry s ≡ 0 → SpellsOne s.now now
-  pub lasts : worry s ≤ 1 → (db : Database) → Leaves s db → Lasts (SpellsOne db) rs now
+  pub stands : IsSound s → Represents s.now now
+  pub lasts : IsHonest s → (db : Database) → Leaves s db → Lasts (Represents db) rs now

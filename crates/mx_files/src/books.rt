@@ -3,35 +3,36 @@ ghost use Rattle.std.specs.Prelude.{◌≡◌, ◌≤◌, [], false, IfOk, IsErr
 ghost use Rattle.sqlite.specs.Held.{state as state_of};
 ghost use Rattle.mx_book.specs.World.{World, opening};
 ghost use Rattle.mx_desk.specs.Steps.{state};
-ghost use Rattle.mx_tables.specs.Holds.{SpellsOne};
-ghost use Rattle.mx_tables.specs.States.{IsOurs, Leaves, worry};
+ghost use Rattle.mx_tables.specs.States.{IsOurs, Leaves, worry, IsSound, IsHonest};
 ghost use Rattle.mx_tasks.specs.Faults.{Untouched};
 ghost use Rattle.mx_tasks.specs.Works.{Works};
-ghost use Rattle.mx_files.specs.Durable.{Endures};
+ghost use Rattle.mx_files.specs.Durable.{Endures, Represents};
 ghost use Rattle.mx_files.specs.Opened.{open_fault_of};
 
-use mx_audit::{Ordered, open};
+use mx_audit::opening::as_refusal;
+use mx_audit::{Ordered, Refusal, open};
 use mx_book::Book;
 use mx_desk::{Counted, Outlet};
 use mx_pay::Token;
-use mx_tables::{OpenFault, Tables};
+use mx_standing::Standing;
+use mx_tables::Tables;
 use mx_tasks::{Done, TaskFault, Work, work_over};
 use sqlite::{Alter, Connection};
 use std::alloc::Global;
 use std::io::Read;
 
 /// What a fault of books that can't be made or opened is.
-pub fn unmade(fault: OpenFault) -> TaskFault
+pub fn unmade(fault: Refusal) -> TaskFault
     ensures { result ≡ open_fault_of fault }
 {
     match fault {
-        OpenFault::Memory => TaskFault::Memory,
-        OpenFault::Store | OpenFault::Unsound => TaskFault::Store,
-        OpenFault::NotThisSchema => TaskFault::NotThisSchema,
+        Refusal::Memory => TaskFault::Memory,
+        Refusal::Store | Refusal::Unsound(_) => TaskFault::Store,
+        Refusal::NotThisSchema => TaskFault::NotThisSchema,
     }
 }
 
-/// Makes new books in a store, for the operator with this token, and gives the store back. They spell the World that
+/// Makes new books in a store, for the operator with this token, and gives the store back. They represent the World that
 /// has nothing but that token.
 ///
 /// # Errors
@@ -43,25 +44,25 @@ pub fn make_in_store<S: Alter + Drop>(
     store: Connection<S>,
     operator: Token,
 ) -> Result<Connection<S>, TaskFault>
-    ensures made { IfOk result (λ c. worry (state_of S.Store c) ≡ 0
-        → SpellsOne (state_of S.Store c).now (opening operator)) }
+    ensures made { IfOk result (λ c. IsSound (state_of S.Store c)
+        → Represents (state_of S.Store c).now (opening operator)) }
     ensures ours { IfOk result (λ c. IsOurs false (state_of S.Store c)) }
-    ensures lasts { IfOk result (λ c. worry (state_of S.Store c) ≡ 0
+    ensures lasts { IfOk result (λ c. IsSound (state_of S.Store c)
         → Leaves (state_of S.Store c) (state_of S.Store c).now) }
 {
     match Tables::create(alloc, store, operator) {
         Ok(book) => Ok(book.into_store()),
-        Err(refused) => Err(unmade(refused.fault)),
+        Err(refused) => Err(unmade(as_refusal(refused.fault))),
     }
 }
 
-/// Does a piece of work over the books in a store, which spell a World, and gives what came of it, with the store
+/// Does a piece of work over the books in a store, and gives what came of it, with the store
 /// (`works`). Of requests it says what an opening finds after a stop at that moment (`Endures`). A stop in the midst of the
 /// work is a store that fails from there on.
 ///
 /// # Errors
 ///
-/// `NotThisSchema` where the store has no books of this version; `Store` where it has other tables, its rows spell no World,
+/// `NotThisSchema` where the store has no books of this version; `Store` where it has other tables, its rows are no books,
 /// or it refuses a statement; `Memory`. Nothing was read or written then, and the store is given up.
 pub fn over_store<S: Ordered + Drop, R: Read, W: Outlet>(
     rt: &HostRuntime,
@@ -70,21 +71,22 @@ pub fn over_store<S: Ordered + Drop, R: Read, W: Outlet>(
     reader: &mut Counted<R>,
     writer: &mut Counted<W>,
 ) -> Result<(Result<Done, TaskFault>, Connection<S>), TaskFault>
-    ensures later { IfOk result (λ x. worry (state_of S.Store store) ≤ worry (state_of S.Store x.1)) }
-    ensures works { IfOk result (λ x. worry (state_of S.Store x.1) ≤ 1
-        → (w : World) × SpellsOne (state_of S.Store store).now w
-        × Works ⟦<Tables<S> as Book>⟧.fails (worry (state_of S.Store x.1) ≡ 0)
-        (SpellsOne (state_of S.Store x.1).now) (Endures (state_of S.Store x.1))
+    ensures later { IfOk result
+        (λ x. worry (state_of S.Store store) ≤ worry (state_of S.Store x.1)) }
+    ensures works { IfOk result (λ x. IsHonest (state_of S.Store x.1)
+        → (w : World) × Represents (state_of S.Store store).now w
+        × Works ⟦<Standing<Tables<S>> as Book>⟧.fails (IsSound (state_of S.Store x.1))
+        (Represents (state_of S.Store x.1).now) (Endures (state_of S.Store x.1))
         (state [] (R.remaining reader.old.device) (W.contents writer.old.device) w) work.now x.0
         (R.remaining reader.new.device) (W.contents writer.new.device)) }
-    ensures lasts { IfOk result (λ x. worry (state_of S.Store x.1) ≡ 0
+    ensures lasts { IfOk result (λ x. IsSound (state_of S.Store x.1)
         → Leaves (state_of S.Store x.1) (state_of S.Store x.1).now) }
     ensures unopened { IsErr result → Untouched reader.old reader.new writer.old writer.new }
 {
-    match open(rt.alloc(), store) {
-        Ok(book) => {
+    match open(rt.alloc(), store, 0) {
+        Ok((book, _)) => {
             let (answer, left) = work_over(rt, work, book, reader, writer);
-            Ok((answer, left.into_store()))
+            Ok((answer, left.into_inner().into_store()))
         }
         Err(refused) => Err(unmade(refused.fault)),
     }

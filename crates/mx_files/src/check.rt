@@ -1,8 +1,8 @@
 //! Whether the books in a store are sound, in words.
 use crate::books::unmade;
-use mx_audit::Ordered;
-use mx_audit::tables::{Checked, check};
-use mx_tables::Tables;
+use mx_audit::tables::Checked;
+use mx_audit::{Ordered, Refusal, Refused, open};
+use mx_book::Book;
 use mx_tasks::evenness::{uneven_purses, uneven_sums};
 use mx_tasks::{Done, TaskFault};
 use sqlite::Connection;
@@ -44,9 +44,9 @@ fn done(text: String, is_well: bool) -> Done {
 }
 
 /// What the check of books in which nothing was found says of their sums and statements.
-fn sums_done<S: Ordered>(
+fn sums_done<B: Book>(
     rt: &HostRuntime,
-    book: &mut Tables<S>,
+    book: &mut B,
     checked: &Checked,
 ) -> Result<Done, TaskFault> {
     let names = checked.purses(rt.alloc())?;
@@ -75,16 +75,17 @@ pub fn check_store<S: Ordered + Drop>(
     rt: &HostRuntime,
     store: Connection<S>,
 ) -> Result<(Done, Connection<S>), TaskFault> {
-    let mut store = match Tables::open(rt.alloc(), store) {
-        Ok(book) => book.into_store(),
-        Err(refused) => return Err(unmade(refused.fault)),
-    };
-    let checked = check(rt.alloc(), &mut store, MOST_FINDINGS)?;
-    if checked.found > 0 {
-        let text = findings_text(rt.alloc(), &checked)?;
-        return Ok((done(text, false), store));
+    match open(rt.alloc(), store, MOST_FINDINGS) {
+        Ok((mut book, checked)) => {
+            let answer = sums_done(rt, &mut book, &checked)?;
+            Ok((answer, book.into_inner().into_store()))
+        }
+        Err(Refused { fault, store }) => match fault {
+            Refusal::Unsound(checked) => {
+                let text = findings_text(rt.alloc(), &checked)?;
+                Ok((done(text, false), store))
+            }
+            other => Err(unmade(other)),
+        },
     }
-    let mut book = Tables::over(rt.alloc(), store);
-    let answer = sums_done(rt, &mut book, &checked)?;
-    Ok((answer, book.into_store()))
 }

@@ -220,7 +220,7 @@ pub fn make_file(rt: &HostRuntime, path: &str, operator: Token) -> Result<(), Ta
 ///
 /// The first that is met, in this order. `File` where the file isn't there, isn't a database, can't be opened, another process
 /// has it open, or another file stands where its log belongs, and a terminal is told which; `NotThisSchema` where it is empty
-/// or has no books of this version; `Store` where it has other tables, its rows spell no World, or it refuses a statement;
+/// or has no books of this version; `Store` where it has other tables, its rows are no books, or it refuses a statement;
 /// those of the work; `Store` where the file can't be closed. `Memory` comes at any step.
 pub fn over_file<R: Read, W: Outlet>(
     rt: &HostRuntime,
@@ -249,7 +249,7 @@ fn unopened_done(alloc: Global, path: &str, cause: &Cause) -> Result<Done, TaskF
 ///
 /// # Errors
 ///
-/// As of `over_file`, but where the file isn't opened, or its rows spell no World.
+/// As of `over_file`, but where the file isn't opened, or its rows are no books.
 pub fn check_file(rt: &HostRuntime, path: &str) -> Result<Done, TaskFault> {
     match open_found(rt, path) {
         Ok(store) => check_and_close(rt, store),
@@ -264,7 +264,7 @@ pub fn check_file(rt: &HostRuntime, path: &str) -> Result<Done, TaskFault> {
 ///
 /// `File` where the file isn't there, isn't a database, can't be opened, another process has it open, or another file stands
 /// where its log belongs, and a terminal is told which; `NotThisSchema` where it is empty or has no books of this version or
-/// the one before; `Store` where it has other tables, its rows spell no World, it refuses a statement or can't be closed;
+/// the one before; `Store` where it has other tables, its rows are no books, it refuses a statement or can't be closed;
 /// `Memory`.
 pub fn migrate_file(rt: &HostRuntime, path: &str) -> Result<Migrated, TaskFault> {
     match open_found(rt, path) {

@@ -12,6 +12,7 @@ use mx_book::Book;
 use mx_desk::{Counted, Outlet};
 use mx_memory::PlainBook;
 use mx_pay::Token;
+use mx_standing::Standing;
 use mx_tables::Migrated;
 use mx_tasks::runs::run_memory;
 use mx_tasks::{Done, TaskFault, Work};
@@ -57,18 +58,20 @@ fn perform_memory<R: Read, W: Outlet>(
     reader: &mut Counted<R>,
     writer: &mut Counted<W>,
 ) -> Result<(), TaskFault>
-    ensures performs { PerformsRun ⟦<PlainBook as Book>⟧.fails
-        (state [] (R.remaining reader.old.device) (W.contents writer.old.device) (opening operator)) result
+    ensures performs { PerformsRun ⟦<Standing<PlainBook> as Book>⟧.fails
+        (state [] (R.remaining reader.old.device) (W.contents writer.old.device)
+        (opening operator)) result
         (R.remaining reader.new.device) (W.contents writer.new.device) }
 {
     run_memory(alloc, operator, reader, writer)?;
     say(writer, b"")
 }
 
-/// Does a task. A run reads requests from the reader and writes their responses to the writer; any other task writes what it
+/// Does a task. A run reads requests from the reader and writes their responses to the writer. Any other task writes what it
 /// prints once it is done, and only where there is no fault; but a report is written also where it doesn't add up, and a check
-/// where it finds something wrong, which is `Store`. What the writer holds is passed on at the end, and the file of the books is closed. Of a run over books in memory
-/// all is said (`memory`); of the others, what `over_store` and `make_in_store` say of the store in the file.
+/// where it finds something wrong, which is `Store`. What the writer holds is passed on at the end, and the file of the books
+/// is closed. Of a run over books in memory all is said (`memory`); of the others, what `over_store` and `make_in_store` say of
+/// the store in the file.
 ///
 /// # Errors
 ///
@@ -83,8 +86,9 @@ pub fn perform<R: Read, W: Outlet>(
     writer: &mut Counted<W>,
 ) -> Result<(), TaskFault>
     ensures memory { (operator : Token) → task.now ≡ RunMemory operator
-        → PerformsRun ⟦<PlainBook as Book>⟧.fails
-        (state [] (R.remaining reader.old.device) (W.contents writer.old.device) (opening operator)) result
+        → PerformsRun ⟦<Standing<PlainBook> as Book>⟧.fails
+        (state [] (R.remaining reader.old.device) (W.contents writer.old.device)
+        (opening operator)) result
         (R.remaining reader.new.device) (W.contents writer.new.device) }
 {
     match task {

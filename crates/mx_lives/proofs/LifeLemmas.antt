@@ -1,5 +1,6 @@
 -- Lives, and stops between them.
-use Rattle.std.proofs.Common.{◌≡◌, ◌≤◌, ℕ, Bool, true, false, inl, inr, List, [], ◌∷◌, ◌++◌, Option, Some, Result, ap, refl, subst, sym, ◌∙◌, arith}
+use Rattle.std.proofs.Common.{◌≡◌, ◌≤◌, ℕ, Bool, true, false, inl, inr, List, [], ◌∷◌, ◌++◌, Option, Some, Result, ap, refl, subst, arith}
+use mathlib.Core.Logic.{∥∥₁_elim}
 use Rattle.sqlite.specs.Effect.{Database}
 use Rattle.sqlite.specs.State.{State as Connected, HasCleanDisk}
 use Rattle.sqlite_trees.proofs.Doubt.{clean_of}
@@ -11,12 +12,13 @@ use Rattle.mx_desk.specs.Rounds.{Leads, Round, all_of}
 use Rattle.mx_desk.specs.Serve.{Marked}
 use Rattle.mx_desk.specs.Steps.{State, state}
 use Rattle.mx_desk.proofs.LawfulLemmas.{lawful_requests}
-use Rattle.mx_tables.specs.Holds.{SpellsOne}
+use Rattle.mx_standing.specs.One.{world_set}
 use Rattle.mx_tables.specs.Schema.{office_schema}
-use Rattle.mx_tables.specs.States.{IsOurs, worry, worry_at}
+use Rattle.mx_tables.specs.States.{worry, worry_at}
 use Rattle.std.specs.Prelude.{IfErr}
 use Rattle.mx_tasks.specs.Runs.{IsRunFault, TaskRuns}
 use Rattle.mx_tasks.specs.declared.fault.TaskFault.{TaskFault}
+use Rattle.mx_files.specs.Durable.{Represents}
 use Rattle.mx_lives.specs.declared.answered.Life.{Life}
 use Rattle.mx_lives.specs.Lived.{LivedTo, LivesOver, RunsOver, lived, lived_more, unlived}
 
@@ -28,9 +30,9 @@ low_at false = omega arith
 pub low_if_clean : (s : Connected) → HasCleanDisk s → worry s ≤ 1
 low_if_clean s clean = rw (clean_of s.is_clean clean) (low_at s.is_open)
 
--- tables that spell a World have the schema of the office, and spell no other
-pub one_world : {db : Database} (u w : World) → SpellsOne db u → (db.schema ≡ office_schema → SpellsOne db w) → w ≡ u
-one_world u w one spelled = one.only w (spelled one.spelled.holds.has.schema).spelled
+-- tables that represent a World have the schema of the office, and represent no other
+pub one_world : {db : Database} (u w : World) → Represents db u → (db.schema ≡ office_schema → Represents db w) → w ≡ u
+one_world u w one stands = ∥∥₁_elim one (world_set w u) (λ a. ∥∥₁_elim (stands a.spelled.holds.has.schema) (world_set w u) (λ b. a.only w b.spelled))
 
 -- ---- lives
 
@@ -49,9 +51,9 @@ module _ {fails : StoreFault → Type 0} where
       stopped (over_lives inputs lives w v ms before) (task_lawful _ _ _ _ run.runs) r given_up
 
   -- what lives over inputs led to
-  lived_to : {have_stops : Bool} (Spelled : World → Type 0) (inputs : List (List ℕ)) (lives : List Life) (w end : World) (ms : List Marked) → LivesOver fails have_stops inputs lives w ms end → Spelled end
-      → LivedTo fails have_stops Spelled inputs lives w
-  lived_to Spelled inputs lives w end ms over spelled = record { marked = ms; end = end; over = over; as_one = over_lives inputs lives w end ms over; spelled = spelled }
+  lived_to : {have_stops : Bool} (Stands : World → Type 0) (inputs : List (List ℕ)) (lives : List Life) (w end : World) (ms : List Marked) → LivesOver fails have_stops inputs lives w ms end → Stands end
+      → LivedTo fails have_stops Stands inputs lives w
+  lived_to Stands inputs lives w end ms over stands = record { marked = ms; end = end; over = over; as_one = over_lives inputs lives w end ms over; stands = stands }
 
   -- a run over an input
   pub run_over : {Moves Left : List Round → World → Type 0} {rest : Option (List ℕ)} (from empty output : Option (List ℕ)) (input : List ℕ) (w : World) (life : Life) → from ≡ Some input → empty ≡ Some []
@@ -71,20 +73,20 @@ module _ {fails : StoreFault → Type 0} where
   }
 
   -- before the first
-  pub lived_none : {have_stops : Bool} (Spelled : World → Type 0) (w : World) → Spelled w → LivedTo fails have_stops Spelled [] [] w
-  lived_none Spelled w spelled = lived_to Spelled [] [] w w [] unlived spelled
+  pub lived_none : {have_stops : Bool} (Stands : World → Type 0) (w : World) → Stands w → LivedTo fails have_stops Stands [] [] w
+  lived_none Stands w stands = lived_to Stands [] [] w w [] unlived stands
 
   -- one more, which ended with a close
   pub closed_next : (Before After : World → Type 0) (inputs : List (List ℕ)) (input : List ℕ) (lives : List Life) (life : Life) (w : World) → LivedTo fails false Before inputs lives w
       → ((v : World) → Before v → Leads (RunsOver fails v input life) (λ _ now. After now)) → LivedTo fails false After (inputs ++ input ∷ []) (lives ++ life ∷ []) w
-  closed_next Before After inputs input lives life w before next = by (next before.end before.spelled) where
+  closed_next Before After inputs input lives life w before next = by (next before.end before.stands) where
     by : Leads (RunsOver fails before.end input life) (λ _ now. After now) → LivedTo fails false After (inputs ++ input ∷ []) (lives ++ life ∷ []) w
     by led = lived_to After _ _ w led.end _ (lived before.over led.holds) led.moves
 
   -- and one that was ended by a stop
   pub lived_next : (Before After : World → Type 0) (inputs : List (List ℕ)) (input : List ℕ) (lives : List Life) (life : Life) (w : World) → LivedTo fails true Before inputs lives w
       → ((v : World) → Before v → Leads (RunsOver fails v input life) (Lasts After)) → LivedTo fails true After (inputs ++ input ∷ []) (lives ++ life ∷ []) w
-  lived_next Before After inputs input lives life w before next = by (next before.end before.spelled) where
+  lived_next Before After inputs input lives life w before next = by (next before.end before.stands) where
     after : (rs : List Round) (now : World) → RunsOver fails before.end input life (all_of rs) now → Lasts After rs now → LivedTo fails true After (inputs ++ input ∷ []) (lives ++ life ∷ []) w
     after rs now run (inl here) = lived_to After _ _ w now _ (lived before.over run) here
     after rs now run (inr more) = lived_to After _ _ w _ _ (lived_more refl before.over run more.0 more.1) more.2

@@ -8,15 +8,15 @@ use Rattle.sqlite_trees.specs.Tree.{Trees}
 use Rattle.sqlite.specs.Effect.{IsDatabase}
 use Rattle.sqlite.specs.Files.{HoldsDatabase, image_of}
 use Rattle.mx_book.specs.World.{World}
-use Rattle.mx_tables.specs.Holds.{SpellsOne}
 use Rattle.mx_tables.specs.Schema.{office_schema}
+use Rattle.mx_files.specs.Durable.{Represents}
 
--- the bytes are those of a database that lists the tables of the office, whose rows spell this World, and no other
+-- the bytes are those of a database that lists the tables of the office, which represent this World
 pub record HoldBooks (bytes : Image) (w : World) : Type 0 where
   pub trees : Trees
   pub held : ∥ HoldsDatabase bytes trees ∥₁
   pub listed : IsDatabase (record { schema = office_schema; trees = trees })
-  pub spelled : SpellsOne (record { schema = office_schema; trees = trees }) w
+  pub stands : Represents (record { schema = office_schema; trees = trees }) w
 
 -- and so are those of the database file without its log
 pub record HoldBooksAlone (bytes : Image) (w : World) : Type 0 where

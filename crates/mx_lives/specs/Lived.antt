@@ -31,7 +31,7 @@ pub data LivesOver (fails : StoreFault → Type 0) (have_stops : Bool) : List (L
       → LivesOver fails have_stops (inputs ++ input ∷ []) (lives ++ life ∷ []) w (ms ++ (all_of rs ++ r.held)) (world_after now r.held)
 
 -- lives over these inputs, of which this came, led from the World w to one that the books spell
-pub record LivedTo (fails : StoreFault → Type 0) (have_stops : Bool) (Spelled : World → Type 0) (inputs : List (List ℕ)) (lives : List Life) (w : World) : Type 0 where
+pub record LivedTo (fails : StoreFault → Type 0) (have_stops : Bool) (Stands : World → Type 0) (inputs : List (List ℕ)) (lives : List Life) (w : World) : Type 0 where
   -- the requests of all lives, in order
   pub marked : List Marked
   -- the World after them
@@ -40,4 +40,4 @@ pub record LivedTo (fails : StoreFault → Type 0) (have_stops : Bool) (Spelled 
   pub over : LivesOver fails have_stops inputs lives w marked end
   -- all lives as one list of requests: what is promised of it is said by the law `lives` of mx_desk
   pub as_one : Lives w marked end
-  pub spelled : Spelled end
+  pub stands : Stands end

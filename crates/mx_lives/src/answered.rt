@@ -1,8 +1,8 @@
 //! Books that answer the requests of an input.
 ghost use Rattle.std.specs.Prelude.{◌≡◌, ◌≤◌};
-ghost use Rattle.mx_book.specs.Stands.{MovesTo, RestsAt};
+ghost use Rattle.mx_book.specs.Views.{RestsAt, IsHonest};
 ghost use Rattle.mx_book.specs.World.{World};
-ghost use Rattle.mx_desk.specs.Rounds.{Leads, attempts};
+ghost use Rattle.mx_desk.specs.Rounds.{Leads, Moves};
 ghost use Rattle.mx_lives.specs.Lived.{RunsOver};
 
 use mx_book::Book;
@@ -23,11 +23,10 @@ pub struct Life {
 
 /// Lends books to an office that answers the requests of an input, and gives them back, with what came of that.
 pub(crate) fn answered<B: Book>(alloc: Global, book: B, input: &[u8]) -> (B, Life)
-    ensures later { B.settled book → B.doubt book ≤ B.doubt result.0 }
-    ensures still { B.settled book → B.settled result.0 }
-    ensures runs { (w : World) → B.doubt result.0 ≤ 1 → RestsAt B.doubt B.rows B.spells B.settled book w
-        → Leads (RunsOver B.fails w input.now result.1)
-        (λ rs. MovesTo B.doubt B.rows B.spells B.settled B.leaves book result.0 w (attempts rs)) }
+    ensures later { (B.view book).IsSettled → (B.view book).doubt ≤ (B.view result.0).doubt }
+    ensures still { (B.view book).IsSettled → (B.view result.0).IsSettled }
+    ensures runs { (w : World) → IsHonest (B.view result.0) → RestsAt (B.view book) w
+        → Leads (RunsOver B.fails w input.now result.1) (Moves (B.view book) (B.view result.0) w) }
 {
     let mut office = Office::new(book);
     let mut reader = Counted::new(input);

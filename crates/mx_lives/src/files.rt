@@ -9,8 +9,8 @@ ghost use Rattle.sqlite.specs.State.{HasCleanDisk};
 ghost use Rattle.mx_book.specs.World.{World, opening};
 ghost use Rattle.mx_desk.specs.Rounds.{Leads};
 ghost use Rattle.mx_office.specs.Reachable.{IsReachable};
-ghost use Rattle.mx_tables.specs.Holds.{SpellsOne};
-ghost use Rattle.mx_tables.specs.States.{IsOurs, worry};
+ghost use Rattle.mx_tables.specs.States.{IsOurs, worry, IsSound};
+ghost use Rattle.mx_files.specs.Durable.{Represents};
 ghost use Rattle.mx_lives.specs.InFiles.{AreClosed, AreLeft, HoldBooks};
 ghost use Rattle.mx_lives.specs.Lived.{LivedTo, RunsOver};
 
@@ -20,6 +20,7 @@ use mx_audit::{Ordered, open};
 use mx_book::Book;
 use mx_files::books::make_in_store;
 use mx_pay::Token;
+use mx_standing::Standing;
 use mx_tables::Tables;
 use sqlite::{Connection, FileStore, Files, Options};
 use sqlite_disk::{Crash, Disk};
@@ -46,7 +47,8 @@ fn opened<D: Disk + Drop>(
 /// Closes the two files of a database, and gives them back. None where they can't be closed.
 fn closed<D: Disk + Drop>(store: Connection<FileStore<D>>) -> Option<Files<D>>
     ensures sound { IsTrue (file_state store).is_open → IsDatabase (file_state store).now }
-    ensures copied { IfSome result (λ files. AreClean D.Disk files.log files.db → IsCopied store files) }
+    ensures copied { IfSome result
+        (λ files. AreClean D.Disk files.log files.db → IsCopied store files) }
 {
     match store.close_files() {
         Ok(files) => Some(files),
@@ -81,7 +83,7 @@ pub fn new_files<D: Disk + Drop>(
     closed(made)
 }
 
-/// Opens the books in a store, which spell a World, answers the requests of an input, and gives the store back. None where it
+/// Opens the books in a store, answers the requests of an input, and gives the store back. None where it
 /// has no books.
 fn life_over<S: Ordered + Drop>(
     alloc: Global,
@@ -91,16 +93,16 @@ fn life_over<S: Ordered + Drop>(
     ensures later { IfSome result
         (λ r. worry (state S.Store store) ≤ worry (state S.Store r.0)) }
     ensures ours { IfSome result (λ r. IsOurs false (state S.Store r.0)) }
-    ensures lives { IfSome result (λ r. worry (state S.Store r.0) ≡ 0
-        → (w : World) × SpellsOne (state S.Store store).now w
-        × Leads (RunsOver ⟦<Tables<S> as Book>⟧.fails w input.now r.1)
-        (λ _ now. SpellsOne (state S.Store r.0).now now)) }
+    ensures lives { IfSome result (λ r. IsSound (state S.Store r.0)
+        → (w : World) × Represents (state S.Store store).now w
+        × Leads (RunsOver ⟦<Standing<Tables<S>> as Book>⟧.fails w input.now r.1)
+        (λ _ now. Represents (state S.Store r.0).now now)) }
 {
-    let Ok(book) = open(alloc, store) else {
+    let Ok((book, _)) = open(alloc, store, 0) else {
         return None;
     };
     let (left, life) = answered(alloc, book, input);
-    Some((left.into_store(), life))
+    Some((left.into_inner().into_store(), life))
 }
 
 /// One life: opens the books in two files, answers the requests of an input, and closes the files. None where the files can't be
@@ -115,7 +117,7 @@ fn closed_life<D: Disk + Drop>(
         (λ r. AreClean D.Disk r.0.log r.0.db → AreClean D.Disk files.log files.db) }
     ensures lives { (w : World) → HoldBooks (image_of D.Disk files) w
         → IfSome result (λ r. AreClean D.Disk r.0.log r.0.db
-        → Leads (RunsOver ⟦<Tables<FileStore<D>> as Book>⟧.fails w input.now r.1)
+        → Leads (RunsOver ⟦<Standing<Tables<FileStore<D>>> as Book>⟧.fails w input.now r.1)
         (λ _ now. AreClosed D.Disk r.0 now)) }
 {
     let store = opened(alloc, files, options)?;
@@ -137,7 +139,7 @@ pub fn closed_lives<D: Disk + Drop>(
 ) -> Option<(Files<D>, Vec<Life>)>
     ensures lives { (w : World) → HoldBooks (image_of D.Disk files) w
         → IfSome result (λ end. AreClean D.Disk end.0.log end.0.db
-        → LivedTo ⟦<Tables<FileStore<D>> as Book>⟧.fails false
+        → LivedTo ⟦<Standing<Tables<FileStore<D>>> as Book>⟧.fails false
         (AreLeft D.Disk end.0 (map (λ input. input.now) inputs.now))
         (map (λ input. input.now) inputs.now) end.1.items w) }
 {
@@ -164,7 +166,7 @@ pub fn stopped_lives<D: Crash + Drop>(
 ) -> Option<(Files<D>, Vec<Life>)>
     ensures lives { (w : World) → HoldBooks (image_of D.Disk files) w
         → IfSome result (λ end. AreClean D.Disk end.0.log end.0.db
-        → LivedTo ⟦<Tables<FileStore<D>> as Book>⟧.fails true (AreClosed D.Disk end.0)
+        → LivedTo ⟦<Standing<Tables<FileStore<D>>> as Book>⟧.fails true (AreClosed D.Disk end.0)
         (map (λ input. input.now) inputs.now) end.1.items w) }
 {
     let store = opened(alloc, files, options)?;

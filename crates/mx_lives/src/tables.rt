@@ -1,5 +1,5 @@
 //! A run over tables in memory.
-ghost use Rattle.std.specs.Prelude.{◌≡◌, List, []};
+ghost use Rattle.std.specs.Prelude.{◌≡◌, Err, List, []};
 ghost use Rattle.mx_book.specs.World.{World, opening};
 ghost use Rattle.mx_desk.specs.Serve.{Marked};
 ghost use Rattle.mx_desk.specs.Steps.{state};
@@ -7,17 +7,29 @@ ghost use Rattle.mx_office.specs.Reachable.{IsReachable};
 ghost use Rattle.mx_tasks.specs.Faults.{Untouched};
 ghost use Rattle.mx_tasks.specs.Runs.{IsUnbegun, TaskRuns};
 
+use mx_audit::opening::as_refusal;
+use mx_audit::{Refusal, open};
 use mx_book::Book;
 use mx_desk::{Counted, Outlet};
-use mx_files::books::unmade;
 use mx_office::Office;
 use mx_pay::Token;
+use mx_standing::Standing;
 use mx_tables::Tables;
 use mx_tasks::TaskFault;
 use mx_tasks::runs::run_office;
 use sqlite::{Connection, MemStore};
 use std::alloc::Global;
 use std::io::Read;
+
+/// Why a run over tables in memory doesn't begin.
+fn unbegun(fault: Refusal) -> TaskFault
+    ensures { IsUnbegun (Err result) }
+{
+    match fault {
+        Refusal::Memory => TaskFault::Memory,
+        _ => TaskFault::Store,
+    }
+}
 
 /// Answers the requests of the input over new tables in memory that are given up at the end, for the operator with that
 /// token, and says how many responses were written, as `run_memory` does over a book in memory. A request may be given up,
@@ -33,17 +45,21 @@ pub fn run_memory_tables<R: Read, W: Outlet>(
 ) -> Result<u64, TaskFault>
     ensures unbegun { IsUnbegun result → Untouched reader.old reader.new writer.old writer.new }
     ensures begins { IsReachable (opening operator) }
-    ensures runs { (ms : List Marked) × (now : World) × TaskRuns ⟦<Tables<MemStore> as Book>⟧.fails
-        (state [] (R.remaining reader.old.device) (W.contents writer.old.device) (opening operator)) result ms
+    ensures runs { (ms : List Marked) × (now : World)
+        × TaskRuns ⟦<Standing<Tables<MemStore>> as Book>⟧.fails
+        (state [] (R.remaining reader.old.device) (W.contents writer.old.device)
+        (opening operator)) result ms
         (state [] (R.remaining reader.new.device) (W.contents writer.new.device) now) }
 {
     // The reader says that the token has its bytes.
     let _bytes = operator.as_bytes();
     let store = Connection::open_in_memory(alloc)?;
-    let book = match Tables::create(alloc, store, operator) {
-        Ok(book) => book,
-        Err(refused) => return Err(unmade(refused.fault)),
+    let made = match Tables::create(alloc, store, operator) {
+        Ok(made) => made.into_store(),
+        Err(refused) => return Err(unbegun(as_refusal(refused.fault))),
     };
-    let mut kept = Office::new(book);
-    run_office(alloc, &mut kept, reader, writer)
+    match open(alloc, made, 0) {
+        Ok((book, _)) => run_office(alloc, &mut Office::new(book), reader, writer),
+        Err(refused) => Err(unbegun(refused.fault)),
+    }
 }

@@ -8,4 +8,4 @@ mod results;
 mod shelves;
 mod totals;
 
-pub use plain_book::PlainBook;
+pub use plain_book::{PlainBook, new_book};

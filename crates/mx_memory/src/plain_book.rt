@@ -1,17 +1,21 @@
 //! The book in memory.
-ghost use Rattle.std.proofs.Common.{inl, refl, arith};
+ghost use Rattle.std.specs.Prelude.{◌≡◌};
+ghost use Rattle.std.proofs.Common.{inl, inr, refl, arith};
 ghost use Rattle.mx_book.specs.World.{opening};
 ghost use Rattle.mx_book.specs.Rows.{Rows as Kept, world_of};
 ghost use Rattle.mx_memory.specs.Shelves.{rows_of};
 ghost use Rattle.mx_book.specs.Spells.{Spells, one_world};
+ghost use Rattle.mx_book.specs.Views.{IsSure};
 
 use crate::shelves::Shelves;
 use mx_book::contract::{Book, StoreFault};
 use mx_book::edits::Edit;
+use mx_book::rows::RowBook;
 use mx_book::values::{Account, Caller, HolderRow, Line, MemberRow, MemberTotals, Totals};
 use mx_pay::{Amount, Log, Name, PayDetails, Token};
 use mx_purse::message::Message;
 use mx_purse::purse::Purse;
+use mx_standing::Standing;
 use std::alloc::Global;
 
 /// A book that keeps its rows in vectors. It always spells a World, and it never answers Store: a read that
@@ -25,7 +29,7 @@ pub struct PlainBook {
 impl PlainBook {
     /// A book that spells the World that has nothing but this token of the operator.
     pub fn new(alloc: Global, operator: Token) -> PlainBook
-        ensures { ⟦<PlainBook as Book>⟧.spells (⟦<PlainBook as Book>⟧.rows result)
+        ensures { ⟦<PlainBook as RowBook>⟧.spells (⟦<PlainBook as RowBook>⟧.rows result)
             (opening operator) }
     {
         // The reader says that the token has its bytes.
@@ -36,7 +40,7 @@ impl PlainBook {
     }
 }
 
-impl Book for PlainBook {
+impl RowBook for PlainBook {
     ghost Rows = { Kept };
 
     ghost rows = { λ b. rows_of b.shelves };
@@ -232,4 +236,15 @@ impl Book for PlainBook {
     ghost deep = { λ b. omega arith };
 
     ghost doubted = { λ _. inl refl };
+
+    ghost waits = { inr (λ b. tt) };
+}
+
+/// A book in memory. Its World has nothing but this token of the operator.
+pub fn new_book(alloc: Global, operator: Token) -> Standing<PlainBook>
+    ensures world { (⟦<Standing<PlainBook> as Book>⟧.view result).world ≡ opening operator }
+    ensures sure { IsSure (⟦<Standing<PlainBook> as Book>⟧.view result) }
+    ensures still { (⟦<Standing<PlainBook> as Book>⟧.view result).IsSettled }
+{
+    Standing::of(PlainBook::new(alloc, operator))
 }

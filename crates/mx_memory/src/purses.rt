@@ -183,7 +183,8 @@ impl Purses {
             ≡ Some row.now }
         ensures map { IfSome (map.get (map_of name_cmp self.old) name)
             (λ x. map_of name_cmp self.new
-            ≡ map.insert (map_of name_cmp self.old) name (record x { next_message = next_message })) }
+            ≡ map.insert (map_of name_cmp self.old) name
+            (record x { next_message = next_message })) }
         ensures room { self.old.room ≤ self.new.room + 1 }
     {
         let row = BareRow {

@@ -10,7 +10,7 @@ use Rattle.mx_command.specs.declared.values.Command.{Command}
 use Rattle.mx_command.specs.declared.values.Refusal.{Refusal}
 use Rattle.mx_command.specs.declared.values.Reply.{Reply}
 use Rattle.mx_command.specs.declared.values.Reply.TheVariants as reply
-use Rattle.mx_office.specs.Faults.{lists, makes_edits, is_refused, takes_memory, FailsFor, MayFail}
+use Rattle.mx_office.specs.Faults.{lists, makes_edits, is_refused, takes_memory, FailsFor, MayFail, MayNotDecide}
 use Rattle.mx_office.specs.Step.{step}
 
 edits_take : (a b c : Bool) → (IsTrue b → ⊥) → (c ≡ false → ⊥) → IsTrue (a || (not b && c))
@@ -44,3 +44,8 @@ memory_fails fails takes e t (inr x) = inr x
 pub decision_fails : (fails : StoreFault → Type 0) (w : World) (caller : Caller) (command : Command) (e : StoreFault) → FailsFor fails (lists w caller command) e → MayFail fails w caller command e
 decision_fails fails w caller command e (inl x) = inl (list_takes (lists w caller command) (not (is_refused (step w caller command).reply) && makes_edits w command) x.0, x.1)
 decision_fails fails w caller command e (inr x) = inr x
+
+-- want of memory, or what a book's reads may fail by
+pub decision_faults : (fails : StoreFault → Type 0) (command : Command) (e : StoreFault) → MayNotDecide fails command e → (e ≡ Memory) ⊎ fails e
+decision_faults fails command e (inl x) = inl x.1
+decision_faults fails command e (inr x) = inr x

@@ -2,7 +2,10 @@
 use Rattle.std.proofs.Common.{◌≡◌, ℕ, ◌+◌, ◌<◌, true, false, List, [], ◌∷◌, ◌++◌, length, take, get_or, refl, sym, ◌∙◌, ap, subst}
 use Rattle.std.proofs.lemmas.List.{take_more}
 use Rattle.std.specs.List.{AllByRecursion}
-use Rattle.mx_book.specs.Stands.{attempt}
+use Rattle.mx_book.specs.Stands.{attempt, attempt_all}
+use Rattle.mx_book.proofs.StandLemmas.{attempt_all-append}
+use Rattle.mx_book.specs.Views.{View, MovesTo}
+use Rattle.mx_book.proofs.ViewLemmas.{moves_then}
 use Rattle.mx_book.specs.World.{World}
 use Rattle.std.proofs.ByRecursion.{All-append as all_append}
 use Rattle.mx_book.specs.declared.contract.StoreFault.{StoreFault}
@@ -13,7 +16,7 @@ use Rattle.mx_command.specs.declared.values.Reply.{Reply}
 use Rattle.mx_command.specs.declared.values.Reply.TheVariants.{Refused}
 use Rattle.mx_command.specs.Commands.{IsAsked, Asked}
 use Rattle.mx_office.specs.Step.{step}
-use Rattle.mx_office.specs.Run.{IsRun, IsUndone, MayBeUndone, attempts, is_unavailable}
+use Rattle.mx_office.specs.Run.{IsRun, IsUndone, MayBeUndone, Runs, attempts, is_unavailable}
 
 one_taken : (cs : List Asked) (i : ℕ) (c : Asked) → i < length cs → c ≡ get_or cs i c → take (i + 1) cs ≡ take i cs ++ c ∷ []
 one_taken cs i c lt at = take_more cs i c lt ∙ ap (λ x. take i cs ++ x ∷ []) (sym at)
@@ -30,8 +33,8 @@ undone_before os o more is all = parts os (subst (AllByRecursion IsUndone) is al
   parts [] all = (tt, all.0)
   parts (x ∷ os) all = let rest = parts os all.1 in ((all.0, rest.0), rest.1)
 
--- after a refusal the rows are as they were
-pub refused_last : {R : Type 0} (old now new : R) (r : Reply) (o : Outcome) → o ≡ Replied r → IsUndone o → ((refusal : Refusal) → r ≡ Refused refusal → new ≡ now) → now ≡ old → new ≡ old
+-- after a refusal the World is as it was
+pub refused_last : (old now new : World) (r : Reply) (o : Outcome) → o ≡ Replied r → IsUndone o → ((refusal : Refusal) → r ≡ Refused refusal → new ≡ now) → now ≡ old → new ≡ old
 refused_last old now new r o is undone same so_far = let refused = subst IsUndone is undone in same refused.0 refused.1 ∙ so_far
 
 -- ---- runs
@@ -76,3 +79,31 @@ module _ (fails : StoreFault → Type 0) where
   pub attempts_at : (w v : World) (cs : List Asked) (i : ℕ) (c : Asked) (os more : List Outcome) (o : Outcome) → i < length cs → c ≡ get_or cs i c → IsRun fails w (take i cs) os v
       → more ≡ os ++ o ∷ [] → attempts (take (i + 1) cs) more ≡ attempts (take i cs) os ++ attempt (is_unavailable o) (λ u. (step u c.0 c.1).world)
   attempts_at w v cs i c os more o lt at is more_is = rw (one_taken cs i c lt at, more_is) (attempts_more w v (take i cs) os c o is)
+
+  -- ---- a run and one attempt more
+
+  module _ {old now : View} (cs : List Asked) (i : ℕ) (c : Asked) (os more : List Outcome) (o : Outcome) (lt : i < length cs) (at : c ≡ get_or cs i c) (more_is : more ≡ os ++ o ∷ []) (far : Runs fails old now (take i cs) os) where
+    abbrev so_far : World
+    so_far = attempt_all old.world (attempts (take i cs) os)
+
+    abbrev change : World → World
+    change u = (step u c.0 c.1).world
+
+    tried : (p : Outcome) → o ≡ p → attempts (take (i + 1) cs) more ≡ attempts (take i cs) os ++ attempt (is_unavailable p) change
+    tried p is = attempts_at old.world so_far cs i c os more o lt at far.run more_is ∙ ap (λ x. attempts (take i cs) os ++ attempt (is_unavailable x) change) is
+
+    ends : (p : Outcome) → o ≡ p → attempt_all old.world (attempts (take (i + 1) cs) more) ≡ attempt_all so_far (attempt (is_unavailable p) change)
+    ends p is = ap (attempt_all old.world) (tried p is) ∙ attempt_all-append old.world (attempts (take i cs) os) (attempt (is_unavailable p) change)
+
+    pub runs_replied : {new : View} (r : Reply) → o ≡ Replied r → now.doubt ≡ 0 → r ≡ (step now.world c.0 c.1).reply → MovesTo now new (attempt false change) → Runs fails old new (take (i + 1) cs) more
+    runs_replied {new = new} r is sure reply made = record {
+      moves = subst (MovesTo old new) (sym (tried (Replied r) is)) (moves_then _ _ far.moves made);
+      run = subst (IsRun fails old.world (take (i + 1) cs) more) (sym (ends (Replied r) is))
+          (run_replied_at old.world so_far cs i c os more o r lt at far.run (subst (λ x. r ≡ (step x c.0 c.1).reply) (far.moves.world sure) reply) is more_is);
+    }
+
+    pub runs_undone : {new : View} → o ≡ Unavailable → MayBeUndone fails so_far c → MovesTo now new (attempt true change) → Runs fails old new (take (i + 1) cs) more
+    runs_undone {new = new} is why undone = record {
+      moves = subst (MovesTo old new) (sym (tried Unavailable is)) (moves_then _ _ far.moves undone);
+      run = subst (IsRun fails old.world (take (i + 1) cs) more) (sym (ends Unavailable is)) (run_undone_at old.world so_far cs i c os more o lt at far.run why is more_is);
+    }

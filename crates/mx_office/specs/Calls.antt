@@ -1,10 +1,8 @@
--- What a call of the office that only reads tells of its book.
-use Rattle.std.specs.Prelude.{◌≡◌, [], false, Result, OnOk, IfOk, IfErr, IsTrue}
-use Rattle.mx_book.specs.Keeps.{Keeps}
-use Rattle.mx_book.specs.World.{World}
-use Rattle.mx_book.specs.declared.contract.Book.{Ghosts}
+-- What a decision on a command tells.
+use Rattle.std.specs.Prelude.{◌≡◌, [], false, Result, OnOk, IfErr, IsTrue}
 use Rattle.mx_book.specs.declared.contract.StoreFault.{StoreFault}
 use Rattle.mx_book.specs.declared.values.Caller.{Caller}
+use Rattle.mx_book.specs.Views.{View, Keeps, IsSure}
 use Rattle.mx_command.specs.Commands.{IsCommand}
 use Rattle.mx_office.specs.Decides.{Decides}
 use Rattle.mx_office.specs.Faults.{FailsFor, MayNotDecide, is_read, lists, makes_edits}
@@ -12,23 +10,15 @@ use Rattle.mx_office.specs.Step.{base}
 use Rattle.mx_command.specs.declared.values.Command.{Command}
 use Rattle.mx_office.specs.declared.values.Decided.{Decided}
 
--- The rows stay. Where there is no doubt in the end, what is said of an answer
--- is so of the World that the rows spelled. A fault is one of these.
-pub record Tells {B T : Type 0} (b : Ghosts B) (fails : StoreFault → Type 0) (old new : B)
-    (result : Result T StoreFault) (said : World → T → Type 0) : Type 0 where
-  pub keeps : Keeps b.doubt b.rows b.harm b.base b.defers b.settled b.leaves old new
-  pub value : (w : World) → b.doubt new ≡ 0 → b.spells (b.rows old) w → IfOk result (said w)
-  pub fault : IfErr result fails
-
--- The same of a decision on a command of a caller. A command that only reads has no edits, nor has one that is idle in the World, and want of memory comes of lists alone.
-pub record TellsOf {B T : Type 0} (b : Ghosts B) (old new : B) (result : Result T StoreFault)
+-- The World stays. Where there is no doubt in the end, the decision is that of the World. A command that only reads has no
+-- edits, nor has one that is idle in the World, and want of memory comes of lists alone.
+pub record TellsOf {T : Type 0} (fails : StoreFault → Type 0) (old new : View) (result : Result T StoreFault)
     (caller : Caller) (command : Command) (d : Decided) : Type 0 where
-  pub keeps : Keeps b.doubt b.rows b.harm b.base b.defers b.settled b.leaves old new
-  pub decides : (w : World) → IsCommand command → b.doubt new ≡ 0 → b.spells (b.rows old) w
-      → OnOk result (Decides w (base w caller command) d)
+  pub keeps : Keeps old new
+  pub decides : IsCommand command → IsSure new
+      → OnOk result (Decides old.world (base old.world caller command) d)
   pub reads : OnOk result (IsTrue (is_read command) → d.edits ≡ [])
-  pub edits : (w : World) → b.doubt new ≡ 0 → b.spells (b.rows old) w
-      → OnOk result (makes_edits w command ≡ false → d.edits ≡ [])
-  pub fault : IfErr result (MayNotDecide b.fails command)
-  pub memory : (w : World) → b.doubt new ≡ 0 → b.spells (b.rows old) w
-      → IfErr result (FailsFor b.fails (lists w caller command))
+  pub edits : IsSure new
+      → OnOk result (makes_edits old.world command ≡ false → d.edits ≡ [])
+  pub fault : IfErr result (MayNotDecide fails command)
+  pub memory : IsSure new → IfErr result (FailsFor fails (lists old.world caller command))

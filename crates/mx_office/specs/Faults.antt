@@ -61,7 +61,7 @@ takes_memory w caller command = lists w caller command || (not (is_refused (step
 abbrev pub FailsFor : (StoreFault → Type 0) → Bool → StoreFault → Type 0
 FailsFor fails takes e = (IsTrue takes × (e ≡ Memory)) ⊎ fails e
 
--- why a decision on a command may fail, over any rows
+-- why a decision on a command may fail, also in doubt
 abbrev pub MayNotDecide : (StoreFault → Type 0) → Command → StoreFault → Type 0
 MayNotDecide fails command = FailsFor fails (reads_list command)
 

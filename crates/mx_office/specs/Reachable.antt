@@ -17,12 +17,9 @@ pub record IsReachable (w : World) : Type 0 where
   pub values : AllByRecursion IsAsked commands
   pub leads : (steps (opening operator) commands).end ≡ w
 
--- a World stands that commands lead to, which meets the conditions of a World; the members' equation holds, and the
--- scheme's
-pub record StandsBalanced (Stands : World → Type 0) : Type 0 where
-  pub end : World
-  pub stands : Stands end
-  pub reachable : IsReachable end
-  pub world : IsWorld end
-  pub balanced : IsBalanced end
-  pub conserved : IsConserved end
+-- commands lead to the World, and it meets the conditions of a World; the members' equation holds, and the scheme's
+pub record StandsBalanced (w : World) : Type 0 where
+  pub reachable : IsReachable w
+  pub world : IsWorld w
+  pub balanced : IsBalanced w
+  pub conserved : IsConserved w

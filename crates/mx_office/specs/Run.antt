@@ -1,6 +1,7 @@
 -- A run of commands, some of which the book could not do.
 use Rattle.std.specs.Prelude.{◌≡◌, Bool, List, [], ◌∷◌}
-use Rattle.mx_book.specs.Stands.{Attempt}
+use Rattle.mx_book.specs.Stands.{Attempt, attempt_all}
+use Rattle.mx_book.specs.Views.{View, MovesTo}
 use Rattle.mx_book.specs.World.{World}
 use Rattle.mx_book.specs.declared.contract.StoreFault.{StoreFault}
 use Rattle.mx_book.specs.declared.values.Caller.{Caller}
@@ -35,11 +36,11 @@ abbrev pub attempts : List Asked → List Outcome → List Attempt
 attempts (c ∷ cs) (o ∷ os) = record { given_up = is_unavailable o; change = λ w. (step w c.0 c.1).world } ∷ attempts cs os
 attempts _ _ = []
 
--- a run of these outcomes ends in a World that stands
-pub record Leads (fails : StoreFault → Type 0) (Stands : World → Type 0) (w : World) (cs : List Asked) (os : List Outcome) : Type 0 where
-  pub end : World
-  pub stands : Stands end
-  pub run : IsRun fails w cs os end
+-- What a run of these outcomes leaves: they are attempts, which lead from the World as the commands' steps do. What isn't
+-- answered may be left undone.
+pub record Runs (fails : StoreFault → Type 0) (old new : View) (cs : List Asked) (os : List Outcome) : Type 0 where
+  pub moves : MovesTo old new (attempts cs os)
+  pub run : IsRun fails old.world cs os (attempt_all old.world (attempts cs os))
 
 -- an outcome by which nothing changes: the command was refused, or not answered
 abbrev pub IsUndone : Outcome → Type 0

@@ -1,9 +1,8 @@
 //! The operator's commands on the results of read log: archives, clears and settlements.
 ghost use Rattle.std.specs.Prelude.{◌≡◌, [], false, nat_lt, OnOk, IfErr};
 ghost use Rattle.mx_pay.specs.Log.{log_len};
-ghost use Rattle.mx_book.specs.Keeps.{Keeps, Gives};
 ghost use Rattle.mx_book.specs.Reads.{finds_place, tray_of};
-ghost use Rattle.mx_office.specs.Calls.{Tells};
+ghost use Rattle.mx_book.specs.Views.{Answers};
 ghost use Rattle.mx_command.specs.Commands.{IsCommand};
 ghost use Rattle.mx_office.specs.Decides.{Decides, settlement_edits};
 ghost use Rattle.mx_office.specs.Step.{archive, clear, is_archived_for_both, may_clear, settle};
@@ -26,7 +25,7 @@ pub(crate) fn archive<B: Book>(
     purse: Name,
     decided: &mut Decided,
 ) -> Result<(), StoreFault>
-    ensures { Tells B.Book B.fails book.old book.new result
+    ensures { Answers B.fails (B.view book.old) (B.view book.new) result
         (λ w _. Decides w (archive w purse) decided.new
         × (nat_lt 0 (log_len (tray_of w purse)) ≡ false → decided.new.edits ≡ [])) }
 {
@@ -55,10 +54,8 @@ fn may_clear<B: Book>(
     purse: Name,
     details: &Log,
 ) -> Result<bool, StoreFault>
-    ensures keeps { Keeps B.doubt B.rows B.harm B.base B.defers B.settled B.leaves book.old book.new }
-    ensures value { Gives B.doubt B.rows B.spells book.old book.new result
+    ensures { Answers B.fails (B.view book.old) (B.view book.new) result
         (λ w b. b ≡ may_clear w purse details.now) }
-    ensures fault { IfErr result B.fails }
 {
     for place in 0..details.len() {
         if let Some(entry) = details.at(place) {
@@ -78,7 +75,7 @@ pub(crate) fn clear<B: Book>(
     details: &Log,
     decided: &mut Decided,
 ) -> Result<(), StoreFault>
-    ensures { Tells B.Book B.fails book.old book.new result
+    ensures { Answers B.fails (B.view book.old) (B.view book.new) result
         (λ w _. (IsCommand (Command.Clear purse details.now)
         → Decides w (clear w purse details.now) decided.new)
         × (finds_place w purse ≡ false → decided.new.edits ≡ [])) }
@@ -106,7 +103,7 @@ fn is_archived_for_both<B: Book>(
     alloc: Global,
     details: &PayDetails,
 ) -> Result<bool, StoreFault>
-    ensures { Tells B.Book B.fails book.old book.new result
+    ensures { Answers B.fails (B.view book.old) (B.view book.new) result
         (λ w b. b ≡ is_archived_for_both w details.now) }
 {
     if !book.archived(alloc, details.from(), details)? {
@@ -138,7 +135,7 @@ pub(crate) fn settle<B: Book>(
     details: &PayDetails,
     decided: &mut Decided,
 ) -> Result<(), StoreFault>
-    ensures { Tells B.Book B.fails book.old book.new result
+    ensures { Answers B.fails (B.view book.old) (B.view book.new) result
         (λ w _. IsCommand (Command.Settle details.now)
         → Decides w (settle w details.now) decided.new) }
 {

@@ -239,7 +239,8 @@ pub(crate) fn money_line(purse: &Purse, kind: LineKind, amount: Amount, referenc
 
 /// The answer where the reference was used with the amount `before`: the same reply again, or a refusal.
 pub(crate) fn again(decided: &mut Decided, before: Amount, amount: Amount, reply: Reply)
-    ensures reply { decided.new.reply ≡ (if before == amount then reply else Reply.Refused Refusal.RefReused) }
+    ensures reply { decided.new.reply ≡
+        (if before == amount then reply else Reply.Refused Refusal.RefReused) }
     ensures edits { decided.new.edits ≡ [] }
 {
     if before.get() == amount.get() {

@@ -1,6 +1,6 @@
 //! The commands of the operator and of clerks.
 ghost use Rattle.std.specs.Prelude.{◌≡◌};
-ghost use Rattle.mx_office.specs.Calls.{Tells};
+ghost use Rattle.mx_book.specs.Views.{Answers};
 ghost use Rattle.mx_command.specs.Commands.{IsCommand};
 ghost use Rattle.mx_office.specs.Decides.{Decides, purse_count};
 ghost use Rattle.mx_office.specs.Step.{new_member, new_holder, new_purse};
@@ -24,7 +24,7 @@ pub(crate) fn new_member<B: Book>(
     token: Token,
     decided: &mut Decided,
 ) -> Result<(), StoreFault>
-    ensures { Tells B.Book B.fails book.old book.new result
+    ensures { Answers B.fails (B.view book.old) (B.view book.new) result
         (λ w _. IsCommand (Command.NewMember member token)
         → Decides w (new_member w member token) decided.new) }
 {
@@ -53,7 +53,7 @@ pub(crate) fn new_holder<B: Book>(
     token: Token,
     decided: &mut Decided,
 ) -> Result<(), StoreFault>
-    ensures { Tells B.Book B.fails book.old book.new result
+    ensures { Answers B.fails (B.view book.old) (B.view book.new) result
         (λ w _. IsCommand (Command.NewHolder holder token)
         → Decides w (new_holder w member holder token) decided.new) }
 {
@@ -85,7 +85,7 @@ fn purse_count<B: Book>(
     member: Name,
     holder: Name,
 ) -> Result<Option<usize>, StoreFault>
-    ensures { Tells B.Book B.fails book.old book.new result
+    ensures { Answers B.fails (B.view book.old) (B.view book.new) result
         (λ w o. o ≡ purse_count w member holder) }
 {
     match book.holder(alloc, holder)? {
@@ -103,7 +103,7 @@ pub(crate) fn new_purse<B: Book>(
     holder: Name,
     decided: &mut Decided,
 ) -> Result<(), StoreFault>
-    ensures { Tells B.Book B.fails book.old book.new result
+    ensures { Answers B.fails (B.view book.old) (B.view book.new) result
         (λ w _. IsCommand (Command.NewPurse purse holder)
         → Decides w (new_purse w member purse holder) decided.new) }
 {

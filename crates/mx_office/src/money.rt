@@ -3,8 +3,7 @@ ghost use Rattle.std.specs.Prelude.{◌≡◌, ◌≤◌, ◌⊎◌, [], OnOk, I
 ghost use Rattle.mx_book.specs.declared.contract.StoreFault.TheVariants.{Memory};
 ghost use Rattle.mx_book.specs.Conditions.{all_granted};
 ghost use Rattle.mx_book.specs.Reads.{load_of, member_of};
-ghost use Rattle.mx_book.specs.World.{World};
-ghost use Rattle.mx_office.specs.Calls.{Tells};
+ghost use Rattle.mx_book.specs.Views.{Answers, IsSure};
 ghost use Rattle.mx_command.specs.Commands.{IsCommand};
 ghost use Rattle.mx_office.specs.Decides.{Decides, granted_to, load_edits, member_purse};
 ghost use Rattle.mx_office.specs.Faults.{FailsFor};
@@ -28,7 +27,7 @@ const MOST: u128 = MOST_NUMBER as u128;
 
 /// How much a member was granted; 0 where there is no such member.
 fn granted_of<B: Book>(book: &mut B, alloc: Global, member: Name) -> Result<u64, StoreFault>
-    ensures { Tells B.Book B.fails book.old book.new result
+    ensures { Answers B.fails (B.view book.old) (B.view book.new) result
         (λ w n. n ≡ granted_to w member) }
 {
     match book.member(alloc, member)? {
@@ -39,7 +38,7 @@ fn granted_of<B: Book>(book: &mut B, alloc: Global, member: Name) -> Result<u64,
 
 /// The sum of all grants.
 fn all_granted<B: Book>(book: &mut B, alloc: Global) -> Result<u128, StoreFault>
-    ensures { Tells B.Book (λ e. (e ≡ Memory) ⊎ B.fails e) book.old book.new result
+    ensures { Answers (λ e. (e ≡ Memory) ⊎ B.fails e) (B.view book.old) (B.view book.new) result
         (λ w n. n ≡ all_granted w) }
 {
     let members = book.members(alloc)?;
@@ -58,10 +57,11 @@ pub(crate) fn grant<B: Book>(
     amount: Amount,
     decided: &mut Decided,
 ) -> Result<(), StoreFault>
-    ensures tells { Tells B.Book (λ e. (e ≡ Memory) ⊎ B.fails e) book.old book.new result
+    ensures tells { Answers (λ e. (e ≡ Memory) ⊎ B.fails e) (B.view book.old)
+        (B.view book.new) result
         (λ w _. Decides w (grant w member amount) decided.new) }
-    ensures memory { (w : World) → B.doubt book.new ≡ 0 → B.spells (B.rows book.old) w
-        → IfErr result (FailsFor B.fails (is_some (member_of w member))) }
+    ensures memory { IsSure (B.view book.new)
+        → IfErr result (FailsFor B.fails (is_some (member_of (B.view book.old).world member))) }
 {
     let Some(row) = book.member(alloc, member)? else {
         refuse(decided, Refusal::NoSuchMember);
@@ -129,7 +129,7 @@ pub(crate) fn load<B: Book>(
     reference: Name,
     decided: &mut Decided,
 ) -> Result<(), StoreFault>
-    ensures { Tells B.Book B.fails book.old book.new result
+    ensures { Answers B.fails (B.view book.old) (B.view book.new) result
         (λ w _. (IsCommand (Command.Load purse amount reference)
         → Decides w (load_purse w member purse amount reference) decided.new)
         × (IsTrue (is_some (load_of w purse reference)) → decided.new.edits ≡ [])) }
@@ -169,7 +169,7 @@ fn member_purse<B: Book>(
     member: Name,
     purse: Name,
 ) -> Result<Option<Purse>, StoreFault>
-    ensures { Tells B.Book B.fails book.old book.new result
+    ensures { Answers B.fails (B.view book.old) (B.view book.new) result
         (λ w o. o ≡ member_purse w member purse) }
 {
     match book.purse(alloc, purse)? {
@@ -185,7 +185,7 @@ pub(crate) fn collect<B: Book>(
     member: Name,
     decided: &mut Decided,
 ) -> Result<(), StoreFault>
-    ensures { Tells B.Book B.fails book.old book.new result
+    ensures { Answers B.fails (B.view book.old) (B.view book.new) result
         (λ w _. Decides w (collect w member) decided.new) }
 {
     let Some(row) = book.member(alloc, member)? else {
@@ -217,7 +217,7 @@ pub(crate) fn reconcile<B: Book>(
     alloc: Global,
     decided: &mut Decided,
 ) -> Result<(), StoreFault>
-    ensures tells { Tells B.Book B.fails book.old book.new result
+    ensures tells { Answers B.fails (B.view book.old) (B.view book.new) result
         (λ w _. Decides w (reconcile w) decided.new) }
     ensures edits { OnOk result (decided.new.edits ≡ []) }
 {

@@ -3,9 +3,8 @@ ghost use Rattle.std.specs.Borrow.{sem};
 ghost use Rattle.std.specs.List.{AllByRecursion};
 ghost use Rattle.std.specs.Prelude.{◌≡◌, ◌≤◌, ◌⊎◌, [], false, length, IfOk, IfErr, IsTrue, OnOk, OnErr};
 ghost use Rattle.mx_book.specs.Edits.{Fits, all_edited};
-ghost use Rattle.mx_book.specs.Keeps.{Bides, Keeps};
-ghost use Rattle.mx_book.specs.Stands.{Attempts, MovesTo, RestsAt, Settles};
-ghost use Rattle.mx_book.specs.World.{World, Name as HolderName};
+ghost use Rattle.mx_book.specs.World.{Name as HolderName};
+ghost use Rattle.mx_book.specs.Views.{Attempts, Changes, Gives, Keeps, MovesTo, Settles, IsSure, IsHonest};
 ghost use Rattle.mx_book.specs.declared.contract.StoreFault.TheVariants.{Memory};
 ghost use Rattle.mx_command.specs.declared.values.Refusal.{Refusal};
 ghost use Rattle.mx_command.specs.declared.values.Reply.TheVariants.{Refused};
@@ -18,7 +17,7 @@ ghost use Rattle.mx_office.specs.Faults.{FailsFor, MayFail, MayNotDecide, is_rea
 ghost use Rattle.mx_office.specs.Isolation.{cut, for_holder, local, told_to, view, view_of};
 ghost use Rattle.mx_office.specs.Lends.{LendsBook};
 ghost use Rattle.mx_office.specs.Reachable.{IsReachable, StandsBalanced};
-ghost use Rattle.mx_office.specs.Run.{IsUndone, Leads, answered, attempts, replies};
+ghost use Rattle.mx_office.specs.Run.{IsUndone, Runs, answered, replies};
 ghost use Rattle.mx_office.specs.Step.{base, step};
 
 use crate::archive::{archive, clear, settle};
@@ -69,22 +68,24 @@ impl<B: Book> Office<B> {
 
     /// What a command of a caller would do: its reply, and the edits that lead to its World. Nothing changes. A fault
     /// is one of the book's reads, or `Memory` where the command reads a list: a grant, purses, inbox and statement.
-    /// Over rows that spell a World (`memory`) a grant reads one only where its member is there, and an inbox and a
-    /// statement only where the purse is the holder's. There a command that is idle has no edits (`edits`).
+    /// Without doubt (`memory`) a grant reads one only where its member is there, and an inbox and a statement only where
+    /// the purse is the holder's. Then a command that is idle has no edits (`edits`).
     pub fn decide(
         &mut self,
         alloc: Global,
         caller: Caller,
         command: &Command,
     ) -> Result<Decided, StoreFault>
-        ensures keeps { Keeps B.doubt B.rows B.harm B.base B.defers B.settled B.leaves self.old.book self.new.book }
-        ensures decides { (w : World) → B.doubt self.new.book ≡ 0 → B.spells (B.rows self.old.book) w → IfOk result (Decides w (base w caller command.now)) }
+        ensures keeps { Keeps (B.view self.old.book) (B.view self.new.book) }
+        ensures decides { Gives (B.view self.old.book) (B.view self.new.book) result
+            (λ w d. Decides w (base w caller command.now) d) }
         ensures reads { IfOk result (λ d. IsTrue (is_read command.now) → d.edits ≡ []) }
-        ensures edits { (w : World) → B.doubt self.new.book ≡ 0 → B.spells (B.rows self.old.book) w
-            → IfOk result (λ d. makes_edits w command.now ≡ false → d.edits ≡ []) }
+        ensures edits { Gives (B.view self.old.book) (B.view self.new.book) result
+            (λ w d. makes_edits w command.now ≡ false → d.edits ≡ []) }
         ensures fault { IfErr result (MayNotDecide B.fails command.now) }
-        ensures memory { (w : World) → B.doubt self.new.book ≡ 0 → B.spells (B.rows self.old.book) w
-            → IfErr result (FailsFor B.fails (lists w caller command.now)) }
+        ensures memory { IsSure (B.view self.new.book)
+            → IfErr result (FailsFor B.fails
+            (lists (B.view self.old.book).world caller command.now)) }
         ensures asked { IsAsked (caller, command.now) }
     {
         let mut decided = Decided::new();
@@ -102,14 +103,16 @@ impl<B: Book> Office<B> {
         command: &Command,
         decided: &mut Decided,
     ) -> Result<(), StoreFault>
-        ensures keeps { Keeps B.doubt B.rows B.harm B.base B.defers B.settled B.leaves self.old.book self.new.book }
-        ensures decides { (w : World) → B.doubt self.new.book ≡ 0 → B.spells (B.rows self.old.book) w → OnOk result (Decides w (base w caller command.now) decided.new) }
+        ensures keeps { Keeps (B.view self.old.book) (B.view self.new.book) }
+        ensures decides { Gives (B.view self.old.book) (B.view self.new.book) result
+            (λ w _. Decides w (base w caller command.now) decided.new) }
         ensures reads { OnOk result (IsTrue (is_read command.now) → decided.new.edits ≡ []) }
-        ensures edits { (w : World) → B.doubt self.new.book ≡ 0 → B.spells (B.rows self.old.book) w
-            → OnOk result (makes_edits w command.now ≡ false → decided.new.edits ≡ []) }
+        ensures edits { Gives (B.view self.old.book) (B.view self.new.book) result
+            (λ w _. makes_edits w command.now ≡ false → decided.new.edits ≡ []) }
         ensures fault { IfErr result (MayNotDecide B.fails command.now) }
-        ensures memory { (w : World) → B.doubt self.new.book ≡ 0 → B.spells (B.rows self.old.book) w
-            → IfErr result (FailsFor B.fails (lists w caller command.now)) }
+        ensures memory { IsSure (B.view self.new.book)
+            → IfErr result (FailsFor B.fails
+            (lists (B.view self.old.book).world caller command.now)) }
         ensures asked { IsAsked (caller, command.now) }
     {
         is_caller(&caller);
@@ -126,13 +129,12 @@ impl<B: Book> Office<B> {
     /// World, as they do when nothing has changed the book since `decide` gave them. A fault is `Memory` or one of the
     /// book's. Where there are no edits the book isn't asked, and there is no fault. What is made waits for `settle`.
     pub fn commit(&mut self, decided: &Decided) -> Result<(), StoreFault>
-        requires { (w : World) → B.doubt self.old.book ≡ 0 → B.spells (B.rows self.old.book) w → Fits w decided.now.edits }
-        ensures later { B.doubt self.old.book ≤ B.doubt self.new.book }
-        ensures ok { (w : World) → B.doubt self.new.book ≡ 0 → B.spells (B.rows self.old.book) w → OnOk result (B.spells (B.rows self.new.book) (all_edited w decided.now.edits)) }
-        ensures err { B.doubt self.new.book ≡ 0 → OnErr result (B.rows self.new.book ≡ B.rows self.old.book) }
-        ensures bides { Bides B.harm B.base B.defers B.leaves self.old.book self.new.book }
+        requires { IsSure (B.view self.old.book)
+            → Fits (B.view self.old.book).world decided.now.edits }
+        ensures changes { Changes (λ e. (e ≡ Memory) ⊎ B.fails e) (B.view self.old.book)
+            (B.view self.new.book) result
+            (λ w. all_edited w decided.now.edits) }
         ensures nothing { decided.now.edits ≡ [] → IfErr result (λ _. ⊥) }
-        ensures fault { IfErr result (λ e. (e ≡ Memory) ⊎ B.fails e) }
     {
         let edits = decided.edits.as_slice();
         if edits.is_empty() {
@@ -153,16 +155,22 @@ impl<B: Book> Office<B> {
         caller: Caller,
         command: &Command,
     ) -> Result<Reply, StoreFault>
-        ensures later { B.doubt self.old.book ≤ B.doubt self.new.book }
-        ensures bides { Bides B.harm B.base B.defers B.leaves self.old.book self.new.book }
-        ensures ok { (w : World) → B.doubt self.new.book ≡ 0 → B.spells (B.rows self.old.book) w → OnOk result (B.spells (B.rows self.new.book) (step w caller command.now).world) }
-        ensures reply { (w : World) → B.doubt self.new.book ≡ 0 → B.spells (B.rows self.old.book) w → IfOk result (λ r. r ≡ (step w caller command.now).reply) }
-        ensures accounts { (w v : World) → B.doubt self.new.book ≡ 0 → B.spells (B.rows self.old.book) w → B.spells (B.rows self.new.book) v → OnOk result ((h : HolderName) → cut v h ≡ (local (cut w h) (view_of w h caller command.now)).end) }
-        ensures told { (w : World) → B.doubt self.new.book ≡ 0 → B.spells (B.rows self.old.book) w → IfOk result (λ r. (h : HolderName) → for_holder h caller r ≡ (local (cut w h) (view_of w h caller command.now)).replies) }
-        ensures refused { B.doubt self.new.book ≡ 0 → IfOk result (λ r. (refusal : Refusal) → r ≡ Refused refusal → B.rows self.new.book ≡ B.rows self.old.book) }
-        ensures err { B.doubt self.new.book ≡ 0 → OnErr result (B.rows self.new.book ≡ B.rows self.old.book) }
-        ensures fault { IfErr result (λ e. (e ≡ Memory) ⊎ B.fails e) }
-        ensures memory { (w : World) → B.doubt self.new.book ≡ 0 → B.spells (B.rows self.old.book) w → IfErr result (MayFail B.fails w caller command.now) }
+        ensures changes { Changes (λ e. (e ≡ Memory) ⊎ B.fails e) (B.view self.old.book)
+            (B.view self.new.book) result
+            (λ w. (step w caller command.now).world) }
+        ensures reply { Gives (B.view self.old.book) (B.view self.new.book) result
+            (λ w r. r ≡ (step w caller command.now).reply) }
+        ensures accounts { IsSure (B.view self.new.book) → OnOk result ((h : HolderName)
+            → cut (B.view self.new.book).world h
+            ≡ (local (cut (B.view self.old.book).world h)
+            (view_of (B.view self.old.book).world h caller command.now)).end) }
+        ensures told { Gives (B.view self.old.book) (B.view self.new.book) result
+            (λ w r. (h : HolderName)
+            → for_holder h caller r ≡ (local (cut w h) (view_of w h caller command.now)).replies) }
+        ensures refused { IsSure (B.view self.new.book) → IfOk result (λ r. (refusal : Refusal)
+            → r ≡ Refused refusal → (B.view self.new.book).world ≡ (B.view self.old.book).world) }
+        ensures memory { IsSure (B.view self.new.book)
+            → IfErr result (MayFail B.fails (B.view self.old.book).world caller command.now) }
         ensures asked { IsAsked (caller, command.now) }
     {
         let decided = self.decide(alloc, caller, command)?;
@@ -177,7 +185,7 @@ impl<B: Book> Office<B> {
     /// all that was answered in the round is so, and the store works. A fault is one of the book's settle, or came in
     /// the round and has undone it.
     pub fn settle(&mut self) -> Result<(), StoreFault>
-        ensures settles { Settles B.doubt B.rows B.harm B.base B.defers B.settled B.leaves self.old.book self.new.book result }
+        ensures settles { Settles (B.view self.old.book) (B.view self.new.book) result }
         ensures fault { IfErr result B.fails }
     {
         self.book.settle()
@@ -194,23 +202,31 @@ impl<B: Book> Office<B> {
         caller: Caller,
         command: &Command,
     ) -> Result<Reply, StoreFault>
-        ensures settled { B.settled self.new.book }
-        ensures later { B.settled self.old.book → B.doubt self.old.book ≤ B.doubt self.new.book }
-        ensures ok { (w : World) → B.doubt self.new.book ≡ 0 → B.spells (B.rows self.old.book) w → OnOk result (B.spells (B.rows self.new.book) (step w caller command.now).world) }
-        ensures attempts { (w : World) → B.doubt self.new.book ≤ 1
-            → RestsAt B.doubt B.rows B.spells B.settled self.old.book w
-            → Attempts B.doubt B.rows B.spells B.settled B.leaves self.old.book self.new.book result w
-            (λ v. (step v caller command.now).world) }
-        ensures reply { (w : World) → B.doubt self.new.book ≤ 1
-            → RestsAt B.doubt B.rows B.spells B.settled self.old.book w
-            → IfOk result (λ r. r ≡ (step w caller command.now).reply) }
-        ensures accounts { (w v : World) → B.doubt self.new.book ≡ 0 → B.spells (B.rows self.old.book) w → B.spells (B.rows self.new.book) v → OnOk result ((h : HolderName) → cut v h ≡ (local (cut w h) (view_of w h caller command.now)).end) }
-        ensures told { (w : World) → B.doubt self.new.book ≡ 0 → B.spells (B.rows self.old.book) w → IfOk result (λ r. (h : HolderName) → for_holder h caller r ≡ (local (cut w h) (view_of w h caller command.now)).replies) }
-        ensures refused { B.doubt self.new.book ≡ 0 → IfOk result (λ r. (refusal : Refusal) → r ≡ Refused refusal → B.rows self.new.book ≡ B.rows self.old.book) }
-        ensures err { B.settled self.old.book → B.doubt self.new.book ≡ 0
-            → OnErr result (B.rows self.new.book ≡ B.rows self.old.book) }
+        ensures settled { (B.view self.new.book).IsSettled }
+        ensures later { (B.view self.old.book).IsSettled
+            → (B.view self.old.book).doubt ≤ (B.view self.new.book).doubt }
+        ensures attempts { (B.view self.old.book).IsSettled
+            → Attempts (B.view self.old.book) (B.view self.new.book) result
+            (λ w. (step w caller command.now).world) }
+        ensures ok { IsSure (B.view self.new.book)
+            → OnOk result ((B.view self.new.book).world ≡
+            (step (B.view self.old.book).world caller command.now).world) }
+        ensures reply { IsHonest (B.view self.new.book)
+            → IfOk result (λ r. r ≡ (step (B.view self.old.book).world caller command.now).reply) }
+        ensures accounts { IsSure (B.view self.new.book) → OnOk result ((h : HolderName)
+            → cut (B.view self.new.book).world h
+            ≡ (local (cut (B.view self.old.book).world h)
+            (view_of (B.view self.old.book).world h caller command.now)).end) }
+        ensures told { Gives (B.view self.old.book) (B.view self.new.book) result
+            (λ w r. (h : HolderName)
+            → for_holder h caller r ≡ (local (cut w h) (view_of w h caller command.now)).replies) }
+        ensures refused { IsSure (B.view self.new.book) → IfOk result (λ r. (refusal : Refusal)
+            → r ≡ Refused refusal → (B.view self.new.book).world ≡ (B.view self.old.book).world) }
+        ensures err { (B.view self.old.book).IsSettled → IsSure (B.view self.new.book)
+            → OnErr result ((B.view self.new.book).world ≡ (B.view self.old.book).world) }
         ensures fault { IfErr result (λ e. (e ≡ Memory) ⊎ B.fails e) }
-        ensures memory { (w : World) → B.doubt self.new.book ≡ 0 → B.spells (B.rows self.old.book) w → IfErr result (MayFail B.fails w caller command.now) }
+        ensures memory { IsSure (B.view self.new.book)
+            → IfErr result (MayFail B.fails (B.view self.old.book).world caller command.now) }
         ensures asked { IsAsked (caller, command.now) }
     {
         let answered = self.answer_in_round(alloc, caller, command);
@@ -231,21 +247,37 @@ impl<B: Book> Office<B> {
         alloc: Global,
         commands: &[(Caller, Command)],
     ) -> Result<Vec<Outcome>, AllocError>
-        ensures later { B.settled self.old.book → B.doubt self.old.book ≤ B.doubt self.new.book }
-        ensures still { B.settled self.old.book → B.settled self.new.book }
-        ensures run { (w : World) → B.doubt self.new.book ≤ 1
-            → RestsAt B.doubt B.rows B.spells B.settled self.old.book w
-            → IfOk result (λ outcomes. Leads B.fails (MovesTo B.doubt B.rows B.spells B.settled B.leaves
-            self.old.book self.new.book w (attempts commands.now outcomes.items)) w commands.now outcomes.items) }
-        ensures reachable { (w : World) → B.doubt self.new.book ≡ 0 → RestsAt B.doubt B.rows B.spells B.settled self.old.book w → IsReachable w → IfOk result (λ _. StandsBalanced (B.spells (B.rows self.new.book))) }
-        ensures never_full { (w : World) → B.doubt self.new.book ≡ 0 → RestsAt B.doubt B.rows B.spells B.settled self.old.book w → IsReachable w → IfOk result (λ outcomes. AllByRecursion IsNeverFullOutcome outcomes.items) }
-        ensures accounts { (w v : World) → B.doubt self.new.book ≡ 0 → RestsAt B.doubt B.rows B.spells B.settled self.old.book w → B.spells (B.rows self.new.book) v → IfOk result (λ outcomes. (h : HolderName) → cut v h ≡ (local (cut w h) (view h w (answered commands.now outcomes.items))).end) }
-        ensures told { (w : World) → B.doubt self.new.book ≡ 0 → RestsAt B.doubt B.rows B.spells B.settled self.old.book w → IfOk result (λ outcomes. (h : HolderName) → told_to h (replies commands.now outcomes.items) ≡ (local (cut w h) (view h w (answered commands.now outcomes.items))).replies) }
-        ensures refines { (w v : World) → B.doubt self.new.book ≡ 0 → RestsAt B.doubt B.rows B.spells B.settled self.old.book w
-            → B.spells (B.rows self.new.book) v → IsReachable w
-            → IfOk result (λ outcomes. Refines w (answered commands.now outcomes.items) v) }
-        ensures undone { B.settled self.old.book → B.doubt self.new.book ≡ 0 → IfOk result (λ outcomes.
-            AllByRecursion IsUndone outcomes.items → B.rows self.new.book ≡ B.rows self.old.book) }
+        ensures later { (B.view self.old.book).IsSettled
+            → (B.view self.old.book).doubt ≤ (B.view self.new.book).doubt }
+        ensures still { (B.view self.old.book).IsSettled → (B.view self.new.book).IsSettled }
+        ensures run { (B.view self.old.book).IsSettled → IsHonest (B.view self.new.book)
+            → IfOk result (λ outcomes.
+            Runs B.fails (B.view self.old.book)
+            (B.view self.new.book) commands.now outcomes.items) }
+        ensures reachable { (B.view self.old.book).IsSettled → IsSure (B.view self.new.book)
+            → IsReachable (B.view self.old.book).world
+            → IfOk result (λ _. StandsBalanced (B.view self.new.book).world) }
+        ensures never_full { (B.view self.old.book).IsSettled → IsSure (B.view self.new.book)
+            → IsReachable (B.view self.old.book).world
+            → IfOk result (λ outcomes. AllByRecursion IsNeverFullOutcome outcomes.items) }
+        ensures accounts { (B.view self.old.book).IsSettled → IsSure (B.view self.new.book)
+            → IfOk result (λ outcomes. (h : HolderName) → cut (B.view self.new.book).world h
+            ≡ (local (cut (B.view self.old.book).world h)
+            (view h (B.view self.old.book).world (answered commands.now outcomes.items))).end) }
+        ensures told { (B.view self.old.book).IsSettled → IsSure (B.view self.new.book)
+            → IfOk result (λ outcomes. (h : HolderName)
+            → told_to h (replies commands.now outcomes.items)
+            ≡ (local (cut (B.view self.old.book).world h)
+            (view h (B.view self.old.book).world (answered commands.now outcomes.items))).replies) }
+        ensures refines { (B.view self.old.book).IsSettled → IsSure (B.view self.new.book)
+            → IsReachable (B.view self.old.book).world
+            → IfOk result (λ outcomes.
+            Refines (B.view self.old.book).world (answered commands.now outcomes.items)
+            (B.view self.new.book).world) }
+        ensures undone { (B.view self.old.book).IsSettled → IsSure (B.view self.new.book)
+            → IfOk result (λ outcomes.
+            AllByRecursion IsUndone outcomes.items
+            → (B.view self.new.book).world ≡ (B.view self.old.book).world) }
         ensures each { IfOk result (λ outcomes. length outcomes.items ≡ length commands.now) }
         ensures err { OnErr result (self.new ≡ self.old) }
     {
@@ -268,7 +300,7 @@ fn decide_operator<B: Book>(
     command: &Command,
     decided: &mut Decided,
 ) -> Result<(), StoreFault>
-    ensures { TellsOf B.Book book.old book.new result
+    ensures { TellsOf B.fails (B.view book.old) (B.view book.new) result
         Caller.Operator command.now decided.new }
 {
     match *command {
@@ -293,7 +325,7 @@ fn decide_clerk<B: Book>(
     command: &Command,
     decided: &mut Decided,
 ) -> Result<(), StoreFault>
-    ensures { TellsOf B.Book book.old book.new result
+    ensures { TellsOf B.fails (B.view book.old) (B.view book.new) result
         (Caller.Clerk member) command.now decided.new }
 {
     match *command {
@@ -324,7 +356,7 @@ fn decide_holder<B: Book>(
     command: &Command,
     decided: &mut Decided,
 ) -> Result<(), StoreFault>
-    ensures { TellsOf B.Book book.old book.new result
+    ensures { TellsOf B.fails (B.view book.old) (B.view book.new) result
         (Caller.Holder holder) command.now decided.new }
 {
     match *command {

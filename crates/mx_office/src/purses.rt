@@ -1,9 +1,8 @@
 //! The commands of holders.
 ghost use Rattle.std.specs.Prelude.{◌≡◌, ◌⊎◌, [], OnOk, IfErr, IsTrue, is_some, option_map};
 ghost use Rattle.mx_book.specs.declared.contract.StoreFault.TheVariants.{Memory};
-ghost use Rattle.mx_book.specs.World.{World};
 ghost use Rattle.mx_book.specs.Reads.{own_purse, purses_of, redemption_of};
-ghost use Rattle.mx_office.specs.Calls.{Tells};
+ghost use Rattle.mx_book.specs.Views.{Answers, IsSure};
 ghost use Rattle.mx_command.specs.Commands.{IsCommand};
 ghost use Rattle.mx_office.specs.Decides.{Decides, not_kept, placed};
 ghost use Rattle.mx_office.specs.Faults.{FailsFor};
@@ -29,7 +28,7 @@ pub(crate) fn placed<B: Book>(
     alloc: Global,
     sent: Outgoing,
 ) -> Result<Outgoing, StoreFault>
-    ensures { Tells B.Book B.fails book.old book.new result
+    ensures { Answers B.fails (B.view book.old) (B.view book.new) result
         (λ w s. carried s ≡ placed w (carried sent)) }
 {
     let Some(peer) = peer_of(&sent) else {
@@ -50,7 +49,8 @@ pub(crate) fn purses<B: Book>(
     holder: Name,
     decided: &mut Decided,
 ) -> Result<(), StoreFault>
-    ensures tells { Tells B.Book (λ e. (e ≡ Memory) ⊎ B.fails e) book.old book.new result
+    ensures tells { Answers (λ e. (e ≡ Memory) ⊎ B.fails e) (B.view book.old)
+        (B.view book.new) result
         (λ w _. Decides w (tell w (Reply.Purses (purses_of w holder))) decided.new) }
     ensures edits { OnOk result (decided.new.edits ≡ []) }
 {
@@ -68,7 +68,7 @@ pub(crate) fn show<B: Book>(
     purse: Name,
     decided: &mut Decided,
 ) -> Result<(), StoreFault>
-    ensures tells { Tells B.Book B.fails book.old book.new result
+    ensures tells { Answers B.fails (B.view book.old) (B.view book.new) result
         (λ w _. Decides w (on_own w holder purse show) decided.new) }
     ensures edits { OnOk result (decided.new.edits ≡ []) }
 {
@@ -93,11 +93,13 @@ pub(crate) fn inbox<B: Book>(
     purse: Name,
     decided: &mut Decided,
 ) -> Result<(), StoreFault>
-    ensures tells { Tells B.Book (λ e. (e ≡ Memory) ⊎ B.fails e) book.old book.new result
+    ensures tells { Answers (λ e. (e ≡ Memory) ⊎ B.fails e) (B.view book.old)
+        (B.view book.new) result
         (λ w _. Decides w (on_own w holder purse inbox) decided.new) }
     ensures edits { OnOk result (decided.new.edits ≡ []) }
-    ensures memory { (w : World) → B.doubt book.new ≡ 0 → B.spells (B.rows book.old) w
-        → IfErr result (FailsFor B.fails (is_some (own_purse w holder purse))) }
+    ensures memory { IsSure (B.view book.new)
+        → IfErr result (FailsFor B.fails
+        (is_some (own_purse (B.view book.old).world holder purse))) }
 {
     if !book.is_own(alloc, holder, purse)? {
         refuse(decided, Refusal::NoSuchPurse);
@@ -118,11 +120,13 @@ pub(crate) fn statement<B: Book>(
     after: Seq,
     decided: &mut Decided,
 ) -> Result<(), StoreFault>
-    ensures tells { Tells B.Book (λ e. (e ≡ Memory) ⊎ B.fails e) book.old book.new result
+    ensures tells { Answers (λ e. (e ≡ Memory) ⊎ B.fails e) (B.view book.old)
+        (B.view book.new) result
         (λ w _. Decides w (on_own w holder purse (statement after)) decided.new) }
     ensures edits { OnOk result (decided.new.edits ≡ []) }
-    ensures memory { (w : World) → B.doubt book.new ≡ 0 → B.spells (B.rows book.old) w
-        → IfErr result (FailsFor B.fails (is_some (own_purse w holder purse))) }
+    ensures memory { IsSure (B.view book.new)
+        → IfErr result (FailsFor B.fails
+        (is_some (own_purse (B.view book.old).world holder purse))) }
 {
     if !book.is_own(alloc, holder, purse)? {
         refuse(decided, Refusal::NoSuchPurse);
@@ -145,7 +149,7 @@ pub(crate) fn start_from<B: Book>(
     seq: Seq,
     decided: &mut Decided,
 ) -> Result<(), StoreFault>
-    ensures { Tells B.Book B.fails book.old book.new result
+    ensures { Answers B.fails (B.view book.old) (B.view book.new) result
         (λ w _. Decides w (on_own w holder purse (start_from peer value seq)) decided.new) }
 {
     let mut own = book.own_purse(alloc, holder, purse)?;
@@ -185,7 +189,7 @@ pub(crate) fn start_to<B: Book>(
     seq: Seq,
     decided: &mut Decided,
 ) -> Result<(), StoreFault>
-    ensures { Tells B.Book B.fails book.old book.new result
+    ensures { Answers B.fails (B.view book.old) (B.view book.new) result
         (λ w _. Decides w (on_own w holder purse (start_to peer value seq)) decided.new) }
 {
     let mut own = book.own_purse(alloc, holder, purse)?;
@@ -218,7 +222,7 @@ pub(crate) fn handle<B: Book>(
     number: Seq,
     decided: &mut Decided,
 ) -> Result<(), StoreFault>
-    ensures { Tells B.Book B.fails book.old book.new result
+    ensures { Answers B.fails (B.view book.old) (B.view book.new) result
         (λ w _. Decides w (on_own w holder purse (handle number)) decided.new) }
 {
     let mut own = book.own_purse(alloc, holder, purse)?;
@@ -248,7 +252,7 @@ pub(crate) fn discard<B: Book>(
     number: Seq,
     decided: &mut Decided,
 ) -> Result<(), StoreFault>
-    ensures { Tells B.Book B.fails book.old book.new result
+    ensures { Answers B.fails (B.view book.old) (B.view book.new) result
         (λ w _. Decides w (on_own w holder purse (discard number)) decided.new) }
 {
     if !book.is_own(alloc, holder, purse)? {
@@ -277,7 +281,7 @@ pub(crate) fn abort<B: Book>(
     purse: Name,
     decided: &mut Decided,
 ) -> Result<(), StoreFault>
-    ensures { Tells B.Book B.fails book.old book.new result
+    ensures { Answers B.fails (B.view book.old) (B.view book.new) result
         (λ w _. Decides w (on_own w holder purse abort) decided.new) }
 {
     let mut own = book.own_purse(alloc, holder, purse)?;
@@ -302,7 +306,7 @@ fn not_kept<B: Book>(
     purse: Name,
     entry: Option<&PayDetails>,
 ) -> Result<Option<PayDetails>, StoreFault>
-    ensures { Tells B.Book B.fails book.old book.new result
+    ensures { Answers B.fails (B.view book.old) (B.view book.new) result
         (λ w o. o ≡ not_kept w purse (option_map (λ d. d.now) entry.entry)) }
 {
     let Some(details) = entry else {
@@ -328,7 +332,7 @@ pub(crate) fn read_log<B: Book>(
     place: u64,
     decided: &mut Decided,
 ) -> Result<(), StoreFault>
-    ensures { Tells B.Book B.fails book.old book.new result
+    ensures { Answers B.fails (B.view book.old) (B.view book.new) result
         (λ w _. Decides w (on_own w holder purse (read_log place)) decided.new) }
 {
     let mut own = book.own_purse(alloc, holder, purse)?;
@@ -355,7 +359,7 @@ pub(crate) fn redeem<B: Book>(
     reference: Name,
     decided: &mut Decided,
 ) -> Result<(), StoreFault>
-    ensures { Tells B.Book B.fails book.old book.new result
+    ensures { Answers B.fails (B.view book.old) (B.view book.new) result
         (λ w _. (IsCommand (Command.Redeem purse amount reference)
         → Decides w (on_own w holder purse (redeem amount reference)) decided.new)
         × (IsTrue (is_some (redemption_of w purse reference)) → decided.new.edits ≡ [])) }

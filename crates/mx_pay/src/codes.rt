@@ -30,7 +30,8 @@ pub fn code_text(alloc: Global, log: &Log) -> Result<String, AllocError>
 
 /// Writes the entry at a place, behind a semicolon where it isn't the first.
 fn push_at(text: &mut String, place: usize, details: &PayDetails) -> Result<(), AllocError>
-    ensures { IfOk result (λ _. string_bytes text.new ≡ (string_bytes text.old ++ lead place) ++ entry_text details.now) }
+    ensures { IfOk result (λ _. string_bytes text.new ≡
+        (string_bytes text.old ++ lead place) ++ entry_text details.now) }
 {
     if place != 0 {
         text.push_str(";")?;
@@ -41,7 +42,8 @@ fn push_at(text: &mut String, place: usize, details: &PayDetails) -> Result<(), 
 /// Writes the code text of one entry at the end of `text`: the five fields with commas between them, the numbers in
 /// decimal without leading zeros. Err only where an allocation fails; then a part of it may stand there.
 pub fn push_entry(text: &mut String, details: &PayDetails) -> Result<(), AllocError>
-    ensures { IfOk result (λ _. string_bytes text.new ≡ string_bytes text.old ++ entry_text details.now) }
+    ensures { IfOk result (λ _. string_bytes text.new
+        ≡ string_bytes text.old ++ entry_text details.now) }
 {
     let mut buffer = itoa::Buffer::new();
     push_field(text, details.from().as_str())?;
@@ -54,7 +56,8 @@ pub fn push_entry(text: &mut String, details: &PayDetails) -> Result<(), AllocEr
 
 /// Writes a field and a comma at the end.
 fn push_field(text: &mut String, field: &str) -> Result<(), AllocError>
-    ensures { IfOk result (λ _. string_bytes text.new ≡ string_bytes text.old ++ (field.now ++ 44 ∷ [])) }
+    ensures { IfOk result (λ _. string_bytes text.new ≡ string_bytes text.old ++
+        (field.now ++ 44 ∷ [])) }
 {
     text.push_str(field)?;
     text.push_str(",")?;
@@ -155,7 +158,13 @@ fn with_fields(
     from_seq: Seq,
     to_seq: Seq,
 ) -> Option<PayDetails>
-    ensures { result ≡ apart (record { from = from; to = to; value = value; from_seq = from_seq; to_seq = to_seq }) }
+    ensures { result ≡ apart (record {
+      from = from;
+      to = to;
+      value = value;
+      from_seq = from_seq;
+      to_seq = to_seq;
+    }) }
 {
     PayDetails::new(from, to, value, from_seq, to_seq)
 }

@@ -85,7 +85,8 @@ impl Log {
     /// Adds `details` at their place in the order. The answer is false exactly where they are in the log
     /// already or the log has 16 details; it is then as it was.
     pub fn add(&mut self, details: PayDetails) -> bool
-        ensures answer { result ≡ not (nat_le most_entries (log_len self.old) || has_logged self.old details) }
+        ensures answer { result ≡ not
+            (nat_le most_entries (log_len self.old) || has_logged self.old details) }
         ensures new { self.new ≡ (if result then with_entry self.old details else self.old) }
     {
         // The reader says the limits of the details.

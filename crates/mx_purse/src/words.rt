@@ -24,7 +24,8 @@ pub fn status_word(status: &Status) -> &'static str
 
 /// The status of a word and of the text of its details, which is empty at rest. None where no status has both.
 pub fn read_status(word: &str, details: &str) -> Option<Status>
-    ensures found { IfSome result (λ s. (word.now ≡ status_word s) × (details.now ≡ status_details s)) }
+    ensures found { IfSome result
+        (λ s. (word.now ≡ status_word s) × (details.now ≡ status_details s)) }
     ensures valid { IfSome result (λ s. IfSome (details_of s) IsDetails) }
     ensures only { (s : Status) → IfSome (details_of s) IsDetails
         → word.now ≡ status_word s → details.now ≡ status_details s → result ≡ Some s }
@@ -53,7 +54,8 @@ pub fn message_word(message: &Message) -> &'static str
 
 /// The message of a word and of the text of its details, or None where no message has both.
 pub fn read_message(word: &str, details: &str) -> Option<Message>
-    ensures found { IfSome result (λ m. (word.now ≡ message_word m) × (details.now ≡ message_details m)) }
+    ensures found { IfSome result
+        (λ m. (word.now ≡ message_word m) × (details.now ≡ message_details m)) }
     ensures valid { IfSome result IsMessage }
     ensures only { (m : Message) → IsMessage m
         → word.now ≡ message_word m → details.now ≡ message_details m → result ≡ Some m }

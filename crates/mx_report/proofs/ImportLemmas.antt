@@ -85,10 +85,10 @@ reach : (w : World) (cs : List Asked) → AllByRecursion IsAsked cs → IsReacha
 reach w [] values r = r
 reach w (c ∷ cs) values r = reach (step w c.0 c.1).world cs values.1 (reachable_after w c.0 c.1 values.0.0 values.0.1 r)
 
-pub stands_balanced : (Stands : World → Type 0) (w : World) (rs : List Fields) → StandsImported Stands w rs → IsReachable w → StandsBalanced Stands
-stands_balanced Stands w rs so_far from =
-    let ends : IsReachable (import w rs).world = subst IsReachable so_far.run (reach w (roll_asks w rs) so_far.values from) in
-    record { end = (import w rs).world; stands = so_far.stands; reachable = ends; world = reachable_world _ ends; balanced = reachable_balanced _ ends; conserved = reachable_conserved _ ends }
+pub stands_balanced : (now w : World) (rs : List Fields) → StandsImported (λ v. now ≡ v) w rs → IsReachable w → StandsBalanced now
+stands_balanced now w rs so_far from =
+    let ends : IsReachable now = subst IsReachable (so_far.run ∙ sym so_far.stands) (reach w (roll_asks w rs) so_far.values from) in
+    record { reachable = ends; world = reachable_world _ ends; balanced = reachable_balanced _ ends; conserved = reachable_conserved _ ends }
 
 -- ---- how far an import has come
 

@@ -5,7 +5,7 @@ use Rattle.csv.specs.Machine.{Read, next_record}
 use Rattle.csv.specs.Reading.{Reached, default_config, strip_bom}
 use Rattle.csv.specs.declared.parser.State.{State}
 use Rattle.csv.specs.declared.parser.State.TheVariants as st
-use Rattle.mx_book.specs.declared.contract.Book.{Ghosts}
+use Rattle.mx_book.specs.Views.{View, IsSure, HasSoundStore}
 use Rattle.mx_book.specs.declared.values.Caller.{Caller}
 use Rattle.mx_book.specs.World.{World}
 use Rattle.mx_command.specs.declared.values.Reply.{Reply}
@@ -204,9 +204,9 @@ pub record IsBroken (Stands : World → Type 0) (w : World) (text : List ℕ) (r
   pub rows_before : length records ≡ rows
   pub stands : StandsImported Stands w records
 
--- so many rows were settled: all of them are kept, or as many as before, and then the book has the rows that the last settle
+-- so many rows were settled: all of them are kept, or as many as before, and then the World is what the last settle
 -- left
-pub record SettlesRows {B : Type 0} (b : Ghosts B) (old new : B) (all before done : ℕ) : Type 0 where
-  pub lasts : b.harm old ≤ b.harm new
-  pub ends : b.settled new
-  pub keeps : b.harm new ≡ 0 → ((done ≡ all) × (b.doubt old ≡ 0) × (b.rows new ≡ b.rows old)) ⊎ ((done ≡ before) × b.defers × (b.rows new ≡ b.base old))
+pub record SettlesRows (old new : View) (all before done : ℕ) : Type 0 where
+  pub lasts : old.harm ≤ new.harm
+  pub ends : new.IsSettled
+  pub keeps : HasSoundStore new → ((done ≡ all) × IsSure old × (new.world ≡ old.world)) ⊎ ((done ≡ before) × old.defers × (new.world ≡ old.base))

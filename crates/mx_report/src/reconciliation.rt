@@ -1,7 +1,7 @@
 //! The reconciliation of the scheme.
 ghost use Rattle.std.specs.Prelude.{◌≡◌, ◌⊎◌, ◌++◌, IfOk, IfErr};
 ghost use Rattle.mx_book.specs.declared.contract.StoreFault.TheVariants.{Memory};
-ghost use Rattle.mx_book.specs.Keeps.{Keeps, Gives};
+ghost use Rattle.mx_book.specs.Views.{Keeps, Gives};
 ghost use Rattle.mx_book.specs.Totals.{members_totals_of, totals_of};
 ghost use Rattle.mx_report.specs.Statement.{record_text};
 ghost use Rattle.mx_report.specs.Reconciliation.{members_text, reconciliation_text, scheme_text, six, sums_fields};
@@ -23,8 +23,8 @@ pub struct Report {
 
 /// What the books come to. A fault is one of the book's reads, or `Memory`.
 pub fn reconcile<B: Book>(alloc: Global, book: &mut B) -> Result<Report, StoreFault>
-    ensures keeps { Keeps B.doubt B.rows B.harm B.base B.defers B.settled B.leaves book.old book.new }
-    ensures value { Gives B.doubt B.rows B.spells book.old book.new result
+    ensures keeps { Keeps (B.view book.old) (B.view book.new) }
+    ensures value { Gives (B.view book.old) (B.view book.new) result
         (λ w report. (report.members.items ≡ members_totals_of w) × (report.scheme ≡ totals_of w)) }
     ensures fault { IfErr result (λ e. (e ≡ Memory) ⊎ B.fails e) }
 {
@@ -56,7 +56,8 @@ fn with_sums<'t>(
     transit: &'t str,
     lost: &'t str,
 ) -> Result<Text, AllocError>
-    ensures { IfOk result (λ longer. longer ≡ text ++ record_text (sums_fields row.now name.now sums.now transit.now lost.now)) }
+    ensures { IfOk result (λ longer. longer ≡ text ++ record_text
+        (sums_fields row.now name.now sums.now transit.now lost.now)) }
 {
     let mut granted = itoa::Buffer::new();
     let mut float = itoa::Buffer::new();
@@ -107,7 +108,8 @@ fn with_scheme(text: Text, sums: &Totals) -> Result<Text, AllocError>
 /// The text of a reconciliation: a header, a record for each member, and one for the whole scheme. Transit and lost stand
 /// in the scheme's alone, since a payment may cross members. An error is lack of memory.
 pub fn reconcile_text(alloc: Global, report: &Report) -> Result<Vec<u8>, AllocError>
-    ensures { IfOk result (λ text. text.items ≡ reconciliation_text report.now.members.items report.now.scheme) }
+    ensures { IfOk result (λ text. text.items
+        ≡ reconciliation_text report.now.members.items report.now.scheme) }
 {
     let header: [&[u8]; 10] = [
         b"row",

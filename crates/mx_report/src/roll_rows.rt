@@ -51,7 +51,8 @@ impl RollRow {
 
 /// The four fields of a record; None where it has another number of them.
 fn four_fields(entry: &ByteRecord) -> Option<(&[u8], &[u8], &[u8], &[u8])>
-    ensures some { IfSome result (λ f. fields_of entry.now ≡ f.0.now ∷ f.1.now ∷ f.2.now ∷ f.3.now ∷ []) }
+    ensures some { IfSome result
+        (λ f. fields_of entry.now ≡ f.0.now ∷ f.1.now ∷ f.2.now ∷ f.3.now ∷ []) }
     ensures none { IfNone result (length (fields_of entry.now) ≢ 4) }
 {
     if entry.len() != 4 {

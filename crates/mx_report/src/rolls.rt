@@ -5,8 +5,8 @@ ghost use Rattle.csv.specs.Reading.{error_kind};
 ghost use Rattle.csv.specs.declared.error.Error.{Error};
 ghost use Rattle.csv.specs.Records.{Row, fields_of};
 ghost use Rattle.mx_book.specs.declared.contract.StoreFault.TheVariants as fault;
-ghost use Rattle.mx_book.specs.Keeps.{Bides, Keeps, Gives};
-ghost use Rattle.mx_book.specs.Stands.{RestsAt, Settles};
+ghost use Rattle.mx_book.specs.Views.{Bides, Keeps, Gives, IsSure};
+ghost use Rattle.mx_book.specs.Views.{Settles};
 ghost use Rattle.mx_book.specs.World.{World, is_of};
 ghost use Rattle.mx_office.specs.Reachable.{IsReachable, StandsBalanced};
 ghost use Rattle.mx_report.specs.declared.rolls.RollFaultKind.TheVariants.{NotRoll, Memory, Store};
@@ -178,8 +178,8 @@ fn is_of(member: &Name, holder: &Option<HolderRow>) -> bool
 /// Whether what a row says stands already.
 #[tactic(auto, unfolding(crate::specs::Roll::is_same))]
 fn is_same<B: Book>(book: &mut B, alloc: Global, row: &RollRow) -> Result<bool, StoreFault>
-    ensures keeps { Keeps B.doubt B.rows B.harm B.base B.defers B.settled B.leaves book.old book.new }
-    ensures value { Gives B.doubt B.rows B.spells book.old book.new result
+    ensures keeps { Keeps (B.view book.old) (B.view book.new) }
+    ensures value { Gives (B.view book.old) (B.view book.new) result
         (λ w b. b ≡ is_same w row.now) }
     ensures fault { IfErr result B.fails }
 {
@@ -205,8 +205,8 @@ fn is_same<B: Book>(book: &mut B, alloc: Global, row: &RollRow) -> Result<bool, 
 /// holder's member for a purse. None where that holder isn't there.
 #[tactic(auto, unfolding(crate::specs::Roll::asker))]
 fn asker<B: Book>(book: &mut B, alloc: Global, row: &RollRow) -> Result<Option<Caller>, StoreFault>
-    ensures keeps { Keeps B.doubt B.rows B.harm B.base B.defers B.settled B.leaves book.old book.new }
-    ensures value { Gives B.doubt B.rows B.spells book.old book.new result
+    ensures keeps { Keeps (B.view book.old) (B.view book.new) }
+    ensures value { Gives (B.view book.old) (B.view book.new) result
         (λ w o. o ≡ asker w row.now) }
     ensures fault { IfErr result B.fails }
 {
@@ -237,12 +237,13 @@ fn import_row<B: Book>(
     alloc: Global,
     row: &RollRow,
 ) -> Result<RowOutcome, StoreFault>
-    ensures later { B.doubt office.old.book ≤ B.doubt office.new.book }
-    ensures bides { Bides B.harm B.base B.defers B.leaves office.old.book office.new.book }
-    ensures ok { (w : World) → B.doubt office.new.book ≡ 0 → B.spells (B.rows office.old.book) w
-        → IfOk result (IsRowImported (B.spells (B.rows office.new.book)) w (Some row.now)) }
-    ensures err { B.doubt office.new.book ≡ 0
-        → OnErr result (B.rows office.new.book ≡ B.rows office.old.book) }
+    ensures later { (B.view office.old.book).doubt ≤ (B.view office.new.book).doubt }
+    ensures bides { Bides (B.view office.old.book) (B.view office.new.book) }
+    ensures ok { IsSure (B.view office.new.book)
+        → IfOk result (IsRowImported (λ v. (B.view office.new.book).world ≡ v)
+        (B.view office.old.book).world (Some row.now)) }
+    ensures err { IsSure (B.view office.new.book)
+        → OnErr result ((B.view office.new.book).world ≡ (B.view office.old.book).world) }
     ensures fault { IfErr result (λ e. (e ≡ fault.Memory) ⊎ B.fails e) }
 {
     if is_same(&mut office.book, alloc, row)? {
@@ -264,15 +265,16 @@ fn import_record<B: Book>(
     report: &mut RollReport,
 ) -> Result<(), StoreFault>
     requires few { rows_counted (tally_of report.old) < 2 ^ 64 - 1 }
-    ensures later { B.doubt office.old.book ≤ B.doubt office.new.book }
-    ensures bides { Bides B.harm B.base B.defers B.leaves office.old.book office.new.book }
-    ensures ok { (w : World) → B.doubt office.new.book ≡ 0 → B.spells (B.rows office.old.book) w
-        → OnOk result (IsRecordImported (B.spells (B.rows office.new.book)) w
+    ensures later { (B.view office.old.book).doubt ≤ (B.view office.new.book).doubt }
+    ensures bides { Bides (B.view office.old.book) (B.view office.new.book) }
+    ensures ok { IsSure (B.view office.new.book)
+        → OnOk result (IsRecordImported (λ v. (B.view office.new.book).world ≡ v)
+        (B.view office.old.book).world
         (fields_of entry.now) (tally_of report.old) (tally_of report.new)) }
     ensures counted { OnOk result
         (rows_counted (tally_of report.new) ≡ rows_counted (tally_of report.old) + 1) }
-    ensures err { B.doubt office.new.book ≡ 0
-        → OnErr result (B.rows office.new.book ≡ B.rows office.old.book) }
+    ensures err { IsSure (B.view office.new.book)
+        → OnErr result ((B.view office.new.book).world ≡ (B.view office.old.book).world) }
     ensures uncounted { OnErr result (tally_of report.new ≡ tally_of report.old) }
     ensures fault { IfErr result (λ e. (e ≡ fault.Memory) ⊎ B.fails e) }
 {
@@ -289,8 +291,10 @@ fn import_record<B: Book>(
 
 /// Takes the header off a roll.
 fn take_header(records: &mut ByteRecordsIntoIter<&[u8]>) -> Result<(), RollFaultKind>
-    ensures ok { (text : List ℕ) → HasGiven text [] None records.old → OnOk result (HasGiven text (roll_header ∷ []) (Some 4) records.new) }
-    ensures err { (text : List ℕ) → HasGiven text [] None records.old → IfErr result (λ kind. (kind ≢ Store) × (kind ≡ NotRoll → HasNoHeader text 0)) }
+    ensures ok { (text : List ℕ) → HasGiven text [] None records.old
+        → OnOk result (HasGiven text (roll_header ∷ []) (Some 4) records.new) }
+    ensures err { (text : List ℕ) → HasGiven text [] None records.old
+        → IfErr result (λ kind. (kind ≢ Store) × (kind ≡ NotRoll → HasNoHeader text 0)) }
 {
     match records.next() {
         Some(Ok(record)) => {
@@ -327,16 +331,17 @@ fn import_next<B: Book>(
     report: &mut RollReport,
 ) -> Result<(), RollFaultKind>
     requires few { rows_counted (tally_of report.old) < 2 ^ 64 - 1 }
-    ensures later { B.doubt office.old.book ≤ B.doubt office.new.book }
-    ensures bides { Bides B.harm B.base B.defers B.leaves office.old.book office.new.book }
+    ensures later { (B.view office.old.book).doubt ≤ (B.view office.new.book).doubt }
+    ensures bides { Bides (B.view office.old.book) (B.view office.new.book) }
     ensures taken { OnOk result ((r : Row) × (next ≡ Ok r)) }
-    ensures ok { (w : World) → B.doubt office.new.book ≡ 0 → B.spells (B.rows office.old.book) w
-        → OnOk result (IfOk next (λ r. IsRecordImported (B.spells (B.rows office.new.book)) w
+    ensures ok { IsSure (B.view office.new.book)
+        → OnOk result (IfOk next (λ r. IsRecordImported (λ v. (B.view office.new.book).world ≡ v)
+        (B.view office.old.book).world
         (fields_of r) (tally_of report.old) (tally_of report.new))) }
     ensures counted { OnOk result
         (rows_counted (tally_of report.new) ≡ rows_counted (tally_of report.old) + 1) }
-    ensures err { B.doubt office.new.book ≡ 0
-        → OnErr result (B.rows office.new.book ≡ B.rows office.old.book) }
+    ensures err { IsSure (B.view office.new.book)
+        → OnErr result ((B.view office.new.book).world ≡ (B.view office.old.book).world) }
     ensures uncounted { OnErr result (tally_of report.new ≡ tally_of report.old) }
     ensures not_roll { IfErr result (λ kind. kind ≡ NotRoll
         → (error : Error) × (next ≡ Err error) × (record_fault (error_kind error) ≡ NotRoll)) }
@@ -359,8 +364,7 @@ fn settle_rows<B: Book, P: Progress>(
     kept: u64,
     progress: &mut P,
 ) -> Result<u64, RollFault>
-    ensures settles { Settles B.doubt B.rows B.harm B.base B.defers B.settled B.leaves
-        office.old.book office.new.book result }
+    ensures settles { Settles (B.view office.old.book) (B.view office.new.book) result }
     ensures all { IfOk result (λ n. n ≡ rows) }
     ensures before { IfErr result (λ f. f.done ≡ kept) }
     ensures roll { IfErr result (λ f. f.kind ≢ NotRoll) }
@@ -388,10 +392,8 @@ fn settle_some<B: Book, P: Progress>(
     requires few { kept ≤ rows }
     ensures ok { IfOk result (λ n.
         ((n ≡ kept) × (office.new.book ≡ office.old.book))
-        ⊎ ((n ≡ rows) × Settles B.doubt B.rows B.harm B.base B.defers B.settled B.leaves
-        office.old.book office.new.book result)) }
-    ensures err { OnErr result (Settles B.doubt B.rows B.harm B.base B.defers B.settled B.leaves
-        office.old.book office.new.book result) }
+        ⊎ ((n ≡ rows) × Settles (B.view office.old.book) (B.view office.new.book) result)) }
+    ensures err { OnErr result (Settles (B.view office.old.book) (B.view office.new.book) result) }
     ensures within { IfOk result (λ n. n ≤ rows) }
     ensures before { IfErr result (λ f. f.done ≡ kept) }
     ensures roll { IfErr result (λ f. f.kind ≢ NotRoll) }
@@ -412,7 +414,8 @@ fn end_at<B: Book, P: Progress>(
     kept: u64,
     progress: &mut P,
 ) -> RollFault
-    ensures settles { SettlesRows B.Book office.old.book office.new.book rows kept result.done }
+    ensures settles { SettlesRows (B.view office.old.book)
+        (B.view office.new.book) rows kept result.done }
     ensures not_roll { result.kind ≡ NotRoll → (kind ≡ NotRoll) × (result.done ≡ rows) }
     ensures store { result.kind ≡ Store → (kind ≡ Store) ⊎ B.fails fault.Store }
 {
@@ -439,20 +442,22 @@ pub fn import_roll<B: Book>(
     office: &mut Office<B>,
     bytes: &[u8],
 ) -> Result<RollReport, RollFault>
-    ensures still { B.settled office.old.book → B.settled office.new.book }
-    ensures later { B.settled office.old.book → B.doubt office.old.book ≤ B.doubt office.new.book }
-    ensures done { (w : World) → B.doubt office.new.book ≡ 0 → B.spells (B.rows office.old.book) w
-        → IfOk result (λ report. IsImported (B.spells (B.rows office.new.book)) w bytes.now
+    ensures still { (B.view office.old.book).IsSettled → (B.view office.new.book).IsSettled }
+    ensures later { (B.view office.old.book).IsSettled
+        → (B.view office.old.book).doubt ≤ (B.view office.new.book).doubt }
+    ensures done { IsSure (B.view office.new.book)
+        → IfOk result (λ report. IsImported (λ v. (B.view office.new.book).world ≡ v)
+        (B.view office.old.book).world bytes.now
         (tally_of report)) }
-    ensures broken { (w : World) → B.doubt office.new.book ≡ 0
-        → RestsAt B.doubt B.rows B.spells B.settled office.old.book w
-        → IfErr result (λ f. IsBroken (B.spells (B.rows office.new.book)) w bytes.now f.done) }
+    ensures broken { (B.view office.old.book).IsSettled → IsSure (B.view office.new.book)
+        → IfErr result (λ f. IsBroken (λ v. (B.view office.new.book).world ≡ v)
+        (B.view office.old.book).world bytes.now f.done) }
     ensures roll { IfOk result (λ _. (records : List Fields) × IsRoll bytes.now records) }
     ensures not_roll { IfErr result (λ f. f.kind ≡ NotRoll → IsNoRoll bytes.now f.done) }
     ensures store { IfErr result (λ f. f.kind ≡ Store → B.fails fault.Store) }
-    ensures reachable { (w : World) → B.doubt office.new.book ≡ 0
-        → RestsAt B.doubt B.rows B.spells B.settled office.old.book w → IsReachable w
-        → StandsBalanced (B.spells (B.rows office.new.book)) }
+    ensures reachable { (B.view office.old.book).IsSettled → IsSure (B.view office.new.book)
+        → IsReachable (B.view office.old.book).world
+        → StandsBalanced (B.view office.new.book).world }
 {
     import_roll_telling(alloc, office, bytes, &mut Nobody)
 }
@@ -464,20 +469,22 @@ pub fn import_roll_telling<B: Book, P: Progress>(
     bytes: &[u8],
     progress: &mut P,
 ) -> Result<RollReport, RollFault>
-    ensures still { B.settled office.old.book → B.settled office.new.book }
-    ensures later { B.settled office.old.book → B.doubt office.old.book ≤ B.doubt office.new.book }
-    ensures done { (w : World) → B.doubt office.new.book ≡ 0 → B.spells (B.rows office.old.book) w
-        → IfOk result (λ report. IsImported (B.spells (B.rows office.new.book)) w bytes.now
+    ensures still { (B.view office.old.book).IsSettled → (B.view office.new.book).IsSettled }
+    ensures later { (B.view office.old.book).IsSettled
+        → (B.view office.old.book).doubt ≤ (B.view office.new.book).doubt }
+    ensures done { IsSure (B.view office.new.book)
+        → IfOk result (λ report. IsImported (λ v. (B.view office.new.book).world ≡ v)
+        (B.view office.old.book).world bytes.now
         (tally_of report)) }
-    ensures broken { (w : World) → B.doubt office.new.book ≡ 0
-        → RestsAt B.doubt B.rows B.spells B.settled office.old.book w
-        → IfErr result (λ f. IsBroken (B.spells (B.rows office.new.book)) w bytes.now f.done) }
+    ensures broken { (B.view office.old.book).IsSettled → IsSure (B.view office.new.book)
+        → IfErr result (λ f. IsBroken (λ v. (B.view office.new.book).world ≡ v)
+        (B.view office.old.book).world bytes.now f.done) }
     ensures roll { IfOk result (λ _. (records : List Fields) × IsRoll bytes.now records) }
     ensures not_roll { IfErr result (λ f. f.kind ≡ NotRoll → IsNoRoll bytes.now f.done) }
     ensures store { IfErr result (λ f. f.kind ≡ Store → B.fails fault.Store) }
-    ensures reachable { (w : World) → B.doubt office.new.book ≡ 0
-        → RestsAt B.doubt B.rows B.spells B.settled office.old.book w → IsReachable w
-        → StandsBalanced (B.spells (B.rows office.new.book)) }
+    ensures reachable { (B.view office.old.book).IsSettled → IsSure (B.view office.new.book)
+        → IsReachable (B.view office.old.book).world
+        → StandsBalanced (B.view office.new.book).world }
 {
     let records = match records_of(alloc, bytes) {
         Ok(records) => records,

@@ -24,9 +24,16 @@ ghost use Rattle.mx_report.specs.Import.{IsSame, import, import_again, row_impor
 ///
 /// The call does nothing.
 pub fn rows_stay()
-    ensures kept { (w : World) (caller : Caller) (command : Command) (row : RollRow) → IsSame w row → IsSame (step w caller command).world row }
-    ensures again { (w : World) (row : RollRow) → (row_imported w row).outcome ≡ Added → IsSame (row_imported w row).world row }
-    ensures stand { (w : World) (records : List Fields) → AllByRecursion (IsSame (import w records).world) (rows_standing w records) }
-    ensures twice { (w : World) (records : List Fields) (commands : List Asked) → (import w records).tally.added + (import w records).tally.same ≤ (import_again w records commands).tally.same }
-    ensures nothing { (w : World) (records : List Fields) (commands : List Asked) → (import w records).tally.refused ≡ [] → (import_again w records commands).tally.added ≡ 0 }
+    ensures kept { (w : World) (caller : Caller) (command : Command) (row : RollRow) → IsSame w row
+        → IsSame (step w caller command).world row }
+    ensures again { (w : World) (row : RollRow) → (row_imported w row).outcome ≡ Added
+        → IsSame (row_imported w row).world row }
+    ensures stand { (w : World) (records : List Fields)
+        → AllByRecursion (IsSame (import w records).world) (rows_standing w records) }
+    ensures twice { (w : World) (records : List Fields) (commands : List Asked)
+        → (import w records).tally.added + (import w records).tally.same ≤
+        (import_again w records commands).tally.same }
+    ensures nothing { (w : World) (records : List Fields) (commands : List Asked)
+        → (import w records).tally.refused ≡ []
+        → (import_again w records commands).tally.added ≡ 0 }
 {}

@@ -1,7 +1,7 @@
 //! The statement of a purse.
 ghost use Rattle.std.specs.Prelude.{◌≡◌, ◌⊎◌, ◌++◌, IfOk, IfErr, option_map};
 ghost use Rattle.mx_book.specs.declared.contract.StoreFault.TheVariants.{Memory};
-ghost use Rattle.mx_book.specs.Keeps.{Keeps, Gives};
+ghost use Rattle.mx_book.specs.Views.{Keeps, Gives};
 ghost use Rattle.mx_report.specs.Statement.{record_text, line_fields, own_lines, statement_of, statement_text};
 
 use crate::texts::Text;
@@ -13,8 +13,8 @@ use std::alloc::{AllocError, Global};
 
 /// The lines of a purse, by number, read page by page.
 fn read_lines<B: Book>(alloc: Global, book: &mut B, purse: Name) -> Result<Vec<Line>, StoreFault>
-    ensures keeps { Keeps B.doubt B.rows B.harm B.base B.defers B.settled B.leaves book.old book.new }
-    ensures value { Gives B.doubt B.rows B.spells book.old book.new result
+    ensures keeps { Keeps (B.view book.old) (B.view book.new) }
+    ensures value { Gives (B.view book.old) (B.view book.new) result
         (λ w lines. lines.items ≡ own_lines w purse) }
     ensures fault { IfErr result (λ e. (e ≡ Memory) ⊎ B.fails e) }
 {
@@ -39,8 +39,8 @@ pub fn statement<B: Book>(
     book: &mut B,
     purse: Name,
 ) -> Result<Option<Vec<Line>>, StoreFault>
-    ensures keeps { Keeps B.doubt B.rows B.harm B.base B.defers B.settled B.leaves book.old book.new }
-    ensures value { Gives B.doubt B.rows B.spells book.old book.new result
+    ensures keeps { Keeps (B.view book.old) (B.view book.new) }
+    ensures value { Gives (B.view book.old) (B.view book.new) result
         (λ w o. option_map (λ lines. lines.items) o ≡ statement_of w purse) }
     ensures fault { IfErr result (λ e. (e ≡ Memory) ⊎ B.fails e) }
 {

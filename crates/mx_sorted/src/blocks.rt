@@ -236,7 +236,8 @@ pub(crate) fn put<K: Ord + Copy, V: Copy>(
     ensures rows { rows_in blocks.new.items ≡ put K.cmp key value (rows_in blocks.old.items) }
     ensures sound { AreSound blocks.new spare.new }
     ensures spent { vec_len spare.old ≤ vec_len spare.new + 1 }
-    ensures kept { is_some (find K.cmp key (rows_in blocks.old.items)) ≡ true → vec_len spare.old ≤ vec_len spare.new }
+    ensures kept { is_some (find K.cmp key (rows_in blocks.old.items)) ≡ true
+        → vec_len spare.old ≤ vec_len spare.new }
 {
     if blocks.is_empty() {
         put_first(blocks, spare, key, value);

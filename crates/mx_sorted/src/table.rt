@@ -108,7 +108,8 @@ impl<K: Key, V: Copy> Table<K, V> {
         requires { 0 < self.old.room }
         ensures map { map_of K.cmp self.new ≡ map.insert (map_of K.cmp self.old) key value }
         ensures room { self.old.room ≤ self.new.room + 1 }
-        ensures kept { map.contains_key (map_of K.cmp self.old) key ≡ true → self.old.room ≤ self.new.room }
+        ensures kept { map.contains_key (map_of K.cmp self.old) key ≡ true
+            → self.old.room ≤ self.new.room }
     {
         blocks::put(&mut self.blocks, &mut self.spare, key, value);
     }

@@ -1,2 +1,1 @@
-pub mod ViewLemmas
 pub mod ShownLemmas

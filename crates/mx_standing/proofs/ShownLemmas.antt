@@ -1,20 +1,19 @@
 -- What the calls of a book of rows leave of the World that it shows.
 use Rattle.std.proofs.Common.{◌≡◌, ◌≤◌, ◌⊎◌, refl, sym, subst, ◌∙◌, inl, inr, Result, Ok, Err}
-use Rattle.std.specs.Prelude.{IfOk, IfErr, OnOk, OnErr}
+use Rattle.std.specs.Prelude.{ℕ, IfOk, IfErr, OnOk, OnErr}
 use Rattle.std.specs.Coded.{Coded-set, Unit-prop}
 use mathlib.Core.Logic.{∥∥₁_elim, ∥∥₁_prop, ∥∥₁_map}
 use Rattle.mx_pay.specs.Log.{Entries, coded_entries}
 use Rattle.mx_purse.specs.contracts.message.Message as message
 use Rattle.mx_purse.specs.declared.message.Message.{Message}
 use Rattle.mx_book.specs.World.{World}
-use Rattle.mx_book.specs.Keeps.{Bides as BidesRows, Keeps as KeepsRows, Gives as GivesRows}
-use Rattle.mx_book.specs.Stands.{Settles as SettlesRows}
-use Rattle.mx_book.specs.declared.contract.Book.{Ghosts}
+use Rattle.mx_book.specs.Keeps.{Bides as BidesRows, Keeps as KeepsRows, Gives as GivesRows, Settles as SettlesRows}
+use Rattle.mx_book.specs.declared.rows.RowBook.{Ghosts}
 use Rattle.mx_book.proofs.StandLemmas.{sure_before, low_before, low_sure}
 use Rattle.mx_standing.specs.One.{world_set}
-use Rattle.mx_standing.specs.The.{IsOfOne, world_at}
-use Rattle.mx_standing.specs.Shown.{IsOne, IsKept, AreLeft, Waits, shown, world_is, for_the, world_same}
-use Rattle.mx_standing.specs.Views.{Answers, Bides, Changes, Keeps, Settles}
+use Rattle.mx_standing.specs.The.{IsOfOne, so_of_the, the, world_at}
+use Rattle.mx_standing.specs.Shown.{IsOne, IsKept, AreLeft, shown, world_is, for_the, world_same}
+use Rattle.mx_book.specs.Views.{Answers, Bides, Changes, Keeps, Settles}
 
 IfOk_prop : {T E : Type 0} (result : Result T E) (P : T → Type 0) → ((x : T) → IsProp (P x)) → IsProp (IfOk result P)
 IfOk_prop (Ok x) P h = h x
@@ -39,12 +38,9 @@ module _ {B : Type 0} (g : Ghosts B) where
         let it = rest b still in
         of_same g.spells (g.rows b) (g.base b) (sym (it.1 none)) (one (it.0 ∙ none))
 
-    pub kept_bides : (old new : B) → BidesRows g.harm g.base g.defers g.leaves old new → ∥ Waits g ∥₁ → IsOne g new → IsKept g old → IsKept g new
-    kept_bides old new bides waits one kept none = ∥∥₁_elim waits ∥∥₁_prop by
-      where
-        by : Waits g → IsOfOne (g.spells (g.base new))
-        by (inl defers) = of_same g.spells (g.base old) (g.base new) (bides.stands defers none) (kept (sure_before bides.lasts none))
-        by (inr all) = kept_settled new (all new) one none
+    pub kept_bides : (old new : B) → BidesRows g.harm g.base g.defers g.leaves old new → g.defers ⊎ ((b : B) → g.settled b) → IsOne g new → IsKept g old → IsKept g new
+    kept_bides old new bides (inl defers) one kept none = of_same g.spells (g.base old) (g.base new) (bides.stands defers none) (kept (sure_before bides.lasts none))
+    kept_bides old new bides (inr all) one kept none = kept_settled new (all new) one none
 
     -- ---- what a settle leaves
 
@@ -89,9 +85,9 @@ module _ {B : Type 0} (g : Ghosts B) where
             err (Ok x) none it = tt
             err (Err e) none it = (it.0, world_same g.spells (g.base old) (g.rows new) (g.harm old) (g.doubt new) kept one' (sure_before done.lasts none) (sure none) it.1)
 
-            stop : (w : World) (s : g.Rows) → g.spells s w → g.leaves old s ⊎ ((g.doubt old ≡ 0) × (s ≡ g.rows old)) → ((q : g.Rows) × g.leaves old q × g.spells q w) ⊎ ((g.doubt old ≡ 0) × (w ≡ world_at (g.doubt old) one))
+            stop : (w : World) (s : g.Rows) → ∥ g.spells s w ∥₁ → g.leaves old s ⊎ ((g.doubt old ≡ 0) × (s ≡ g.rows old)) → ((q : g.Rows) × g.leaves old q × ∥ g.spells q w ∥₁) ⊎ ((g.doubt old ≡ 0) × (w ≡ world_at (g.doubt old) one))
             stop w s sp (inl before) = inl (s, before, sp)
-            stop w s sp (inr (calm, is)) = inr (calm, world_is g.spells (g.rows old) s (g.doubt old) one w calm is sp)
+            stop w s sp (inr (calm, is)) = inr (calm, ∥∥₁_elim sp (world_set _ _) (world_is g.spells (g.rows old) s (g.doubt old) one w calm is))
 
   -- ---- what a read leaves
 
@@ -166,3 +162,18 @@ module _ {B : Type 0} (g : Ghosts B) where
 
   pub left_first : (steady : (b : B) (r : g.Rows) → g.harm b ≡ 0 → g.leaves b r → r ≡ g.base b) (b : B) → (g.harm b ≤ 1 → g.harm b ≡ 0) → IsKept g b → AreLeft g b
   left_first steady b awake kept low r left = of_same g.spells (g.base b) r (steady b r (awake low) left) (kept (awake low))
+
+-- ---- what it shows of its rows
+
+module _ {B : Type 0} (g : Ghosts B) (b : B) (one : IsOne g b) (kept : IsKept g b) where
+  -- they spell the World that it shows, where there is no doubt
+  pub spelled_shown : g.doubt b ≡ 0 → ∥ g.spells (g.rows b) (shown g b one kept).world ∥₁
+  spelled_shown sure = for_the g.spells (g.rows b) (g.doubt b) one (λ w. ∥ g.spells (g.rows b) w ∥₁) (λ w. ∥∥₁_prop) sure (λ w sp. ∣ sp ∣₁)
+
+  -- a World that they spell is that
+  pub shown_is : (w : World) → g.doubt b ≡ 0 → g.spells (g.rows b) w → w ≡ (shown g b one kept).world
+  shown_is w sure sp = world_is g.spells (g.rows b) (g.rows b) (g.doubt b) one w sure refl sp
+
+  -- rows that a stop leaves spell a World that it shows to be left
+  pub left_shown : AreLeft g b → g.harm b ≤ 1 → (r : g.Rows) → g.leaves b r → (w : World) × (shown g b one kept).leaves w × ∥ g.spells r w ∥₁
+  left_shown left low r leaves = (the (left low r leaves), (r, leaves, so_of_the (left low r leaves)), so_of_the (left low r leaves))

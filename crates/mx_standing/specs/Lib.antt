@@ -1,5 +1,4 @@
 pub mod One
 pub mod Props
 pub mod The
-pub mod Views
 pub mod Shown

@@ -3,11 +3,11 @@ use Rattle.std.proofs.Common.{◌≡◌, ◌≤◌, ◌⊎◌, ℕ, zero, suc, r
 use mathlib.Core.Logic.{∥∥₁_elim}
 use Rattle.mx_book.specs.World.{World}
 use Rattle.mx_book.specs.Conditions.{IsWorld}
-use Rattle.mx_book.specs.declared.contract.Book.{Ghosts}
+use Rattle.mx_book.specs.declared.rows.RowBook.{Ghosts}
 use Rattle.mx_standing.specs.One.{world_set}
 use Rattle.mx_standing.specs.Props.{is_world_prop}
 use Rattle.mx_standing.specs.The.{IsOfOne, the_is, so_of_the, world_at}
-use Rattle.mx_standing.specs.Views.{View, IsLawful}
+use Rattle.mx_book.specs.Views.{View, IsLawful}
 
 module _ {B : Type 0} (g : Ghosts B) where
   -- the rows are those of one World, where there is no doubt
@@ -22,10 +22,6 @@ module _ {B : Type 0} (g : Ghosts B) where
   abbrev pub AreLeft : B → Type 0
   AreLeft b = g.harm b ≤ 1 → (r : g.Rows) → g.leaves b r → IsOfOne (g.spells r)
 
-  -- changes wait for a settle, or nothing ever does
-  abbrev pub Waits : Type 0
-  Waits = g.defers ⊎ ((b : B) → g.settled b)
-
   -- such a book shows the World of its rows
   abbrev pub shown : (b : B) → IsOne b → IsKept b → View
   shown b one kept = record {
@@ -35,7 +31,7 @@ module _ {B : Type 0} (g : Ghosts B) where
     base = world_at (g.harm b) kept;
     defers = g.defers;
     IsSettled = g.settled b;
-    leaves = λ w. (r : g.Rows) × g.leaves b r × g.spells r w;
+    leaves = λ w. (r : g.Rows) × g.leaves b r × ∥ g.spells r w ∥₁;
   }
 
 module _ {R : Type 0} (spells : R → World → Type 0) where
@@ -63,8 +59,8 @@ module _ {B : Type 0} (g : Ghosts B)
   lawful_of b one kept = record {
     sound = λ sure. for_the g.spells (g.rows b) (g.doubt b) one IsWorld is_world_prop sure (sound (g.rows b));
     based = λ none. for_the g.spells (g.base b) (g.harm b) kept IsWorld is_world_prop none (sound (g.base b));
-    left = λ w left. sound left.0 w left.2;
-    steady = λ none w left. world_is g.spells (g.base b) left.0 (g.harm b) kept w none (steady b left.0 none left.1) left.2;
+    left = λ w left. ∥∥₁_elim left.2 (is_world_prop w) (sound left.0 w);
+    steady = λ none w left. ∥∥₁_elim left.2 (world_set _ _) (world_is g.spells (g.base b) left.0 (g.harm b) kept w none (steady b left.0 none left.1));
     rest = λ still.
         let it = rest b still in
         (it.0, λ none. world_same g.spells (g.base b) (g.rows b) (g.harm b) (g.doubt b) kept one none (it.0 ∙ none) (it.1 none));

@@ -1,11 +1,11 @@
 //! A book of rows as a book that represents the World of its rows.
 ghost use Rattle.std.specs.Prelude.{◌≡◌, ◌≤◌};
 ghost use Rattle.mx_book.specs.World.{World};
-ghost use Rattle.mx_standing.specs.Shown.{IsOne, IsKept, AreLeft, Waits, shown, lawful_of};
+ghost use Rattle.mx_standing.specs.Shown.{IsOne, IsKept, AreLeft, shown, lawful_of};
 
-use crate::contract::WorldBook;
 use mx_book::contract::{Book, StoreFault};
 use mx_book::edits::Edit;
+use mx_book::rows::RowBook;
 use mx_book::values::{Account, Caller, HolderRow, Line, MemberRow, MemberTotals, Totals};
 use mx_pay::{Amount, Log, Name, PayDetails, Token};
 use mx_purse::message::Message;
@@ -15,22 +15,20 @@ use std::alloc::Global;
 /// A book of rows that always represents a World: where there is no doubt its rows spell one, and so do those that the
 /// last settle left, where there is no harm, and those that a stop leaves, while no lie was told.
 #[derive(Drop)]
-pub struct Standing<B: Book> {
+pub struct Standing<B: RowBook> {
     /// The book that keeps the rows.
     book: B,
-    ghost one: { IsOne B.Book book },
-    ghost kept: { IsKept B.Book book },
-    ghost left: { AreLeft B.Book book },
-    ghost waits: { ∥ Waits B.Book ∥₁ },
+    ghost one: { IsOne B.RowBook book },
+    ghost kept: { IsKept B.RowBook book },
+    ghost left: { AreLeft B.RowBook book },
 }
 
-impl<B: Book> Standing<B> {
+impl<B: RowBook> Standing<B> {
     /// A book that represents the World that its rows spell. It rests, and its store works if it told no lie.
     pub fn of(book: B) -> Self
         requires still { B.settled book }
         requires awake { B.harm book ≤ 1 → B.harm book ≡ 0 }
         requires spelled { B.doubt book ≡ 0 → ∥ ((w : World) × B.spells (B.rows book) w) ∥₁ }
-        requires waits { Waits B.Book }
         ensures { result.book ≡ book }
     {
         Standing { book }
@@ -44,8 +42,8 @@ impl<B: Book> Standing<B> {
     }
 }
 
-impl<B: Book> WorldBook for Standing<B> {
-    ghost view = { λ b. shown B.Book b.book b.one b.kept };
+impl<B: RowBook> Book for Standing<B> {
+    ghost view = { λ b. shown B.RowBook b.book b.one b.kept };
 
     ghost fails = { B.fails };
 
@@ -184,7 +182,7 @@ impl<B: Book> WorldBook for Standing<B> {
         self.book.settle()
     }
 
-    ghost lawful = { λ b. lawful_of B.Book.own B.sound B.steady B.rest B.deep b.book b.one b.kept };
+    ghost lawful = { λ b. lawful_of B.RowBook.own B.sound B.steady B.rest B.deep b.book b.one b.kept };
 
     ghost doubted = { λ b. B.doubted b.book };
 }

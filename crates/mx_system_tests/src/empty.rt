@@ -1,9 +1,11 @@
 //! Offices in which nothing is but the operator's token, over each kind of book, and what is tried in them.
 use crate::faulty::Faulty;
+use mx_audit::open;
 use mx_book::Book;
-use mx_memory::PlainBook;
+use mx_memory::new_book;
 use mx_office::Office;
 use mx_pay::Token;
+use mx_standing::Standing;
 use mx_tables::Tables;
 use sqlite::{Connection, MemStore};
 use std::alloc::Global;
@@ -48,13 +50,15 @@ pub(super) fn in_office(
 
 /// The same over a book in memory.
 pub(super) fn in_memory(rt: &(impl Abort + AllocGlobal), trial: &impl Trial) -> Result<(), Fail> {
-    in_office(rt, PlainBook::new(rt.alloc(), operator()?), trial)
+    in_office(rt, new_book(rt.alloc(), operator()?), trial)
 }
 
-/// New tables in memory, where there is memory for them.
-fn new_tables(alloc: Global, operator: Token) -> Option<Tables<MemStore>> {
+/// A book over new tables in memory, where there is memory for them.
+fn new_tables(alloc: Global, operator: Token) -> Option<Standing<Tables<MemStore>>> {
     let store = Connection::open_in_memory(alloc).ok()?;
-    Tables::create(alloc, store, operator).ok()
+    let tables = Tables::create(alloc, store, operator).ok()?;
+    let (book, _) = open(alloc, tables.into_store(), 0).ok()?;
+    Some(book)
 }
 
 /// The same over tables in memory, which are made again where there is no memory at first.
@@ -92,7 +96,7 @@ pub(super) fn in_faulty(
     rt: &(impl Abort + AllocGlobal),
     trial: &impl FaultyTrial,
 ) -> Result<(), Fail> {
-    in_faulty_office(rt, PlainBook::new(rt.alloc(), operator()?), trial)
+    in_faulty_office(rt, new_book(rt.alloc(), operator()?), trial)
 }
 
 /// A store in memory in which nothing is.
@@ -100,12 +104,12 @@ pub(super) fn empty_store(alloc: Global) -> Result<Connection<MemStore>, Fail> {
     Ok(Connection::open_in_memory(alloc)?)
 }
 
-/// New tables in a store.
+/// The store with new tables in it.
 pub(super) fn made(
     alloc: Global,
     store: Connection<MemStore>,
     operator: Token,
-) -> Result<Tables<MemStore>, Fail> {
-    let book = Tables::create(alloc, store, operator);
-    Ok(book.ok().ok_or("not made")?)
+) -> Result<Connection<MemStore>, Fail> {
+    let tables = Tables::create(alloc, store, operator);
+    Ok(tables.ok().ok_or("not made")?.into_store())
 }

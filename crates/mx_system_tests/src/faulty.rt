@@ -40,23 +40,7 @@ impl<B> Faulty<B> {
 }
 
 impl<B: Book> Book for Faulty<B> {
-    ghost Rows = { B.Rows };
-
-    ghost rows = { λ b. B.rows b.book };
-
-    ghost spells = { B.spells };
-
-    ghost doubt = { λ b. B.doubt b.book };
-
-    ghost base = { λ b. B.base b.book };
-
-    ghost harm = { λ b. B.harm b.book };
-
-    ghost settled = { λ b. B.settled b.book };
-
-    ghost defers = { B.defers };
-
-    ghost leaves = { λ b r. B.leaves b.book r };
+    ghost view = { λ b. B.view b.book };
 
     ghost fails = { λ _. Unit {0} };
 
@@ -269,15 +253,7 @@ impl<B: Book> Book for Faulty<B> {
         self.book.settle()
     }
 
-    ghost sound = { B.sound };
-
-    ghost single = { B.single };
-
-    ghost steady = { λ b r. B.steady b.book r };
-
-    ghost rest = { λ b. B.rest b.book };
-
-    ghost deep = { λ b. B.deep b.book };
+    ghost lawful = { λ b. B.lawful b.book };
 
     ghost doubted = { λ _. inr (λ _. tt) };
 }

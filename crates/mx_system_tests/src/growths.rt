@@ -8,7 +8,7 @@ mod opened;
 mod reads;
 mod values;
 
-pub(super) use self::asked::asked;
+pub(super) use self::asked::asked_of_rows;
 pub(super) use self::reads::assert_values;
 use mx_book::StoreFault;
 

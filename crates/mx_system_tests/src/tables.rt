@@ -1,19 +1,24 @@
 //! Books on tables: how they are made and opened, and what they read of rows.
 use crate::desk::written;
 use crate::empty::{empty_store, made, operator};
-use crate::growths::asked;
-use mx_book::{Book, StoreFault};
+use crate::growths::{asked_of_rows, assert_values};
+use mx_audit::{Refusal, open};
+use mx_book::{RowBook, StoreFault};
 use mx_pay::Token;
-use mx_tables::{OpenFault, OpenRefused, Tables};
+use mx_standing::Standing;
+use mx_tables::{OpenFault, Tables};
 use sqlite::{Connection, MemStore};
 use std::alloc::{AllocError, Global};
 use std::process::Abort;
 use std::test::Fail;
 
-/// The books in a store.
-pub(super) fn opened(alloc: Global, store: Connection<MemStore>) -> Result<Tables<MemStore>, Fail> {
-    let book = Tables::open(alloc, store);
-    Ok(book.ok().ok_or("not opened")?)
+/// The book over the tables in a store.
+pub(super) fn opened(
+    alloc: Global,
+    store: Connection<MemStore>,
+) -> Result<Standing<Tables<MemStore>>, Fail> {
+    let (book, _) = open(alloc, store, 0).ok().ok_or("not opened")?;
+    Ok(book)
 }
 
 /// The store that `open` refuses, which has no books.
@@ -21,8 +26,11 @@ pub(super) fn unopened(
     alloc: Global,
     store: Connection<MemStore>,
 ) -> Result<Connection<MemStore>, Fail> {
-    let refused = Tables::open(alloc, store).err();
-    not_this_schema(refused.ok_or("opened")?)
+    let refused = open(alloc, store, 0).err().ok_or("opened")?;
+    match refused.fault {
+        Refusal::NotThisSchema => Ok(refused.store),
+        _ => Err("refused for another cause")?,
+    }
 }
 
 /// The store that `create` refuses, which has books.
@@ -32,20 +40,16 @@ pub(super) fn unmade(
     operator: Token,
 ) -> Result<Connection<MemStore>, Fail> {
     let refused = Tables::create(alloc, store, operator).err();
-    not_this_schema(refused.ok_or("made twice")?)
-}
-
-/// The store that is refused for its schema.
-fn not_this_schema(refused: OpenRefused<MemStore>) -> Result<Connection<MemStore>, Fail> {
+    let refused = refused.ok_or("made twice")?;
     match refused.fault {
         OpenFault::NotThisSchema => Ok(refused.store),
         _ => Err("refused for another cause")?,
     }
 }
 
-/// What a call of a book answers, in words, or which fault.
-fn answer_of(alloc: Global, book: &mut impl Book, call: &str) -> Result<String, AllocError> {
-    match asked(alloc, book, call) {
+/// What a call of a book of rows answers, in words, or which fault.
+fn answer_of(alloc: Global, book: &mut impl RowBook, call: &str) -> Result<String, AllocError> {
+    match asked_of_rows(alloc, book, call) {
         Ok(words) => Ok(words),
         Err(StoreFault::Memory) => String::from_str(alloc, "no memory"),
         Err(StoreFault::Store) => String::from_str(alloc, "store"),
@@ -55,7 +59,7 @@ fn answer_of(alloc: Global, book: &mut impl Book, call: &str) -> Result<String, 
 /// Asserts that the calls of a script answer so, a line each, `CALL ARGUMENT -> ANSWER`. The first words say of which rows.
 fn assert_answers(
     rt: &(impl Abort + AllocGlobal),
-    book: &mut impl Book,
+    book: &mut impl RowBook,
     rows: &str,
     script: &str,
 ) -> Result<(), Fail> {
@@ -71,28 +75,6 @@ fn assert_answers(
     Ok(())
 }
 
-/// A book whose calls answer so.
-fn answering<B: Book + Drop>(
-    rt: &(impl Abort + AllocGlobal),
-    mut book: B,
-    rows: &str,
-    script: &str,
-) -> Result<B, Fail> {
-    assert_answers(rt, &mut book, rows, script)?;
-    Ok(book)
-}
-
-/// Asserts that the calls of a book answer so.
-fn assert_book(
-    rt: &(impl Abort + AllocGlobal),
-    book: impl Book + Drop,
-    rows: &str,
-    script: &str,
-) -> Result<(), Fail> {
-    answering(rt, book, rows, script)?;
-    Ok(())
-}
-
 /// What new tables answer.
 const NEW: &str = "
 who 00000000000000000000000000000001 -> operator
@@ -101,14 +83,25 @@ member m -> none
 member_totals m -> none
 ";
 
+/// The store, once the book over its tables has answered so.
+fn answering_new(
+    rt: &(impl Abort + AllocGlobal),
+    store: Connection<MemStore>,
+) -> Result<Connection<MemStore>, Fail> {
+    let mut book = opened(rt.alloc(), store)?;
+    assert_eq!(rt; assert_values(rt, &mut book, NEW), Ok(()));
+    Ok(book.into_inner().into_store())
+}
+
 /// An empty store is refused, and stands then for new tables; these are opened again, and not made again.
 #[test]
 fn made_and_opened_again(rt: HostRuntime) -> Result<(), Fail> {
     let operator = operator()?;
     let store = unopened(rt.alloc(), empty_store(rt.alloc())?)?;
-    let book = answering(&rt, made(rt.alloc(), store, operator)?, "made", NEW)?;
-    let store = unmade(rt.alloc(), book.into_store(), operator)?;
-    assert_book(&rt, opened(rt.alloc(), store)?, "opened", NEW)
+    let store = answering_new(&rt, made(rt.alloc(), store, operator)?)?;
+    let store = unmade(rt.alloc(), store, operator)?;
+    answering_new(&rt, store)?;
+    Ok(())
 }
 
 /// The tables of version 1 of the schema, which had no settled details.
@@ -152,12 +145,13 @@ fn tables_of_the_version_before(rt: HostRuntime) -> Result<(), Fail> {
     Ok(())
 }
 
-/// New tables in which the statements of two texts were executed.
+/// New tables in which the statements of two texts were executed. They may spell no World, so they are opened as rows alone.
 fn with_rows(alloc: Global, rows: &str, change: &str) -> Result<Tables<MemStore>, Fail> {
-    let mut store = made(alloc, empty_store(alloc)?, operator()?)?.into_store();
+    let mut store = made(alloc, empty_store(alloc)?, operator()?)?;
     execute_lines(&mut store, rows)?;
     execute_lines(&mut store, change)?;
-    opened(alloc, store)
+    let tables = Tables::open(alloc, store);
+    Ok(tables.ok().ok_or("not opened")?)
 }
 
 /// Asserts that calls answer so over them.
@@ -167,7 +161,8 @@ fn assert_rows(
     change: &str,
     script: &str,
 ) -> Result<(), Fail> {
-    assert_book(rt, with_rows(rt.alloc(), rows, change)?, change, script)
+    let mut book = with_rows(rt.alloc(), rows, change)?;
+    assert_answers(rt, &mut book, change, script)
 }
 
 /// Adds a line of p1 of that number.

@@ -11,8 +11,7 @@ use Rattle.sqlite_trees.specs.declared.store.Store.{Ghosts}
 use Rattle.sqlite_schema.specs.declared.schema.Schema.{Schema}
 use Rattle.sqlite.specs.Held.{Held}
 use Rattle.sqlite.specs.State.{State, HasCleanDisk}
-use Rattle.mx_book.specs.Keeps.{Bides, Keeps}
-use Rattle.mx_book.specs.Stands.{Settles}
+use Rattle.mx_book.specs.Keeps.{Bides, Keeps, Settles}
 use Rattle.mx_book.specs.declared.contract.StoreFault.{StoreFault}
 use Rattle.mx_tables.specs.declared.known.Known.{Known}
 use Rattle.mx_tables.specs.Known.{Knowledge, IsKnown, AreKnown, IsKeptUp, known_of}

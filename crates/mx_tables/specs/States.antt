@@ -36,9 +36,17 @@ worry_at live clean = if clean then (if live then 0 else 1) else 2
 abbrev pub worry : State → ℕ
 worry s = worry_at s.is_open s.is_clean
 
+-- a store is in one of three states: sound; or shut by a fault; or it has lied
+abbrev pub IsSound : State → Type 0
+IsSound s = worry s ≡ 0
+
+-- it hasn't lied
+abbrev pub IsHonest : State → Type 0
+IsHonest s = worry s ≤ 1
+
 -- a disk that told no lie has an open connection
 abbrev pub IsAwake : State → Type 0
-IsAwake s = worry s ≤ 1 → worry s ≡ 0
+IsAwake s = IsHonest s → IsSound s
 
 -- 0 where the rows are those that the changes made: the connection is open, its disk told no lie, and a round that has begun is
 -- in its transaction still, which a fault ends
@@ -49,9 +57,9 @@ unsure begun s = worry_at (s.is_open && (not begun || s.in_transaction)) s.is_cl
 -- and the schema is this one, as the connection has it and as it was committed
 pub record IsAt (begun : Bool) (of : Schema) (s : State) : Type 0 where
   pub idle : HasCleanDisk s → begun ≡ false → s.in_transaction ≡ false
-  pub steady : worry s ≡ 0 → s.in_transaction ≡ false → s.committed ≡ s.now
-  pub schema : worry s ≡ 0 → s.now.schema ≡ of
-  pub base : worry s ≡ 0 → s.committed.schema ≡ of
+  pub steady : IsSound s → s.in_transaction ≡ false → s.committed ≡ s.now
+  pub schema : IsSound s → s.now.schema ≡ of
+  pub base : IsSound s → s.committed.schema ≡ of
 
 -- and it is that of the office
 abbrev pub IsOurs : Bool → State → Type 0
@@ -61,12 +69,12 @@ IsOurs begun = IsAt begun office_schema
 pub record StaysIdle (old new : State) : Type 0 where
   pub autocommit : new.in_transaction ≡ false
   pub later : worry old ≤ worry new
-  pub same : worry new ≡ 0 → new.now ≡ old.now
-  pub stops : worry new ≤ 1 → (db : Trees) → new.may_leave db → old.may_leave db
+  pub same : IsSound new → new.now ≡ old.now
+  pub stops : IsHonest new → (db : Trees) → new.may_leave db → old.may_leave db
 
 -- what may be found in this schema after a stop at this moment
 pub record LeavesAt (of : Schema) (s : State) (db : Database) : Type 0 where
-  pub base : worry s ≡ 0 → s.committed.schema ≡ of
+  pub base : IsSound s → s.committed.schema ≡ of
   pub schema : db.schema ≡ of
   pub trees : s.may_leave db.trees
 
@@ -86,8 +94,8 @@ pub record StaysAt (begun : Bool) (of : Schema) (old new : State) : Type 0 where
   pub later : unsure begun old ≤ unsure begun new
   pub mode : old.in_transaction ≡ false → new.in_transaction ≡ false
   pub same : unsure begun new ≡ 0 → new.now ≡ old.now
-  pub base : worry new ≡ 0 → new.committed ≡ old.committed
-  pub stops : worry new ≤ 1 → (db : Trees) → new.may_leave db → old.may_leave db
+  pub base : IsSound new → new.committed ≡ old.committed
+  pub stops : IsHonest new → (db : Trees) → new.may_leave db → old.may_leave db
   pub known : (k : Option Known) → Knows begun old k → Knows begun new k
 
 -- a read of the tables
@@ -260,7 +268,7 @@ pub record Explains (old new : State) (known blamed : Type 0) : Type 0 where
   pub counts : old.faults ≤ new.faults
   pub limit : new.step_limit ≡ old.step_limit
   pub closes : HasCleanDisk new → IsTrue old.is_open → IsTrue new.is_open ⊎ IsFaulted old new
-  pub cause : HasCleanDisk new → worry old ≡ 0 → known → blamed
+  pub cause : HasCleanDisk new → IsSound old → known → blamed
 
 -- a read fails only where the disk does, for want of memory, by a limit on steps, or where the rows spell no World
 pub record IsExplained {S T : Type 0} (g : Ghosts S) (old new : Held S) (result : Result T StoreFault) : Type 0 where

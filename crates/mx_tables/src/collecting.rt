@@ -40,7 +40,10 @@ fn collect_row<S: Alter>(
 /// Collects the redemptions of the purses of the member's holders.
 pub fn collect<S: Alter>(tx: &mut Savepoint<'_, S>, member: &Name) -> Result<(), StoreFault>
     ensures { Writes S.Store tx.old tx.new result
-        (λ r. record r { redemptions = remake (marked r.purses r.holders member.now) r.redemptions }) }
+        (λ r. record r {
+          redemptions = remake
+              (marked r.purses r.holders member.now) r.redemptions;
+        }) }
 {
     let rows = ask_inside(tx, "SELECT name, holder FROM purse", &[])?;
     for row in &rows {

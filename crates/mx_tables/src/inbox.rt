@@ -60,7 +60,8 @@ pub fn count_messages<S: Alter>(conn: &mut Connection<S>, purse: &Name) -> Resul
     ensures reads { Reads S.Store conn.old conn.new result
         (λ r v. v ≡ length (row_inbox_of r purse.now)) }
     ensures why { IsExplained S.Store conn.old conn.new result }
-    ensures most { (begun : Bool) → IsOurs begun (state S.Store conn.old) → unsure begun (state S.Store conn.new) ≡ 0
+    ensures most { (begun : Bool) → IsOurs begun (state S.Store conn.old)
+        → unsure begun (state S.Store conn.new) ≡ 0
         → IfOk result (AtMost ((state S.Store conn.new).now.trees 10) purse.now) }
 {
     let rows = ask(
@@ -80,7 +81,8 @@ pub fn find_message<S: Alter>(
     number: u64,
 ) -> Result<Option<Message>, StoreFault>
     ensures { Looks S.Store conn.old conn.new known.old known.new
-        (λ b. TellsAt b S.Store conn.old conn.new result (λ w v. v ≡ message_of w purse.now number)) }
+        (λ b. TellsAt b S.Store conn.old conn.new result
+        (λ w v. v ≡ message_of w purse.now number)) }
 {
     if number > MOST_NUMBER {
         find_live(conn)?;

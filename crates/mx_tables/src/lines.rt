@@ -6,7 +6,7 @@ ghost use Rattle.mx_book.specs.Conditions.{IsNote};
 ghost use Rattle.mx_book.specs.Rows.{line_row};
 ghost use Rattle.mx_book.specs.Words as words;
 ghost use Rattle.mx_tables.specs.Pages.{GivesLine};
-ghost use Rattle.mx_tables.specs.States.{IsAwake, IsOurs, Stays, Writes, worry, Tells};
+ghost use Rattle.mx_tables.specs.States.{IsAwake, IsOurs, Stays, Writes, Tells, IsSound};
 ghost use Rattle.mx_book.specs.Reads.{lines_of};
 
 use crate::asking::{fault_of, find_live, run};
@@ -41,7 +41,10 @@ pub fn insert_line<S: Alter>(
     line: &Line,
 ) -> Result<(), StoreFault>
     ensures { Writes S.Store tx.old tx.new result
-        (λ r. record r { lines = fmap.insert r.lines (purse.now, line.now.number) (line_row line.now) }) }
+        (λ r. record r {
+          lines = fmap.insert r.lines (purse.now, line.now.number)
+              (line_row line.now);
+        }) }
 {
     if line.number > MOST_KEPT || line.balance > MOST_KEPT {
         return Err(StoreFault::Store);
@@ -66,7 +69,7 @@ fn next_line<S: Alter>(rows: &mut Rows<'_, S>) -> Result<Option<Line>, StoreFaul
     ensures same_reference { rows.new.conn.ghost_name ≡ rows.old.conn.ghost_name }
     ensures stays { (begun : Bool) → IsOurs begun (state S.Store rows.old.conn.now)
         → Stays begun (state S.Store rows.old.conn.now) (state S.Store rows.new.conn.now) }
-    ensures shown { worry (state S.Store rows.new.conn.now) ≡ 0
+    ensures shown { IsSound (state S.Store rows.new.conn.now)
         → IfOk result (GivesLine S.Store rows.old.conn.now rows.new.conn.now) }
     ensures live { OnOk result (IsAwake (state S.Store rows.new.conn.now)) }
     ensures valid { IfOk result (λ line. IfSome line (λ l. IsNote l.note)) }

@@ -93,7 +93,8 @@ pub fn make_tables<S: Alter>(tx: &mut Savepoint<'_, S>, version: Version) -> Res
 pub fn make_settled<S: Alter>(tx: &mut Savepoint<'_, S>) -> Result<(), Error>
     ensures { Steps S.Store tx.old tx.new result
         (λ _. (state S.Store tx.old.conn.now).now.schema ≡ schema_11
-        → AddsTable schema_11 settled (state S.Store tx.old.conn.now) (state S.Store tx.new.conn.now)) }
+        → AddsTable schema_11 settled (state S.Store tx.old.conn.now)
+        (state S.Store tx.new.conn.now)) }
 {
     make(tx, TABLES[IN_VERSION_1])
 }

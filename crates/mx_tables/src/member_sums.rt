@@ -27,7 +27,8 @@ fn sum_at(sums: &Table<Name, u128>, member: Name) -> u128
 /// Adds a number to the sum of a member. Store where the sum is too large.
 fn add_to(sums: &mut Table<Name, u128>, member: Name, more: u128) -> Result<(), StoreFault>
     ensures { let before = map_of name_cmp sums.old in
-        OnOk result (map_of name_cmp sums.new ≡ fmap.insert before member (sum_at before member + more)) }
+        OnOk result (map_of name_cmp sums.new ≡ fmap.insert before member
+        (sum_at before member + more)) }
 {
     let sum = plus(sum_at(sums, member), more)?;
     if sums.reserve(1).is_err() {

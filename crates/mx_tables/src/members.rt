@@ -47,7 +47,10 @@ pub fn find_member<S: Alter>(
 /// Adds a member with grants 0 and float 0.
 pub fn insert_member<S: Alter>(tx: &mut Savepoint<'_, S>, name: &Name) -> Result<(), StoreFault>
     ensures { Writes S.Store tx.old tx.new result
-        (λ r. record r { members = fmap.insert r.members name.now (record { granted = 0; float = 0 }) }) }
+        (λ r. record r {
+          members = fmap.insert r.members name.now
+              (record { granted = 0; float = 0 });
+        }) }
 {
     run(
         tx,
@@ -89,7 +92,10 @@ pub fn update_member<S: Alter>(
     float: u64,
 ) -> Result<(), StoreFault>
     ensures { Writes S.Store tx.old tx.new result
-        (λ r. record r { members = fmap.insert r.members name.now (record { granted = granted; float = float }) }) }
+        (λ r. record r {
+          members = fmap.insert r.members name.now
+              (record { granted = granted; float = float });
+        }) }
 {
     if granted > MOST_NUMBER || float > MOST_NUMBER {
         return Err(StoreFault::Store);

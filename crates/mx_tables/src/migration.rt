@@ -5,7 +5,7 @@ ghost use Rattle.sqlite.specs.State.{HasCleanDisk};
 ghost use Rattle.sqlite_schema.specs.Names.{table_named};
 ghost use Rattle.mx_tables.specs.Migration.{IsWhole, Migrates, UpgradesOpen, SetsVersion, StopsUpgrading};
 ghost use Rattle.mx_tables.specs.Schema.{office_schema, schema_of};
-ghost use Rattle.mx_tables.specs.States.{Commits, IsOurs, StaysIdle, StaysAt, Steps, worry};
+ghost use Rattle.mx_tables.specs.States.{Commits, IsOurs, StaysIdle, StaysAt, Steps, worry, IsSound, IsHonest};
 ghost use Rattle.mx_tables.specs.declared.migration.Migrated.TheVariants.{Done};
 ghost use Rattle.mx_tables.specs.declared.opening.OpenFault.TheVariants.{NotThisSchema};
 
@@ -77,9 +77,9 @@ fn find_version<S: Alter>(alloc: Global, store: &mut Connection<S>) -> Result<Ve
         → OnOk result (IsTrue (state S.Store store.new).is_open) }
     ensures stays { IfOk result (λ version.
         StaysAt false (schema_of version) (state S.Store store.old) (state S.Store store.new)) }
-    ensures whole { worry (state S.Store store.new) ≡ 0
+    ensures whole { IsSound (state S.Store store.new)
         → IfOk result (λ version. IsWhole version (state S.Store store.old).now) }
-    ensures unknown { worry (state S.Store store.new) ≡ 0 → IfErr result
+    ensures unknown { IsSound (state S.Store store.new) → IfErr result
         (λ fault. fault ≡ NotThisSchema
         → (table_named (state S.Store store.old).now.schema (codes "meta") ≡ None)
         ⊎ ((version : _) → ¬ IsWhole version (state S.Store store.old).now)) }
@@ -99,21 +99,21 @@ fn find_version<S: Alter>(alloc: Global, store: &mut Connection<S>) -> Result<Ve
 pub fn migrate<S: Alter>(alloc: Global, store: &mut Connection<S>) -> Result<Migrated, OpenFault>
     ensures later { worry (state S.Store store.old) ≤ worry (state S.Store store.new) }
     ensures ours { OnOk result (IsOurs false (state S.Store store.new)) }
-    ensures live { worry (state S.Store store.new) ≤ 1
-        → OnOk result (worry (state S.Store store.new) ≡ 0) }
-    ensures migrates { worry (state S.Store store.new) ≡ 0 → IfOk result
+    ensures live { IsHonest (state S.Store store.new)
+        → OnOk result (IsSound (state S.Store store.new)) }
+    ensures migrates { IsSound (state S.Store store.new) → IfOk result
         (λ made. Migrates made (state S.Store store.old).now (state S.Store store.new).now) }
-    ensures left { worry (state S.Store store.new) ≡ 0 → OnErr result
+    ensures left { IsSound (state S.Store store.new) → OnErr result
         ((state S.Store store.new).now ≡ (state S.Store store.old).now) }
     ensures idle { store.old.in_transaction ≡ false
         → HasCleanDisk (state S.Store store.new) → store.new.in_transaction ≡ false }
-    ensures unknown { worry (state S.Store store.new) ≡ 0 → IfErr result
+    ensures unknown { IsSound (state S.Store store.new) → IfErr result
         (λ fault. fault ≡ NotThisSchema
         → (table_named (state S.Store store.old).now.schema (codes "meta") ≡ None)
         ⊎ ((version : _) → ¬ IsWhole version (state S.Store store.old).now)) }
-    ensures stops { worry (state S.Store store.new) ≤ 1 → (db : _)
+    ensures stops { IsHonest (state S.Store store.new) → (db : _)
         → (state S.Store store.new).may_leave db → (state S.Store store.old).may_leave db
-        ⊎ ((worry (state S.Store store.old) ≡ 0) × Migrates Done (state S.Store store.old).now
+        ⊎ ((IsSound (state S.Store store.old)) × Migrates Done (state S.Store store.old).now
         (record { schema = office_schema; trees = db })) }
 {
     if !store.is_autocommit() {

@@ -9,7 +9,7 @@ ghost use Rattle.mx_book.specs.Spells.{opening_rows};
 ghost use Rattle.mx_tables.specs.Holds.{Holds};
 ghost use Rattle.mx_tables.specs.Made.{Blank, HasOnly, HasVersion, IsUnknown, version_shown};
 ghost use Rattle.mx_tables.specs.Schema.{no_schema, schema_of};
-ghost use Rattle.mx_tables.specs.States.{Commits, IsAt, IsOurs, StaysAt, Steps, worry};
+ghost use Rattle.mx_tables.specs.States.{Commits, IsAt, IsOurs, StaysAt, Steps, worry, IsSound};
 ghost use Rattle.mx_tables.specs.declared.opening.OpenFault.TheVariants.{NotThisSchema};
 
 use crate::asking::ask;
@@ -32,8 +32,6 @@ pub enum OpenFault {
     Store,
     /// The tables can't be made beside those that are there, or `meta` hasn't a version that is asked for.
     NotThisSchema,
-    /// The rows of the tables are no books: an audit has a finding. No call of this crate answers it.
-    Unsound,
 }
 
 /// Why a store was refused, and the store.
@@ -184,10 +182,11 @@ pub(crate) fn version_of(alloc: Global, schema: &Schema) -> Result<Version, Open
 fn version_rows<S: Alter>(conn: &mut Connection<S>) -> Result<Vec<Row>, StoreFault>
     ensures stays { (schema : _) → IsAt false schema (state S.Store conn.old)
         → StaysAt false schema (state S.Store conn.old) (state S.Store conn.new) }
-    ensures rows { (version : _) → worry (state S.Store conn.new) ≡ 0
+    ensures rows { (version : _) → IsSound (state S.Store conn.new)
         → (state S.Store conn.old).now.schema ≡ schema_of version → IfOk result
         (λ rows. IsPermutation
-        (map version_shown (filter (has_rowid (pos 1)) ((state S.Store conn.old).now.trees 0))) rows.items) }
+        (map version_shown (filter (has_rowid (pos 1))
+        ((state S.Store conn.old).now.trees 0))) rows.items) }
     ensures live { HasCleanDisk (state S.Store conn.new)
         → OnOk result (IsTrue (state S.Store conn.new).is_open) }
 {
@@ -198,10 +197,10 @@ fn version_rows<S: Alter>(conn: &mut Connection<S>) -> Result<Vec<Row>, StoreFau
 pub(crate) fn version_number<S: Alter>(conn: &mut Connection<S>) -> Result<u64, OpenFault>
     ensures stays { (schema : _) → IsAt false schema (state S.Store conn.old)
         → StaysAt false schema (state S.Store conn.old) (state S.Store conn.new) }
-    ensures known { (version : _) → worry (state S.Store conn.new) ≡ 0
+    ensures known { (version : _) → IsSound (state S.Store conn.new)
         → (state S.Store conn.old).now.schema ≡ schema_of version
         → IfOk result (λ n. HasOnly n (state S.Store conn.old).now) }
-    ensures unknown { (version : _) → worry (state S.Store conn.new) ≡ 0
+    ensures unknown { (version : _) → IsSound (state S.Store conn.new)
         → (state S.Store conn.old).now.schema ≡ schema_of version → IfErr result
         (λ fault. fault ≡ NotThisSchema → (n : _) → ¬ HasVersion n (state S.Store conn.old).now) }
     ensures live { HasCleanDisk (state S.Store conn.new)
@@ -228,10 +227,10 @@ fn check_version<S: Alter>(conn: &mut Connection<S>, version: Version) -> Result
         → StaysAt false schema (state S.Store conn.old) (state S.Store conn.new) }
     ensures ours { IsAt false (schema_of version) (state S.Store conn.old)
         → OnOk result (IsOurs false (state S.Store conn.new)) }
-    ensures known { worry (state S.Store conn.new) ≡ 0
+    ensures known { IsSound (state S.Store conn.new)
         → (state S.Store conn.old).now.schema ≡ schema_of version
         → OnOk result (HasVersion 2 (state S.Store conn.old).now) }
-    ensures unknown { worry (state S.Store conn.new) ≡ 0
+    ensures unknown { IsSound (state S.Store conn.new)
         → (state S.Store conn.old).now.schema ≡ schema_of version → IfErr result
         (λ fault. fault ≡ NotThisSchema → ¬ HasVersion 2 (state S.Store conn.old).now) }
     ensures live { HasCleanDisk (state S.Store conn.new)
@@ -255,12 +254,12 @@ pub(crate) fn check_office<S: Alter>(
         → (state S.Store conn.old).now ≡ (state S.Store conn.old).committed }
     ensures ours { OnOk result (IsOurs false (state S.Store conn.new)) }
     ensures later { worry (state S.Store conn.old) ≤ worry (state S.Store conn.new) }
-    ensures same { worry (state S.Store conn.new) ≡ 0
+    ensures same { IsSound (state S.Store conn.new)
         → (state S.Store conn.new).now ≡ (state S.Store conn.old).now }
     ensures idle { conn.new.in_transaction ≡ false }
-    ensures known { worry (state S.Store conn.new) ≡ 0
+    ensures known { IsSound (state S.Store conn.new)
         → OnOk result (HasVersion 2 (state S.Store conn.old).now) }
-    ensures unknown { worry (state S.Store conn.new) ≡ 0 → IfErr result
+    ensures unknown { IsSound (state S.Store conn.new) → IfErr result
         (λ fault. fault ≡ NotThisSchema → IsUnknown (state S.Store conn.old).now) }
     ensures live { HasCleanDisk (state S.Store conn.new)
         → OnOk result (IsTrue (state S.Store conn.new).is_open) }

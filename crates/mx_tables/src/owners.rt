@@ -57,7 +57,8 @@ fn check_numbers(rows: &[Row]) -> Result<(), StoreFault>
 fn check_inbox<S: Alter>(conn: &mut Connection<S>) -> Result<(), StoreFault>
     ensures stays { (begun : Bool) → IsOurs begun (state S.Store conn.old)
         → Stays begun (state S.Store conn.old) (state S.Store conn.new) }
-    ensures numbered { (begun : Bool) → IsOurs begun (state S.Store conn.old) → unsure begun (state S.Store conn.new) ≡ 0
+    ensures numbered { (begun : Bool) → IsOurs begun (state S.Store conn.old)
+        → unsure begun (state S.Store conn.new) ≡ 0
         → OnOk result (AreNumbered ((state S.Store conn.new).now.trees 10)) }
     ensures live { OnOk result (IsAwake (state S.Store conn.new)) }
 {
@@ -73,7 +74,8 @@ fn make_known<S: Alter>(
 ) -> Result<(), StoreFault>
     ensures stays { (begun : Bool) → IsOurs begun (state S.Store conn.old)
         → Stays begun (state S.Store conn.old) (state S.Store conn.new) }
-    ensures knows { (begun : Bool) → IsOurs begun (state S.Store conn.old) → Knows begun (state S.Store conn.old) known.old
+    ensures knows { (begun : Bool) → IsOurs begun (state S.Store conn.old)
+        → Knows begun (state S.Store conn.old) known.old
         → Knows begun (state S.Store conn.new) known.new }
     ensures live { IsAwake (state S.Store conn.old)
         → OnOk result (IsAwake (state S.Store conn.new)) }
@@ -98,7 +100,8 @@ pub fn try_known<S: Alter>(
 )
     ensures stays { (begun : Bool) → IsOurs begun (state S.Store conn.old)
         → Stays begun (state S.Store conn.old) (state S.Store conn.new) }
-    ensures knows { (begun : Bool) → IsOurs begun (state S.Store conn.old) → Knows begun (state S.Store conn.old) known.old
+    ensures knows { (begun : Bool) → IsOurs begun (state S.Store conn.old)
+        → Knows begun (state S.Store conn.old) known.old
         → Knows begun (state S.Store conn.new) known.new }
 {
     if known.is_none() && !*tried {
@@ -116,7 +119,8 @@ pub fn count_purses<S: Alter>(
 ) -> Result<usize, StoreFault>
     ensures { Looks S.Store conn.old conn.new known.old known.new
         (λ b. IsAwake (state S.Store conn.old)
-        → ReadsAt b S.Store conn.old conn.new result (λ r v. v ≡ length (row_purses_of r holder.now))) }
+        → ReadsAt b S.Store conn.old conn.new result
+        (λ r v. v ≡ length (row_purses_of r holder.now))) }
 {
     make_known(alloc, conn, known)?;
     let Some(known) = known else { unreachable!() };
@@ -132,7 +136,8 @@ pub fn list_purses<S: Alter>(
     holder: &Name,
 ) -> Result<Vec<Name>, StoreFault>
     ensures { Looks S.Store conn.old conn.new known.old known.new
-        (λ b. TellsAt b S.Store conn.old conn.new result (λ w v. v.items ≡ purses_of w holder.now)) }
+        (λ b. TellsAt b S.Store conn.old conn.new result
+        (λ w v. v.items ≡ purses_of w holder.now)) }
 {
     find_live(conn)?;
     make_known(alloc, conn, known)?;

@@ -110,7 +110,8 @@ fn find_own<S: Alter>(
     name: &Name,
 ) -> Result<Option<Purse>, StoreFault>
     ensures { Looks S.Store conn.old conn.new known.old known.new
-        (λ b. TellsAt b S.Store conn.old conn.new result (λ w v. v ≡ own_purse w holder.now name.now)) }
+        (λ b. TellsAt b S.Store conn.old conn.new result
+        (λ w v. v ≡ own_purse w holder.now name.now)) }
 {
     let Some(row) = ask_about(conn, About::Purse, name)? else {
         return Ok(None);
@@ -131,7 +132,8 @@ fn own_known<S: Alter>(
     name: &Name,
 ) -> Result<Option<Purse>, StoreFault>
     ensures { Looks S.Store conn.old conn.new known.old known.new
-        (λ b. TellsAt b S.Store conn.old conn.new result (λ w v. v ≡ own_purse w holder.now name.now)) }
+        (λ b. TellsAt b S.Store conn.old conn.new result
+        (λ w v. v ≡ own_purse w holder.now name.now)) }
 {
     let Some(row) = recall_purse(known, name) else {
         return find_own(alloc, conn, known, holder, name);
@@ -151,7 +153,8 @@ pub fn read_own<S: Alter>(
     name: &Name,
 ) -> Result<Option<Purse>, StoreFault>
     ensures { Looks S.Store conn.old conn.new known.old known.new
-        (λ b. TellsAt b S.Store conn.old conn.new result (λ w v. v ≡ own_purse w holder.now name.now)) }
+        (λ b. TellsAt b S.Store conn.old conn.new result
+        (λ w v. v ≡ own_purse w holder.now name.now)) }
 {
     try_known(alloc, conn, known, tried);
     own_known(alloc, conn, known, holder, name)
@@ -236,7 +239,8 @@ pub fn find_place<S: Alter>(
     ensures reads { Reads S.Store conn.old conn.new result
         (λ r v. v ≡ place_of r name.now) }
     ensures why { IsExplained S.Store conn.old conn.new result }
-    ensures knows { (begun : Bool) → IsOurs begun (state S.Store conn.old) → Knows begun (state S.Store conn.old) known.old
+    ensures knows { (begun : Bool) → IsOurs begun (state S.Store conn.old)
+        → Knows begun (state S.Store conn.old) known.old
         → Knows begun (state S.Store conn.new) known.new }
 {
     let Some(next_message) = number_in(ask_about(conn, About::Next, name)?)? else {

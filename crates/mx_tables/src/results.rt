@@ -91,7 +91,8 @@ fn archive_rows<S: Alter>(
 ) -> Result<(), StoreFault>
     ensures { Steps S.Store tx.old tx.new result
         (λ _. (state S.Store tx.old.conn.now).now.schema ≡ office_schema
-        → Archives purse.now rows.now (state S.Store tx.old.conn.now) (state S.Store tx.new.conn.now)) }
+        → Archives purse.now rows.now (state S.Store tx.old.conn.now)
+        (state S.Store tx.new.conn.now)) }
 {
     for row in rows {
         let Some(text) = text_at(row, 0) else {

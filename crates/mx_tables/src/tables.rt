@@ -1,12 +1,12 @@
 //! The book on tables.
 ghost use Rattle.std.specs.Prelude.{◌≡◌, ◌≢◌, ◌≤◌, false, IfOk, IfErr, MatchResult};
-ghost use Rattle.std.proofs.Common.{inr};
+ghost use Rattle.std.proofs.Common.{inl, inr};
 ghost use Rattle.sqlite.specs.Held.{state};
 ghost use Rattle.mx_book.specs.World.{opening};
 ghost use Rattle.mx_tables.specs.Schema.{no_schema};
 ghost use Rattle.mx_tables.specs.declared.opening.OpenFault.TheVariants.{NotThisSchema};
 ghost use Rattle.mx_tables.specs.Made.{HasVersion, IsUnknown};
-ghost use Rattle.mx_tables.specs.States.{worry, IsOurs, Leaves};
+ghost use Rattle.mx_tables.specs.States.{worry, IsOurs, Leaves, IsSound, IsHonest};
 ghost use Rattle.mx_tables.specs.Rounds.{IsSettled, LeavesBase, base_of, doubt_of, harm_of, rows_of};
 ghost use Rattle.mx_tables.specs.Steady.{deep_at, left_as_base, rest_in};
 ghost use Rattle.sqlite.specs.State.{HasCleanDisk};
@@ -31,7 +31,7 @@ use crate::settled::find_settled;
 use crate::sums::{sum_member, sum_scheme, sum_uncollected};
 use crate::tokens::find_caller;
 use mx_book::{
-    Account, Book, Caller, Edit, HolderRow, Line, MemberRow, MemberTotals, Scope, StoreFault,
+    Account, Caller, Edit, HolderRow, Line, MemberRow, MemberTotals, RowBook, Scope, StoreFault,
     Totals,
 };
 use mx_pay::{Amount, Log, Name, PayDetails, Token};
@@ -84,11 +84,11 @@ impl<S: Alter> Tables<S> {
             (λ t. worry (state S.Store store) ≤ worry (state S.Store t.0))
             (λ e. worry (state S.Store store) ≤ worry (state S.Store e.store)) }
         ensures opens { IfOk result
-            (λ t. worry (state S.Store t.0) ≡ 0
+            (λ t. IsSound (state S.Store t.0)
             → SpellsOne (state S.Store t.0).now (opening operator)) }
         ensures settled { IfOk result (IsSettled S.Store) }
         ensures left { IfErr result
-            (λ e. worry (state S.Store e.store) ≡ 0
+            (λ e. IsSound (state S.Store e.store)
             → (state S.Store e.store).now ≡ (state S.Store store).now) }
         ensures idle { store.in_transaction ≡ false → IfErr result
             (λ e. HasCleanDisk (state S.Store e.store) → e.store.in_transaction ≡ false) }
@@ -123,20 +123,21 @@ impl<S: Alter> Tables<S> {
             (λ t. worry (state S.Store store) ≤ worry (state S.Store t.0))
             (λ e. worry (state S.Store store) ≤ worry (state S.Store e.store)) }
         ensures same { IfOk result
-            (λ t. worry (state S.Store t.0) ≡ 0 → (state S.Store t.0).now ≡ (state S.Store store).now) }
+            (λ t. IsSound (state S.Store t.0)
+            → (state S.Store t.0).now ≡ (state S.Store store).now) }
         ensures settled { IfOk result (IsSettled S.Store) }
         ensures ours { IfOk result (λ t. IsOurs false (state S.Store t.0)) }
         ensures live { IfOk result
-            (λ t. worry (state S.Store t.0) ≤ 1 → worry (state S.Store t.0) ≡ 0) }
+            (λ t. IsHonest (state S.Store t.0) → IsSound (state S.Store t.0)) }
         ensures known { IfOk result
-            (λ t. worry (state S.Store t.0) ≡ 0 → HasVersion 2 (state S.Store store).now) }
+            (λ t. IsSound (state S.Store t.0) → HasVersion 2 (state S.Store store).now) }
         ensures left { IfErr result
-            (λ e. worry (state S.Store e.store) ≡ 0
+            (λ e. IsSound (state S.Store e.store)
             → (state S.Store e.store).now ≡ (state S.Store store).now) }
         ensures idle { store.in_transaction ≡ false → IfErr result
             (λ e. e.store.in_transaction ≡ false) }
         ensures unknown { IfErr result
-            (λ e. e.fault ≡ NotThisSchema → worry (state S.Store e.store) ≡ 0
+            (λ e. e.fault ≡ NotThisSchema → IsSound (state S.Store e.store)
             → IsUnknown (state S.Store store).now) }
     {
         if !store.is_autocommit() {
@@ -172,7 +173,7 @@ impl<S: Alter> Tables<S> {
     pub fn into_store(self) -> Connection<S>
         ensures same { result ≡ self.0 }
         ensures ours { IsSettled S.Store self → IsOurs false (state S.Store result) }
-        ensures lasts { IsSettled S.Store self → worry (state S.Store result) ≡ 0
+        ensures lasts { IsSettled S.Store self → IsSound (state S.Store result)
             → Leaves (state S.Store result) (state S.Store result).now }
         ensures idle { IsSettled S.Store self → HasCleanDisk (state S.Store result)
             → result.in_transaction ≡ false }
@@ -182,7 +183,7 @@ impl<S: Alter> Tables<S> {
     }
 }
 
-impl<S: Alter> Book for Tables<S> {
+impl<S: Alter> RowBook for Tables<S> {
     ghost Rows = { Database };
 
     ghost rows = { rows_of S.Store };
@@ -368,6 +369,8 @@ impl<S: Alter> Book for Tables<S> {
     }
 
     ghost doubted = { λ _. inr (λ _. tt) };
+
+    ghost waits = { inl tt };
 
     ghost sound = { λ db w h. h.spelled.spells.sound };
 

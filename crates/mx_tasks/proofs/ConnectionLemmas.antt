@@ -1,11 +1,9 @@
 -- What is promised of requests holds of those of connections.
-use Rattle.std.proofs.Common.{ℕ, List, [], Ok, Err, inl, refl, arith}
+use Rattle.std.proofs.Common.{ℕ, List, [], Ok, Err, refl, arith}
 use Rattle.std.specs.Prelude.{Result}
-use Rattle.mx_book.specs.Stands.{MovesTo, RestsAt}
 use Rattle.mx_book.specs.World.{World}
 use Rattle.mx_book.specs.declared.contract.StoreFault.{StoreFault}
 use Rattle.mx_desk.specs.Leaves.{Lawful}
-use Rattle.mx_desk.specs.Rounds.{attempts}
 use Rattle.mx_desk.specs.Serve.{Marked}
 use Rattle.mx_desk.proofs.LawfulLemmas.{lawful_requests, lawful_then}
 use Rattle.mx_tasks.specs.Connections.{Connections, ServesConnections, none, then}
@@ -27,8 +25,3 @@ module _ {X Y E F : Type 0} (fails : StoreFault → Type 0) (w : World) (count :
 -- none was served, and a fault came
 pub none_served : {X E : Type 0} (fails : StoreFault → Type 0) (w : World) (count : ℕ) (e : E) → ServesConnections {X = X} {E = E} fails w count (Err e) [] w
 none_served fails w count e = record { taken = 0; most = omega arith; all = tt; connections = none; lawful = lawful_requests w w [] refl }
-
--- the book stays where it is
-pub moves_nowhere : {B R : Type 0} {doubt : B → ℕ} {rows : B → R} {spells : R → World → Type 0} {settled : B → Type 0} {leaves : B → R → Type 0} (book : B) (w : World) → RestsAt doubt rows spells settled book w
-    → MovesTo doubt rows spells settled leaves book book w (attempts []) w
-moves_nowhere book w was = record { world = refl; rests = was; left = λ low r left. inl (left, refl) }

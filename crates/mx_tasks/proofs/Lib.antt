@@ -1,3 +1,4 @@
 pub mod RunLemmas
 pub mod ConnectionLemmas
 pub mod TextLemmas
+pub mod WorkLemmas

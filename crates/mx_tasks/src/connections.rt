@@ -1,8 +1,8 @@
 //! Connections, one after another.
 ghost use Rattle.std.specs.Prelude.{◌≡◌, ◌≤◌, IfOk};
-ghost use Rattle.mx_book.specs.Stands.{MovesTo, RestsAt};
+ghost use Rattle.mx_book.specs.Views.{RestsAt, IsHonest};
 ghost use Rattle.mx_book.specs.World.{World};
-ghost use Rattle.mx_desk.specs.Rounds.{Leads, attempts};
+ghost use Rattle.mx_desk.specs.Rounds.{Leads, Moves};
 ghost use Rattle.mx_tasks.specs.Connections.{Connects, ServesConnections};
 
 use crate::alarm::{Alarm, Alarmed};
@@ -49,11 +49,13 @@ fn serve_connection<B: Book>(
     alarm: &mut Alarm<'_>,
     office: &mut Office<B>,
 )
-    ensures later { B.settled office.old.book → B.doubt office.old.book ≤ B.doubt office.new.book }
-    ensures still { B.settled office.old.book → B.settled office.new.book }
-    ensures serves { (w : World) → B.doubt office.new.book ≤ 1 → RestsAt B.doubt B.rows B.spells B.settled office.old.book w
+    ensures later { (B.view office.old.book).IsSettled
+        → (B.view office.old.book).doubt ≤ (B.view office.new.book).doubt }
+    ensures still { (B.view office.old.book).IsSettled → (B.view office.new.book).IsSettled }
+    ensures serves { (w : World) → IsHonest (B.view office.new.book)
+        → RestsAt (B.view office.old.book) w
         → Leads (Connects B.fails w)
-        (λ rs. MovesTo B.doubt B.rows B.spells B.settled B.leaves office.old.book office.new.book w (attempts rs)) }
+        (Moves (B.view office.old.book) (B.view office.new.book) w) }
 {
     let mut reader = Counted::new(Timed::new(rt, stream));
     let mut writer = Counted::new(Alarmed::new(Timed::new(rt, stream), alarm));
@@ -86,11 +88,13 @@ pub fn serve_connections<B: Book>(
     office: &mut Office<B>,
 ) -> io::Result<u64>
     ensures all { IfOk result (λ served. served ≡ count) }
-    ensures later { B.settled office.old.book → B.doubt office.old.book ≤ B.doubt office.new.book }
-    ensures still { B.settled office.old.book → B.settled office.new.book }
-    ensures serves { (w : World) → B.doubt office.new.book ≤ 1 → RestsAt B.doubt B.rows B.spells B.settled office.old.book w
+    ensures later { (B.view office.old.book).IsSettled
+        → (B.view office.old.book).doubt ≤ (B.view office.new.book).doubt }
+    ensures still { (B.view office.old.book).IsSettled → (B.view office.new.book).IsSettled }
+    ensures serves { (w : World) → IsHonest (B.view office.new.book)
+        → RestsAt (B.view office.old.book) w
         → Leads (ServesConnections B.fails w count result)
-        (λ rs. MovesTo B.doubt B.rows B.spells B.settled B.leaves office.old.book office.new.book w (attempts rs)) }
+        (Moves (B.view office.old.book) (B.view office.new.book) w) }
 {
     let mut alarm = Alarm::new(rt);
     'connections: for _ in 0..count {

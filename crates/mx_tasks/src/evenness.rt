@@ -1,6 +1,6 @@
 //! What doesn't add up in the books, in words.
 ghost use Rattle.std.specs.Prelude.{◌≡◌, ◌++◌, IfOk, IfErr, flat_map, string_bytes};
-ghost use Rattle.mx_book.specs.Keeps.{Keeps, Gives};
+ghost use Rattle.mx_book.specs.Views.{Keeps, Gives};
 ghost use Rattle.mx_tasks.specs.Evenness.{purse_line, uneven_member, uneven_purse, uneven_sums};
 ghost use Rattle.mx_tasks.specs.Faults.{IsBookFault, IsReportFault};
 
@@ -41,8 +41,8 @@ fn uneven_members(alloc: Global, members: &[(Name, MemberTotals)]) -> Result<Str
 ///
 /// `Store` where the book's reads may fail so; `Memory`.
 pub fn uneven_sums<B: Book>(alloc: Global, book: &mut B) -> Result<String, TaskFault>
-    ensures keeps { Keeps B.doubt B.rows B.harm B.base B.defers B.settled B.leaves book.old book.new }
-    ensures value { Gives B.doubt B.rows B.spells book.old book.new result
+    ensures keeps { Keeps (B.view book.old) (B.view book.new) }
+    ensures value { Gives (B.view book.old) (B.view book.new) result
         (λ w text. string_bytes text ≡ uneven_sums w) }
     ensures fault { IfErr result (IsBookFault B.fails) }
 {
@@ -66,8 +66,8 @@ fn purse_line(alloc: Global, purse: Name) -> Result<String, AllocError>
 
 /// That line, where it is so of a purse.
 fn uneven_purse<B: Book>(alloc: Global, book: &mut B, purse: Name) -> Result<String, TaskFault>
-    ensures keeps { Keeps B.doubt B.rows B.harm B.base B.defers B.settled B.leaves book.old book.new }
-    ensures value { Gives B.doubt B.rows B.spells book.old book.new result
+    ensures keeps { Keeps (B.view book.old) (B.view book.new) }
+    ensures value { Gives (B.view book.old) (B.view book.new) result
         (λ w line. string_bytes line ≡ uneven_purse w purse) }
     ensures fault { IfErr result (IsReportFault B.fails) }
 {
@@ -87,8 +87,8 @@ pub fn uneven_purses<B: Book>(
     book: &mut B,
     purses: &[Name],
 ) -> Result<String, TaskFault>
-    ensures keeps { Keeps B.doubt B.rows B.harm B.base B.defers B.settled B.leaves book.old book.new }
-    ensures value { Gives B.doubt B.rows B.spells book.old book.new result
+    ensures keeps { Keeps (B.view book.old) (B.view book.new) }
+    ensures value { Gives (B.view book.old) (B.view book.new) result
         (λ w text. string_bytes text ≡ flat_map (uneven_purse w) purses.now) }
     ensures fault { IfErr result (IsReportFault B.fails) }
 {

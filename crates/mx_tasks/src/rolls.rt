@@ -1,7 +1,6 @@
 //! Rolls: the file, and its import into the books.
 ghost use Rattle.std.specs.Prelude.{◌≡◌, ◌≤◌, IfOk, vec_len};
-ghost use Rattle.mx_book.specs.Stands.{RestsAt};
-ghost use Rattle.mx_book.specs.World.{World};
+ghost use Rattle.mx_book.specs.Views.{IsSure};
 ghost use Rattle.mx_office.specs.Reachable.{IsReachable, StandsBalanced};
 ghost use Rattle.mx_tasks.specs.Works.{Imports, ImportsFile, IsText};
 
@@ -49,14 +48,15 @@ pub fn import_over<B: Book, P: Progress>(
     bytes: &[u8],
     progress: &mut P,
 ) -> Result<String, TaskFault>
-    ensures later { B.settled office.old.book → B.doubt office.old.book ≤ B.doubt office.new.book }
-    ensures still { B.settled office.old.book → B.settled office.new.book }
-    ensures imports { (w : World) → B.doubt office.new.book ≡ 0
-        → RestsAt B.doubt B.rows B.spells B.settled office.old.book w
-        → Imports (B.spells (B.rows office.new.book)) w bytes.now IsText result }
-    ensures reachable { (w : World) → B.doubt office.new.book ≡ 0
-        → RestsAt B.doubt B.rows B.spells B.settled office.old.book w
-        → IsReachable w → StandsBalanced (B.spells (B.rows office.new.book)) }
+    ensures later { (B.view office.old.book).IsSettled
+        → (B.view office.old.book).doubt ≤ (B.view office.new.book).doubt }
+    ensures still { (B.view office.old.book).IsSettled → (B.view office.new.book).IsSettled }
+    ensures imports { (B.view office.old.book).IsSettled → IsSure (B.view office.new.book)
+        → Imports (λ v. (B.view office.new.book).world ≡ v)
+        (B.view office.old.book).world bytes.now IsText result }
+    ensures reachable { (B.view office.old.book).IsSettled → IsSure (B.view office.new.book)
+        → IsReachable (B.view office.old.book).world
+        → StandsBalanced (B.view office.new.book).world }
 {
     let report = import_roll_telling(alloc, office, bytes, progress)?;
     let lines = import_text(alloc, &report)?;
@@ -82,11 +82,12 @@ pub fn import_from<B: Book>(
     path: &str,
     office: &mut Office<B>,
 ) -> Result<String, TaskFault>
-    ensures later { B.settled office.old.book → B.doubt office.old.book ≤ B.doubt office.new.book }
-    ensures still { B.settled office.old.book → B.settled office.new.book }
-    ensures imports { (w : World) → B.doubt office.new.book ≡ 0
-        → RestsAt B.doubt B.rows B.spells B.settled office.old.book w
-        → ImportsFile (B.spells (B.rows office.new.book)) w IsText result }
+    ensures later { (B.view office.old.book).IsSettled
+        → (B.view office.old.book).doubt ≤ (B.view office.new.book).doubt }
+    ensures still { (B.view office.old.book).IsSettled → (B.view office.new.book).IsSettled }
+    ensures imports { (B.view office.old.book).IsSettled → IsSure (B.view office.new.book)
+        → ImportsFile (λ v. (B.view office.new.book).world ≡ v)
+        (B.view office.old.book).world IsText result }
 {
     let bytes = match read_roll(rt, path) {
         Ok(bytes) => bytes,

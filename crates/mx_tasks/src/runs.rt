@@ -1,8 +1,8 @@
 //! What the program does for a run: requests from a reader, responses to a writer.
 ghost use Rattle.std.specs.Prelude.{◌≡◌, ◌≤◌, List, [], Err, IfErr};
-ghost use Rattle.mx_book.specs.Stands.{MovesTo, RestsAt};
+ghost use Rattle.mx_book.specs.Views.{RestsAt, IsHonest};
 ghost use Rattle.mx_book.specs.World.{World, opening};
-ghost use Rattle.mx_desk.specs.Rounds.{Leads, attempts};
+ghost use Rattle.mx_desk.specs.Rounds.{Leads, Moves};
 ghost use Rattle.mx_desk.specs.Serve.{Marked};
 ghost use Rattle.mx_desk.specs.Steps.{state};
 ghost use Rattle.mx_office.specs.Reachable.{IsReachable};
@@ -13,9 +13,10 @@ use crate::fault::TaskFault;
 use mx_book::Book;
 use mx_desk::desk::run;
 use mx_desk::{Counted, Outlet};
-use mx_memory::PlainBook;
+use mx_memory::{PlainBook, new_book};
 use mx_office::Office;
 use mx_pay::Token;
+use mx_standing::Standing;
 use mx_wire::Routes;
 use std::alloc::Global;
 use std::io::Read;
@@ -32,16 +33,18 @@ pub fn run_office<R: Read, W: Outlet, B: Book>(
     reader: &mut Counted<R>,
     writer: &mut Counted<W>,
 ) -> Result<u64, TaskFault>
-    ensures later { B.settled office.old.book → B.doubt office.old.book ≤ B.doubt office.new.book }
-    ensures still { B.settled office.old.book → B.settled office.new.book }
+    ensures later { (B.view office.old.book).IsSettled
+        → (B.view office.old.book).doubt ≤ (B.view office.new.book).doubt }
+    ensures still { (B.view office.old.book).IsSettled → (B.view office.new.book).IsSettled }
     ensures unbegun { result ≡ Err TaskFault.Memory → (office.new ≡ office.old)
         × Untouched reader.old reader.new writer.old writer.new }
     ensures fault { IfErr result IsRunFault }
-    ensures runs { (w : World) → B.doubt office.new.book ≤ 1 → RestsAt B.doubt B.rows B.spells B.settled office.old.book w
+    ensures runs { (w : World) → IsHonest (B.view office.new.book)
+        → RestsAt (B.view office.old.book) w
         → Leads (λ ms now. TaskRuns B.fails
         (state [] (R.remaining reader.old.device) (W.contents writer.old.device) w) result ms
         (state [] (R.remaining reader.new.device) (W.contents writer.new.device) now))
-        (λ rs. MovesTo B.doubt B.rows B.spells B.settled B.leaves office.old.book office.new.book w (attempts rs)) }
+        (Moves (B.view office.old.book) (B.view office.new.book) w) }
 {
     let routes = Routes::new(alloc)?;
     let count = run(alloc, reader, writer, &routes, office)?;
@@ -59,12 +62,12 @@ fn run_over<R: Read, W: Outlet, B: Book + Drop>(
     ensures unbegun { result ≡ Err TaskFault.Memory
         → Untouched reader.old reader.new writer.old writer.new }
     ensures fault { IfErr result IsRunFault }
-    ensures runs { (w : World) → RestsAt B.doubt B.rows B.spells B.settled book w
-        → (left : B) × (B.doubt left ≤ 1
+    ensures runs { (w : World) → RestsAt (B.view book) w
+        → (left : B) × (IsHonest (B.view left)
         → Leads (λ ms now. TaskRuns B.fails
         (state [] (R.remaining reader.old.device) (W.contents writer.old.device) w) result ms
         (state [] (R.remaining reader.new.device) (W.contents writer.new.device) now))
-        (λ rs. MovesTo B.doubt B.rows B.spells B.settled B.leaves book left w (attempts rs))) }
+        (Moves (B.view book) (B.view left) w)) }
 {
     let mut office = Office::new(book);
     run_office(alloc, &mut office, reader, writer)
@@ -83,14 +86,17 @@ pub fn run_memory<R: Read, W: Outlet>(
     reader: &mut Counted<R>,
     writer: &mut Counted<W>,
 ) -> Result<u64, TaskFault>
-    ensures unbegun { result ≡ Err TaskFault.Memory → Untouched reader.old reader.new writer.old writer.new }
+    ensures unbegun { result ≡ Err TaskFault.Memory
+        → Untouched reader.old reader.new writer.old writer.new }
     ensures fault { IfErr result IsRunFault }
     ensures begins { IsReachable (opening operator) }
-    ensures runs { (ms : List Marked) × (now : World) × TaskRuns ⟦<PlainBook as Book>⟧.fails
-        (state [] (R.remaining reader.old.device) (W.contents writer.old.device) (opening operator)) result ms
+    ensures runs { (ms : List Marked) × (now : World)
+        × TaskRuns ⟦<Standing<PlainBook> as Book>⟧.fails
+        (state [] (R.remaining reader.old.device) (W.contents writer.old.device)
+        (opening operator)) result ms
         (state [] (R.remaining reader.new.device) (W.contents writer.new.device) now) }
 {
     // The reader says that the token has its bytes.
     let _bytes = operator.as_bytes();
-    run_over(alloc, PlainBook::new(alloc, operator), reader, writer)
+    run_over(alloc, new_book(alloc, operator), reader, writer)
 }

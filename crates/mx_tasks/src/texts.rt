@@ -1,6 +1,6 @@
 //! What the program prints of an import, and of the books.
 ghost use Rattle.std.specs.Prelude.{◌≡◌, IfOk, IfErr, Some, None, string_bytes};
-ghost use Rattle.mx_book.specs.Keeps.{Keeps, Gives};
+ghost use Rattle.mx_book.specs.Views.{Keeps, Gives, IsSure};
 ghost use Rattle.mx_book.specs.Reads.{account_of};
 ghost use Rattle.mx_book.specs.World.{World};
 ghost use Rattle.mx_tasks.specs.Faults.{IsBookFault, IsReportFault};
@@ -73,8 +73,8 @@ pub struct Reported {
 
 /// The text of the reconciliation.
 fn reconciliation<B: Book>(alloc: Global, book: &mut B) -> Result<Reported, TaskFault>
-    ensures keeps { Keeps B.doubt B.rows B.harm B.base B.defers B.settled B.leaves book.old book.new }
-    ensures value { Gives B.doubt B.rows B.spells book.old book.new result
+    ensures keeps { Keeps (B.view book.old) (B.view book.new) }
+    ensures value { Gives (B.view book.old) (B.view book.new) result
         (λ w. Reports w None) }
     ensures fault { IfErr result (IsBookFault B.fails) }
 {
@@ -91,8 +91,8 @@ fn has_balance<B: Book>(
     purse: Name,
     lines: &[Line],
 ) -> Result<bool, TaskFault>
-    ensures keeps { Keeps B.doubt B.rows B.harm B.base B.defers B.settled B.leaves book.old book.new }
-    ensures value { Gives B.doubt B.rows B.spells book.old book.new result
+    ensures keeps { Keeps (B.view book.old) (B.view book.new) }
+    ensures value { Gives (B.view book.old) (B.view book.new) result
         (λ w even. even ≡ is_even_account lines.now (account_of w purse)) }
     ensures fault { IfErr result (IsBookFault B.fails) }
 {
@@ -104,12 +104,12 @@ fn has_balance<B: Book>(
 
 /// The text of a purse's statement.
 fn purse_statement<B: Book>(alloc: Global, book: &mut B, purse: Name) -> Result<Reported, TaskFault>
-    ensures keeps { Keeps B.doubt B.rows B.harm B.base B.defers B.settled B.leaves book.old book.new }
-    ensures value { Gives B.doubt B.rows B.spells book.old book.new result
+    ensures keeps { Keeps (B.view book.old) (B.view book.new) }
+    ensures value { Gives (B.view book.old) (B.view book.new) result
         (λ w. Reports w (Some purse)) }
     ensures fault { IfErr result (IsReportFault B.fails) }
-    ensures none { (w : World) → B.doubt book.new ≡ 0 → B.spells (B.rows book.old) w
-        → Denies w (Some purse) result }
+    ensures none { IsSure (B.view book.new)
+        → Denies (B.view book.old).world (Some purse) result }
 {
     let Some(lines) = statement(alloc, book, purse)? else {
         return Err(TaskFault::NoSuchPurse);
@@ -130,12 +130,12 @@ pub fn report_text<B: Book>(
     book: &mut B,
     purse: Option<Name>,
 ) -> Result<Reported, TaskFault>
-    ensures keeps { Keeps B.doubt B.rows B.harm B.base B.defers B.settled B.leaves book.old book.new }
-    ensures value { Gives B.doubt B.rows B.spells book.old book.new result
+    ensures keeps { Keeps (B.view book.old) (B.view book.new) }
+    ensures value { Gives (B.view book.old) (B.view book.new) result
         (λ w. Reports w purse) }
     ensures fault { IfErr result (IsReportFault B.fails) }
-    ensures none { (w : World) → B.doubt book.new ≡ 0 → B.spells (B.rows book.old) w
-        → Denies w purse result }
+    ensures none { IsSure (B.view book.new)
+        → Denies (B.view book.old).world purse result }
 {
     match purse {
         Some(name) => purse_statement(alloc, book, name),

@@ -1,9 +1,8 @@
 //! What is done over the books in a file.
 ghost use Rattle.std.specs.Prelude.{◌≡◌, ◌≤◌, ◌⊎◌, [], IfOk, IfErr, string_bytes};
-ghost use Rattle.mx_book.specs.Keeps.{Keeps};
-ghost use Rattle.mx_book.specs.Stands.{MovesTo, RestsAt};
+ghost use Rattle.mx_book.specs.Views.{Keeps, RestsAt, IsSure, IsHonest};
 ghost use Rattle.mx_book.specs.World.{World};
-ghost use Rattle.mx_desk.specs.Rounds.{Leads, attempts};
+ghost use Rattle.mx_desk.specs.Rounds.{Leads, Moves};
 ghost use Rattle.mx_desk.specs.Steps.{state};
 ghost use Rattle.mx_tasks.specs.Faults.{IsReportFault, Untouched};
 ghost use Rattle.mx_tasks.specs.Works.{ImportsFile, IsSaid, Works, WorksReport, WorksRun, WorksServe, served_text};
@@ -60,10 +59,10 @@ fn said(text: Vec<u8>) -> Done
 
 /// What the books come to, or the statement of a purse.
 fn report<B: Book>(alloc: Global, book: &mut B, purse: Option<Name>) -> Result<Done, TaskFault>
-    ensures keeps { Keeps B.doubt B.rows B.harm B.base B.defers B.settled B.leaves book.old book.new }
+    ensures keeps { Keeps (B.view book.old) (B.view book.new) }
     ensures fault { IfErr result (IsReportFault B.fails) }
-    ensures reports { (w : World) → B.doubt book.new ≡ 0 → B.spells (B.rows book.old) w
-        → WorksReport w purse result }
+    ensures reports { IsSure (B.view book.new)
+        → WorksReport (B.view book.old).world purse result }
 {
     let reported = report_text(alloc, book, purse)?;
     Ok(Done {
@@ -87,11 +86,13 @@ fn serve_on<B: Book>(
     routes: &Routes,
     office: &mut Office<B>,
 ) -> Result<Done, TaskFault>
-    ensures later { B.settled office.old.book → B.doubt office.old.book ≤ B.doubt office.new.book }
-    ensures still { B.settled office.old.book → B.settled office.new.book }
-    ensures serves { (w : World) → B.doubt office.new.book ≤ 1 → RestsAt B.doubt B.rows B.spells B.settled office.old.book w
+    ensures later { (B.view office.old.book).IsSettled
+        → (B.view office.old.book).doubt ≤ (B.view office.new.book).doubt }
+    ensures still { (B.view office.old.book).IsSettled → (B.view office.new.book).IsSettled }
+    ensures serves { (w : World) → IsHonest (B.view office.new.book)
+        → RestsAt (B.view office.old.book) w
         → Leads (WorksServe B.fails w count result)
-        (λ rs. MovesTo B.doubt B.rows B.spells B.settled B.leaves office.old.book office.new.book w (attempts rs)) }
+        (Moves (B.view office.old.book) (B.view office.new.book) w) }
 {
     match serve_connections(rt, listener, u64::from(count), routes, office) {
         Ok(served) => Ok(said(served_text(rt.alloc(), served)?.into_bytes())),
@@ -106,11 +107,13 @@ fn serve<B: Book>(
     count: u32,
     office: &mut Office<B>,
 ) -> Result<Done, TaskFault>
-    ensures later { B.settled office.old.book → B.doubt office.old.book ≤ B.doubt office.new.book }
-    ensures still { B.settled office.old.book → B.settled office.new.book }
-    ensures serves { (w : World) → B.doubt office.new.book ≤ 1 → RestsAt B.doubt B.rows B.spells B.settled office.old.book w
+    ensures later { (B.view office.old.book).IsSettled
+        → (B.view office.old.book).doubt ≤ (B.view office.new.book).doubt }
+    ensures still { (B.view office.old.book).IsSettled → (B.view office.new.book).IsSettled }
+    ensures serves { (w : World) → IsHonest (B.view office.new.book)
+        → RestsAt (B.view office.old.book) w
         → Leads (WorksServe B.fails w count result)
-        (λ rs. MovesTo B.doubt B.rows B.spells B.settled B.leaves office.old.book office.new.book w (attempts rs)) }
+        (Moves (B.view office.old.book) (B.view office.new.book) w) }
 {
     let Ok(listener) = listen(rt, port) else {
         return Err(TaskFault::Net);
@@ -129,13 +132,15 @@ fn run<R: Read, W: Outlet, B: Book>(
     reader: &mut Counted<R>,
     writer: &mut Counted<W>,
 ) -> Result<Done, TaskFault>
-    ensures later { B.settled office.old.book → B.doubt office.old.book ≤ B.doubt office.new.book }
-    ensures still { B.settled office.old.book → B.settled office.new.book }
-    ensures runs { (w : World) → B.doubt office.new.book ≤ 1 → RestsAt B.doubt B.rows B.spells B.settled office.old.book w
+    ensures later { (B.view office.old.book).IsSettled
+        → (B.view office.old.book).doubt ≤ (B.view office.new.book).doubt }
+    ensures still { (B.view office.old.book).IsSettled → (B.view office.new.book).IsSettled }
+    ensures runs { (w : World) → IsHonest (B.view office.new.book)
+        → RestsAt (B.view office.old.book) w
         → Leads (λ ms now. WorksRun B.fails
         (state [] (R.remaining reader.old.device) (W.contents writer.old.device) w) result ms
         (state [] (R.remaining reader.new.device) (W.contents writer.new.device) now))
-        (λ rs. MovesTo B.doubt B.rows B.spells B.settled B.leaves office.old.book office.new.book w (attempts rs)) }
+        (Moves (B.view office.old.book) (B.view office.new.book) w) }
 {
     run_office(alloc, office, reader, writer)?;
     Ok(said(Vec::new(alloc)))
@@ -143,11 +148,12 @@ fn run<R: Read, W: Outlet, B: Book>(
 
 /// Imports the roll in a file.
 fn import<B: Book>(rt: &HostRuntime, roll: &str, office: &mut Office<B>) -> Result<Done, TaskFault>
-    ensures later { B.settled office.old.book → B.doubt office.old.book ≤ B.doubt office.new.book }
-    ensures still { B.settled office.old.book → B.settled office.new.book }
-    ensures imports { (w : World) → B.doubt office.new.book ≡ 0
-        → RestsAt B.doubt B.rows B.spells B.settled office.old.book w
-        → ImportsFile (B.spells (B.rows office.new.book)) w IsSaid result }
+    ensures later { (B.view office.old.book).IsSettled
+        → (B.view office.old.book).doubt ≤ (B.view office.new.book).doubt }
+    ensures still { (B.view office.old.book).IsSettled → (B.view office.new.book).IsSettled }
+    ensures imports { (B.view office.old.book).IsSettled → IsSure (B.view office.new.book)
+        → ImportsFile (λ v. (B.view office.new.book).world ≡ v)
+        (B.view office.old.book).world IsSaid result }
 {
     let lines = import_from(rt, roll, office)?;
     Ok(said(lines.into_bytes()))
@@ -168,13 +174,16 @@ pub fn do_work<R: Read, W: Outlet, B: Book>(
     reader: &mut Counted<R>,
     writer: &mut Counted<W>,
 ) -> Result<Done, TaskFault>
-    ensures later { B.settled office.old.book → B.doubt office.old.book ≤ B.doubt office.new.book }
-    ensures still { B.settled office.old.book → B.settled office.new.book }
+    ensures later { (B.view office.old.book).IsSettled
+        → (B.view office.old.book).doubt ≤ (B.view office.new.book).doubt }
+    ensures still { (B.view office.old.book).IsSettled → (B.view office.new.book).IsSettled }
     ensures untouched { (work.now ≡ Run) ⊎ Untouched reader.old reader.new writer.old writer.new }
-    ensures works { (w : World) → B.doubt office.new.book ≤ 1 → RestsAt B.doubt B.rows B.spells B.settled office.old.book w
-        → Works B.fails (B.doubt office.new.book ≡ 0) (B.spells (B.rows office.new.book))
-        (λ rs. MovesTo B.doubt B.rows B.spells B.settled B.leaves office.old.book office.new.book w (attempts rs))
-        (state [] (R.remaining reader.old.device) (W.contents writer.old.device) w) work.now result
+    ensures works { (B.view office.old.book).IsSettled → IsHonest (B.view office.new.book)
+        → Works B.fails (IsSure (B.view office.new.book)) (λ v. (B.view office.new.book).world ≡ v)
+        (Moves (B.view office.old.book) (B.view office.new.book) (B.view office.old.book).world)
+        (state [] (R.remaining reader.old.device) (W.contents writer.old.device)
+        (B.view office.old.book).world)
+        work.now result
         (R.remaining reader.new.device) (W.contents writer.new.device) }
 {
     match work {
@@ -193,13 +202,15 @@ pub fn work_over<R: Read, W: Outlet, B: Book>(
     reader: &mut Counted<R>,
     writer: &mut Counted<W>,
 ) -> (Result<Done, TaskFault>, B)
-    ensures later { B.settled book → B.doubt book ≤ B.doubt result.1 }
-    ensures still { B.settled book → B.settled result.1 }
+    ensures later { (B.view book).IsSettled → (B.view book).doubt ≤ (B.view result.1).doubt }
+    ensures still { (B.view book).IsSettled → (B.view result.1).IsSettled }
     ensures untouched { (work.now ≡ Run) ⊎ Untouched reader.old reader.new writer.old writer.new }
-    ensures works { (w : World) → B.doubt result.1 ≤ 1 → RestsAt B.doubt B.rows B.spells B.settled book w
-        → Works B.fails (B.doubt result.1 ≡ 0) (B.spells (B.rows result.1))
-        (λ rs. MovesTo B.doubt B.rows B.spells B.settled B.leaves book result.1 w (attempts rs))
-        (state [] (R.remaining reader.old.device) (W.contents writer.old.device) w) work.now result.0
+    ensures works { (B.view book).IsSettled → IsHonest (B.view result.1)
+        → Works B.fails (IsSure (B.view result.1)) (λ v. (B.view result.1).world ≡ v)
+        (Moves (B.view book) (B.view result.1) (B.view book).world)
+        (state [] (R.remaining reader.old.device) (W.contents writer.old.device)
+        (B.view book).world)
+        work.now result.0
         (R.remaining reader.new.device) (W.contents writer.new.device) }
 {
     let mut office = Office::new(book);

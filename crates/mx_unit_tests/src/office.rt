@@ -5,9 +5,10 @@ mod random;
 mod rounds;
 
 use mx_book::Book;
-use mx_memory::PlainBook;
+use mx_memory::{PlainBook, new_book};
 use mx_office::Office;
 use mx_pay::Token;
+use mx_standing::Standing;
 use std::alloc::AllocGlobal;
 use std::test::Fail;
 
@@ -27,9 +28,9 @@ where
 fn with_office<H, F>(rt: &H, test: F) -> Result<(), Fail>
 where
     H: AllocGlobal,
-    F: FnOnce(&H, &mut Office<PlainBook>) -> Result<(), Fail>,
+    F: FnOnce(&H, &mut Office<Standing<PlainBook>>) -> Result<(), Fail>,
     requires { F.IsAlwaysCallable test }
 {
     let operator = Token::read("00000000000000000000000000000001").ok_or("no token")?;
-    with_book(rt, PlainBook::new(rt.alloc(), operator), test)
+    with_book(rt, new_book(rt.alloc(), operator), test)
 }

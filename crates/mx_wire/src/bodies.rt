@@ -98,7 +98,8 @@ fn seq_at(value: &Value<'_>, key: &str) -> Option<Seq>
 fn log_of_code(text: &str) -> Option<Log>
     ensures value { result ≡ log_of_code text.now }
     ensures found { IfSome result (λ log. text.now ≡ code log) }
-    ensures only { (log : Entries) → IsLogValue log → text.now ≡ code log → log_of_code text.now ≡ Some log }
+    ensures only { (log : Entries) → IsLogValue log → text.now ≡ code log
+        → log_of_code text.now ≡ Some log }
 {
     read_code(text)
 }
@@ -116,7 +117,8 @@ fn log_at(value: &Value<'_>, key: &str) -> Option<Log>
 fn entry_of(text: &str) -> Option<PayDetails>
     ensures value { result ≡ entry_of text.now }
     ensures found { IfSome result (λ d. text.now ≡ entry_text d) }
-    ensures only { (d : Details) → IsDetails d → text.now ≡ entry_text d → entry_of text.now ≡ Some d }
+    ensures only { (d : Details) → IsDetails d → text.now ≡ entry_text d
+        → entry_of text.now ≡ Some d }
 {
     read_details(text)
 }
@@ -171,7 +173,8 @@ fn bare(route: &Route, command: &mut Command) -> Option<()>
 #[inline(never)]
 fn clear(purse: Name, value: &Value<'_>, command: &mut Command) -> Option<()>
     requires { IsData value.now }
-    ensures { option_map (λ _. command.new) result ≡ option_map (Clear purse) (log_at (codes "details") (data_of value.now)) }
+    ensures { option_map (λ _. command.new) result ≡ option_map (Clear purse)
+        (log_at (codes "details") (data_of value.now)) }
 {
     let details = log_at(value, "details")?;
     *command = Command::Clear { purse, details };
@@ -208,7 +211,8 @@ fn start_at(value: &Value<'_>) -> Option<(Name, Amount, Seq)>
 #[inline(never)]
 fn start_from(purse: Name, value: &Value<'_>, command: &mut Command) -> Option<()>
     requires { IsData value.now }
-    ensures { option_map (λ _. command.new) result ≡ said (Route.StartFrom purse) (data_of value.now) }
+    ensures { option_map (λ _. command.new) result ≡ said (Route.StartFrom purse)
+        (data_of value.now) }
 {
     let (peer, value, seq) = start_at(value)?;
     *command = Command::StartFrom {
@@ -224,7 +228,8 @@ fn start_from(purse: Name, value: &Value<'_>, command: &mut Command) -> Option<(
 #[inline(never)]
 fn start_to(purse: Name, value: &Value<'_>, command: &mut Command) -> Option<()>
     requires { IsData value.now }
-    ensures { option_map (λ _. command.new) result ≡ said (Route.StartTo purse) (data_of value.now) }
+    ensures { option_map (λ _. command.new) result ≡ said (Route.StartTo purse)
+        (data_of value.now) }
 {
     let (peer, value, seq) = start_at(value)?;
     *command = Command::StartTo {
@@ -251,7 +256,8 @@ fn handle(purse: Name, value: &Value<'_>, command: &mut Command) -> Option<()>
 #[inline(never)]
 fn discard(purse: Name, value: &Value<'_>, command: &mut Command) -> Option<()>
     requires { IsData value.now }
-    ensures { option_map (λ _. command.new) result ≡ said (Route.Discard purse) (data_of value.now) }
+    ensures { option_map (λ _. command.new) result ≡ said (Route.Discard purse)
+        (data_of value.now) }
 {
     let number = seq_at(value, "number")?;
     *command = Command::Discard { purse, number };
@@ -262,7 +268,8 @@ fn discard(purse: Name, value: &Value<'_>, command: &mut Command) -> Option<()>
 #[inline(never)]
 fn read_log(purse: Name, value: &Value<'_>, command: &mut Command) -> Option<()>
     requires { IsData value.now }
-    ensures { option_map (λ _. command.new) result ≡ said (Route.ReadLog purse) (data_of value.now) }
+    ensures { option_map (λ _. command.new) result ≡ said (Route.ReadLog purse)
+        (data_of value.now) }
 {
     let place = number_at(value, "place")?;
     *command = Command::ReadLog { purse, place };
@@ -439,10 +446,14 @@ impl Routes {
         path: &[u8],
         body: &[u8],
     ) -> Result<Command, WireFault>
-        ensures ok { IfOk result (λ command. request_command method.now path.now body.now ≡ Some command) }
-        ensures no_route { (result ≡ Err WireFault.NoRoute) ↔ (route_of method.now path.now ≡ None) }
-        ensures bad { result ≡ Err WireFault.BadBody → request_command method.now path.now body.now ≡ None }
-        ensures memory { result ≡ Err WireFault.Memory → option_map has_body (route_of method.now path.now) ≡ Some true }
+        ensures ok { IfOk result (λ command. request_command method.now path.now body.now
+            ≡ Some command) }
+        ensures no_route { (result ≡ Err WireFault.NoRoute) ↔
+            (route_of method.now path.now ≡ None) }
+        ensures bad { result ≡ Err WireFault.BadBody
+            → request_command method.now path.now body.now ≡ None }
+        ensures memory { result ≡ Err WireFault.Memory
+            → option_map has_body (route_of method.now path.now) ≡ Some true }
     {
         match self.route(method, path) {
             Some(route) => read_body(alloc, &route, body, &mut Scratch::new(alloc)),

@@ -240,7 +240,8 @@ fn shown_text(
     name: &str,
     status: &str,
 ) -> Result<String, AllocError>
-    ensures { IfOk result (λ text. string_bytes text ≡ shown_text balance next name.now status.now) }
+    ensures { IfOk result (λ text. string_bytes text
+        ≡ shown_text balance next name.now status.now) }
 {
     format!(in alloc;
         "{{\"balance\":{balance},\"next\":{next},\"purse\":\"{name}\",\"status\":\"{status}\"}}"
@@ -297,7 +298,8 @@ fn archived_body(alloc: Global, count: usize) -> Result<String, AllocError>
 
 /// Writes an entry in quotes at the end, or null where there is none.
 fn push_entry_or_null(text: &mut String, entry: &Option<PayDetails>) -> Result<(), AllocError>
-    ensures { IfOk result (λ _. string_bytes text.new ≡ string_bytes text.old ++ entry_or_null entry.now) }
+    ensures { IfOk result (λ _. string_bytes text.new
+        ≡ string_bytes text.old ++ entry_or_null entry.now) }
 {
     match entry {
         Some(details) => {
@@ -332,7 +334,8 @@ fn push_quoted(text: &mut String, name: &Name) -> Result<(), AllocError>
 
 /// Writes names in quotes at the end, each behind a comma.
 fn push_more_names(text: &mut String, names: &[Name]) -> Result<(), AllocError>
-    ensures { IfOk result (λ _. string_bytes text.new ≡ string_bytes text.old ++ after_commas (map quoted names.now)) }
+    ensures { IfOk result (λ _. string_bytes text.new ≡ string_bytes text.old ++ after_commas
+        (map quoted names.now)) }
 {
     for name in names {
         text.push_str(",")?;
@@ -358,7 +361,8 @@ fn purses_body(alloc: Global, names: &Names) -> Result<String, AllocError>
 
 /// Writes the details of a message at the end: those of its payment, or the code text of a clear's set.
 fn push_details(alloc: Global, text: &mut String, message: &Message) -> Result<(), AllocError>
-    ensures { IfOk result (λ _. string_bytes text.new ≡ string_bytes text.old ++ message_details message.now) }
+    ensures { IfOk result (λ _. string_bytes text.new
+        ≡ string_bytes text.old ++ message_details message.now) }
 {
     match message {
         Message::Req(details) | Message::Val(details) | Message::Ack(details) => {
@@ -378,7 +382,8 @@ fn push_message(
     number: u64,
     message: &Message,
 ) -> Result<(), AllocError>
-    ensures { IfOk result (λ _. string_bytes text.new ≡ string_bytes text.old ++ message_text (number, message.now)) }
+    ensures { IfOk result (λ _. string_bytes text.new ≡ string_bytes text.old ++ message_text
+        (number, message.now)) }
 {
     text.push_str("{\"details\":\"")?;
     push_details(alloc, text, message)?;
@@ -395,7 +400,8 @@ fn push_more_messages(
     text: &mut String,
     messages: &[(u64, Message)],
 ) -> Result<(), AllocError>
-    ensures { IfOk result (λ _. string_bytes text.new ≡ string_bytes text.old ++ after_commas (map message_text messages.now)) }
+    ensures { IfOk result (λ _. string_bytes text.new ≡ string_bytes text.old ++ after_commas
+        (map message_text messages.now)) }
 {
     for (number, message) in messages {
         text.push_str(",")?;
@@ -421,7 +427,8 @@ fn inbox_body(alloc: Global, messages: &Messages) -> Result<String, AllocError>
 
 /// Writes a number behind a text at the end.
 fn push_number(text: &mut String, before: &str, number: u64) -> Result<(), AllocError>
-    ensures { IfOk result (λ _. string_bytes text.new ≡ string_bytes text.old ++ before.now ++ decimal number) }
+    ensures { IfOk result (λ _. string_bytes text.new
+        ≡ string_bytes text.old ++ before.now ++ decimal number) }
 {
     let mut buffer = itoa::Buffer::new();
     text.push_str(before)?;
@@ -430,7 +437,8 @@ fn push_number(text: &mut String, before: &str, number: u64) -> Result<(), Alloc
 
 /// Writes a line at the end.
 fn push_line(text: &mut String, line: &Line) -> Result<(), AllocError>
-    ensures { IfOk result (λ _. string_bytes text.new ≡ string_bytes text.old ++ line_text line.now) }
+    ensures { IfOk result (λ _. string_bytes text.new
+        ≡ string_bytes text.old ++ line_text line.now) }
 {
     push_number(text, "{\"amount\":", line.amount.get())?;
     push_number(text, ",\"balance\":", line.balance)?;
@@ -445,7 +453,8 @@ fn push_line(text: &mut String, line: &Line) -> Result<(), AllocError>
 
 /// Writes lines at the end, each behind a comma.
 fn push_more_lines(text: &mut String, lines: &[Line]) -> Result<(), AllocError>
-    ensures { IfOk result (λ _. string_bytes text.new ≡ string_bytes text.old ++ after_commas (map line_text lines.now)) }
+    ensures { IfOk result (λ _. string_bytes text.new ≡ string_bytes text.old ++ after_commas
+        (map line_text lines.now)) }
 {
     for line in lines {
         text.push_str(",")?;
@@ -471,7 +480,8 @@ fn statement_body(alloc: Global, lines: &Lines) -> Result<String, AllocError>
 
 /// Writes a sum behind a text at the end.
 fn push_sum(text: &mut String, before: &str, sum: u128) -> Result<(), AllocError>
-    ensures { IfOk result (λ _. string_bytes text.new ≡ string_bytes text.old ++ before.now ++ decimal sum) }
+    ensures { IfOk result (λ _. string_bytes text.new
+        ≡ string_bytes text.old ++ before.now ++ decimal sum) }
 {
     let mut buffer = itoa::Buffer::new();
     text.push_str(before)?;

@@ -185,7 +185,8 @@ fn name_in(params: &Params, key: &str) -> Option<Name>
     requires text { IsAscii params.now.text.now }
     requires path { IsAscii params.now.path.now }
     ensures { result ≡ option_and_then name_of (named key.now
-        (walk params.now.pattern.now params.now.text.now params.now.path.now params.now.names.now 0 0)) }
+        (walk params.now.pattern.now params.now.text.now params.now.path.now params.now.names.now 0
+        0)) }
 {
     let part = params.get(key)?;
     Name::read(part)
@@ -197,7 +198,8 @@ fn number_in(params: &Params, key: &str) -> Option<Seq>
     requires text { IsAscii params.now.text.now }
     requires path { IsAscii params.now.path.now }
     ensures { result ≡ option_and_then (limited most_number) (named key.now
-        (walk params.now.pattern.now params.now.text.now params.now.path.now params.now.names.now 0 0)) }
+        (walk params.now.pattern.now params.now.text.now params.now.path.now params.now.names.now 0
+        0)) }
 {
     let part = params.get(key)?;
     read_seq(part)
@@ -207,7 +209,8 @@ fn number_in(params: &Params, key: &str) -> Option<Seq>
 fn taken(pattern: Pattern, params: &Params) -> Option<Name>
     requires text { IsAscii params.now.text.now }
     requires path { IsAscii params.now.path.now }
-    ensures { result ≡ taken pattern (walk params.now.pattern.now params.now.text.now params.now.path.now params.now.names.now 0 0) }
+    ensures { result ≡ taken pattern (walk params.now.pattern.now params.now.text.now
+        params.now.path.now params.now.names.now 0 0) }
 {
     match pattern {
         Pattern::Grant => name_in(params, "m"),
@@ -220,7 +223,8 @@ fn taken(pattern: Pattern, params: &Params) -> Option<Name>
 fn after(pattern: Pattern, params: &Params) -> Option<Seq>
     requires text { IsAscii params.now.text.now }
     requires path { IsAscii params.now.path.now }
-    ensures { result ≡ after pattern (walk params.now.pattern.now params.now.text.now params.now.path.now params.now.names.now 0 0) }
+    ensures { result ≡ after pattern (walk params.now.pattern.now params.now.text.now
+        params.now.path.now params.now.names.now 0 0) }
 {
     match pattern {
         Pattern::Statement => number_in(params, "after"),

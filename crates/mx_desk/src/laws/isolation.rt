@@ -22,7 +22,8 @@ ghost use Rattle.mx_desk.specs.Serve.{Marked};
 ///
 /// The call does nothing.
 pub fn isolation()
-    ensures alike { (h : Name) (v now w end : World) (ms ns : List Marked) → Lawful v ms now → Lawful w ns end
+    ensures alike { (h : Name) (v now w end : World) (ms ns : List Marked) → Lawful v ms now
+        → Lawful w ns end
         → cut v h ≡ cut w h → seen h v ms ≡ seen h w ns
         → (told h v ms ≡ told h w ns) × (cut now h ≡ cut end h) }
 {}
@@ -34,6 +35,7 @@ pub fn isolation()
 ///
 /// The call does nothing.
 pub fn composition()
-    ensures composes { (w now end : World) (ms ns : List Marked) → Lawful w ms now → Lawful now ns end
+    ensures composes { (w now end : World) (ms ns : List Marked) → Lawful w ms now
+        → Lawful now ns end
         → Lawful w (ms ++ ns) end }
 {}

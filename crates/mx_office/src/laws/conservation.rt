@@ -17,7 +17,8 @@ ghost use Rattle.mx_command.specs.declared.values.Command.{Command};
 pub fn conservation()
     ensures conserved { (w : World) → IsReachable w → IsConserved w }
     ensures room { (w : World) → IsReachable w → HasRoom w }
-    ensures never_full { (w : World) (caller : Caller) (command : Command) → IsReachable w → IsNeverFull (step w caller command).reply }
+    ensures never_full { (w : World) (caller : Caller) (command : Command) → IsReachable w
+        → IsNeverFull (step w caller command).reply }
 {}
 
 /// The security properties of the purses, for one command of any caller in a World that commands lead to.
@@ -30,8 +31,12 @@ pub fn conservation()
 ///
 /// The call does nothing.
 pub fn security()
-    ensures no_value_created { (w : World) (caller : Caller) (command : Command) → IsReachable w → CreatesNoValue w caller command }
-    ensures all_value_accounted { (w : World) (caller : Caller) (command : Command) → IsReachable w → AccountsAllValue w caller command }
-    ensures authentic { (w : World) (h p : Name) (n : ℕ) → IsReachable w → AcceptsAuthentic w h p n }
-    ensures sufficient_funds { (w : World) (h p : Name) (n : ℕ) → IsReachable w → PaysCovered w h p n }
+    ensures no_value_created { (w : World) (caller : Caller) (command : Command) → IsReachable w
+        → CreatesNoValue w caller command }
+    ensures all_value_accounted { (w : World) (caller : Caller) (command : Command) → IsReachable w
+        → AccountsAllValue w caller command }
+    ensures authentic { (w : World) (h p : Name) (n : ℕ) → IsReachable w
+        → AcceptsAuthentic w h p n }
+    ensures sufficient_funds { (w : World) (h p : Name) (n : ℕ) → IsReachable w
+        → PaysCovered w h p n }
 {}

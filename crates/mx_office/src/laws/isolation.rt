@@ -28,11 +28,18 @@ ghost use Rattle.mx_office.specs.Isolation.{IsOf, cut, for_holder, local, told_t
 ///
 /// The call does nothing.
 pub fn isolation()
-    ensures accounts { (w : World) (h : Name) (caller : Caller) (command : Command) → cut (step w caller command).world h ≡ (local (cut w h) (view_of w h caller command)).end }
-    ensures answer { (w : World) (h : Name) (caller : Caller) (command : Command) → for_holder h caller (step w caller command).reply ≡ (local (cut w h) (view_of w h caller command)).replies }
-    ensures run_accounts { (w : World) (h : Name) (list : List Asked) → cut (steps w list).end h ≡ (local (cut w h) (view h w list)).end }
-    ensures run_answers { (w : World) (h : Name) (list : List Asked) → told_to h (steps w list).replies ≡ (local (cut w h) (view h w list)).replies }
+    ensures accounts { (w : World) (h : Name) (caller : Caller) (command : Command)
+        → cut (step w caller command).world h ≡ (local (cut w h) (view_of w h caller command)).end }
+    ensures answer { (w : World) (h : Name) (caller : Caller) (command : Command)
+        → for_holder h caller (step w caller command).reply ≡
+        (local (cut w h) (view_of w h caller command)).replies }
+    ensures run_accounts { (w : World) (h : Name) (list : List Asked)
+        → cut (steps w list).end h ≡ (local (cut w h) (view h w list)).end }
+    ensures run_answers { (w : World) (h : Name) (list : List Asked)
+        → told_to h (steps w list).replies ≡ (local (cut w h) (view h w list)).replies }
     ensures own { (w : World) (h : Name) (caller : Caller) (command : Command)
         → AllByRecursion (IsOf (step w caller command).world h) (view_of w h caller command) }
-    ensures alike { (h : Name) (v w : World) (list others : List Asked) → cut v h ≡ cut w h → view h v list ≡ view h w others → told_to h (steps v list).replies ≡ told_to h (steps w others).replies }
+    ensures alike { (h : Name) (v w : World) (list others : List Asked) → cut v h ≡ cut w h
+        → view h v list ≡ view h w others
+        → told_to h (steps v list).replies ≡ told_to h (steps w others).replies }
 {}

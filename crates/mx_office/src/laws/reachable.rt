@@ -19,5 +19,6 @@ ghost use Rattle.mx_command.specs.declared.values.Command.{Command};
 /// The call does nothing.
 pub fn reachable()
     ensures world { (w : World) → IsReachable w → IsWorld w }
-    ensures goes_on { (w : World) (caller : Caller) (command : Command) → IsCaller caller → IsCommand command → IsReachable w → IsReachable (step w caller command).world }
+    ensures goes_on { (w : World) (caller : Caller) (command : Command) → IsCaller caller
+        → IsCommand command → IsReachable w → IsReachable (step w caller command).world }
 {}

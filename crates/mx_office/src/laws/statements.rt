@@ -19,8 +19,12 @@ ghost use Rattle.mx_office.specs.Step.{own_holding, steps};
 ///
 /// The call does nothing.
 pub fn statements()
-    ensures stated { (w : World) (p : Name) (r : Row) → IsReachable w → get w.rows p ≡ Some r → IsStated r.holding }
-    ensures seen { (t : Token) (list : List Asked) (h p : Name) (a : Holding) → own_holding (steps (opening t) list).end h p ≡ Some a → (a.lines ≡ statement_of (view h (opening t) list) p) × (a.purse.balance ≡ balance_at_end 0 (items_seen (view h (opening t) list) p)) }
+    ensures stated { (w : World) (p : Name) (r : Row) → IsReachable w → get w.rows p ≡ Some r
+        → IsStated r.holding }
+    ensures seen { (t : Token) (list : List Asked) (h p : Name) (a : Holding)
+        → own_holding (steps (opening t) list).end h p ≡ Some a
+        → (a.lines ≡ statement_of (view h (opening t) list) p)
+        × (a.purse.balance ≡ balance_at_end 0 (items_seen (view h (opening t) list) p)) }
     ensures written { (m : Holdings) (view : List Event) (p : Name)
         → items_in (local m view).end p ≡ items_over m view p (items_in m p) }
 {}

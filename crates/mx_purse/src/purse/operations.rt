@@ -14,7 +14,8 @@ use mx_pay::{Amount, Log, MOST_NUMBER, Name, PayDetails, Seq};
 
 /// Adds what is pending to a log that has room for it and does not have it.
 fn add_pending(log: &mut Log, pending: &Option<PayDetails>)
-    requires { IfSome pending.now (λ d. (has_logged log.old d ≡ false) × (log_len log.old < most_entries)) }
+    requires { IfSome pending.now
+        (λ d. (has_logged log.old d ≡ false) × (log_len log.old < most_entries)) }
     ensures { log.new ≡ with_pending log.old pending.now }
 {
     if let Some(details) = pending {
@@ -63,8 +64,10 @@ impl Purse {
         value: Amount,
         seq: Seq,
     ) -> Result<PayDetails, StartRefusal>
-        ensures answer { result ≡ or_refused (start_from_refusal self.old peer value) (from_details self.old peer value seq) }
-        ensures new { self.new ≡ unless_refused (start_from_refusal self.old peer value) self.old (started self.old (Status.Epr (from_details self.old peer value seq))) }
+        ensures answer { result ≡ or_refused (start_from_refusal self.old peer value)
+            (from_details self.old peer value seq) }
+        ensures new { self.new ≡ unless_refused (start_from_refusal self.old peer value) self.old
+            (started self.old (Status.Epr (from_details self.old peer value seq))) }
         ensures whole { IsPurse self.new }
         ensures details { IfOk result IsDetails }
     {
@@ -92,8 +95,10 @@ impl Purse {
         value: Amount,
         seq: Seq,
     ) -> Result<PayDetails, StartRefusal>
-        ensures answer { result ≡ or_refused (start_to_refusal self.old peer) (to_details self.old peer value seq) }
-        ensures new { self.new ≡ unless_refused (start_to_refusal self.old peer) self.old (started self.old (Status.Epv (to_details self.old peer value seq))) }
+        ensures answer { result ≡ or_refused (start_to_refusal self.old peer)
+            (to_details self.old peer value seq) }
+        ensures new { self.new ≡ unless_refused (start_to_refusal self.old peer) self.old
+            (started self.old (Status.Epv (to_details self.old peer value seq))) }
         ensures whole { IsPurse self.new }
         ensures details { IfOk result IsDetails }
     {
@@ -144,7 +149,8 @@ impl Purse {
     /// lines or more, OverCap where the balance would be above 10^15.
     pub fn load(&mut self, amount: Amount) -> Result<(), LoadRefusal>
         ensures answer { result ≡ or_refused (load_refusal self.old amount) tt }
-        ensures new { self.new ≡ unless_refused (load_refusal self.old amount) self.old (loaded self.old amount) }
+        ensures new { self.new ≡ unless_refused (load_refusal self.old amount) self.old
+            (loaded self.old amount) }
         ensures whole { IsPurse self.new }
         ensures amount { IfOk result (λ _. amount ≤ most_amount) }
     {
@@ -165,7 +171,8 @@ impl Purse {
     /// where the balance would be above 10^15.
     pub fn credit(&mut self, amount: Amount) -> Result<(), CreditRefusal>
         ensures answer { result ≡ or_refused (credit_refusal self.old amount) tt }
-        ensures new { self.new ≡ unless_refused (credit_refusal self.old amount) self.old (credited self.old amount) }
+        ensures new { self.new ≡ unless_refused (credit_refusal self.old amount) self.old
+            (credited self.old amount) }
         ensures whole { IsPurse self.new }
         ensures amount { IfOk result (λ _. amount ≤ most_amount) }
     {
@@ -181,7 +188,8 @@ impl Purse {
     /// NotEnough where the amount is above the balance, Worn where there are 10^15 statement lines or more.
     pub fn redeem(&mut self, amount: Amount) -> Result<(), RedeemRefusal>
         ensures answer { result ≡ or_refused (redeem_refusal self.old amount) tt }
-        ensures new { self.new ≡ unless_refused (redeem_refusal self.old amount) self.old (redeemed self.old amount) }
+        ensures new { self.new ≡ unless_refused (redeem_refusal self.old amount) self.old
+            (redeemed self.old amount) }
         ensures whole { IsPurse self.new }
         ensures amount { IfOk result (λ _. amount ≤ most_amount) }
     {
@@ -246,7 +254,8 @@ impl Purse {
     /// Pays the value of the details that are requested, where the request for them is expected.
     fn take_req(&mut self, details: &PayDetails) -> Handled
         ensures answer { result ≡ handled self.old (Message.Req details.now) }
-        ensures new { self.new ≡ after_message self.old (handled self.old (Message.Req details.now)) }
+        ensures new { self.new ≡ after_message self.old
+            (handled self.old (Message.Req details.now)) }
         ensures whole { IsPurse self.new }
     {
         if !expects_req(&self.status, details) {
@@ -261,7 +270,8 @@ impl Purse {
     /// Receives the value of the details, where it is expected and the balance stays within its limit.
     fn take_val(&mut self, details: &PayDetails) -> Handled
         ensures answer { result ≡ handled self.old (Message.Val details.now) }
-        ensures new { self.new ≡ after_message self.old (handled self.old (Message.Val details.now)) }
+        ensures new { self.new ≡ after_message self.old
+            (handled self.old (Message.Val details.now)) }
         ensures whole { IsPurse self.new }
     {
         if !expects_val(&self.status, details) {
@@ -280,7 +290,8 @@ impl Purse {
     /// Finishes the payment of the details, where the acknowledgement of them is expected.
     fn take_ack(&mut self, details: &PayDetails) -> Handled
         ensures answer { result ≡ handled self.old (Message.Ack details.now) }
-        ensures new { self.new ≡ after_message self.old (handled self.old (Message.Ack details.now)) }
+        ensures new { self.new ≡ after_message self.old
+            (handled self.old (Message.Ack details.now)) }
         ensures whole { IsPurse self.new }
     {
         if !expects_ack(&self.status, details) {

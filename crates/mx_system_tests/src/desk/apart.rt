@@ -3,7 +3,7 @@ use super::scripts::{Exchange, Piece, written};
 use super::{FUNDED, STANDING, given_up, played, serve_by, tell};
 use crate::empty::{Trial, in_memory, operator};
 use mx_book::Book;
-use mx_memory::PlainBook;
+use mx_memory::new_book;
 use mx_office::Office;
 use mx_wire::Routes;
 use std::alloc::{AllocError, Global};
@@ -213,7 +213,7 @@ fn assert_interleaved<'a>(
 #[test]
 fn two_hundred_interleavings(rt: HostRuntime) -> Result<(), Fail> {
     let routes = Routes::new(rt.alloc())?;
-    let book = PlainBook::new(rt.alloc(), operator()?);
+    let book = new_book(rt.alloc(), operator()?);
     let alone = heard_alone(&rt, &routes, book)?;
     assert_interleaved(&rt, &routes, alone.as_slice())
 }

@@ -4,7 +4,7 @@ use super::values::{
     member_sums_words, member_words, members_sums_words, message_words, names_words, number_words,
     purse_words, report_words, scheme_words, truth_words,
 };
-use mx_book::{Book, StoreFault};
+use mx_book::{Book, RowBook, StoreFault};
 use mx_pay::{Amount, Name, PayDetails, Token, read_details};
 use mx_report::{reconcile, statement};
 use std::alloc::{AllocError, Global};
@@ -122,14 +122,13 @@ fn of_purse(
         "message" => message_words(alloc, book.message(alloc, purse, number_of(word)?)?),
         "has_message" => truth_words(alloc, book.has_message(alloc, purse, number_of(word)?)?),
         "lines" => lines_words(alloc, Some(book.lines(alloc, purse, number_of(word)?, 50)?)),
-        "page" => end_words(alloc, Some(book.lines(alloc, purse, 0, number_of(word)?)?)),
         "archived" => truth_words(alloc, book.archived(alloc, purse, &details_of(word)?)?),
         _ => return of_names(alloc, book, call, purse, name_of(word)?),
     })
 }
 
-/// The value of a call, in words. A call `lines` asks for 50 of them behind a number, and a call `page` for the first ones.
-pub(crate) fn asked(alloc: Global, book: &mut impl Book, line: &str) -> Result<String, StoreFault> {
+/// The value of a call, in words. A call `lines` asks for 50 of them behind a number.
+pub(super) fn asked(alloc: Global, book: &mut impl Book, line: &str) -> Result<String, StoreFault> {
     let mut words = line.split(' ');
     let call = words.next().unwrap_or("");
     match (words.next(), words.next()) {
@@ -137,4 +136,26 @@ pub(crate) fn asked(alloc: Global, book: &mut impl Book, line: &str) -> Result<S
         (Some(word), None) => of_one(alloc, book, call, word),
         (Some(first), Some(second)) => of_purse(alloc, book, call, name_of(first)?, second),
     }
+}
+
+/// The same of a book whose rows may spell no World: of sums, of a holder's purses, or of a `page`, the first lines of a purse.
+pub(crate) fn asked_of_rows(
+    alloc: Global,
+    book: &mut impl RowBook,
+    line: &str,
+) -> Result<String, StoreFault> {
+    let mut words = line.split(' ');
+    let call = words.next().unwrap_or("");
+    in_words(match (call, words.next(), words.next()) {
+        ("totals", None, _) => scheme_words(alloc, &book.totals(alloc)?),
+        ("members_totals", None, _) => members_sums_words(alloc, book.members_totals(alloc)?),
+        ("purses_of", Some(holder), None) => {
+            names_words(alloc, book.purses_of(alloc, name_of(holder)?)?)
+        }
+        ("page", Some(purse), Some(most)) => {
+            let lines = book.lines(alloc, name_of(purse)?, 0, number_of(most)?)?;
+            end_words(alloc, Some(lines))
+        }
+        _ => unknown_words(alloc),
+    })
 }

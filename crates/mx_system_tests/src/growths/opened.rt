@@ -3,9 +3,11 @@ use super::reads::assert_read;
 use crate::desk::{STANDING, answer_in_the_end};
 use crate::empty::{empty_store, made, operator};
 use crate::tables::{opened, unmade, unopened};
+use mx_audit::{Refusal, Refused, open};
 use mx_book::Book;
 use mx_office::Office;
 use mx_pay::Token;
+use mx_standing::Standing;
 use mx_tables::{OpenFault, OpenRefused, Tables};
 use sqlite::{Connection, MemStore};
 use std::alloc::Global;
@@ -13,10 +15,18 @@ use std::process::Abort;
 use std::test::Fail;
 
 /// The store that a call refused for want, which stands for that call to be made again.
-fn wanting(refused: OpenRefused<MemStore>) -> Result<Connection<MemStore>, Fail> {
+fn wanting(refused: Refused<MemStore>) -> Result<Connection<MemStore>, Fail> {
+    match refused.fault {
+        Refusal::Memory | Refusal::Store => Ok(refused.store),
+        Refusal::NotThisSchema | Refusal::Unsound(_) => Err("another fault")?,
+    }
+}
+
+/// The same of `create`.
+fn unmade_for_want(refused: OpenRefused<MemStore>) -> Result<Connection<MemStore>, Fail> {
     match refused.fault {
         OpenFault::Memory | OpenFault::Store => Ok(refused.store),
-        OpenFault::NotThisSchema | OpenFault::Unsound => Err("another fault")?,
+        OpenFault::NotThisSchema => Err("another fault")?,
     }
 }
 
@@ -28,22 +38,25 @@ fn store_in_the_end(alloc: Global) -> Result<Connection<MemStore>, Fail> {
     }
 }
 
-/// New tables in a store.
+/// The store with new tables in it.
 fn made_in_the_end(
     alloc: Global,
     store: Connection<MemStore>,
     operator: Token,
-) -> Result<Tables<MemStore>, Fail> {
+) -> Result<Connection<MemStore>, Fail> {
     match Tables::create(alloc, store, operator) {
-        Ok(book) => Ok(book),
-        Err(refused) => made(alloc, wanting(refused)?, operator),
+        Ok(tables) => Ok(tables.into_store()),
+        Err(refused) => made(alloc, unmade_for_want(refused)?, operator),
     }
 }
 
-/// The books in a store.
-fn opened_in_the_end(alloc: Global, store: Connection<MemStore>) -> Result<Tables<MemStore>, Fail> {
-    match Tables::open(alloc, store) {
-        Ok(book) => Ok(book),
+/// The book over the tables in a store.
+fn opened_in_the_end(
+    alloc: Global,
+    store: Connection<MemStore>,
+) -> Result<Standing<Tables<MemStore>>, Fail> {
+    match open(alloc, store, 0) {
+        Ok((book, _)) => Ok(book),
         Err(refused) => opened(alloc, wanting(refused)?),
     }
 }
@@ -53,11 +66,11 @@ fn unopened_in_the_end(
     alloc: Global,
     store: Connection<MemStore>,
 ) -> Result<Connection<MemStore>, Fail> {
-    match Tables::open(alloc, store) {
+    match open(alloc, store, 0) {
         Ok(_) => Err("opened")?,
         Err(
-            OpenRefused {
-                fault: OpenFault::NotThisSchema,
+            Refused {
+                fault: Refusal::NotThisSchema,
                 store,
             },
         ) => Ok(store),
@@ -101,11 +114,15 @@ purse q1 -> of bob of m, balance 0, next 0, eaFrom, log [], lines 0, messages 0,
 totals -> 0,0,0,0,0,0,0,0
 ";
 
-/// New tables that tell so, in a store that can't be opened before.
-fn assert_made(rt: &(impl Abort + AllocGlobal), operator: Token) -> Result<Tables<MemStore>, Fail> {
+/// The book over new tables that tell so, in a store that can't be opened before.
+fn assert_made(
+    rt: &(impl Abort + AllocGlobal),
+    operator: Token,
+) -> Result<Standing<Tables<MemStore>>, Fail> {
     let store = store_in_the_end(rt.alloc())?;
     let store = unopened_in_the_end(rt.alloc(), store)?;
-    let mut book = made_in_the_end(rt.alloc(), store, operator)?;
+    let store = made_in_the_end(rt.alloc(), store, operator)?;
+    let mut book = opened_in_the_end(rt.alloc(), store)?;
     assert_read(rt, &mut book, NEW, true);
     Ok(book)
 }
@@ -121,7 +138,8 @@ fn filled<B: Book + Drop>(rt: &(impl Abort + AllocGlobal), book: B) -> Result<B,
 #[test]
 fn openings_with_a_growth_refused(rt: HostRuntime) -> Result<(), Fail> {
     let operator = operator()?;
-    let store = filled(&rt, assert_made(&rt, operator)?)?.into_store();
+    let book = filled(&rt, assert_made(&rt, operator)?)?;
+    let store = book.into_inner().into_store();
     let store = unmade_in_the_end(rt.alloc(), store, operator)?;
     let mut book = opened_in_the_end(rt.alloc(), store)?;
     assert_read(&rt, &mut book, FILLED, true);

@@ -6,6 +6,7 @@ use mx_memory::PlainBook;
 use mx_office::Office;
 use mx_pay::{Name, PayDetails};
 use mx_purse::Purse;
+use mx_standing::Standing;
 use std::alloc::Global;
 use std::process::Abort;
 use std::test::Fail;
@@ -174,7 +175,7 @@ fn abstract_purse(payments: &Payments, purse: &Purse, is_lost: bool) -> (u64, u6
 }
 
 /// A purse, as an office shows it.
-fn shown(alloc: Global, office: &mut Office<PlainBook>, place: usize) -> Option<Purse> {
+fn shown(alloc: Global, office: &mut Office<Standing<PlainBook>>, place: usize) -> Option<Purse> {
     let reply = answer_to(alloc, office, place, &Ask::Show)?;
     match &reply {
         Reply::Shown(purse) => Some(*purse),
@@ -183,7 +184,7 @@ fn shown(alloc: Global, office: &mut Office<PlainBook>, place: usize) -> Option<
 }
 
 /// The purses of the table, as an office shows them.
-fn purses_of(alloc: Global, office: &mut Office<PlainBook>) -> Result<Vec<Purse>, Fail> {
+fn purses_of(alloc: Global, office: &mut Office<Standing<PlainBook>>) -> Result<Vec<Purse>, Fail> {
     let mut purses = Vec::new(alloc);
     for place in &PLACES {
         purses.push(shown(alloc, office, *place).ok_or("no purse")?)?;
@@ -205,7 +206,7 @@ fn assert_abstract(
 }
 
 /// Asks what a row asks.
-fn ask_row(alloc: Global, office: &mut Office<PlainBook>, row: &Row) -> Result<(), Fail> {
+fn ask_row(alloc: Global, office: &mut Office<Standing<PlainBook>>, row: &Row) -> Result<(), Fail> {
     match answer_to(alloc, office, row.0, &row.1) {
         Some(Reply::Refused(_)) | None => Err("refused")?,
         Some(_) => Ok(()),
@@ -215,7 +216,7 @@ fn ask_row(alloc: Global, office: &mut Office<PlainBook>, row: &Row) -> Result<(
 /// Asks what a row asks, and asserts what the row says.
 fn assert_row(
     rt: &(impl Abort + AllocGlobal),
-    office: &mut Office<PlainBook>,
+    office: &mut Office<Standing<PlainBook>>,
     row: &Row,
 ) -> Result<(), Fail> {
     ask_row(rt.alloc(), office, row)?;
@@ -229,7 +230,7 @@ fn assert_row(
 /// Goes through the table, in an office in which nothing is.
 fn assert_table(
     rt: &(impl Abort + AllocGlobal),
-    office: &mut Office<PlainBook>,
+    office: &mut Office<Standing<PlainBook>>,
 ) -> Result<(), Fail> {
     open(rt.alloc(), office)?;
     for row in &TABLE {

@@ -5,6 +5,7 @@ use mx_memory::PlainBook;
 use mx_office::Office;
 use mx_pay::{Amount, Log, Name, PayDetails, Seq};
 use mx_report::import_roll;
+use mx_standing::Standing;
 use std::alloc::Global;
 use std::test::Fail;
 
@@ -166,7 +167,7 @@ pub(super) fn asked(alloc: Global, place: usize, ask: &Ask) -> Option<(Caller, C
 /// What an office answers. What calls the office itself takes long to be proved, so the tests call this.
 pub(super) fn answer_of(
     alloc: Global,
-    office: &mut Office<PlainBook>,
+    office: &mut Office<Standing<PlainBook>>,
     caller: Caller,
     command: &Command,
 ) -> Option<Reply> {
@@ -176,7 +177,7 @@ pub(super) fn answer_of(
 /// What a purse answers, whose office it is.
 pub(super) fn answer_to(
     alloc: Global,
-    office: &mut Office<PlainBook>,
+    office: &mut Office<Standing<PlainBook>>,
     place: usize,
     ask: &Ask,
 ) -> Option<Reply> {
@@ -185,7 +186,7 @@ pub(super) fn answer_to(
 }
 
 /// Grants a member what each is granted.
-fn grant(alloc: Global, office: &mut Office<PlainBook>, member: &str) -> Option<Reply> {
+fn grant(alloc: Global, office: &mut Office<Standing<PlainBook>>, member: &str) -> Option<Reply> {
     let grant = Command::Grant {
         member: Name::read(member)?,
         amount: Amount::new(GRANT)?,
@@ -194,7 +195,7 @@ fn grant(alloc: Global, office: &mut Office<PlainBook>, member: &str) -> Option<
 }
 
 /// Opens an office in which nothing is, with these purses.
-pub(super) fn open(alloc: Global, office: &mut Office<PlainBook>) -> Result<(), Fail> {
+pub(super) fn open(alloc: Global, office: &mut Office<Standing<PlainBook>>) -> Result<(), Fail> {
     match import_roll(alloc, office, ROLL.as_bytes()) {
         Ok(report) if report.added == 11 => {}
         _ => Err("no roll")?,

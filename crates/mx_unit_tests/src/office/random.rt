@@ -7,6 +7,7 @@ use mx_memory::PlainBook;
 use mx_office::Office;
 use mx_pay::{Log, PayDetails};
 use mx_purse::Handled;
+use mx_standing::Standing;
 use std::alloc::Global;
 use std::process::Abort;
 use std::test::Fail;
@@ -280,7 +281,7 @@ fn figures(sums: &Totals) -> [u128; 8] {
 }
 
 /// The sums that an office tells.
-fn sums_of(alloc: Global, office: &mut Office<PlainBook>) -> Result<[u128; 8], Fail> {
+fn sums_of(alloc: Global, office: &mut Office<Standing<PlainBook>>) -> Result<[u128; 8], Fail> {
     match answer_of(alloc, office, Caller::Operator, &Command::Reconcile) {
         Some(Reply::Reconciled(sums)) => Ok(figures(&sums)),
         _ => Err("no sums")?,
@@ -312,7 +313,7 @@ impl Dice {
 /// An office, and the ledger beside it.
 #[derive(Drop)]
 struct Trial<'a> {
-    office: &'a mut Office<PlainBook>,
+    office: &'a mut Office<Standing<PlainBook>>,
     ledger: &'a mut Ledger,
     /// How many commands were asked.
     asked: u64,
@@ -466,7 +467,7 @@ fn act_often(
 /// in which nothing is.
 fn assert_sums(
     rt: &(impl Abort + AllocGlobal),
-    office: &mut Office<PlainBook>,
+    office: &mut Office<Standing<PlainBook>>,
     ledger: &mut Ledger,
     seed: u64,
 ) -> Result<(), Fail> {
@@ -486,7 +487,7 @@ fn assert_sums(
 /// The same beside a new ledger.
 fn assert_seed(
     rt: &(impl Abort + AllocGlobal),
-    office: &mut Office<PlainBook>,
+    office: &mut Office<Standing<PlainBook>>,
     seed: u64,
 ) -> Result<(), Fail> {
     assert_sums(rt, office, &mut Ledger::new(rt.alloc()), seed)

@@ -6,6 +6,7 @@ use mx_command::{Command, Reply};
 use mx_memory::PlainBook;
 use mx_office::{Office, Outcome};
 use mx_purse::Handled;
+use mx_standing::Standing;
 use std::alloc::Global;
 use std::process::Abort;
 use std::test::Fail;
@@ -64,7 +65,7 @@ fn count_done(outcomes: &[Outcome]) -> usize {
 /// How many outcomes so many payments in one run have, and how many of these are of commands that were done.
 fn paid(
     alloc: Global,
-    office: &mut Office<PlainBook>,
+    office: &mut Office<Standing<PlainBook>>,
     rounds: u64,
 ) -> Result<(usize, usize), Fail> {
     let mut commands = Vec::new(alloc);
@@ -78,7 +79,7 @@ fn paid(
 /// Asserts what comes of a run of no commands and of one of 250 payments, in a new office.
 fn assert_runs(
     rt: &(impl Abort + AllocGlobal),
-    office: &mut Office<PlainBook>,
+    office: &mut Office<Standing<PlainBook>>,
 ) -> Result<(), Fail> {
     open(rt.alloc(), office)?;
     assert_eq!(rt; paid(rt.alloc(), office, 0)?, (0, 0));

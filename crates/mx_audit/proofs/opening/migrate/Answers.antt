@@ -12,7 +12,7 @@ returns-in_err-expect_sound-clause-unsound g c calm =
     let p = err_from_is_err_and c.from_residual.result c.from_residual.ensures.1 in
     let stays = c.expect_sound.ensures.stays c.in-Ok.ensures.ours in
     let same = stays.same (idle_sure (state g.S.Store c.expect_sound.new.store) calm) in
-    rw (p.1, p.2) (λ is w spelled. c.in_err-expect_sound.ensures.unsound c.in-Ok.ensures.ours calm is w (subst (λ (db : Database). Spells db w) same spelled))
+    rw (p.1, p.2) (λ checked is w spelled. c.in_err-expect_sound.ensures.unsound c.in-Ok.ensures.ours calm checked is w (subst (λ (db : Database). Spells db w) same spelled))
 
 pub returns-clause-sound : goal.returns-clause-sound
 returns-clause-sound g c calm =

@@ -28,15 +28,15 @@ pieces-init g c = record {
 pub returns-in_err-respond-in-Whole-clause-steps : goal.returns-in_err-respond-in-Whole-clause-steps
 returns-in_err-respond-in-Whole-clause-steps g c = λ w low kept.
     let b = g.B.Book in
-    let start : RestsKnown b.doubt b.rows b.spells b.settled c.pieces.office.book c.pieces.workspace.callers w = rw (c.pieces.invariant.office, c.pieces.invariant.callers) kept in
+    let start : RestsKnown (b.view c.pieces.office.book) c.pieces.workspace.callers w = rw (c.pieces.invariant.office, c.pieces.invariant.callers) kept in
     let came = c.pieces.invariant.came in
     let whole = rw c.pending.ensures.value at c.in-Whole.ensures.1 in
     let first = first_now c.pieces.input (request_view c.in-Whole.request) c.in-Whole.end whole in
     let one = c.hold-goes_on.ensures.holds in
     let is_one : c.hold-goes_on.new.workspace.round.held.items ≡ one.0 ∷ [] = one.1 ∙ ap (λ l. l ++ one.0 ∷ []) c.clear.ensures in
     let few = (let fits = c.len-count.ensures.fits in rw c.len-count.ensures.value at fits) in
-    let t = turned b _ _ _ _ _ _ one.0 (request_view c.in-Whole.request) _ _ c.pieces.input _ _ (rw c.forget.ensures first) one.2 c.hold_more.ensures.holds is_one
-    _ g.met.B.Book.steady g.met.B.Book.rest g.met.B.Book.deep _ w _ _ c.respond.result start few c.respond.ensures.responds low in
+    let t = turned b.fails _ _ _ _ _ _ one.0 (request_view c.in-Whole.request) _ _ c.pieces.input _ _ (rw c.forget.ensures first) one.2 c.hold_more.ensures.holds is_one
+    _ (g.met.B.Book.lawful _) (g.met.B.Book.lawful _) _ w _ _ c.respond.result start few c.respond.ensures.responds low in
     let alone : c.args.workspace.now.round.alone ≡ true → length (marked_of t.round) ≤ 1 = λ alone.
     let same = c.hold_more.ensures.one (c.hold-goes_on.ensures.alone ∙ c.pieces.invariant.alone ∙ alone) in
     let few = sym t.count ∙ ap length (same ∙ is_one) in
@@ -47,7 +47,7 @@ returns-in_err-respond-in-Whole-clause-steps g c = λ w low kept.
     rw (p.1, p.2, c.in_err-respond-in-Whole.ensures.fault.0) (record {
       end = world_after w (marked_of t.round);
       rounds = t.round ∷ [];
-      moves = moves_since _ w _ _ (ap (λ o. o.book) c.pieces.invariant.office) t.moves;
+      moves = (moves_since b.view (ap (λ o. o.book) c.pieces.invariant.office) t.moves, t.knows_now);
       holds = rw (append-nil (marked_of t.round)) (
         cut_step b.fails _ _ c.pieces.input _ (marked_of t.round) cut.0 (record { came = came.0; consumed = came.1; pending_is = came.2 })
             t.begins t.few t.marks (omega (arith, less)) (Appends-trans _ _ _ [] _ c.pieces.invariant.wrote cut.2) refl,
@@ -58,27 +58,27 @@ returns-in_err-respond-in-Whole-clause-steps g c = λ w low kept.
 pub returns-in-Whole-clause-steps : goal.returns-in-Whole-clause-steps
 returns-in-Whole-clause-steps g c = λ w low kept.
     let b = g.B.Book in
-    let start : RestsKnown b.doubt b.rows b.spells b.settled c.pieces.office.book c.pieces.workspace.callers w = rw (c.pieces.invariant.office, c.pieces.invariant.callers) kept in
+    let start : RestsKnown (b.view c.pieces.office.book) c.pieces.workspace.callers w = rw (c.pieces.invariant.office, c.pieces.invariant.callers) kept in
     let came = c.pieces.invariant.came in
     let whole = rw c.pending.ensures.value at c.in-Whole.ensures.1 in
     let first = first_now c.pieces.input (request_view c.in-Whole.request) c.in-Whole.end whole in
     let one = c.hold-goes_on.ensures.holds in
     let is_one : c.hold-goes_on.new.workspace.round.held.items ≡ one.0 ∷ [] = one.1 ∙ ap (λ l. l ++ one.0 ∷ []) c.clear.ensures in
     let few = (let fits = c.len-count.ensures.fits in rw c.len-count.ensures.value at fits) in
-    let t = turned b _ _ _ _ _ _ one.0 (request_view c.in-Whole.request) _ _ c.pieces.input _ _ (rw c.forget.ensures first) one.2 c.hold_more.ensures.holds is_one
-    _ g.met.B.Book.steady g.met.B.Book.rest g.met.B.Book.deep _ w _ _ c.respond.result start few c.respond.ensures.responds low in
+    let t = turned b.fails _ _ _ _ _ _ one.0 (request_view c.in-Whole.request) _ _ c.pieces.input _ _ (rw c.forget.ensures first) one.2 c.hold_more.ensures.holds is_one
+    _ (g.met.B.Book.lawful _) (g.met.B.Book.lawful _) _ w _ _ c.respond.result start few c.respond.ensures.responds low in
     let alone : c.args.workspace.now.round.alone ≡ true → length (marked_of t.round) ≤ 1 = λ alone.
     let same = c.hold_more.ensures.one (c.hold-goes_on.ensures.alone ∙ c.pieces.invariant.alone ∙ alone) in
     let few = sym t.count ∙ ap length (same ∙ is_one) in
     omega (arith, few) in
     let wrote = t.ok _ c.in_ok-respond-in-Whole.was in
-    let shorter = turn_shorter b _ _ _ _ _ _ one.0 (request_view c.in-Whole.request) _ _ c.pieces.input _ _ (rw c.forget.ensures first) one.2 c.hold_more.ensures.holds is_one in
+    let shorter = turn_shorter b.fails _ _ _ _ _ _ one.0 (request_view c.in-Whole.request) _ _ c.pieces.input _ _ (rw c.forget.ensures first) one.2 c.hold_more.ensures.holds is_one in
     let same = c.len-count.ensures.value in
     let more = shorter.0 in
     record {
       end = world_after w (marked_of t.round);
       rounds = t.round ∷ [];
-      moves = moves_since _ w _ _ (ap (λ o. o.book) c.pieces.invariant.office) t.moves;
+      moves = (moves_since b.view (ap (λ o. o.book) c.pieces.invariant.office) t.moves, t.knows_now);
       holds = rw (append-nil (marked_of t.round)) (
         answered_step b.fails _ _ c.pieces.input _ (marked_of t.round) (record { came = came.0; consumed = came.1; pending_is = came.2 })
             t.begins (same ∙ t.count) (omega (arith, same, more)) t.marks (Appends-trans _ _ _ [] _ c.pieces.invariant.wrote wrote) refl,
@@ -93,7 +93,7 @@ returns-in-Whole-clause-smaller g c = λ n is.
     let first = first_now c.pieces.input (request_view c.in-Whole.request) c.in-Whole.end whole in
     let one = c.hold-goes_on.ensures.holds in
     let is_one : c.hold-goes_on.new.workspace.round.held.items ≡ one.0 ∷ [] = one.1 ∙ ap (λ l. l ++ one.0 ∷ []) c.clear.ensures in
-    let shorter = turn_shorter g.B.Book _ _ _ _ _ _ one.0 (request_view c.in-Whole.request) _ _ c.pieces.input _ _ (rw c.forget.ensures first) one.2 c.hold_more.ensures.holds is_one in
+    let shorter = turn_shorter g.B.Book.fails _ _ _ _ _ _ one.0 (request_view c.in-Whole.request) _ _ c.pieces.input _ _ (rw c.forget.ensures first) one.2 c.hold_more.ensures.holds is_one in
     let same : n ≡ length c.hold_more.new.workspace.round.held.items = (let all = c.len-count.ensures.value in cc) in
     let more = shorter.0 in
     (omega (arith, same, more), rw same (smaller _ _ reads.0 _ (length c.pieces.input) _ _ reads.1 (λ z. ap length (reads.5 z)) c.pending.ensures.fits shorter.1))
@@ -107,7 +107,7 @@ returns-in_err-write_stop-in-Stopped-clause-steps g c = λ w low kept.
     rw (p.1, p.2, c.in_err-write_stop-in-Stopped.ensures.fault) (record {
       end = w;
       rounds = [];
-      moves = rw (c.pieces.invariant.office, c.pieces.invariant.callers) (moves_not _ w kept);
+      moves = rw (c.pieces.invariant.office, c.pieces.invariant.callers) (moves_not kept.0, kept.1);
       holds = (
         cut_stop_step g.B.Book.fails _ _ c.pieces.input c.in-Stopped.stop err.0
             (record { came = came.0; consumed = came.1; pending_is = came.2 })
@@ -126,7 +126,7 @@ returns-in-Stopped-clause-steps g c = λ w low kept.
     record {
       end = w;
       rounds = [];
-      moves = rw (c.pieces.invariant.office, c.pieces.invariant.callers) (moves_not _ w kept);
+      moves = rw (c.pieces.invariant.office, c.pieces.invariant.callers) (moves_not kept.0, kept.1);
       holds = (
         stop_step g.B.Book.fails _ _ c.pieces.input c.in-Stopped.stop
             (record { came = came.0; consumed = came.1; pending_is = came.2 })
@@ -144,7 +144,7 @@ returns-in_default-clause-steps g c = λ w low kept.
     record {
       end = w;
       rounds = [];
-      moves = rw (c.pieces.invariant.office, c.pieces.invariant.callers) (moves_not _ w kept);
+      moves = rw (c.pieces.invariant.office, c.pieces.invariant.callers) (moves_not kept.0, kept.1);
       holds = (
         nothing_step g.B.Book.fails _ _ c.pieces.input
             (record { came = came.0; consumed = came.1; pending_is = came.2 })
@@ -166,7 +166,7 @@ returns-in_err-write_stop-in-Open-clause-steps g c = λ w low kept.
     rw (p.1, p.2, c.in_err-write_stop-in-Open.ensures.fault) (record {
       end = w;
       rounds = [];
-      moves = rw (c.pieces.invariant.office, c.pieces.invariant.callers) (moves_not _ w kept);
+      moves = rw (c.pieces.invariant.office, c.pieces.invariant.callers) (moves_not kept.0, kept.1);
       holds = (
         cut_stop_at_end g.B.Book.fails _ _ c.pieces.input c.in-Some.stop err.0
             (record { came = came.0; consumed = came.1; pending_is = came.2 })
@@ -187,7 +187,7 @@ returns-in-Open-clause-steps g c = λ w low kept.
     record {
       end = w;
       rounds = [];
-      moves = rw (c.pieces.invariant.office, c.pieces.invariant.callers) (moves_not _ w kept);
+      moves = rw (c.pieces.invariant.office, c.pieces.invariant.callers) (moves_not kept.0, kept.1);
       holds = (
         stop_at_end g.B.Book.fails _ _ c.pieces.input c.in-Some.stop
             (record { came = came.0; consumed = came.1; pending_is = came.2 })
@@ -207,7 +207,7 @@ returns-in_err-flush_out-clause-steps g c = λ w low kept.
     rw (p.1, p.2, c.in_err-flush_out.ensures.fault) (record {
       end = w;
       rounds = [];
-      moves = rw (c.pieces.invariant.office, c.pieces.invariant.callers) (moves_not _ w kept);
+      moves = rw (c.pieces.invariant.office, c.pieces.invariant.callers) (moves_not kept.0, kept.1);
       holds = (
         flush_step g.B.Book.fails _ _ c.pieces.input c.in-Open.fault
             (record { came = came.0; consumed = came.1; pending_is = came.2 })
@@ -226,7 +226,7 @@ returns-then-turns-eq0-clause-steps g c = λ w low kept.
     record {
       end = w;
       rounds = [];
-      moves = rw (c.pieces.invariant.office, c.pieces.invariant.callers) (moves_not _ w kept);
+      moves = rw (c.pieces.invariant.office, c.pieces.invariant.callers) (moves_not kept.0, kept.1);
       holds = (
         turns_step g.B.Book.fails _ _ c.pieces.input c.in-Open.fault
             (record { came = came.0; consumed = came.1; pending_is = came.2 })
@@ -247,7 +247,7 @@ returns-in_err-ended-clause-steps g c = λ w low kept.
     rw (p.1, p.2, c.in_err-ended.ensures.fault) (record {
       end = w;
       rounds = [];
-      moves = rw (c.pieces.invariant.office, c.pieces.invariant.callers) (moves_not _ w kept);
+      moves = rw (c.pieces.invariant.office, c.pieces.invariant.callers) (moves_not kept.0, kept.1);
       holds = (
         read_step g.B.Book.fails _ _ c.pieces.input c.in-Open.fault
             (record { came = came.0; consumed = Consumes-kept _ _ _ came.0 came.1 err.1; pending_is = came.2 })

@@ -14,9 +14,9 @@ returns-then-not-workspace-clause-holds g c =
     let answered = c.answer_request-response.ensures in (
       h,
       c.push.ensures.items ∙ ap (λ (r : Round). r.held.items ++ h ∷ []) answered.round,
-      holds_one g.B.Book _ _ _ _ h (request_view c.args.request.now) answered.later answered.bides
+      holds_one g.B.Book.fails _ _ _ _ h (request_view c.args.request.now) answered.later answered.bides
           (held_for _ _ _ c.route-route.result (request_view c.args.request.now) c.is_some-routed.ensures found head answered.no_route) head
-          (λ w sure kept. answered.answers w sure kept found),
+          (λ sure knows. answered.answers sure knows found),
     )
 
 pub returns-else-not-workspace-clause-holds : goal.returns-else-not-workspace-clause-holds
@@ -27,7 +27,7 @@ returns-else-not-workspace-clause-holds g c =
     let answered = c.answer_request-response.ensures in (
       h,
       c.push.ensures.items ∙ ap (λ (r : Round). r.held.items ++ h ∷ []) answered.round,
-      holds_one g.B.Book _ _ _ _ h (request_view c.args.request.now) answered.later answered.bides
+      holds_one g.B.Book.fails _ _ _ _ h (request_view c.args.request.now) answered.later answered.bides
           (held_for _ _ _ c.route-route.result (request_view c.args.request.now) c.is_some-routed.ensures found head answered.no_route) head
-          (λ w sure kept. answered.answers w sure kept found),
+          (λ sure knows. answered.answers sure knows found),
     )

@@ -7,7 +7,7 @@ use Rattle.mx_desk.proofs.StepLemmas.{first_now}
 use Rattle.mx_desk.proofs.rounds.hold_more.Goals as goal
 
 pub loop-goes_on-init : goal.loop-goes_on-init
-loop-goes_on-init g c = record { held = more_none g.B.Book _ _ _ _; alone = refl; one = λ _. refl; room = c.requires }
+loop-goes_on-init g c = record { held = more_none g.B.Book.fails _ _ _ _; alone = refl; one = λ _. refl; room = c.requires }
 
 pub loop-goes_on-smaller : goal.loop-goes_on-smaller
 loop-goes_on-smaller g c =
@@ -21,7 +21,7 @@ loop-goes_on-preserved g c =
     let so_far = c.loop-goes_on.invariant in
     let one = c.hold-goes_on.ensures.holds in
     record {
-      held = more_then g.B.Book _ _ _ _ _ _ _ _ _ _ _ _ one.0 (request_view c.in-Whole.request) so_far.held one.1 (rw c.forget.ensures first) one.2;
+      held = more_then g.B.Book.fails _ _ _ _ _ _ _ _ _ _ _ _ one.0 (request_view c.in-Whole.request) so_far.held one.1 (rw c.forget.ensures first) one.2;
       alone = c.hold-goes_on.ensures.alone ∙ so_far.alone;
       one = λ alone. absurd (false≢true (sym (so_far.room c.loop-goes_on-test.true).0 ∙ so_far.alone ∙ alone));
       room = c.hold-goes_on.ensures.room;

@@ -2,10 +2,10 @@ use Rattle.std.proofs.Common.{◌≡◌, refl, subst, sym}
 use Rattle.sqlite.specs.Files.{file_state}
 use Rattle.mx_book.specs.World.{World}
 use Rattle.mx_desk.specs.Rounds.{Leads}
-use Rattle.mx_tables.specs.Holds.{SpellsOne}
 use Rattle.mx_tables.specs.States.{worry}
 use Rattle.mx_tables.proofs.StateLemmas.{no_worry, sure, sure_before}
 use Rattle.mx_tables.specs.Schema.{office_schema}
+use Rattle.mx_files.specs.Durable.{Represents}
 use Rattle.mx_lives.proofs.FileLemmas.{books_closed, books_found}
 use Rattle.mx_lives.specs.Lived.{RunsOver}
 use Rattle.mx_lives.proofs.LifeLemmas.{one_world}
@@ -31,7 +31,7 @@ returns-clause-lives g c = λ w books clean.
     let opens = (c.in_ok-store.ensures.opened was).0 in
     let all = c.in_ok-left.ensures.lives end in
     let spelled = λ (schema : first.now.schema ≡ office_schema). books_found c.in_ok-store.store c.args.files w first.now books finds opens refl schema in
-    let led = subst (λ (v : World). Leads (RunsOver (λ _. Unit {0}) v c.args.input.now c.in_ok-left.life) (λ _ now. SpellsOne last.now now)) (sym (one_world all.0 w all.1 spelled)) all.2 in
+    let led = subst (λ (v : World). Leads (RunsOver (λ _. Unit {0}) v c.args.input.now c.in_ok-left.life) (λ _ now. Represents last.now now)) (sym (one_world all.0 w all.1 spelled)) all.2 in
     record {
       end = led.end;
       rounds = led.rounds;

@@ -1,8 +1,11 @@
-use Rattle.std.proofs.Common.{◌≡◌, ◌≤◌, ◌<◌, ◌∷◌, ◌++◌, [], map, length, arith, rules}
+use Rattle.std.proofs.Common.{◌≡◌, ◌≤◌, ◌<◌, ◌∷◌, ◌++◌, ◌∙◌, [], ap, map, length, arith, rules, subst, sym, true}
 use Rattle.std.proofs.lemmas.List.{get_or-map, length-map, take_all, take_more}
 use Rattle.sqlite.specs.Held.{state}
-use Rattle.mx_tables.specs.Holds.{SpellsOne}
+use Rattle.mx_tables.specs.Rounds.{IsSettled}
+use Rattle.mx_tables.specs.States.{worry}
 use Rattle.mx_tables.proofs.StateLemmas.{sure_before}
+use Rattle.mx_files.specs.Durable.{Represents}
+use Rattle.mx_lives.specs.Lived.{LivedTo}
 use Rattle.mx_lives.proofs.LifeLemmas.{lived_next, lived_none}
 use Rattle.mx_lives.proofs.lives.live_on.Goals as goal
 
@@ -10,11 +13,11 @@ pub inputs-init : goal.inputs-init
 inputs-init g c = record {
   awake = c.in-Ok.ensures.live;
   settled = c.in-Ok.ensures.settled;
-  calm = sure_before (state g.S.Store c.args.store) (state g.S.Store c.in-Ok.opened.0) c.in-Ok.ensures.later;
+  calm = sure_before (state g.S.Store c.args.store) (state g.S.Store c.in-Ok.opened.book.0) c.in-Ok.ensures.later;
   led = λ sure.
       let found = c.in-Ok.ensures.sound sure in
-      let spelled : SpellsOne (state g.S.Store c.in-Ok.opened.0).now found.0 = rw (c.in-Ok.ensures.same sure) found.1 in
-      (found.0, found.1, rw c.new-lives.ensures.items (lived_none _ found.0 spelled));
+      let stands : Represents (state g.S.Store c.in-Ok.opened.book.0).now found.0 = subst (λ db. Represents db found.0) (sym (c.in-Ok.ensures.same sure)) ∣ found.1 ∣₁ in
+      (found.0, ∣ found.1 ∣₁, rw c.new-lives.ensures.items (lived_none _ found.0 stands));
 }
 
 pub inputs-preserved : goal.inputs-preserved
@@ -34,7 +37,7 @@ inputs-preserved g c =
             led.0,
             led.1,
             rw pushed (rw (take_more texts c.inputs.input-index [] below, this)
-                (lived_next _ (SpellsOne (state g.S.Store c.in_ok-again.again.0).now) _ _ _ c.in_ok-again.life led.0 led.2 (λ v here. c.in_ok-again.ensures.lives v c.inputs.invariant.settled was here sure))),
+                (lived_next _ (Represents (state g.S.Store c.in_ok-again.again.book.0).now) _ _ _ c.in_ok-again.life led.0 led.2 (λ v here. c.in_ok-again.ensures.lives v c.inputs.invariant.settled was here sure))),
           );
     }
 
@@ -44,10 +47,11 @@ returns g c =
     let many = length-map c.args.inputs.now (λ input. input.now) in
     let past : length texts ≤ c.inputs.input-index = omega (arith, c.inputs-test.false) in
     let all = take_all c.inputs.input-index texts past in
+    let same : c.into_store.result ≡ c.inputs.book.book.0 = c.into_store.ensures.same ∙ ap (λ t. t.0) c.into_inner.ensures in
     record {
-      calm = λ sure. c.inputs.invariant.calm (rw c.into_store.ensures.same at sure);
-      ours = c.into_store.ensures.ours c.inputs.invariant.settled;
+      calm = λ sure. c.inputs.invariant.calm (subst (λ h. worry (state g.S.Store h) ≡ 0) same sure);
+      ours = c.into_store.ensures.ours (subst (λ t. IsSettled g.S.Store t) (sym c.into_inner.ensures) c.inputs.invariant.settled);
       lives = λ sure.
-          let led = c.inputs.invariant.led (rw c.into_store.ensures.same at sure) in
-          (led.0, led.1, rw c.into_store.ensures.same (rw all at led.2));
+          let led = c.inputs.invariant.led (subst (λ h. worry (state g.S.Store h) ≡ 0) same sure) in
+          (led.0, led.1, subst (λ h. LivedTo (λ _. Unit {0}) true (Represents (state g.S.Store h).now) texts c.inputs.lives.items led.0) (sym same) (rw all at led.2));
     }

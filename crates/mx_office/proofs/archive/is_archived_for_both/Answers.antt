@@ -4,14 +4,14 @@ use Rattle.mx_office.proofs.archive.is_archived_for_both.Goals as goal
 
 pub returns-in_err-archived : goal.returns-in_err-archived
 returns-in_err-archived g c =
-    tells_fault g.B.Book _ c.in_err-archived.ensures.keeps c.in_err-archived.ensures.fault c.from_residual.ensures.1
+    tells_fault _ c.in_err-archived.ensures.keeps c.in_err-archived.ensures.fault c.from_residual.ensures.1
 
 pub returns-then-not-branch : goal.returns-then-not-branch
 returns-then-not-branch g c =
-    let archived = so_far g.B.Book c.in_ok-archived.ensures.keeps c.in_ok-archived.ensures.value in
-    tells_so g.B.Book archived (λ w spelled known. search rules)
+    let archived = so_far c.in_ok-archived.ensures in
+    tells_so (g.met.B.Book.lawful _) archived (λ w world known. search rules)
 
 pub returns : goal.returns
 returns g c =
-    let archived = so_far g.B.Book c.in_ok-archived.ensures.keeps c.in_ok-archived.ensures.value in
-    tells_then g.B.Book archived (record { keeps = c.archived-2.ensures.keeps; value = c.archived-2.ensures.value; fault = c.archived-2.ensures.fault }) (λ w spelled known x is. search rules)
+    let archived = so_far c.in_ok-archived.ensures in
+    tells_then (g.met.B.Book.lawful _) archived c.archived-2.ensures (λ w world known x is. search rules)

@@ -6,25 +6,25 @@ use Rattle.mx_office.proofs.DecideLemmas.{refused_decides, new_member_decides}
 use Rattle.mx_office.proofs.members.new_member.Goals as goal
 
 pub returns-in_err-member : goal.returns-in_err-member
-returns-in_err-member g c = tells_fault g.B.Book _ c.in_err-member.ensures.keeps c.in_err-member.ensures.fault c.from_residual.ensures.1
+returns-in_err-member g c = tells_fault _ c.in_err-member.ensures.keeps c.in_err-member.ensures.fault c.from_residual.ensures.1
 
 pub returns-then-is_some : goal.returns-then-is_some
 returns-then-is_some g c =
-    let member = so_far g.B.Book c.in_ok-member.ensures.keeps c.in_ok-member.ensures.value in
-    tells_so g.B.Book member (λ w spelled known. λ valid. refused_decides w _ _ NameTaken _ (g.met.B.Book.sound _ w spelled) (first _ _ _ (search rules)) c.refuse.ensures.reply c.refuse.ensures.edits)
+    let member = so_far c.in_ok-member.ensures in
+    tells_so (g.met.B.Book.lawful _) member (λ w world known. λ valid. refused_decides w _ _ NameTaken _ world (first _ _ _ (search rules)) c.refuse.ensures.reply c.refuse.ensures.edits)
 
 pub returns-in_err-who : goal.returns-in_err-who
 returns-in_err-who g c =
-    tells_fault g.B.Book _ (keeps_then c.in_ok-member.ensures.keeps c.in_err-who.ensures.keeps) c.in_err-who.ensures.fault c.from_residual-in_err-who.ensures.1
+    tells_fault _ (keeps_then c.in_ok-member.ensures.keeps c.in_err-who.ensures.keeps) c.in_err-who.ensures.fault c.from_residual-in_err-who.ensures.1
 
 pub returns-then-is_some-2 : goal.returns-then-is_some-2
 returns-then-is_some-2 g c =
-    let member = so_far g.B.Book c.in_ok-member.ensures.keeps c.in_ok-member.ensures.value in
-    let who = so_more g.B.Book member c.in_ok-who.ensures.keeps c.in_ok-who.ensures.value in
-    tells_so g.B.Book who (λ w spelled known. λ valid. refused_decides w _ _ TokenTaken _ (g.met.B.Book.sound _ w spelled) (next _ _ _ _ (search rules) (first _ _ _ (search rules))) c.refuse-then-is_some-2.ensures.reply c.refuse-then-is_some-2.ensures.edits)
+    let member = so_far c.in_ok-member.ensures in
+    let who = so_more member c.in_ok-who.ensures in
+    tells_so (g.met.B.Book.lawful _) who (λ w world known. λ valid. refused_decides w _ _ TokenTaken _ world (next _ _ _ _ (search rules) (first _ _ _ (search rules))) c.refuse-then-is_some-2.ensures.reply c.refuse-then-is_some-2.ensures.edits)
 
 pub returns : goal.returns
 returns g c =
-    let member = so_far g.B.Book c.in_ok-member.ensures.keeps c.in_ok-member.ensures.value in
-    let who = so_more g.B.Book member c.in_ok-who.ensures.keeps c.in_ok-who.ensures.value in
-    tells_so g.B.Book who (λ w spelled known. λ valid. new_member_decides w _ _ _ (g.met.B.Book.sound _ w spelled) valid.0 valid.1 (search rules) (search rules) c.make.ensures.reply c.make.ensures.edits)
+    let member = so_far c.in_ok-member.ensures in
+    let who = so_more member c.in_ok-who.ensures in
+    tells_so (g.met.B.Book.lawful _) who (λ w world known. λ valid. new_member_decides w _ _ _ world valid.0 valid.1 (search rules) (search rules) c.make.ensures.reply c.make.ensures.edits)

@@ -6,6 +6,6 @@ use Rattle.mx_office.proofs.CallLemmas.{SoFar}
 use Rattle.mx_office.proofs.money.all_granted.Given as goal
 
 abbrev pub invariant-loop-member : goal.invariant-loop-member
-invariant-loop-member g l = let b = g.B.Book in record {
-  far : SoFar b l.fn.book l.book (λ w. (l.member-items ≡ members_of w) × (l.sum ≡ sum_by (granted_to w) (take l.member-index l.member-items)));
+invariant-loop-member g l = let show = g.B.Book.view in record {
+  far : SoFar (show l.fn.book) (show l.book) (λ w. (l.member-items ≡ members_of w) × (l.sum ≡ sum_by (granted_to w) (take l.member-index l.member-items)));
 }

@@ -7,14 +7,14 @@ use Rattle.mx_office.proofs.CommandLemmas.{foreign_decides, abort_decides}
 use Rattle.mx_office.proofs.purses.abort.Goals as goal
 
 pub returns-in_err-own : goal.returns-in_err-own
-returns-in_err-own g c = tells_fault g.B.Book _ c.in_err-own.ensures.keeps c.in_err-own.ensures.fault c.from_residual.ensures.1
+returns-in_err-own g c = tells_fault _ c.in_err-own.ensures.keeps c.in_err-own.ensures.fault c.from_residual.ensures.1
 
 pub returns-in_default : goal.returns-in_default
 returns-in_default g c =
-    let after = so_far g.B.Book c.in_ok-own.ensures.keeps c.in_ok-own.ensures.value in
-    tells_so g.B.Book after (λ w spelled known. foreign_decides w _ _ _ _ (g.met.B.Book.sound _ w spelled) (sym known ∙ c.in_default.is) c.refuse.ensures.reply c.refuse.ensures.edits)
+    let after = so_far c.in_ok-own.ensures in
+    tells_so (g.met.B.Book.lawful _) after (λ w world known. foreign_decides w _ _ _ _ world (sym known ∙ c.in_default.is) c.refuse.ensures.reply c.refuse.ensures.edits)
 
 pub returns : goal.returns
 returns g c =
-    let after = so_far g.B.Book c.in_ok-own.ensures.keeps c.in_ok-own.ensures.value in
-    tells_so g.B.Book after (λ w spelled known. abort_decides w _ _ c.in-Some.after c.abort-logged.new.self _ (g.met.B.Book.sound _ w spelled) (sym known ∙ c.in-Some.is) c.abort-logged.ensures.new (c.make_purse.ensures.reply ∙ ap Aborted (c.is_some.ensures ∙ ap is_some c.abort-logged.ensures.logged)) (c.make_purse.ensures.edits ∙ ap (λ l. purse_edits c.abort-logged.new.self l None) (c.abort_line-line.ensures ∙ ap (abort_line c.abort-logged.new.self) c.abort-logged.ensures.logged)))
+    let after = so_far c.in_ok-own.ensures in
+    tells_so (g.met.B.Book.lawful _) after (λ w world known. abort_decides w _ _ c.in-Some.after c.abort-logged.new.self _ world (sym known ∙ c.in-Some.is) c.abort-logged.ensures.new (c.make_purse.ensures.reply ∙ ap Aborted (c.is_some.ensures ∙ ap is_some c.abort-logged.ensures.logged)) (c.make_purse.ensures.edits ∙ ap (λ l. purse_edits c.abort-logged.new.self l None) (c.abort_line-line.ensures ∙ ap (abort_line c.abort-logged.new.self) c.abort-logged.ensures.logged)))

@@ -8,19 +8,19 @@ use Rattle.mx_office.proofs.purses.inbox.Goals as goal
 
 pub returns-in_err-is_own : goal.returns-in_err-is_own
 returns-in_err-is_own g c =
-    record { tells = tells_fault g.B.Book _ c.in_err-is_own.ensures.keeps (inr c.in_err-is_own.ensures.fault) c.from_residual.ensures.1; edits = err_never _ _ _ c.from_residual.ensures.1; memory = λ w sure spelled. err_so _ _ (inr c.in_err-is_own.ensures.fault) c.from_residual.ensures.1 }
+    record { tells = tells_fault _ c.in_err-is_own.ensures.keeps (inr c.in_err-is_own.ensures.fault) c.from_residual.ensures.1; edits = err_never _ _ _ c.from_residual.ensures.1; memory = λ sure. err_so _ _ (inr c.in_err-is_own.ensures.fault) c.from_residual.ensures.1 }
 
 pub returns-then-not-branch : goal.returns-then-not-branch
 returns-then-not-branch g c =
-    let own = so_far g.B.Book c.in_ok-is_own.ensures.keeps c.in_ok-is_own.ensures.value in
-    record { tells = tells_so g.B.Book own (λ w spelled known. foreign_decides w _ _ _ _ (g.met.B.Book.sound _ w spelled) (absent _ (sym known ∙ c.if-not-branch.true)) c.refuse.ensures.reply c.refuse.ensures.edits); edits = c.refuse.ensures.edits; memory = λ w sure spelled. tt }
+    let own = so_far c.in_ok-is_own.ensures in
+    record { tells = tells_so (g.met.B.Book.lawful _) own (λ w world known. foreign_decides w _ _ _ _ world (absent _ (sym known ∙ c.if-not-branch.true)) c.refuse.ensures.reply c.refuse.ensures.edits); edits = c.refuse.ensures.edits; memory = λ sure. tt }
 
 pub returns-in_err-messages : goal.returns-in_err-messages
 returns-in_err-messages g c =
-    record { tells = tells_fault g.B.Book _ (keeps_then c.in_ok-is_own.ensures.keeps c.in_err-messages.ensures.keeps) c.in_err-messages.ensures.fault c.from_residual-in_err-messages.ensures.1; edits = err_never _ _ _ c.from_residual-in_err-messages.ensures.1; memory = λ w sure spelled. err_so _ _ (memory_fails g.B.Book.fails _ _ (sym (c.in_ok-is_own.ensures.value w (sure_before c.in_err-messages.ensures.keeps.later sure) spelled) ∙ c.if-not-branch.false) c.in_err-messages.ensures.fault) c.from_residual-in_err-messages.ensures.1 }
+    record { tells = tells_fault _ (keeps_then c.in_ok-is_own.ensures.keeps c.in_err-messages.ensures.keeps) c.in_err-messages.ensures.fault c.from_residual-in_err-messages.ensures.1; edits = err_never _ _ _ c.from_residual-in_err-messages.ensures.1; memory = λ sure. err_so _ _ (memory_fails g.B.Book.fails _ _ (sym (c.in_ok-is_own.ensures.value (sure_before c.in_err-messages.ensures.keeps.later sure)) ∙ c.if-not-branch.false) c.in_err-messages.ensures.fault) c.from_residual-in_err-messages.ensures.1 }
 
 pub returns : goal.returns
 returns g c =
-    let own = so_far g.B.Book c.in_ok-is_own.ensures.keeps c.in_ok-is_own.ensures.value in
-    let messages = so_more g.B.Book own c.in_ok-messages.ensures.keeps c.in_ok-messages.ensures.value in
-    record { tells = tells_so g.B.Book messages (λ w spelled known. inbox_decides w _ _ _ (g.met.B.Book.sound _ w spelled) (sym known.0 ∙ c.if-not-branch.false) (search rules) c.tell.ensures.edits); edits = c.tell.ensures.edits; memory = λ w sure spelled. tt }
+    let own = so_far c.in_ok-is_own.ensures in
+    let messages = so_more own c.in_ok-messages.ensures in
+    record { tells = tells_so (g.met.B.Book.lawful _) messages (λ w world known. inbox_decides w _ _ _ world (sym known.0 ∙ c.if-not-branch.false) (search rules) c.tell.ensures.edits); edits = c.tell.ensures.edits; memory = λ sure. tt }

@@ -5,9 +5,9 @@ use Rattle.mx_office.proofs.purses.purses.Goals as goal
 
 pub returns-in_err-names : goal.returns-in_err-names
 returns-in_err-names g c =
-    record { tells = tells_fault g.B.Book _ c.in_err-names.ensures.keeps c.in_err-names.ensures.fault c.from_residual.ensures.1; edits = err_never _ _ _ c.from_residual.ensures.1 }
+    record { tells = tells_fault _ c.in_err-names.ensures.keeps c.in_err-names.ensures.fault c.from_residual.ensures.1; edits = err_never _ _ _ c.from_residual.ensures.1 }
 
 pub returns : goal.returns
 returns g c =
-    let names = so_far g.B.Book c.in_ok-names.ensures.keeps c.in_ok-names.ensures.value in
-    record { tells = tells_so g.B.Book names (λ w spelled known. told_decides w _ _ _ (g.met.B.Book.sound _ w spelled) refl (search rules) c.tell.ensures.edits); edits = c.tell.ensures.edits }
+    let names = so_far c.in_ok-names.ensures in
+    record { tells = tells_so (g.met.B.Book.lawful _) names (λ w world known. told_decides w _ _ _ world refl (search rules) c.tell.ensures.edits); edits = c.tell.ensures.edits }

@@ -9,20 +9,20 @@ use Rattle.mx_office.proofs.CommandLemmas.{foreign_decides, start_refused, start
 use Rattle.mx_office.proofs.purses.start_from.Goals as goal
 
 pub returns-in_err-own : goal.returns-in_err-own
-returns-in_err-own g c = tells_fault g.B.Book _ c.in_err-own.ensures.keeps c.in_err-own.ensures.fault c.from_residual.ensures.1
+returns-in_err-own g c = tells_fault _ c.in_err-own.ensures.keeps c.in_err-own.ensures.fault c.from_residual.ensures.1
 
 pub returns-in_default : goal.returns-in_default
 returns-in_default g c =
-    let after = so_far g.B.Book c.in_ok-own.ensures.keeps c.in_ok-own.ensures.value in
-    tells_so g.B.Book after (λ w spelled known. foreign_decides w _ _ _ _ (g.met.B.Book.sound _ w spelled) (sym known ∙ c.in_default.is) c.refuse.ensures.reply c.refuse.ensures.edits)
+    let after = so_far c.in_ok-own.ensures in
+    tells_so (g.met.B.Book.lawful _) after (λ w world known. foreign_decides w _ _ _ _ world (sym known ∙ c.in_default.is) c.refuse.ensures.reply c.refuse.ensures.edits)
 
 pub returns-in-Err : goal.returns-in-Err
 unfolding start_from
 returns-in-Err g c =
     let q = c.in-Some.after in
     let d = from_details q c.args.peer c.args.value c.args.seq in
-    let after = so_far g.B.Book c.in_ok-own.ensures.keeps c.in_ok-own.ensures.value in
-    tells_so g.B.Book after (λ w spelled known. start_refused w _ _ q (start_from c.args.peer c.args.value c.args.seq) (start_from_refusal q c.args.peer c.args.value) (Epr d) d (λ _. None) (λ a is. rw is refl) (λ _. tt) _ (g.met.B.Book.sound _ w spelled) (sym known ∙ c.in-Some.is)
+    let after = so_far c.in_ok-own.ensures in
+    tells_so (g.met.B.Book.lawful _) after (λ w world known. start_refused w _ _ q (start_from c.args.peer c.args.value c.args.seq) (start_from_refusal q c.args.peer c.args.value) (Epr d) d (λ _. None) (λ a is. rw is refl) (λ _. tt) _ world (sym known ∙ c.in-Some.is)
     c.in-Err.refusal (sym c.in-Err.ensures.answer) (c.refuse-in-Err.ensures.reply ∙ ap Refused c.start_refusal.ensures) c.refuse-in-Err.ensures.edits)
 
 pub returns-in-Ok : goal.returns-in-Ok
@@ -30,6 +30,6 @@ unfolding start_from
 returns-in-Ok g c =
     let q = c.in-Some.after in
     let d = from_details q c.args.peer c.args.value c.args.seq in
-    let after = so_far g.B.Book c.in_ok-own.ensures.keeps c.in_ok-own.ensures.value in
-    tells_so g.B.Book after (λ w spelled known. start_decides w _ _ q (start_from c.args.peer c.args.value c.args.seq) (start_from_refusal q c.args.peer c.args.value) (Epr d) d (λ _. None) (λ a is. rw is refl) (λ _. tt) _ (g.met.B.Book.sound _ w spelled) (sym known ∙ c.in-Some.is)
+    let after = so_far c.in_ok-own.ensures in
+    tells_so (g.met.B.Book.lawful _) after (λ w world known. start_decides w _ _ q (start_from c.args.peer c.args.value c.args.seq) (start_from_refusal q c.args.peer c.args.value) (Epr d) d (λ _. None) (λ a is. rw is refl) (λ _. tt) _ world (sym known ∙ c.in-Some.is)
     c.start_from.new.self c.in-Ok.details c.start_from.ensures.whole (sym c.in-Ok.ensures.answer) c.in-Ok.ensures.new c.make_purse.ensures.reply (c.make_purse.ensures.edits ∙ ap (λ l. purse_edits c.start_from.new.self l None) (c.abort_line-line.ensures ∙ ap (abort_line c.start_from.new.self) c.pending-logged.ensures)))

@@ -5,6 +5,7 @@ use Rattle.csv.specs.Records.{fields_of}
 use Rattle.mx_book.proofs.StandLemmas.{sure_before}
 use Rattle.mx_report.specs.Import.{import, rows_counted, tally_of}
 use Rattle.mx_report.specs.Roll.{roll_header}
+use Rattle.mx_book.proofs.ViewLemmas.{rests_here}
 use Rattle.mx_report.proofs.ReadingLemmas.{as_many, given_more}
 use Rattle.mx_report.proofs.ImportLemmas.{counts_more, going_more, odd_record, stands_balanced, stands_more, stands_none, whole_roll}
 use Rattle.mx_report.proofs.RoundLemmas.{ComeTo, Ended, broken_balanced, come_on, come_some, not_no_roll, round_ended, round_first, round_later, round_more, round_some, rows_undone, same_kept}
@@ -13,17 +14,17 @@ use Rattle.mx_report.proofs.rolls.import_roll_telling.Goals as goal
 use Rattle.mx_report.proofs.rolls.import_roll_telling.Goals.{After-end_at, After-settle_some, In_err-kept, In_err-settle_rows}
 
 pub returns-in-Err-clause-reachable : goal.returns-in-Err-clause-reachable
-returns-in-Err-clause-reachable g c = λ w sure was reachable. stands_balanced _ w [] (stands_none _ w (was.spelled sure)) reachable
+returns-in-Err-clause-reachable g c = λ still sure reachable. stands_balanced _ _ [] (stands_none (λ v. (g.B.Book.view c.args.office.now.book).world ≡ v) _ refl) reachable
 
 pub loop-record-init : goal.loop-record-init
 loop-record-init g c = record {
   within = search rules;
   come = record { records = []; going = search rules; stands = λ w before. stands_none _ w before.1; counts = λ w before. search rules };
-  round = λ still. round_first g.B.Book _ _ still;
+  round = λ still. round_first g.B.Book.view _ _ (g.met.B.Book.lawful _) still;
 }
 
 -- one record more was imported and counted
-come_more : (g : Over) (c : After-settle_some g) → ComeTo g.B.Book c.args.bytes.now c.args.office.now.book c.import_next.new.office.book c.next.new.self (tally_of c.import_next.new.report)
+come_more : (g : Over) (c : After-settle_some g) → ComeTo c.args.bytes.now (g.B.Book.view c.args.office.now.book) (g.B.Book.view c.import_next.new.office.book) c.next.new.self (tally_of c.import_next.new.report)
 come_more g c =
     let come = c.loop-record.invariant.come in
     let given = come.going.given in
@@ -42,52 +43,50 @@ come_more g c =
       going = going_more text c.loop-record.record-iterator it _ _ come.records fields come.going now four c.in_default.ensures.counted nearer;
       stands = λ w before.
           let so_far = come.stands w (sure_before c.import_next.ensures.later before.0, before.1) in
-          stands_more _ _ w come.records fields _ _ so_far (rw taken.1 at (c.in_default.ensures.ok (import w come.records).world before.0 so_far.stands));
+          stands_more _ _ w come.records fields _ _ so_far (rw taken.1 at (rw so_far.stands at (c.in_default.ensures.ok before.0)));
       counts = λ w before.
           let honest = sure_before c.import_next.ensures.later before.0 in
           let so_far = come.stands w (honest, before.1) in
-          counts_more _ w come.records fields _ _ (come.counts w (honest, before.1)) (rw taken.1 at (c.in_default.ensures.ok (import w come.records).world before.0 so_far.stands));
+          counts_more _ w come.records fields _ _ (come.counts w (honest, before.1)) (rw taken.1 at (rw so_far.stands at (c.in_default.ensures.ok before.0)));
     }
 
 pub loop-record-preserved : goal.loop-record-preserved
 loop-record-preserved g c =
-    let b = g.B.Book in
     let text = c.args.bytes.now in
-    let first = c.args.office.now.book in
+    let first = g.B.Book.view c.args.office.now.book in
     let x = c.import_next.new.office.book in
     let y = c.settle_some.new.office.book in
     let more = come_more g (goal.at.loop-record-preserved g c).After-settle_some in
     let counted : c.rows-in-loop-record.result ≡ rows_counted (tally_of c.import_next.new.report) = search rules in
     record {
       within = search rules;
-      come = come_some b g.met.B.Book.rest g.met.B.Book.deep text first x y _ _ _ _ _ c.in_ok-kept.ensures.ok more;
-      round = λ still. round_some b g.met.B.Book.rest g.met.B.Book.deep text first x y _ _ _ _ _ c.in_ok-kept.ensures.ok counted more
-          (round_more b text first _ x _ (c.loop-record.invariant.round still) c.import_next.ensures.bides);
+      come = come_some g.B.Book.view text first x y (g.met.B.Book.lawful _) _ _ _ _ _ c.in_ok-kept.ensures.ok more;
+      round = λ still. round_some g.B.Book.view text first x y (g.met.B.Book.lawful _) _ _ _ _ _ c.in_ok-kept.ensures.ok counted more
+          (round_more g.B.Book.view text first _ _ _ (c.loop-record.invariant.round still) c.import_next.ensures.bides);
     }
 
 -- ---- a record that csv refuses, or a fault of the book
 
 -- so many rows are kept, and no other
-ended_at : (g : Over) (c : After-end_at g) → Ended g.B.Book c.args.bytes.now c.args.office.now.book c.end_at.new.office.book c.end_at.result.done
+ended_at : (g : Over) (c : After-end_at g) → Ended c.args.bytes.now (g.B.Book.view c.args.office.now.book) (g.B.Book.view c.end_at.new.office.book) c.end_at.result.done
 ended_at g c =
-    let b = g.B.Book in
     let text = c.args.bytes.now in
-    let first = c.args.office.now.book in
+    let first = g.B.Book.view c.args.office.now.book in
     let x = c.import_next.new.office.book in
-    let come = come_on b text first c.loop-record.office.book x _ _ (λ sure. (sure_before c.import_next.ensures.later sure, c.in-Err-import_next.ensures.err sure)) c.loop-record.invariant.come in
+    let come = come_on text first (g.B.Book.view c.loop-record.office.book) (g.B.Book.view x) _ _ (λ sure. (sure_before c.import_next.ensures.later sure, c.in-Err-import_next.ensures.err sure)) c.loop-record.invariant.come in
     let counted : c.rows.result ≡ rows_counted (tally_of c.loop-record.report) = search rules in
-    round_ended b g.met.B.Book.rest g.met.B.Book.deep text first x c.end_at.new.office.book _ _ _ _ _ c.end_at.ensures.settles counted come
-    (λ still. round_more b text first _ x _ (c.loop-record.invariant.round still) c.import_next.ensures.bides)
+    round_ended g.B.Book.view text first x c.end_at.new.office.book (g.met.B.Book.lawful _) _ _ _ _ _ c.end_at.ensures.settles counted come
+    (λ still. round_more g.B.Book.view text first _ _ _ (c.loop-record.invariant.round still) c.import_next.ensures.bides)
 
 pub returns-in-Err-import_next-clause-later : goal.returns-in-Err-import_next-clause-later
 returns-in-Err-import_next-clause-later g c = (ended_at g (goal.at.returns-in-Err-import_next-clause-later g c).After-end_at).later
 
 pub returns-in-Err-import_next-clause-broken : goal.returns-in-Err-import_next-clause-broken
-returns-in-Err-import_next-clause-broken g c = (ended_at g (goal.at.returns-in-Err-import_next-clause-broken g c).After-end_at).broken
+returns-in-Err-import_next-clause-broken g c = λ still sure. (ended_at g (goal.at.returns-in-Err-import_next-clause-broken g c).After-end_at).broken _ sure (rests_here still)
 
 pub returns-in-Err-import_next-clause-reachable : goal.returns-in-Err-import_next-clause-reachable
-returns-in-Err-import_next-clause-reachable g c = λ w sure was reachable.
-    broken_balanced _ w _ _ ((ended_at g (goal.at.returns-in-Err-import_next-clause-reachable g c).After-end_at).broken w sure was) reachable
+returns-in-Err-import_next-clause-reachable g c = λ still sure reachable.
+    broken_balanced _ _ _ _ ((ended_at g (goal.at.returns-in-Err-import_next-clause-reachable g c).After-end_at).broken _ sure (rests_here still)) reachable
 
 -- the number of fields of a record
 pub returns-in-Err-import_next-clause-not_roll : goal.returns-in-Err-import_next-clause-not_roll
@@ -108,28 +107,27 @@ returns-in-Err-import_next-clause-store g c = λ is. elim (c.end_at.ensures.stor
 
 -- ---- a settle that fails on the way
 
-ended_on_the_way : (g : Over) (c : In_err-kept g) → ComeTo g.B.Book c.args.bytes.now c.args.office.now.book c.import_next.new.office.book c.next.new.self (tally_of c.import_next.new.report)
-    → Ended g.B.Book c.args.bytes.now c.args.office.now.book c.settle_some.new.office.book c.in_err-kept.field-0.0.done
+ended_on_the_way : (g : Over) (c : In_err-kept g) → ComeTo c.args.bytes.now (g.B.Book.view c.args.office.now.book) (g.B.Book.view c.import_next.new.office.book) c.next.new.self (tally_of c.import_next.new.report)
+    → Ended c.args.bytes.now (g.B.Book.view c.args.office.now.book) (g.B.Book.view c.settle_some.new.office.book) c.in_err-kept.field-0.0.done
 ended_on_the_way g c more =
-    let b = g.B.Book in
     let text = c.args.bytes.now in
-    let first = c.args.office.now.book in
+    let first = g.B.Book.view c.args.office.now.book in
     let x = c.import_next.new.office.book in
     let counted : c.rows-in-loop-record.result ≡ rows_counted (tally_of c.import_next.new.report) = search rules in
-    round_ended b g.met.B.Book.rest g.met.B.Book.deep text first x c.settle_some.new.office.book _ _ _ _ _ (rows_undone b c.in_err-kept.ensures.err c.in_err-kept.ensures.before) counted more
-    (λ still. round_more b text first _ x _ (c.loop-record.invariant.round still) c.import_next.ensures.bides)
+    round_ended g.B.Book.view text first x c.settle_some.new.office.book (g.met.B.Book.lawful _) _ _ _ _ _ (rows_undone c.in_err-kept.ensures.err c.in_err-kept.ensures.before) counted more
+    (λ still. round_more g.B.Book.view text first _ _ _ (c.loop-record.invariant.round still) c.import_next.ensures.bides)
 
 pub returns-in_err-kept-clause-later : goal.returns-in_err-kept-clause-later
 returns-in_err-kept-clause-later g c = (ended_on_the_way g (goal.at.returns-in_err-kept-clause-later g c).In_err-kept (come_more g (goal.at.returns-in_err-kept-clause-later g c).After-settle_some)).later
 
 pub returns-in_err-kept-clause-broken : goal.returns-in_err-kept-clause-broken
-returns-in_err-kept-clause-broken g c = λ w sure was.
+returns-in_err-kept-clause-broken g c = λ still sure.
     let p = err_from_is_err_and c.from_residual.result c.from_residual.ensures.1 in
-    rw (p.1, p.2) ((ended_on_the_way g (goal.at.returns-in_err-kept-clause-broken g c).In_err-kept (come_more g (goal.at.returns-in_err-kept-clause-broken g c).After-settle_some)).broken w sure was)
+    rw (p.1, p.2) ((ended_on_the_way g (goal.at.returns-in_err-kept-clause-broken g c).In_err-kept (come_more g (goal.at.returns-in_err-kept-clause-broken g c).After-settle_some)).broken _ sure (rests_here still))
 
 pub returns-in_err-kept-clause-reachable : goal.returns-in_err-kept-clause-reachable
-returns-in_err-kept-clause-reachable g c = λ w sure was reachable.
-    broken_balanced _ w _ _ ((ended_on_the_way g (goal.at.returns-in_err-kept-clause-reachable g c).In_err-kept (come_more g (goal.at.returns-in_err-kept-clause-reachable g c).After-settle_some)).broken w sure was) reachable
+returns-in_err-kept-clause-reachable g c = λ still sure reachable.
+    broken_balanced _ _ _ _ ((ended_on_the_way g (goal.at.returns-in_err-kept-clause-reachable g c).In_err-kept (come_more g (goal.at.returns-in_err-kept-clause-reachable g c).After-settle_some)).broken _ sure (rests_here still)) reachable
 
 pub returns-in_err-kept-clause-not_roll : goal.returns-in_err-kept-clause-not_roll
 returns-in_err-kept-clause-not_roll g c =
@@ -139,26 +137,25 @@ returns-in_err-kept-clause-not_roll g c =
 -- ---- the end of the roll
 
 -- the last settle fails
-ended_last : (g : Over) (c : In_err-settle_rows g) → Ended g.B.Book c.args.bytes.now c.args.office.now.book c.settle_rows.new.office.book c.in_err-settle_rows.field-0.0.done
+ended_last : (g : Over) (c : In_err-settle_rows g) → Ended c.args.bytes.now (g.B.Book.view c.args.office.now.book) (g.B.Book.view c.settle_rows.new.office.book) c.in_err-settle_rows.field-0.0.done
 ended_last g c =
-    let b = g.B.Book in
     let text = c.args.bytes.now in
-    let first = c.args.office.now.book in
+    let first = g.B.Book.view c.args.office.now.book in
     let counted : c.rows-2.result ≡ rows_counted (tally_of c.loop-record.report) = search rules in
-    round_ended b g.met.B.Book.rest g.met.B.Book.deep text first c.loop-record.office.book c.settle_rows.new.office.book _ _ _ _ _ (rows_undone b c.in_err-settle_rows.ensures.settles c.in_err-settle_rows.ensures.before) counted
+    round_ended g.B.Book.view text first c.loop-record.office.book c.settle_rows.new.office.book (g.met.B.Book.lawful _) _ _ _ _ _ (rows_undone c.in_err-settle_rows.ensures.settles c.in_err-settle_rows.ensures.before) counted
     c.loop-record.invariant.come c.loop-record.invariant.round
 
 pub returns-in_err-settle_rows-clause-later : goal.returns-in_err-settle_rows-clause-later
 returns-in_err-settle_rows-clause-later g c = (ended_last g (goal.at.returns-in_err-settle_rows-clause-later g c).In_err-settle_rows).later
 
 pub returns-in_err-settle_rows-clause-broken : goal.returns-in_err-settle_rows-clause-broken
-returns-in_err-settle_rows-clause-broken g c = λ w sure was.
+returns-in_err-settle_rows-clause-broken g c = λ still sure.
     let p = err_from_is_err_and c.from_residual-in_err-settle_rows.result c.from_residual-in_err-settle_rows.ensures.1 in
-    rw (p.1, p.2) ((ended_last g (goal.at.returns-in_err-settle_rows-clause-broken g c).In_err-settle_rows).broken w sure was)
+    rw (p.1, p.2) ((ended_last g (goal.at.returns-in_err-settle_rows-clause-broken g c).In_err-settle_rows).broken _ sure (rests_here still))
 
 pub returns-in_err-settle_rows-clause-reachable : goal.returns-in_err-settle_rows-clause-reachable
-returns-in_err-settle_rows-clause-reachable g c = λ w sure was reachable.
-    broken_balanced _ w _ _ ((ended_last g (goal.at.returns-in_err-settle_rows-clause-reachable g c).In_err-settle_rows).broken w sure was) reachable
+returns-in_err-settle_rows-clause-reachable g c = λ still sure reachable.
+    broken_balanced _ _ _ _ ((ended_last g (goal.at.returns-in_err-settle_rows-clause-reachable g c).In_err-settle_rows).broken _ sure (rests_here still)) reachable
 
 pub returns-in_err-settle_rows-clause-not_roll : goal.returns-in_err-settle_rows-clause-not_roll
 returns-in_err-settle_rows-clause-not_roll g c =
@@ -169,19 +166,19 @@ returns-in_err-settle_rows-clause-not_roll g c =
 pub returns-clause-later : goal.returns-clause-later
 returns-clause-later g c = λ still.
     let settles = c.in_ok-settle_rows.ensures.settles in
-    round_later g.B.Book g.met.B.Book.rest g.met.B.Book.deep c.args.bytes.now c.args.office.now.book c.loop-record.office.book c.settle_rows.new.office.book _ (c.loop-record.invariant.round still) settles.lasts settles.ends
+    round_later g.B.Book.view c.args.bytes.now (g.B.Book.view c.args.office.now.book) c.loop-record.office.book c.settle_rows.new.office.book (g.met.B.Book.lawful _) _ (c.loop-record.invariant.round still) settles.lasts settles.ends
 
 pub returns-clause-done : goal.returns-clause-done
-returns-clause-done g c = λ w sure spelled.
+returns-clause-done g c = λ sure.
     let come = c.loop-record.invariant.come in
     let given = come.going.given in
     let read = (rw c.in-None.is at (c.next.ensures.steps given.left given.trim)).0 given.ready in
-    let same = same_kept g.B.Book g.met.B.Book.rest g.met.B.Book.deep c.args.bytes.now c.args.office.now.book c.loop-record.office.book c.settle_rows.new.office.book c.in_ok-settle_rows.ensures.settles sure in
+    let same = same_kept g.B.Book.view c.args.bytes.now (g.B.Book.view c.args.office.now.book) c.loop-record.office.book c.settle_rows.new.office.book (g.met.B.Book.lawful _) c.in_ok-settle_rows.ensures.settles sure in
     record {
       records = come.records;
       roll = whole_roll c.args.bytes.now c.loop-record.record-iterator c.next.new.self _ come.records come.going read;
-      stands = rw same.1 (come.stands w (same.0, spelled));
-      counts = come.counts w (same.0, spelled);
+      stands = rw same.1 (come.stands _ (same.0, refl));
+      counts = come.counts _ (same.0, refl);
     }
 
 pub returns-clause-roll : goal.returns-clause-roll
@@ -192,9 +189,4 @@ returns-clause-roll g c =
     (come.records, whole_roll c.args.bytes.now c.loop-record.record-iterator c.next.new.self _ come.records come.going read)
 
 pub returns-clause-reachable : goal.returns-clause-reachable
-returns-clause-reachable g c = λ w sure was reachable.
-    let b = g.B.Book in
-    let later : b.doubt c.args.office.now.book ≤ b.doubt c.settle_rows.new.office.book = returns-clause-later g c was.still in
-    let before : b.doubt c.args.office.now.book ≡ 0 = omega (arith, later, sure) in
-    let done = returns-clause-done g c w sure (was.spelled before) in
-    stands_balanced (b.spells (b.rows c.settle_rows.new.office.book)) w done.records done.stands reachable
+returns-clause-reachable g c = λ still sure reachable. let done = returns-clause-done g c sure in stands_balanced _ _ done.records done.stands reachable

@@ -6,5 +6,5 @@ use Rattle.mx_report.proofs.rolls.is_same.Goals as goal
 
 pub returns-in-Purse-clause-value : goal.returns-in-Purse-clause-value
 unfolding is_same
-returns-in-Purse-clause-value g c = λ w honest spelled.
-    rw c.in-Purse.is (IfOk-weaker c.is_own.result _ _ (λ b h. h ∙ own_is_holders w c.in-Purse.holder c.in-Purse.purse) (c.is_own.ensures.value w honest spelled))
+returns-in-Purse-clause-value g c = λ sure.
+    rw c.in-Purse.is (IfOk-weaker c.is_own.result _ _ (λ b h. h ∙ own_is_holders (g.B.Book.view c.args.book.now).world c.in-Purse.holder c.in-Purse.purse) (c.is_own.ensures.value sure))

@@ -3,4 +3,4 @@ use Rattle.mx_report.proofs.StatementLemmas.{whole_statement}
 use Rattle.mx_report.proofs.statements.statement.Goals as goal
 
 pub returns-clause-value : goal.returns-clause-value
-returns-clause-value g c = λ w honest spelled. search rules ∙ whole_statement w _ (search rules)
+returns-clause-value g c = λ sure. search rules ∙ whole_statement (g.B.Book.view c.args.book.now).world _ (search rules)

@@ -1,17 +1,17 @@
 use Rattle.std.proofs.Common.{◌++◌, [], arith}
 use Rattle.std.proofs.lemmas.Result.{err_from_is_err_and}
 use Rattle.mx_book.proofs.StandLemmas.{later_then, low_before}
-use Rattle.mx_desk.proofs.MoveLemmas.{moves_on}
+use Rattle.mx_desk.proofs.MoveLemmas.{moves_not, moves_on, rests_on}
 use Rattle.mx_desk.proofs.RoundLemmas.{all_of-append}
 use Rattle.mx_tasks.specs.Connections.{none, then}
-use Rattle.mx_tasks.proofs.ConnectionLemmas.{connections_lawful, moves_nowhere}
+use Rattle.mx_tasks.proofs.ConnectionLemmas.{connections_lawful}
 use Rattle.mx_tasks.proofs.connections.serve_connections.Goals as goal
 
 pub connections-init : goal.connections-init
 connections-init g c = record {
   still = λ still. still;
   later = λ _. omega arith;
-  serves = λ w low was. record { end = w; rounds = []; holds = none; moves = moves_nowhere _ w was };
+  serves = λ w low was. record { end = w; rounds = []; holds = none; moves = moves_not was };
 }
 
 pub connections-preserved : goal.connections-preserved
@@ -21,12 +21,12 @@ connections-preserved g c = record {
   serves = λ w low was.
       let later = c.serve_connection.ensures.later (c.connections.invariant.still was.still) in
       let had = c.connections.invariant.serves w (low_before later low) was in
-      let led = c.serve_connection.ensures.serves had.end low had.moves.rests in
+      let led = c.serve_connection.ensures.serves had.end low (rests_on was had.moves) in
       record {
         end = led.end;
         rounds = had.rounds ++ led.rounds;
         holds = rw all_of-append (then had.holds led.holds);
-        moves = moves_on w had.end led.end had.rounds led.rounds later had.moves led.moves;
+        moves = moves_on w had.end led.end had.rounds led.rounds had.moves led.moves;
       };
 }
 

@@ -1,16 +1,16 @@
 use Rattle.std.proofs.Common.{◌≤◌}
-use Rattle.mx_book.specs.Stands.{MovesTo, RestsAt}
+use Rattle.mx_book.specs.Views.{RestsAt}
 use Rattle.mx_book.specs.World.{World}
-use Rattle.mx_desk.specs.Rounds.{Leads, attempts}
+use Rattle.mx_desk.specs.Rounds.{Leads, Moves}
 use Rattle.mx_tasks.specs.Connections.{Connections}
 use Rattle.mx_tasks.proofs.connections.serve_connections.Given as goal
 
 abbrev pub invariant-connections : goal.invariant-connections
 invariant-connections g l =
-    let book = g.B.Book in
+    let old = g.B.Book.view l.fn.office.book in
+    let new = g.B.Book.view l.office.book in
     record {
-      still : book.settled l.fn.office.book → book.settled l.office.book;
-      later : book.settled l.fn.office.book → book.doubt l.fn.office.book ≤ book.doubt l.office.book;
-      serves : (w : World) → book.doubt l.office.book ≤ 1 → RestsAt book.doubt book.rows book.spells book.settled l.fn.office.book w
-          → Leads (Connections book.fails l.counter w) (λ rs. MovesTo book.doubt book.rows book.spells book.settled book.leaves l.fn.office.book l.office.book w (attempts rs));
+      still : old.IsSettled → new.IsSettled;
+      later : old.IsSettled → old.doubt ≤ new.doubt;
+      serves : (w : World) → new.doubt ≤ 1 → RestsAt old w → Leads (Connections g.B.Book.fails l.counter w) (Moves old new w);
     }

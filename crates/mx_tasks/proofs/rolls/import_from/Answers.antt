@@ -2,4 +2,4 @@ use Rattle.std.proofs.Common.{inr, rules}
 use Rattle.mx_tasks.proofs.rolls.import_from.Goals as goal
 
 pub returns-clause-imports : goal.returns-clause-imports
-returns-clause-imports g c = λ w honest spelled. inr (c.as_slice.result.now, search rules, c.import_over-answer.ensures.imports w honest spelled)
+returns-clause-imports g c = λ still sure. inr (c.as_slice.result.now, search rules, c.import_over-answer.ensures.imports still sure)

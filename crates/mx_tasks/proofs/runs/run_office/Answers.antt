@@ -1,13 +1,13 @@
 use Rattle.std.proofs.Common.{inl, inr, refl, ap, ◌∙◌, [], Err}
 use Rattle.std.proofs.lemmas.Result.{err_from_is_err_and}
-use Rattle.mx_tasks.proofs.ConnectionLemmas.{moves_nowhere}
+use Rattle.mx_desk.proofs.MoveLemmas.{moves_not}
 use Rattle.mx_tasks.proofs.runs.run_office.Goals as goal
 
 -- there is no memory for the routes
 pub returns-in_err-routes-clause-runs : goal.returns-in_err-routes-clause-runs
 returns-in_err-routes-clause-runs g c = λ w low was.
     let p = err_from_is_err_and c.from_residual.result c.from_residual.ensures.1 in
-    record { end = w; rounds = []; holds = inl (inl (p.1 ∙ ap Err p.2), refl, refl); moves = moves_nowhere _ w was }
+    record { end = w; rounds = []; holds = inl (inl (p.1 ∙ ap Err p.2), refl, refl); moves = moves_not was }
 
 -- the desk's fault, passed on
 pub returns-in_err-count-clause-runs : goal.returns-in_err-count-clause-runs

@@ -4,8 +4,8 @@ use Rattle.std.proofs.lemmas.Result.{err_from_is_err_and}
 use Rattle.mx_tasks.proofs.work.import.Goals as goal
 
 pub returns-clause-imports : goal.returns-clause-imports
-returns-clause-imports g c = λ w honest spelled.
-    elim (c.in_ok-lines.ensures.imports w honest spelled) [
+returns-clause-imports g c = λ still sure.
+    elim (c.in_ok-lines.ensures.imports still sure) [
       | inl none ↦ absurd (false≢true none.1)
       | inr some ↦
           let done = some.2 in
@@ -14,6 +14,6 @@ returns-clause-imports g c = λ w honest spelled.
 
 -- the fault of the import, passed on
 pub returns-in_err-lines-clause-imports : goal.returns-in_err-lines-clause-imports
-returns-in_err-lines-clause-imports g c = λ w honest spelled.
+returns-in_err-lines-clause-imports g c = λ still sure.
     let p = err_from_is_err_and c.from_residual.result c.from_residual.ensures.1 in
-    rw (p.1, p.2) (c.in_err-lines.ensures.imports w honest spelled)
+    rw (p.1, p.2) (c.in_err-lines.ensures.imports still sure)

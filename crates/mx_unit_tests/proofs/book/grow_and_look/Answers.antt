@@ -1,13 +1,10 @@
-use Rattle.std.proofs.Common.{◌≡◌, false, [], ◌∷◌, subst, arith}
+use Rattle.std.proofs.Common.{◌≡◌, false, [], ◌∷◌, sym, subst, arith}
 use Rattle.std.specs.Prelude.{IsTrue}
 use Rattle.std.specs.FinMap as fmap
 use Rattle.mx_pay.specs.Names.{is_name_text}
 use Rattle.mx_pay.specs.Tokens.{is_token, IsToken}
 use Rattle.mx_book.specs.declared.edits.Edit.TheVariants.{NewMember, NewHolder}
 use Rattle.mx_book.specs.Edits.{edited, Suits, Fits}
-use Rattle.mx_book.specs.Rows.{Rows}
-use Rattle.mx_memory.specs.Shelves.{rows_of}
-use Rattle.mx_book.specs.Spells.{Spells, one_world}
 use Rattle.mx_book.specs.World.{World, Name, Token, opening}
 use Rattle.mx_book.proofs.KeepLemmas.{member_stays, holder_stays}
 use Rattle.mx_book.proofs.NameLemmas.{names_total, name_itself}
@@ -25,12 +22,9 @@ both_fit op s t m h clerk holder apart member_text holder_text op_whole clerk_wh
       end = holder_stays with_member h m t both holder_text holder_whole (member_stays (opening op) m s member member_text clerk_whole (opening_is op op_whole));
     }
 
--- and so they do where its rows spell the World
-both_fit_at : (r : Rows) (w : World) (op s t : Token) (m h : Name) → is_token s op ≡ false → is_token t op ≡ false → is_token t s ≡ false → IsTrue (is_name_text m) → IsTrue (is_name_text h) → IsToken s → IsToken t → Spells r (opening op) → Spells r w → Fits w (NewMember m s ∷ NewHolder h m t ∷ [])
-both_fit_at r w op s t m h clerk holder apart member_text holder_text clerk_whole holder_whole first spelled = subst (λ (z : World). Fits z (NewMember m s ∷ NewHolder h m t ∷ [])) (one_world r (opening op) w first spelled) (both_fit op s t m h clerk holder apart member_text holder_text first.sound.tokens.operator_bytes clerk_whole holder_whole)
-
 pub apply-added-requires : goal.apply-added-requires
-apply-added-requires c w sure spelled =
+apply-added-requires c sure =
     let tokens = c.args.first.now.tokens in
     let names = c.args.first.now.names in
-    both_fit_at (rows_of c.new-book.result.shelves) w tokens.operator tokens.clerk tokens.holder names.member names.holder tokens.clerk_apart tokens.holder_apart tokens.two_apart names.member_text names.holder_text tokens.clerk_bytes tokens.holder_bytes c.new-book.ensures spelled
+    subst (λ (w : World). Fits w (NewMember names.member tokens.clerk ∷ NewHolder names.holder names.member tokens.holder ∷ [])) (sym c.new_book-book.ensures.world)
+    (both_fit tokens.operator tokens.clerk tokens.holder names.member names.holder tokens.clerk_apart tokens.holder_apart tokens.two_apart names.member_text names.holder_text tokens.operator_bytes tokens.clerk_bytes tokens.holder_bytes)

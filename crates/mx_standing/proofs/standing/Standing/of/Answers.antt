@@ -3,11 +3,10 @@ use Rattle.mx_standing.proofs.standing.Standing.of.Goals as goal
 
 pub invariant_of-result : goal.invariant_of-result
 invariant_of-result g c =
-    let one = one_first g.B.Book g.met.B.Book.single c.args.book c.requires.spelled in
-    let kept = kept_settled g.B.Book g.met.B.Book.rest c.args.book c.requires.still one in
+    let one = one_first g.B.RowBook g.met.B.RowBook.single c.args.book c.requires.spelled in
+    let kept = kept_settled g.B.RowBook g.met.B.RowBook.rest c.args.book c.requires.still one in
     record {
       one = one;
       kept = kept;
-      left = left_first g.B.Book g.met.B.Book.steady c.args.book c.requires.awake kept;
-      waits = ∣ c.requires.waits ∣₁;
+      left = left_first g.B.RowBook g.met.B.RowBook.steady c.args.book c.requires.awake kept;
     }

@@ -1,7 +1,0 @@
-use Rattle.std.proofs.Common.{◌∙◌}
-use Rattle.mx_memory.specs.Shelves.{rows_of}
-use Rattle.mx_book.proofs.SpellLemmas.{place_at}
-use Rattle.mx_memory.proofs.plain_book.PlainBookBook.finds_place.Goals as goal
-
-pub returns-clause-value : goal.returns-clause-value
-returns-clause-value c w sure h = c.finds_place.ensures ∙ place_at (rows_of c.args.self.now.shelves) w c.args.purse h

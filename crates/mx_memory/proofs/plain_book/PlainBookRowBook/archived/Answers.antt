@@ -1,0 +1,7 @@
+use Rattle.std.proofs.Common.{◌∙◌}
+use Rattle.mx_memory.specs.Shelves.{rows_of}
+use Rattle.mx_book.proofs.SpellLemmas.{archived_at}
+use Rattle.mx_memory.proofs.plain_book.PlainBookRowBook.archived.Goals as goal
+
+pub returns-clause-value : goal.returns-clause-value
+returns-clause-value c w sure h = c.is_archived.ensures ∙ archived_at (rows_of c.args.self.now.shelves) w c.args.purse c.args.details.now h

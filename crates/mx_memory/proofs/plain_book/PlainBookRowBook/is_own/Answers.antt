@@ -1,0 +1,7 @@
+use Rattle.std.proofs.Common.{◌∙◌, ap, is_some}
+use Rattle.mx_memory.specs.Shelves.{rows_of}
+use Rattle.mx_book.proofs.SpellLemmas.{own_at}
+use Rattle.mx_memory.proofs.plain_book.PlainBookRowBook.is_own.Goals as goal
+
+pub returns-clause-value : goal.returns-clause-value
+returns-clause-value c w sure h = c.is_own.ensures ∙ ap is_some (own_at (rows_of c.args.self.now.shelves) w c.args.holder c.args.purse h)

@@ -1,0 +1,15 @@
+use Rattle.std.proofs.Props.{props}
+use Rattle.mx_standing.proofs.ShownLemmas.{answers, kept_bides, left_bides, one_kept, entries_set}
+use Rattle.mx_standing.proofs.standing.StandingBook.own_purse.Goals as goal
+
+pub invariant_of-self : goal.invariant_of-self
+invariant_of-self g c =
+    let one = one_kept g.B.RowBook _ _ c.own_purse.ensures.keeps c.args.self.now.one in
+    record {
+      one = one;
+      kept = kept_bides g.B.RowBook g.met.B.RowBook.rest _ _ c.own_purse.ensures.keeps.bides g.met.B.RowBook.waits one c.args.self.now.kept;
+      left = left_bides g.B.RowBook _ _ c.own_purse.ensures.keeps.bides c.args.self.now.left;
+    }
+
+pub returns : goal.returns
+returns g c = answers g.B.RowBook _ _ _ _ _ _ _ _ _ (λ w x. hlevel (props, entries_set)) c.own_purse.ensures.keeps c.own_purse.ensures.value c.own_purse.ensures.fault
