@@ -31,9 +31,7 @@ fn messages_in(alloc: Global, rows: &[Row]) -> Result<Vec<(u64, Message)>, Store
     let mut messages = Vec::new(alloc);
     for row in rows {
         let message = message_in(row)?;
-        if messages.push(message).is_err() {
-            return Err(StoreFault::Memory);
-        }
+        messages.push(message)?;
     }
     Ok(messages)
 }

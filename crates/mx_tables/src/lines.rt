@@ -24,13 +24,9 @@ use std::alloc::Global;
 fn text_of(alloc: Global, note: &Note) -> Result<String, StoreFault>
     ensures { IfOk result (λ text. string_bytes text ≡ words.note_text note.now) }
 {
-    let Ok(mut text) = String::with_capacity(alloc, MOST_ENTRY_BYTES) else {
-        return Err(StoreFault::Memory);
-    };
-    match push_note(&mut text, note) {
-        Ok(()) => Ok(text),
-        Err(_) => Err(StoreFault::Memory),
-    }
+    let mut text = String::with_capacity(alloc, MOST_ENTRY_BYTES)?;
+    push_note(&mut text, note)?;
+    Ok(text)
 }
 
 /// Adds a line of a purse. Store where its number or its balance is above 2^63 - 1.

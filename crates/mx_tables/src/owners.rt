@@ -24,9 +24,7 @@ fn index_rows(alloc: Global, rows: &[Row]) -> Result<Held, StoreFault>
 {
     let mut held = Held::new(alloc);
     for row in rows {
-        if held.reserve(1).is_err() {
-            return Err(StoreFault::Memory);
-        }
+        held.reserve(1)?;
         held.put((name_at(row, 1)?, Some(name_at(row, 0)?)), ());
     }
     Ok(held)
@@ -69,8 +67,5 @@ pub fn list_purses<S: Alter>(
     let owners = take_owners(alloc, conn, cache)?;
     let names = names_held(alloc, &owners, *holder);
     cache.fill_owners(owners);
-    match names {
-        Ok(names) => Ok(names),
-        Err(_) => Err(StoreFault::Memory),
-    }
+    Ok(names?)
 }
