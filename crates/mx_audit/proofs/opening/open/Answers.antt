@@ -24,10 +24,19 @@ over-requires-clause-spelled g c calm =
 
 pub of-requires-clause-spelled : goal.of-requires-clause-spelled
 of-requires-clause-spelled g c doubt =
+    let first = state g.S.Store c.into_store-opened.result in
+    let last = state g.S.Store c.expect_sound.new.store in
     let book = state g.S.Store c.over.result.0 in
     let end : worry book ≡ 0 = none_before (deep_at c.over.result.1 book.is_open book.in_transaction book.is_clean) doubt in
-    let it = c.over.requires.spelled (rw c.over.ensures.same at end) in
-    ∣ (it.0, subst (λ h. SpellsOne (state g.S.Store h).now it.0) (sym c.over.ensures.same) it.1) ∣₁
+    let calm : worry last ≡ 0 = rw c.over.ensures.same at end in
+    let ours = c.into_store-opened.ensures.ours c.in-Ok.ensures.settled in
+    let stays = c.expect_sound.ensures.stays ours in
+    let before : worry first ≡ 0 = sure_before first last stays.lasts calm in
+    let opened : worry (state g.S.Store c.in-Ok.book.0) ≡ 0 = rw c.into_store-opened.ensures.same at before in
+    let same : first.now ≡ (state g.S.Store c.args.store).now = rw c.into_store-opened.ensures.same (c.in-Ok.ensures.same opened) in
+    let found = c.in-Ok-expect_sound.ensures.sound ours calm (subst (HasVersion 2) (sym same) (c.in-Ok.ensures.known opened)) in
+    let spelled = subst (λ (db : Database). SpellsOne db found.0) (sym (stays.same (idle_sure last calm))) found.1 in
+    ∣ (found.0, subst (λ h. SpellsOne (state g.S.Store h).now found.0) (sym c.over.ensures.same) spelled) ∣₁
 
 pub returns-in-Ok-expect_sound-clause-sound : goal.returns-in-Ok-expect_sound-clause-sound
 returns-in-Ok-expect_sound-clause-sound g c end_shown =
