@@ -93,15 +93,6 @@ module _ (decides : (db : Database) (begin final : Audit) → db.schema ≡ offi
     live = reads.live;
   }
 
--- a fault that is handed on
-pub audits_again : {S : Type 0} (g : Ghosts S) (a b : Held S) {q r : Result ℕ StoreFault} → Audits g a b q → IsErr r → Audits g a b r
-audits_again g a b {r = r} audits fault = record {
-  stays = audits.stays;
-  sound = λ ours calm version. if_ok_never r _ fault;
-  whole = λ ours calm w s. if_ok_never r _ fault;
-  live = on_ok_never r _ fault;
-}
-
 -- a fault of what has more to say
 pub fault_mapped : {T U : Type 0} (f : T → U) (r : Result T StoreFault) → IsErr r → IsErr (result_map_both f (λ e. e) r)
 fault_mapped f (Ok x) fault = absurd (cc)

@@ -61,10 +61,8 @@ impl Audit {
         ensures found { self.new.found ≡ self.old.found }
         ensures source { self.new.source ≡ self.old.source }
     {
-        match see(&mut self.seen, row) {
-            Ok(true) => {}
-            Ok(false) => return Ok(false),
-            Err(_) => return Err(StoreFault::Memory),
+        if !see(&mut self.seen, row)? {
+            return Ok(false);
         }
         keep(&mut self.laid, &mut self.cleared, row)?;
         self.counts.add(row);
@@ -110,10 +108,7 @@ fn keep(laid: &mut Results, cleared: &mut Results, row: &TypedRow) -> Result<(),
 fn keep_one(kept: &mut Results, purse: Name, details: PayDetails) -> Result<(), StoreFault>
     ensures { OnOk result (kept.new.items ≡ kept.old.items ++ (purse, details) ∷ []) }
 {
-    match kept.push((purse, details)) {
-        Ok(()) => Ok(()),
-        Err(_) => Err(StoreFault::Memory),
-    }
+    Ok(kept.push((purse, details))?)
 }
 
 /// Keeps each entry of a set of details for a purse. Memory where there is none: then they aren't all kept.

@@ -99,13 +99,7 @@ impl Findings {
     }
 
     fn keep(&mut self, text: Result<String, AllocError>) -> Result<(), StoreFault> {
-        let Ok(text) = text else {
-            return Err(StoreFault::Memory);
-        };
-        match self.texts.push(text) {
-            Ok(()) => Ok(()),
-            Err(_) => Err(StoreFault::Memory),
-        }
+        Ok(self.texts.push(text?)?)
     }
 }
 

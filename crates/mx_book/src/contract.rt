@@ -12,7 +12,7 @@ use crate::values::{Account, Caller, HolderRow, Line, MemberRow, MemberTotals, T
 use mx_pay::{Amount, Log, Name, PayDetails, Token};
 use mx_purse::message::Message;
 use mx_purse::purse::Purse;
-use std::alloc::Global;
+use std::alloc::{AllocError, AllocFailed, Global};
 
 /// Why a call of a book failed.
 #[derive(Clone, Copy, Debug, PartialEq, Eq)]
@@ -21,6 +21,22 @@ pub enum StoreFault {
     Memory,
     /// The store refused a statement for another cause, or holds a row that isn't a value of the World.
     Store,
+}
+
+impl From<AllocError> for StoreFault {
+    ghost from_gives = { λ _ fault. fault ≡ Memory };
+
+    fn from(_error: AllocError) -> StoreFault {
+        StoreFault::Memory
+    }
+}
+
+impl<T: Drop> From<AllocFailed<T>> for StoreFault {
+    ghost from_gives = { λ _ fault. fault ≡ Memory };
+
+    fn from(_refused: AllocFailed<T>) -> StoreFault {
+        StoreFault::Memory
+    }
 }
 
 /// A book: it keeps the World of the office.

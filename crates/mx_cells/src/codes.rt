@@ -14,10 +14,7 @@ use std::alloc::Global;
 pub fn log_code(alloc: Global, log: &Log) -> Result<String, StoreFault>
     ensures { IfOk result (λ text. string_bytes text ≡ code log.now) }
 {
-    match code_text(alloc, log) {
-        Ok(text) => Ok(text),
-        Err(_) => Err(StoreFault::Memory),
-    }
+    Ok(code_text(alloc, log)?)
 }
 
 /// How many bytes the text of details has at most: two names, an amount and two numbers, with commas between them.
@@ -31,13 +28,9 @@ pub fn entry_code(alloc: Global, details: &PayDetails) -> Result<String, StoreFa
 {
     // The reader says the limits of the details.
     let _limits = details.value();
-    let Ok(mut text) = String::with_capacity(alloc, MOST_ENTRY_BYTES) else {
-        return Err(StoreFault::Memory);
-    };
-    match push_entry(&mut text, details) {
-        Ok(()) => Ok(text),
-        Err(_) => Err(StoreFault::Memory),
-    }
+    let mut text = String::with_capacity(alloc, MOST_ENTRY_BYTES)?;
+    push_entry(&mut text, details)?;
+    Ok(text)
 }
 
 /// The text of the details of a message, or of the set to be cleared.

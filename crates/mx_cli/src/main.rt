@@ -16,7 +16,7 @@ use std::process::ExitCode;
 
 /// What `--version` tells: the version, the schema of files, and the first digits of the sum of the sources, which
 /// `./purse-office --sources` prints and which leaves out this line. The sources are `unreleased` until there is a release of them.
-const VERSION: &str = "1.2.0 (schema 2, sources c46c4a2bdd4f77a5)";
+const VERSION: &str = "1.2.1 (schema 2, sources 911dbb4b9e4e18bc)";
 
 /// Does a task over standard input and output. Each read is one call, unbuffered, since the desk has an array of its own.
 /// What is written stands in a buffer until it is passed on; but in a run over a file each response is written at once, so

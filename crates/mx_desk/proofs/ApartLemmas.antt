@@ -18,7 +18,7 @@ use Rattle.mx_wire.specs.declared.routes.Class.{Class}
 use Rattle.mx_wire.specs.declared.routes.Class.TheVariants as class
 use Rattle.mx_wire.specs.declared.routes.Route.{Route}
 use Rattle.mx_desk.specs.Requests.{Request}
-use Rattle.mx_desk.specs.Respond.{Responded, caller_of, is_of_class, is_head, respond, after_route, after_caller, after_body}
+use Rattle.mx_desk.specs.Respond.{Responded, caller_of, is_of_class, respond, after_route, after_caller, after_body}
 use Rattle.mx_desk.specs.Serve.{Marked, world_after_one, world_after, response_to}
 use Rattle.mx_desk.specs.Isolation.{Own, Answer, Seen, without_token, if_holders, asked_by, brought_by, seen_of_request, seen_of, seen, is_holders, own_command, own_route, own_answer, after_seen, alone, told_one, told, IsApart}
 
@@ -94,8 +94,8 @@ module _ (m : Holdings) (r : Own) where
       ap (own_route m r) at ∙ ap (λ b. cond b (own_command m (command_of route r.body)) (record { holdings = m; response = fixed_parts (fixed.Refused NotForCaller) })) known
       ∙ ap (own_command m) said
 
-  told_so : (a : Answer) → own_answer m r ≡ a → after_seen m (Seen.Sent r) ≡ ends a.holdings (sent (is_head r.method) a.response ∷ [])
-  told_so a is = ap (λ (x : Answer). ends x.holdings (sent (is_head r.method) x.response ∷ [])) is
+  told_so : (a : Answer) → own_answer m r ≡ a → after_seen m (Seen.Sent r) ≡ ends a.holdings (sent r.method a.response ∷ [])
+  told_so a is = ap (λ (x : Answer). ends x.holdings (sent r.method x.response ∷ [])) is
 
 -- ---- a request, by its route, its caller and its body
 
@@ -104,7 +104,7 @@ module _ (w : World) (h : Name) (r : Request) where
   m = cut w h
 
   abbrev bytes_of : Responded → List ℕ
-  bytes_of x = sent (is_head r.method) x.response
+  bytes_of x = sent r.method x.response
 
   -- what is to be shown of a response
   abbrev Apart : Option Caller → Option Route → Responded → Type 0
@@ -112,19 +112,19 @@ module _ (w : World) (h : Name) (r : Request) where
 
   no_route : (who : Option Caller) → route_of r.method r.path ≡ None → Apart who None (record { world = w; response = fixed_parts fixed.NoRoute })
   no_route None at = refl
-  no_route (Some caller) at = idle m h (without_token r) (sent (is_head r.method) (fixed_parts fixed.NoRoute)) caller (λ g is. told_so m (without_token r) _ (own_none m (without_token r) at))
+  no_route (Some caller) at = idle m h (without_token r) (sent r.method (fixed_parts fixed.NoRoute)) caller (λ g is. told_so m (without_token r) _ (own_none m (without_token r) at))
 
   -- the caller is of the route's class: the body says a command, or is bad
   body_case : (caller : Caller) (route : Route) → route_of r.method r.path ≡ Some route → is_of_class caller (class_of route) ≡ true → (o : Option Command) → command_of route r.body ≡ o
       → alone m (for_holder h caller (Seen.Sent (without_token r)) ++ map Seen.Brought (brought_by w h (option_map (λ command. (caller, command)) o))) ≡ ends (cut (after_body w caller o).world h) (for_holder h caller (bytes_of (after_body w caller o)))
   unfolding after_body view_of
   body_case caller route at right None said =
-      idle m h (without_token r) (sent (is_head r.method) (fixed_parts fixed.BadBody)) caller (λ g is. told_so m (without_token r) _
+      idle m h (without_token r) (sent r.method (fixed_parts fixed.BadBody)) caller (λ g is. told_so m (without_token r) _
       (own_known m (without_token r) route None at (sym (holders_class g (class_of route)) ∙ ap (λ x. is_of_class x (class_of route)) (sym is) ∙ right) said))
   body_case Operator route at right (Some c) said = others w h c (without_token r) (λ x. []) Operator (one_law w h Operator c)
   body_case (Clerk n) route at right (Some c) said = others w h c (without_token r) (λ x. []) (Clerk n) (one_law w h (Clerk n) c)
   body_case (Holder g) route at right (Some c) said =
-      holder w h c (without_token r) (λ reply. sent (is_head r.method) (reply_parts reply)) g (is_name h g)
+      holder w h c (without_token r) (λ reply. sent r.method (reply_parts reply)) g (is_name h g)
       (told_so m (without_token r) _ (own_known m (without_token r) route (Some c) at (sym (holders_class g (class_of route)) ∙ right) said))
       (one_law w h (Holder g) c)
 
@@ -133,7 +133,7 @@ module _ (w : World) (h : Name) (r : Request) where
       ≡ (let to = cond b (after_body w caller (command_of route r.body)) (record { world = w; response = fixed_parts (fixed.Refused NotForCaller) }) in ends (cut to.world h) (for_holder h caller (bytes_of to)))
   class_case caller route true at right = body_case caller route at right (command_of route r.body) refl
   class_case caller route false at wrong =
-      idle m h (without_token r) (sent (is_head r.method) (fixed_parts (fixed.Refused NotForCaller))) caller (λ g is. told_so m (without_token r) _
+      idle m h (without_token r) (sent r.method (fixed_parts (fixed.Refused NotForCaller))) caller (λ g is. told_so m (without_token r) _
       (own_foreign m (without_token r) route at (sym (holders_class g (class_of route)) ∙ ap (λ x. is_of_class x (class_of route)) (sym is) ∙ wrong)))
 
   caller_case : (who : Option Caller) (route : Route) → route_of r.method r.path ≡ Some route → Apart who (Some route) (after_caller w r route who)
@@ -153,12 +153,12 @@ module _ (w : World) (h : Name) (r : Request) where
 -- ---- requests in order, some of which are given up
 
 marked_apart : (w : World) (h : Name) (x : Marked) (b : Bool) → alone (cut w h) (cond b [] (seen_of_request w h x.request))
-    ≡ ends (cut (cond b w (respond w x.request).world) h) (cond b [] (if_holders h (caller_of w x.request.token) (sent (is_head x.request.method) (respond w x.request).response)))
+    ≡ ends (cut (cond b w (respond w x.request).world) h) (cond b [] (if_holders h (caller_of w x.request.token) (sent x.request.method (respond w x.request).response)))
 marked_apart w h x true = refl
 marked_apart w h x false = request_apart w h x.request
 
 told_same : (w : World) (h : Name) (x : Marked) (b : Bool) → x.given_up ≡ b
-    → cond b [] (if_holders h (caller_of w x.request.token) (sent (is_head x.request.method) (respond w x.request).response)) ≡ cond b [] (if_holders h (caller_of w x.request.token) (response_to w x))
+    → cond b [] (if_holders h (caller_of w x.request.token) (sent x.request.method (respond w x.request).response)) ≡ cond b [] (if_holders h (caller_of w x.request.token) (response_to w x))
 told_same w h x true is = refl
 told_same w h x false is = rw is refl
 

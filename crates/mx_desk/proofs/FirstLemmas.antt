@@ -8,9 +8,10 @@ use Rattle.httparse.specs.Spans.{IsRequestAt, RequestOverflows, header_bytes, na
 use Rattle.httparse.specs.declared.spans.HeaderSpan.{HeaderSpan}
 use Rattle.httparse.specs.declared.spans.RequestSpans.{RequestSpans}
 use Rattle.httparse.proofs.GrammarLemmas.{ReadsRequest-append, request_prefix_free}
+use Rattle.mx_wire.specs.Routes.{method_of}
 use Rattle.mx_desk.specs.declared.head.Reason.{Reason}
 use Rattle.mx_desk.specs.declared.head.Reason.TheVariants.{BodyCut}
-use Rattle.mx_desk.specs.Requests.{Request, IsHead, HasNoHead, Stops, Whole, First, a_head, framing, fields_of, request_of, is_head_request}
+use Rattle.mx_desk.specs.Requests.{Request, IsHead, HasNoHead, Stops, Whole, First, a_head, framing, fields_of, request_of}
 
 pub none_so_far : (b : List ℕ) → HasNoRequest b → HasNoHead b
 none_so_far b no_request h rest is = no_request h rest is.reads
@@ -66,23 +67,23 @@ whole_at b tail h start n is f within =
 
 pub cut_at : (b : List ℕ) (h : RequestHead) (start n : ℕ)
     → IsHead (b ++ []) h (drop start b ++ []) → framing (fields_of h) ≡ Ok n → length b - start < n
-    → First b (Stops (record { is_head = is_head_request h; reason = BodyCut }))
+    → First b (Stops (record { method = method_of h.method; reason = BodyCut }))
 cut_at b h start n is f cut =
     let size = length-drop start b in
     let over : nat_le n (length (drop start b)) ≡ false = lt-leb n (length (drop start b)) (omega arith) in
     a_head (rw (append-nil b, append-nil (drop start b)) at is) (rw (f, over) refl)
 
 pub refused_at : (b : List ℕ) (h : RequestHead) (rest : List ℕ) (reason : Reason)
-    → IsHead b h rest → framing (fields_of h) ≡ Err reason → First b (Stops (record { is_head = is_head_request h; reason = reason }))
+    → IsHead b h rest → framing (fields_of h) ≡ Err reason → First b (Stops (record { method = method_of h.method; reason = reason }))
 refused_at b h rest reason is f = a_head is (rw f refl)
 
 pub same_request : (h : RequestHead) (body : List ℕ) (r : Request)
-    → r.method ≡ h.method → r.path ≡ h.target → r.token ≡ (request_of h body).token → r.body ≡ body → request_of h body ≡ r
+    → r.method ≡ method_of h.method → r.path ≡ h.target → r.token ≡ (request_of h body).token → r.body ≡ body → request_of h body ≡ r
 same_request h body r a b c d = sym (λ i. record { method = a i; path = b i; token = c i; body = d i })
 
 pub whole_found : (b tail : List ℕ) (h : RequestHead) (start n : ℕ) (r : Request)
     → IsHead (b ++ tail) h (drop start b ++ tail) → framing (fields_of h) ≡ Ok n → start + n ≤ length b
-    → r.method ≡ h.method → r.path ≡ h.target → r.token ≡ (request_of h (take n (drop start b))).token
+    → r.method ≡ method_of h.method → r.path ≡ h.target → r.token ≡ (request_of h (take n (drop start b))).token
     → r.body ≡ take n (drop start b)
     → First (b ++ tail) (Whole r (drop (start + n) b ++ tail))
 whole_found b tail h start n r is f within method path token body =

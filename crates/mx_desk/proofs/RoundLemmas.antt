@@ -23,7 +23,7 @@ use Rattle.mx_desk.specs.declared.held.Held.{Held}
 use Rattle.mx_desk.specs.Held.{AreHeldFor, Drafted, Holds, HoldsMore, IsHeldFor, response_text, text_of, texts}
 use Rattle.mx_desk.specs.Knows.{Has, Knows, RestsKnown}
 use Rattle.mx_desk.specs.Requests.{First, Request, Whole, more, none}
-use Rattle.mx_desk.specs.Respond.{after_route, is_head, respond, MayBeGivenUp}
+use Rattle.mx_desk.specs.Respond.{after_route, respond, MayBeGivenUp}
 use Rattle.mx_desk.specs.Rounds.{Moves, Round, all_of, attempts, lost, marked_of}
 use Rattle.mx_desk.specs.Serve.{Marked, AllMayBeMarked, outputs, requests_of, response_to, world_after, world_after_one}
 use Rattle.mx_desk.proofs.LawLemmas.{marks-append, outputs-append, world_after-append}
@@ -144,11 +144,11 @@ requests_unmarked [] = refl
 requests_unmarked (r ∷ rs) = ap (λ l. r ∷ l) (requests_unmarked rs)
 
 -- what is held of a request whose route this is
-pub held_for : (response : Result Response StoreFault) (head_only routed : Bool) (route : Option Route) (r : Request) → routed ≡ is_some route → route ≡ route_of r.method r.path → head_only ≡ is_head r.method
-    → (route ≡ None → response ≡ Ok (Always fixed.NoRoute)) → IsHeldFor (record { response = response; head_only = head_only; routed = routed }) r
-held_for response head_only routed route r is found head alike = record { routed = is ∙ ap is_some found; no_route = λ other. by route refl (sym is ∙ other) } where
-  by : (o : Option Route) → route ≡ o → is_some route ≡ false → response_text head_only response ≡ sent (is_head r.method) (fixed_parts fixed.NoRoute)
-  by None none_is other = ap (response_text head_only) (alike none_is) ∙ ap (λ h. sent h (fixed_parts fixed.NoRoute)) head
+pub held_for : (response : Result Response StoreFault) (routed : Bool) (route : Option Route) (r : Request) → routed ≡ is_some route → route ≡ route_of r.method r.path
+    → (route ≡ None → response ≡ Ok (Always fixed.NoRoute)) → IsHeldFor (record { response = response; method = r.method; routed = routed }) r
+held_for response routed route r is found alike = record { routed = is ∙ ap is_some found; no_route = λ other. by route refl (sym is ∙ other) } where
+  by : (o : Option Route) → route ≡ o → is_some route ≡ false → response_text r.method response ≡ sent r.method (fixed_parts fixed.NoRoute)
+  by None none_is other = ap (response_text r.method) (alike none_is)
   by (Some x) some_is other = absurd (false≢true (sym other ∙ ap is_some some_is))
 
 -- a store that told no lie did none
@@ -174,10 +174,10 @@ module _ (fails : StoreFault → Type 0) where
   }
 
   -- one request
-  pub holds_one : (x y : View) (p q : List (Option (Token × Caller))) (h : Held) (r : Request) → x.doubt ≤ y.doubt → Bides x y → IsHeldFor h r → h.head_only ≡ is_head r.method
+  pub holds_one : (x y : View) (p q : List (Option (Token × Caller))) (h : Held) (r : Request) → x.doubt ≤ y.doubt → Bides x y → IsHeldFor h r → h.method ≡ r.method
       → (y.doubt ≡ 0 → Knows x.world p → IsAnswer (Has y q) x.world (respond x.world r) (MayBeGivenUp fails x.world r) h.response)
       → Holds fails x y p q (h ∷ []) (r ∷ [])
-  holds_one x y p q h r later bides held head answers = record {
+  holds_one x y p q h r later bides held method answers = record {
     later = later;
     bides = bides;
     held = (held, tt);
@@ -189,14 +189,14 @@ module _ (fails : StoreFault → Type 0) where
         marked = record { request = r; given_up = false } ∷ [];
         requests = refl;
         marks = (λ e. cc, tt);
-        responses = ap (λ t. t ++ []) (ap (response_text h.head_only) is ∙ (λ i. sent (head i) (answer.0 i)));
+        responses = ap (λ t. t ++ []) (ap (response_text h.method) is ∙ (λ i. sent (method i) (answer.0 i)));
         kept = answer.1;
       }
       by (Err e) is answer = record {
         marked = record { request = r; given_up = true } ∷ [];
         requests = refl;
         marks = (λ _. answer.0, tt);
-        responses = ap (λ t. t ++ []) (ap (response_text h.head_only) is);
+        responses = ap (λ t. t ++ []) (ap (response_text h.method) is);
         kept = answer.1;
       }
 

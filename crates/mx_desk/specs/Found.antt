@@ -9,7 +9,7 @@ use Rattle.mx_desk.specs.Requests.{Request, First, Stops, Whole}
 -- the request that the code's borrows show
 abbrev pub request_view : Received → Request
 request_view a = record {
-  method = a.method.now;
+  method = a.method;
   path = a.path.now;
   token = option_map (λ x. x.now) a.token;
   body = a.body.now;

@@ -10,21 +10,22 @@ use Rattle.mx_wire.specs.Made.{parts_of}
 use Rattle.mx_wire.specs.Replies.{sent, unavailable, fixed_parts}
 use Rattle.mx_wire.specs.declared.replies.Fixed.TheVariants as fixed
 use Rattle.mx_wire.specs.declared.replies.Response.{Response}
+use Rattle.mx_wire.specs.declared.routes.Method.{Method}
 use Rattle.mx_desk.specs.declared.fault.DeskFault.{DeskFault}
 use Rattle.mx_desk.specs.declared.held.Held.{Held}
 use Rattle.mx_desk.specs.Knows.{Has, Knows}
 use Rattle.mx_desk.specs.Requests.{Begins, Request}
-use Rattle.mx_desk.specs.Respond.{is_head, is_routed}
+use Rattle.mx_desk.specs.Respond.{is_routed}
 use Rattle.mx_desk.specs.Serve.{Marked, AllMayBeMarked, outputs, requests_of, world_after}
 
 -- the response to a request, where its round is settled
-abbrev pub response_text : Bool → Result Response StoreFault → List ℕ
-response_text head_only (Ok response) = sent head_only (parts_of response)
-response_text head_only (Err e) = unavailable
+abbrev pub response_text : Method → Result Response StoreFault → List ℕ
+response_text method (Ok response) = sent method (parts_of response)
+response_text method (Err e) = unavailable
 
 -- what is sent to a request: where its round is given up, 503 if it has a route
 abbrev pub text_of : Bool → Held → List ℕ
-text_of kept h = if kept then response_text h.head_only h.response else if h.routed then unavailable else response_text h.head_only h.response
+text_of kept h = if kept then response_text h.method h.response else if h.routed then unavailable else response_text h.method h.response
 
 abbrev pub texts : Bool → List Held → List ℕ
 texts kept = flat_map (text_of kept)
@@ -32,7 +33,7 @@ texts kept = flat_map (text_of kept)
 -- so much is held of a request, whatever became of the book
 pub record IsHeldFor (h : Held) (r : Request) : Type 0 where
   pub routed : h.routed ≡ is_routed r
-  pub no_route : h.routed ≡ false → response_text h.head_only h.response ≡ sent (is_head r.method) (fixed_parts fixed.NoRoute)
+  pub no_route : h.routed ≡ false → response_text h.method h.response ≡ sent r.method (fixed_parts fixed.NoRoute)
 
 abbrev pub AreHeldFor : List Held → List Request → Type 0
 AreHeldFor [] [] = Unit {0}

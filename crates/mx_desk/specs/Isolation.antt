@@ -13,16 +13,17 @@ use Rattle.mx_wire.specs.Replies.{Parts, sent, fixed_parts, reply_parts}
 use Rattle.mx_wire.specs.declared.replies.Fixed.TheVariants as fixed
 use Rattle.mx_wire.specs.declared.routes.Class.{Class}
 use Rattle.mx_wire.specs.declared.routes.Class.TheVariants as class
+use Rattle.mx_wire.specs.declared.routes.Method.{Method}
 use Rattle.mx_wire.specs.declared.routes.Route.{Route}
 use Rattle.mx_desk.specs.Requests.{Request}
-use Rattle.mx_desk.specs.Respond.{caller_of, is_of_class, is_head}
+use Rattle.mx_desk.specs.Respond.{caller_of, is_of_class}
 use Rattle.mx_desk.specs.Serve.{Marked, world_after_one, world_after, response_to}
 
 -- ---- what is seen
 
 -- a request of the holder's own, without its token
 pub record Own : Type 0 where
-  pub method : List ℕ
+  pub method : Method
   pub path : List ℕ
   pub body : List ℕ
 
@@ -95,7 +96,7 @@ own_answer m r = own_route m r (route_of r.method r.path)
 
 -- the holdings after what is seen, and the bytes of the response to a request of the holder's own
 abbrev pub after_seen : Holdings → Seen → Course Holdings (List ℕ)
-after_seen m (Seen.Sent r) = let a = own_answer m r in ends a.holdings (sent (is_head r.method) a.response ∷ [])
+after_seen m (Seen.Sent r) = let a = own_answer m r in ends a.holdings (sent r.method a.response ∷ [])
 after_seen m (Seen.Brought e) = ends (after_event m e).end []
 
 -- and after all that is seen, in order, with the bytes of these responses

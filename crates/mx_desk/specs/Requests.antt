@@ -1,19 +1,22 @@
 -- The requests in a text: heads within the limits, each with its body (RFC 9112, sections 2 to 6). A head is one
 -- of httparse's grammar, of at most 8,192 bytes and 64 fields.
-use Rattle.std.specs.Prelude.{◌≡◌, ℕ, ◌<◌, ◌≤◌, Bool, false, List, [], ◌∷◌, length, take, drop, map, if◌then◌else◌, nat_le, nat_lt, ◌&&◌, Option, Some, None, Result, Ok, Err, codes, bytes_eq}
+use Rattle.std.specs.Prelude.{◌≡◌, ℕ, ◌<◌, ◌≤◌, Bool, List, [], ◌∷◌, length, take, drop, map, if◌then◌else◌, nat_le, nat_lt, ◌&&◌, Option, Some, None, Result, Ok, Err, codes}
 use Rattle.std.specs.List.{list_all}
 use Rattle.std.specs.Char.{is_ascii_digit}
 use Rattle.std.specs.Str.{str_eq_ignore_ascii_case}
 use Rattle.std.specs.Str.Parse.{digits_value}
 use Rattle.httparse.specs.Grammar.{RequestHead, ReadsRequest, print_request}
 use Rattle.httparse.specs.Spans.{name_and_value}
+use Rattle.mx_wire.specs.Routes.{method_of}
+use Rattle.mx_wire.specs.declared.routes.Method.{Method}
+use Rattle.mx_wire.specs.declared.routes.Method.TheVariants.{Other}
 use Rattle.mx_desk.specs.declared.head.Reason.{Reason}
 use Rattle.mx_desk.specs.declared.head.Reason.TheVariants.{BadHead, TransferCoding, BadLength, TooLarge, BodyCut}
 use Rattle.mx_desk.specs.declared.head.Stop.{Stop}
 
 -- a request, with the value of its one token field
 pub record Request : Type 0 where
-  pub method : List ℕ
+  pub method : Method
   pub path : List ℕ
   pub token : Option (List ℕ)
   pub body : List ℕ
@@ -68,15 +71,12 @@ pub data Next : Type 0 where
   Stops : Stop → Next
   Whole : Request → List ℕ → Next
 
-abbrev pub is_head_request : RequestHead → Bool
-is_head_request h = bytes_eq h.method (codes "HEAD")
-
 abbrev pub fields_of : RequestHead → List (List ℕ × List ℕ)
 fields_of h = map name_and_value h.fields
 
 abbrev pub request_of : RequestHead → List ℕ → Request
 request_of h body = record {
-  method = h.method;
+  method = method_of h.method;
   path = h.target;
   token = only (values_of (codes "purse-token") (fields_of h));
   body = body;
@@ -85,16 +85,16 @@ request_of h body = record {
 -- what comes first where a text begins with this head: the fault of its fields, or a request with the body that
 -- they announce, or a cut body where fewer bytes follow
 abbrev pub after_head : Result ℕ Reason → RequestHead → List ℕ → Next
-after_head (Err reason) h rest = Stops (record { is_head = is_head_request h; reason = reason })
+after_head (Err reason) h rest = Stops (record { method = method_of h.method; reason = reason })
 after_head (Ok n) h rest =
     if nat_le n (length rest)
     then Whole (request_of h (take n rest)) (drop n rest)
-    else Stops (record { is_head = is_head_request h; reason = BodyCut })
+    else Stops (record { method = method_of h.method; reason = BodyCut })
 
 -- what comes first in b
 pub data First : List ℕ → Next → Type 0 where
   nothing : First [] Nothing
-  no_head : {b : List ℕ} → 0 < length b → HasNoHead b → First b (Stops (record { is_head = false; reason = BadHead }))
+  no_head : {b : List ℕ} → 0 < length b → HasNoHead b → First b (Stops (record { method = Other; reason = BadHead }))
   a_head : {b rest : List ℕ} {h : RequestHead} {next : Next}
       → IsHead b h rest → after_head (framing (fields_of h)) h rest ≡ next → First b next
 

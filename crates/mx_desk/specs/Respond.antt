@@ -1,6 +1,6 @@
 -- The response to a request, and the World after it (RFC 9110).
 use Rattle.std.specs.Option.{option_map_or}
-use Rattle.std.specs.Prelude.{◌⊎◌, ◌&&◌, ◌||◌, ℕ, List, Bool, true, false, Option, Some, None, option_and_then, is_some, if◌then◌else◌, bytes_eq, codes, IsTrue}
+use Rattle.std.specs.Prelude.{◌⊎◌, ◌&&◌, ◌||◌, ℕ, List, Bool, true, false, Option, Some, None, option_and_then, is_some, if◌then◌else◌, IsTrue}
 use Rattle.mx_pay.specs.Tokens.{token_of}
 use Rattle.mx_book.specs.World.{World}
 use Rattle.mx_book.specs.Reads.{who_of}
@@ -87,7 +87,3 @@ IsGivenUpFor fails takes = IsTrue takes ⊎ ((e : StoreFault) × fails e)
 -- when a request may be given up: it has a route, and takes memory, unless a read of the book may fail
 abbrev pub MayBeGivenUp : (StoreFault → Type 0) → World → Request → Type 0
 MayBeGivenUp fails w r = IsTrue (is_routed r) × IsGivenUpFor fails (route_takes w r (route_of r.method r.path))
-
--- to HEAD a response is its head alone (RFC 9110, section 9.3.2)
-abbrev pub is_head : List ℕ → Bool
-is_head method = bytes_eq method (codes "HEAD")

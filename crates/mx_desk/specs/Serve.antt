@@ -9,7 +9,7 @@ use Rattle.mx_desk.specs.declared.head.Reason.{Reason}
 use Rattle.mx_desk.specs.declared.head.Reason.TheVariants.{BadHead, TransferCoding, BadLength, TooLarge, BodyCut}
 use Rattle.mx_desk.specs.declared.head.Stop.{Stop}
 use Rattle.mx_desk.specs.Requests.{Request, Next, Nothing, Stops, Whole, Begins, First, IsEnd}
-use Rattle.mx_desk.specs.Respond.{respond, is_head, MayBeGivenUp}
+use Rattle.mx_desk.specs.Respond.{respond, MayBeGivenUp}
 
 -- the responses to the faults that end a run
 abbrev pub stop_fixed : Reason → Fixed
@@ -20,7 +20,7 @@ stop_fixed TooLarge = fixed.TooLarge
 stop_fixed BodyCut = fixed.BodyCut
 
 unfoldable pub stop_text : Stop → List ℕ
-stop_text s = sent s.is_head (fixed_parts (stop_fixed s.reason))
+stop_text s = sent s.method (fixed_parts (stop_fixed s.reason))
 
 -- a request, and whether it was given up: answered 503, which changes nothing
 pub record Marked : Type 0 where
@@ -35,7 +35,7 @@ abbrev pub world_after_one : World → Marked → World
 world_after_one w m = if m.given_up then w else (respond w m.request).world
 
 abbrev pub response_to : World → Marked → List ℕ
-response_to w m = if m.given_up then unavailable else sent (is_head m.request.method) (respond w m.request).response
+response_to w m = if m.given_up then unavailable else sent m.request.method (respond w m.request).response
 
 -- the World after these requests
 abbrev pub world_after : World → List Marked → World

@@ -55,7 +55,7 @@ fn stop_fixed(reason: Reason) -> Fixed
 fn text_of_stop(stop: Stop) -> &'static [u8]
     ensures { result.now ≡ stop_text stop }
 {
-    fixed_text(stop_fixed(stop.reason), stop.is_head)
+    fixed_text(stop_fixed(stop.reason), stop.method)
 }
 
 /// Writes the response to a fault of the input, and passes it on.

@@ -3,12 +3,12 @@ ghost use Rattle.std.specs.Prelude.{◌≡◌, ◌≤◌, length};
 ghost use Rattle.httparse.specs.Grammar.{RequestHead};
 ghost use Rattle.httparse.specs.Spans.{IsRequestAt, IsRequestWithin};
 ghost use Rattle.mx_desk.specs.Found.{IsFound};
-ghost use Rattle.mx_desk.specs.Respond.{is_head};
 
 use crate::fields::{body_len, token};
 use crate::head::{Found, Reason, Received, Stop};
 use httparse::Status;
 use httparse::spans::{HeaderSpan, RequestSpans, parse_request};
+use mx_wire::Method;
 
 /// The longest head, in bytes.
 pub const MAX_HEAD: usize = 8192;
@@ -16,19 +16,11 @@ pub const MAX_HEAD: usize = 8192;
 /// The most fields of a head.
 pub const MAX_FIELDS: usize = 64;
 
-/// No head.
+/// No head, and so no method.
 const BAD_HEAD: Stop = Stop {
-    is_head: false,
+    method: Method::Other,
     reason: Reason::BadHead,
 };
-
-/// A fault of a request with this method.
-fn stop_of(method: &[u8], reason: Reason) -> Stop
-    ensures { result ≡ record { is_head = is_head method.now; reason = reason } }
-{
-    let is_head = method == b"HEAD".as_slice();
-    Stop { is_head, reason }
-}
 
 /// What comes first after a whole head.
 fn after_head<'a>(bytes: &'a [u8], fields: &[HeaderSpan], head: &RequestSpans) -> Found<'a>
@@ -39,13 +31,14 @@ fn after_head<'a>(bytes: &'a [u8], fields: &[HeaderSpan], head: &RequestSpans) -
     ensures { IsFound bytes.now result }
 {
     let fields = &fields[..head.headers];
-    let method = head.method.of(bytes);
+    let method = Method::of(head.method.of(bytes));
     let len = match body_len(bytes, fields) {
         Ok(len) => len,
-        Err(reason) => return Found::Stopped(stop_of(method, reason)),
+        Err(reason) => return Found::Stopped(Stop { method, reason }),
     };
     if bytes.len() - head.len < len {
-        return Found::Open(Some(stop_of(method, Reason::BodyCut)));
+        let reason = Reason::BodyCut;
+        return Found::Open(Some(Stop { method, reason }));
     }
     let end = head.len + len;
     let asked = Received {

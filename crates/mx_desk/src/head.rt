@@ -1,4 +1,5 @@
 //! What comes first in a text.
+use mx_wire::Method;
 
 /// Why the input ends a run early.
 #[derive(Clone, Copy)]
@@ -15,17 +16,17 @@ pub enum Reason {
     BodyCut,
 }
 
-/// A fault that ends a run, and whether its response is a head alone, since the request's method is HEAD.
+/// A fault that ends a run, and the method of its request: to HEAD its response is a head alone.
 #[derive(Clone, Copy)]
 pub struct Stop {
-    pub is_head: bool,
+    pub method: Method,
     pub reason: Reason,
 }
 
 /// A whole request: parts of the bytes that it was read from.
 #[derive(Clone, Copy)]
 pub struct Received<'a> {
-    pub method: &'a [u8],
+    pub method: Method,
     pub path: &'a [u8],
     /// The value of the `purse-token` field, where there is exactly one.
     pub token: Option<&'a [u8]>,

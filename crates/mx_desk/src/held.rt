@@ -4,7 +4,7 @@ ghost use Rattle.mx_desk.specs.Held.{text_of};
 
 use arrayvec::ArrayVec;
 use mx_book::contract::StoreFault;
-use mx_wire::{Response, unavailable_text};
+use mx_wire::{Method, Response, unavailable_text};
 
 /// The most requests of a round.
 pub const MOST_TOGETHER: usize = 64;
@@ -14,8 +14,8 @@ pub const MOST_TOGETHER: usize = 64;
 pub struct Held {
     /// The response, or why the request was given up.
     pub response: Result<Response, StoreFault>,
-    /// Whether the request's method is HEAD.
-    pub head_only: bool,
+    /// The request's method.
+    pub method: Method,
     /// Whether the request has a route, so that it needed the books.
     pub routed: bool,
 }
@@ -25,7 +25,7 @@ impl Default for Held {
     fn default() -> Held {
         Held {
             response: Err(StoreFault::Memory),
-            head_only: false,
+            method: Method::Other,
             routed: false,
         }
     }
@@ -37,7 +37,7 @@ impl Held {
         ensures { result.now ≡ text_of kept self.now }
     {
         match &self.response {
-            Ok(response) if kept || !self.routed => response.text(self.head_only),
+            Ok(response) if kept || !self.routed => response.text(self.method),
             _ => unavailable_text(),
         }
     }

@@ -56,14 +56,13 @@ pub(crate) fn hold<B: Book>(
         × (length workspace.new.round.held.items < 64) }
     ensures token { result ≡ true → makes_token workspace.new.command ≡ false }
 {
-    let head_only = request.method == b"HEAD".as_slice();
     let route = routes.route(request.method, request.path);
     let routed = route.is_some();
     let response = answer_request(alloc, workspace, office, &route, request);
     let goes_on = response.is_ok() && !makes_token(&workspace.command);
     workspace.round.held.push(Held {
         response,
-        head_only,
+        method: request.method,
         routed,
     });
     goes_on && !workspace.round.alone && workspace.round.held.len() < MOST_TOGETHER

@@ -2,7 +2,8 @@
 use crate::scratch::{Trial, expect, in_memory, request, response};
 use mx_book::Book;
 use mx_office::Office;
-use mx_tasks::connections::{listen, serve_connections};
+use mx_tasks::serve::listen;
+use mx_tasks::work::serve_connections;
 use mx_wire::Routes;
 use std::alloc::Global;
 use std::io::{Read, Write};

@@ -1,9 +1,9 @@
 -- Rounds over tables, and what the store of them holds then.
-use Rattle.std.proofs.Common.{◌≡◌, IsTrue, List, arith, sym, ◌∙◌}
+use Rattle.std.proofs.Common.{◌≡◌, ◌≤◌, IsTrue, List, arith, subst, sym, ◌∙◌}
 use Rattle.sqlite_trees.specs.Tree.{Trees}
 use Rattle.sqlite_trees.specs.declared.store.Store.{Ghosts}
 use Rattle.sqlite.specs.Effect.{Database}
-use Rattle.sqlite.specs.Held.{state}
+use Rattle.sqlite.specs.Held.{Held, state}
 use Rattle.mx_book.specs.World.{World}
 use Rattle.mx_book.specs.declared.rows.RowBook.{Ghosts as RowBook}
 use Rattle.mx_desk.specs.Rounds.{Moves, Round}
@@ -48,3 +48,17 @@ module _ {S : Type 0} (g : Ghosts S) where
         lasts = λ less db leaves.
             lasts_moved tables old new one kept one' kept' w now rs at moved (at_rest old law still sure) (λ r u v a b. b.only u a.spelled) spelled left (omega (arith, last, less)) less db leaves;
       }
+
+  -- tables that were given back with no more than one doubt were sure when they were opened
+  pub sure_at_first : (old new : Lent S) → IsSettled g old → IsSettled g new → doubt_of g old ≤ doubt_of g new → (worry (state g old.0) ≤ 1 → worry (state g old.0) ≡ 0) → worry (state g new.0) ≤ 1 → worry (state g old.0) ≡ 0
+  sure_at_first old new still ends later awake low =
+      let first = (rest_of g old still).0 in
+      let last = (rest_of g new ends).0 in
+      awake (omega (arith, first, last, later, low))
+
+  -- and worry didn't fall on the way
+  pub worry_grows : (store given : Held S) (old new : Lent S) → IsSettled g old → IsSettled g new → doubt_of g old ≤ doubt_of g new → worry (state g store) ≤ worry (state g old.0) → given ≡ new.0 → worry (state g store) ≤ worry (state g given)
+  worry_grows store given old new still ends later opened same =
+      let first = (rest_of g old still).0 in
+      let last = (rest_of g new ends).0 in
+      subst (λ h. worry (state g store) ≤ worry (state g h)) (sym same) (omega (arith, first, last, later, opened))

@@ -1,9 +1,10 @@
 //! Whether the books in a store are sound, in words.
-use crate::books::unmade;
+use crate::stores::unmade;
 use mx_audit::tables::Checked;
 use mx_audit::{Ordered, Refusal, Refused, open};
 use mx_book::Book;
-use mx_tasks::evenness::{uneven_purses, uneven_sums};
+use mx_tasks::report::evenness::{uneven_purses, uneven_sums};
+use mx_tasks::teller::Teller;
 use mx_tasks::{Done, TaskFault};
 use sqlite::Connection;
 use std::alloc::{AllocError, Global};
@@ -43,7 +44,7 @@ fn done(text: String, is_well: bool) -> Done {
     }
 }
 
-/// What the check of books in which nothing was found says of their sums and statements.
+/// What the check of books in which nothing was found says of their sums and statements. A terminal is told how far it is.
 fn sums_done<B: Book>(
     rt: &HostRuntime,
     book: &mut B,
@@ -51,7 +52,9 @@ fn sums_done<B: Book>(
 ) -> Result<Done, TaskFault> {
     let names = checked.purses(rt.alloc())?;
     let sums = uneven_sums(rt.alloc(), book)?;
-    let purses = uneven_purses(rt, book, names.as_slice())?;
+    let mut teller = Teller::new(rt, "purses");
+    let purses = uneven_purses(rt.alloc(), book, names.as_slice(), &mut teller)?;
+    teller.end();
     let is_well = sums.is_empty() && purses.is_empty();
     let mut text = sound_line(rt.alloc(), checked)?;
     text.push_str(sums.as_str())?;
@@ -71,7 +74,7 @@ fn sums_done<B: Book>(
 ///
 /// `NotThisSchema` where the store has no books of this version; `Store` where it has other tables, or refuses a statement;
 /// `Memory`. The store is given up then.
-pub fn check_store<S: Ordered + Drop>(
+pub fn check_in_store<S: Ordered + Drop>(
     rt: &HostRuntime,
     store: Connection<S>,
 ) -> Result<(Done, Connection<S>), TaskFault> {

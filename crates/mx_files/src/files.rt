@@ -1,16 +1,14 @@
 //! The files of books.
 
-use crate::closing::{check_and_close, make_and_close, migrate_and_close, work_and_close};
+use crate::stores::{close, make_in_store};
 use crate::unopened::unopened;
-use mx_desk::{Counted, Outlet};
 use mx_pay::Token;
-use mx_tables::Migrated;
-use mx_tasks::{Cause, Done, TaskFault, Work};
+use mx_tasks::{Cause, TaskFault};
 use sqlite::{Connection, File, FileStore};
-use std::alloc::Global;
-use std::fs::{Metadata, OpenOptions};
+use std::fs::{Metadata, OpenFile, OpenOptions};
 use std::io::{ErrorKind, Read};
 use std::os::unix::fs::{MetadataExt, OpenOptionsExt};
+use std::rt::Files;
 use std::{fs, io};
 
 /// A store in a file, with its log in a file beside it.
@@ -42,7 +40,7 @@ fn may_begin_log(head: &[u8]) -> bool {
 }
 
 /// The first bytes of a file, and none where it isn't there.
-pub(crate) fn head_of(rt: &HostRuntime, path: &str) -> io::Result<Vec<u8>> {
+pub(crate) fn head_of(rt: &(impl AllocGlobal + Files), path: &str) -> io::Result<Vec<u8>> {
     let mut head = Vec::new(rt.alloc());
     match fs::open(rt, path) {
         Ok(file) => {
@@ -60,7 +58,7 @@ pub(crate) fn head_of(rt: &HostRuntime, path: &str) -> io::Result<Vec<u8>> {
 /// # Errors
 ///
 /// `OtherLog` where another file stands there, which an opening would overwrite; `System` where it can't be read.
-fn has_log(rt: &HostRuntime, path: &str) -> Result<bool, Cause> {
+fn has_log(rt: &(impl AllocGlobal + Files), path: &str) -> Result<bool, Cause> {
     let log = format!(in rt.alloc(); "{path}-wal")?;
     let head = head_of(rt, log.as_str())?;
     if !may_begin_log(head.as_slice()) {
@@ -75,12 +73,25 @@ fn has_log(rt: &HostRuntime, path: &str) -> Result<bool, Cause> {
 /// # Errors
 ///
 /// `Empty`; `OtherLog` where another file stands where its log belongs; those of `unopened`.
-fn open_found(rt: &HostRuntime, path: &str) -> Result<Connection<Store>, Cause> {
+pub(crate) fn open_found(rt: &HostRuntime, path: &str) -> Result<Connection<Store>, Cause> {
     if is_empty(&fs::metadata(rt, path)?) {
         return Err(Cause::Empty);
     }
     has_log(rt, fs::canonicalize(rt, path)?.as_str())?;
     open(rt, path)
+}
+
+/// Opens the database in a file that is there. Where it isn't opened, a terminal is told why.
+///
+/// # Errors
+///
+/// `File` where the file isn't there, isn't a database, can't be opened, another process has it open, or another file stands
+/// where its log belongs; `NotThisSchema` where it is empty; `Memory`.
+pub(crate) fn open_told(rt: &HostRuntime, path: &str) -> Result<Connection<Store>, TaskFault> {
+    match open_found(rt, path) {
+        Ok(store) => Ok(store),
+        Err(cause) => Err(cause.tell(rt, path)),
+    }
 }
 
 /// The path at which new books may be put, in place of the file of this path, with no link in it.
@@ -89,7 +100,7 @@ fn open_found(rt: &HostRuntime, path: &str) -> Result<Connection<Store>, Cause> 
 ///
 /// `NotEmpty` where it is there and isn't empty; `FullLog` where a log with changes is where its log belongs, which would go
 /// into the new books; `OtherLog` where another file is there; `System` where that can't be told.
-fn place_for(rt: &HostRuntime, path: &str) -> Result<String, Cause> {
+fn place_for(rt: &(impl AllocGlobal + Files), path: &str) -> Result<String, Cause> {
     let place = match fs::metadata(rt, path) {
         Ok(found) if is_empty(&found) => {
             format!(in rt.alloc(); "{}", fs::canonicalize(rt, path)?.as_str())?
@@ -121,7 +132,7 @@ fn clear(rt: &HostRuntime, path: &str) -> Result<(), Cause> {
 }
 
 /// Makes an empty file that only its owner may read and write, where none is. Gives its number in the file system.
-fn make_private(rt: &HostRuntime, path: &str) -> io::Result<u64> {
+fn make_private(rt: &impl Files, path: &str) -> io::Result<u64> {
     let mut options = OpenOptions::new();
     options.write(true).create_new(true).mode(0o600);
     let file = options.open(rt, path)?;
@@ -129,7 +140,7 @@ fn make_private(rt: &HostRuntime, path: &str) -> io::Result<u64> {
 }
 
 /// Whether the file with that number is still at this path: another `init` may have taken it for one that was broken off.
-fn is_there(rt: &HostRuntime, path: &str, number: u64) -> bool {
+fn is_there(rt: &impl Files, path: &str, number: u64) -> bool {
     match fs::metadata(rt, path) {
         Ok(found) => found.ino() == number,
         Err(_) => false,
@@ -153,7 +164,8 @@ fn put_books(
     place: &str,
     operator: Token,
 ) -> Result<(), Cause> {
-    make_and_close(rt.alloc(), open_new(rt, made)?, operator)?;
+    let books = make_in_store(rt.alloc(), open_new(rt, made)?, operator)?;
+    close(Ok(()), books)?;
     if !is_there(rt, made, number) {
         return Err(Cause::Rival);
     }
@@ -207,68 +219,9 @@ fn make(rt: &HostRuntime, path: &str, operator: Token) -> Result<(), Cause> {
 /// `FileExists` where the file is there and isn't empty; `File` where it can't be made, there is no room for its log, another
 /// process makes it, or another file stands where its log, FILE-init or the log of that belongs; `Memory` or `Store` where the
 /// database refuses a statement or can't be closed. Then no file is left, and a terminal is told why.
-pub fn make_file(rt: &HostRuntime, path: &str, operator: Token) -> Result<(), TaskFault> {
+pub fn make_in_file(rt: &HostRuntime, path: &str, operator: Token) -> Result<(), TaskFault> {
     match make(rt, path, operator) {
         Ok(()) => Ok(()),
-        Err(cause) => Err(cause.tell(rt, path)),
-    }
-}
-
-/// Does a piece of work over the books in a file that is there, closes the file, and gives what came of it.
-///
-/// # Errors
-///
-/// The first that is met, in this order. `File` where the file isn't there, isn't a database, can't be opened, another process
-/// has it open, or another file stands where its log belongs, and a terminal is told which; `NotThisSchema` where it is empty
-/// or has no books of this version; `Store` where it has other tables, its rows are no books, or it refuses a statement;
-/// those of the work; `Store` where the file can't be closed. `Memory` comes at any step.
-pub fn over_file<R: Read, W: Outlet>(
-    rt: &HostRuntime,
-    path: &str,
-    work: &Work<'_>,
-    reader: &mut Counted<R>,
-    writer: &mut Counted<W>,
-) -> Result<Done, TaskFault> {
-    match open_found(rt, path) {
-        Ok(store) => work_and_close(rt, store, work, reader, writer),
-        Err(cause) => Err(cause.tell(rt, path)),
-    }
-}
-
-/// The line that says why a file isn't opened, with the fault of that.
-fn unopened_done(alloc: Global, path: &str, cause: &Cause) -> Result<Done, TaskFault> {
-    let line = format!(in alloc; "{path}: {cause}\n")?;
-    Ok(Done {
-        text: line.into_bytes(),
-        fault: Some(cause.fault()),
-    })
-}
-
-/// Tells whether the books in a file that is there are sound, closes the file, and gives the lines that say so, or what is wrong.
-/// Where the file isn't opened, a line says why.
-///
-/// # Errors
-///
-/// As of `over_file`, but where the file isn't opened, or its rows are no books.
-pub fn check_file(rt: &HostRuntime, path: &str) -> Result<Done, TaskFault> {
-    match open_found(rt, path) {
-        Ok(store) => check_and_close(rt, store),
-        Err(cause) => unopened_done(rt.alloc(), path, &cause),
-    }
-}
-
-/// Brings the books in a file that is there to the schema of this version, and audits them. Where the audit has a finding, the
-/// file is of this schema then, with its rows as they were.
-///
-/// # Errors
-///
-/// `File` where the file isn't there, isn't a database, can't be opened, another process has it open, or another file stands
-/// where its log belongs, and a terminal is told which; `NotThisSchema` where it is empty or has no books of this version or
-/// the one before; `Store` where it has other tables, its rows are no books, it refuses a statement or can't be closed;
-/// `Memory`.
-pub fn migrate_file(rt: &HostRuntime, path: &str) -> Result<Migrated, TaskFault> {
-    match open_found(rt, path) {
-        Ok(store) => migrate_and_close(rt.alloc(), store),
         Err(cause) => Err(cause.tell(rt, path)),
     }
 }

@@ -1,9 +1,8 @@
 //! The tasks of the program over the files that they name.
 #![tactic(auto)]
 
-pub mod books;
 pub mod check;
-mod closing;
 pub mod files;
 pub mod perform;
+pub mod stores;
 mod unopened;

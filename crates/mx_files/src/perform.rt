@@ -6,8 +6,11 @@ ghost use Rattle.mx_book.specs.World.{Token, opening};
 ghost use Rattle.mx_desk.specs.Steps.{state};
 ghost use Rattle.mx_files.specs.Performed.{PerformsRun};
 
-use crate::files::{check_file, make_file, migrate_file, over_file};
+use crate::check::check_in_store;
+use crate::files::{make_in_file, open_found, open_told};
+use crate::stores::{close, run_in_store, unmade, work_in_store};
 use mx_args::Task;
+use mx_audit::migrate;
 use mx_book::Book;
 use mx_desk::{Counted, Outlet};
 use mx_memory::PlainBook;
@@ -39,16 +42,58 @@ fn say_done<W: Write>(writer: &mut W, done: &Done) -> Result<(), TaskFault> {
     }
 }
 
-/// Does the work over the books in a file, and writes its text once that is closed.
-fn say_work<R: Read, W: Outlet>(
+/// Answers the requests of the input over the books in a file, and passes on what the writer holds once that is closed.
+fn run_in_file<R: Read, W: Outlet>(
     rt: &HostRuntime,
     path: &str,
-    work: &Work<'_>,
     reader: &mut Counted<R>,
     writer: &mut Counted<W>,
 ) -> Result<(), TaskFault> {
-    let done = over_file(rt, path, work, reader, writer)?;
+    let store = open_told(rt, path)?;
+    let (answer, left) = run_in_store(rt.alloc(), store, reader, writer)?;
+    close(answer, left)?;
+    say(writer, b"")
+}
+
+/// Does a piece of work over the books in a file, and writes its text once that is closed.
+fn work_in_file<W: Write>(
+    rt: &HostRuntime,
+    path: &str,
+    work: &Work<'_>,
+    writer: &mut W,
+) -> Result<(), TaskFault> {
+    let store = open_told(rt, path)?;
+    let (answer, left) = work_in_store(rt, store, work)?;
+    let done = close(answer, left)?;
     say_done(writer, &done)
+}
+
+/// Tells whether the books in a file are sound, or what is wrong in them. Where the file isn't opened, a line says why.
+fn check_in_file(rt: &HostRuntime, path: &str) -> Result<Done, TaskFault> {
+    match open_found(rt, path) {
+        Ok(store) => {
+            let (done, left) = check_in_store(rt, store)?;
+            close(Ok(done), left)
+        }
+        Err(cause) => {
+            let line = format!(in rt.alloc(); "{path}: {cause}\n")?;
+            Ok(Done {
+                text: line.into_bytes(),
+                fault: Some(cause.fault()),
+            })
+        }
+    }
+}
+
+/// Brings the books in a file to the schema of this version, and audits them. Where the audit has a finding, the file is of
+/// this schema then, with its rows as they were.
+fn migrate_in_file(rt: &HostRuntime, path: &str) -> Result<Migrated, TaskFault> {
+    let mut store = open_told(rt, path)?;
+    let answer = match migrate(rt.alloc(), &mut store) {
+        Ok(migrated) => Ok(migrated),
+        Err(fault) => Err(unmade(fault)),
+    };
+    close(answer, store)
 }
 
 /// Answers the requests of the input over new books in memory, and passes on what the writer holds.
@@ -70,8 +115,8 @@ fn perform_memory<R: Read, W: Outlet>(
 /// Does a task. A run reads requests from the reader and writes their responses to the writer. Any other task writes what it
 /// prints once it is done, and only where there is no fault; but a report is written also where it doesn't add up, and a check
 /// where it finds something wrong, which is `Store`. What the writer holds is passed on at the end, and the file of the books
-/// is closed. Of a run over books in memory all is said (`memory`); of the others, what `over_store` and `make_in_store` say of
-/// the store in the file.
+/// is closed. Of a run over books in memory all is said (`memory`); of the others, what `run_in_store`, `work_in_store` and
+/// `make_in_store` say of the store in the file.
 ///
 /// # Errors
 ///
@@ -93,9 +138,9 @@ pub fn perform<R: Read, W: Outlet>(
 {
     match task {
         Task::RunMemory(operator) => perform_memory(rt.alloc(), *operator, reader, writer),
-        Task::RunFile(file) => say_work(rt, file.as_str(), &Work::Run, reader, writer),
+        Task::RunFile(file) => run_in_file(rt, file.as_str(), reader, writer),
         Task::Init { file, token } => {
-            make_file(rt, file.as_str(), *token)?;
+            make_in_file(rt, file.as_str(), *token)?;
             say(writer, b"created\n")
         }
         Task::Serve { file, port, count } => {
@@ -103,20 +148,16 @@ pub fn perform<R: Read, W: Outlet>(
                 port: *port,
                 count: *count,
             };
-            say_work(rt, file.as_str(), &work, reader, writer)
+            work_in_file(rt, file.as_str(), &work, writer)
         }
         Task::Import { file, roll } => {
-            let work = Work::Import(roll.as_str());
-            say_work(rt, file.as_str(), &work, reader, writer)
+            work_in_file(rt, file.as_str(), &Work::Import(roll.as_str()), writer)
         }
         Task::Report { file, purse } => {
-            say_work(rt, file.as_str(), &Work::Report(*purse), reader, writer)
+            work_in_file(rt, file.as_str(), &Work::Report(*purse), writer)
         }
-        Task::Check(file) => {
-            let done = check_file(rt, file.as_str())?;
-            say_done(writer, &done)
-        }
-        Task::Migrate(file) => match migrate_file(rt, file.as_str())? {
+        Task::Check(file) => say_done(writer, &check_in_file(rt, file.as_str())?),
+        Task::Migrate(file) => match migrate_in_file(rt, file.as_str())? {
             Migrated::Done => say(writer, b"migrated\n"),
             Migrated::Already => say(writer, b"already schema 2\n"),
         },

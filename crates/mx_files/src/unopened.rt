@@ -6,12 +6,13 @@ use sqlite::{Error, ErrorCode};
 use std::fs;
 use std::fs::OpenOptions;
 use std::os::unix::fs::MetadataExt;
+use std::rt::Files;
 
 /// What a database of SQLite begins with.
 const MAGIC: &[u8] = b"SQLite format 3\0";
 
 /// Fails where a database and its log can't be opened for a cause of the database's own.
-fn look(rt: &HostRuntime, path: &str) -> Result<(), Cause> {
+fn look(rt: &(impl AllocGlobal + Files), path: &str) -> Result<(), Cause> {
     let found = fs::metadata(rt, path)?;
     if !found.is_file() {
         return Err(Cause::Irregular);
@@ -28,7 +29,7 @@ fn look(rt: &HostRuntime, path: &str) -> Result<(), Cause> {
 }
 
 /// Fails where a file doesn't begin as a database does.
-fn look_at_head(rt: &HostRuntime, path: &str) -> Result<(), Cause> {
+fn look_at_head(rt: &(impl AllocGlobal + Files), path: &str) -> Result<(), Cause> {
     if head_of(rt, path)?.as_slice().starts_with(MAGIC) {
         return Ok(());
     }
@@ -36,7 +37,11 @@ fn look_at_head(rt: &HostRuntime, path: &str) -> Result<(), Cause> {
 }
 
 /// Fails with why the database at a path isn't opened, where this is the error.
-pub(crate) fn unopened<T>(rt: &HostRuntime, path: &str, error: Error) -> Result<T, Cause> {
+pub(crate) fn unopened<T>(
+    rt: &(impl AllocGlobal + Files),
+    path: &str,
+    error: Error,
+) -> Result<T, Cause> {
     let cause = match error {
         Error::SqliteFailure(ErrorCode::OutOfMemory) => Cause::Fault(TaskFault::Memory),
         Error::SqliteFailure(ErrorCode::DatabaseBusy) => Cause::Busy,

@@ -18,7 +18,7 @@ use crate::answered::{Life, answered};
 use crate::lives::live_on;
 use mx_audit::{Ordered, open};
 use mx_book::Book;
-use mx_files::books::make_in_store;
+use mx_files::stores::make_in_store;
 use mx_pay::Token;
 use mx_standing::Standing;
 use mx_tables::Tables;

@@ -101,17 +101,11 @@ impl RowBook for PlainBook {
     }
 
     fn purses_of(&mut self, alloc: Global, holder: Name) -> Result<Vec<Name>, StoreFault> {
-        match self.shelves.purses_of(alloc, holder) {
-            Ok(names) => Ok(names),
-            Err(_) => Err(StoreFault::Memory),
-        }
+        Ok(self.shelves.purses_of(alloc, holder)?)
     }
 
     fn inbox(&mut self, alloc: Global, purse: Name) -> Result<Vec<(u64, Message)>, StoreFault> {
-        match self.shelves.inbox_of(alloc, purse) {
-            Ok(messages) => Ok(messages),
-            Err(_) => Err(StoreFault::Memory),
-        }
+        Ok(self.shelves.inbox_of(alloc, purse)?)
     }
 
     fn message(
@@ -142,17 +136,11 @@ impl RowBook for PlainBook {
         after: u64,
         most: u64,
     ) -> Result<Vec<Line>, StoreFault> {
-        match self.shelves.lines_of(alloc, purse, after, most) {
-            Ok(lines) => Ok(lines),
-            Err(_) => Err(StoreFault::Memory),
-        }
+        Ok(self.shelves.lines_of(alloc, purse, after, most)?)
     }
 
     fn members(&mut self, alloc: Global) -> Result<Vec<Name>, StoreFault> {
-        match self.shelves.members_of(alloc) {
-            Ok(members) => Ok(members),
-            Err(_) => Err(StoreFault::Memory),
-        }
+        Ok(self.shelves.members_of(alloc)?)
     }
 
     fn load_of(
@@ -207,16 +195,11 @@ impl RowBook for PlainBook {
     }
 
     fn members_totals(&mut self, alloc: Global) -> Result<Vec<(Name, MemberTotals)>, StoreFault> {
-        match self.shelves.members_totals(alloc) {
-            Ok(totals) => Ok(totals),
-            Err(_) => Err(StoreFault::Memory),
-        }
+        Ok(self.shelves.members_totals(alloc)?)
     }
 
     fn apply(&mut self, edits: &[Edit]) -> Result<(), StoreFault> {
-        if self.shelves.reserve(edits).is_err() {
-            return Err(StoreFault::Memory);
-        }
+        self.shelves.reserve(edits)?;
         self.shelves.edit_all(edits);
         Ok(())
     }

@@ -278,9 +278,7 @@ fn import_record<B: Book>(
     ensures uncounted { OnErr result (tally_of report.new ≡ tally_of report.old) }
     ensures fault { IfErr result (λ e. (e ≡ fault.Memory) ⊎ B.fails e) }
 {
-    if report.refused.reserve(1).is_err() {
-        return Err(StoreFault::Memory);
-    }
+    report.refused.reserve(1)?;
     let outcome = match row_of(entry) {
         Some(row) => import_row(office, alloc, &row)?,
         None => RowOutcome::Refused(RollReason::BadRow),

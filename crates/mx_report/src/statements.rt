@@ -21,9 +21,7 @@ fn read_lines<B: Book>(alloc: Global, book: &mut B, purse: Name) -> Result<Vec<L
     let mut lines = Vec::new(alloc);
     'pages: for _ in 0..u64::MAX {
         let page = book.lines(alloc, purse, lines.len() as u64, MOST_LINES)?;
-        if lines.extend_from_slice(page.as_slice()).is_err() {
-            return Err(StoreFault::Memory);
-        }
+        lines.extend_from_slice(page.as_slice())?;
         if (page.len() as u64) < MOST_LINES {
             return Ok(lines);
         }

@@ -13,14 +13,10 @@ use Rattle.sqlite.specs.Held.{Held}
 use Rattle.sqlite.specs.State.{State, HasCleanDisk}
 use Rattle.mx_book.specs.Keeps.{Bides, Keeps, Settles}
 use Rattle.mx_book.specs.declared.contract.StoreFault.{StoreFault}
-use Rattle.mx_tables.specs.declared.known.Known.{Known}
-use Rattle.mx_tables.specs.Known.{Knowledge, IsKnown, AreKnown, IsKeptUp, known_of}
 use Rattle.mx_tables.specs.States.{worry, unsure, Brings, IsOurs, Leaves, Stays}
-use Rattle.mx_tables.specs.Rounds.{ChangesRound, KnowsIn, IsKept, Abides, Begins, ChangesIn, Ends, Lent, LeavesBase, IsSettled, rows_of, base_of, doubt_of, harm_of}
+use Rattle.mx_tables.specs.Rounds.{ChangesRound, IsKept, Abides, Begins, ChangesIn, Ends, Lent, LeavesBase, IsSettled, rows_of, base_of, doubt_of, harm_of}
+use Rattle.mx_tables.proofs.RoundLemmas.{before}
 use Rattle.mx_tables.proofs.StateLemmas.{brings_same, sure, sure_in, no_unsure, no_worry, not_lied, unsure_later, worry_later, sure_before}
-
-before : (old new : State) → doubt old.is_clean ≤ doubt new.is_clean → HasCleanDisk new → HasCleanDisk old
-before old new clean now = omega (arith, clean, now)
 
 -- ---- steps
 
@@ -176,9 +172,9 @@ pub err_then : {A T E : Type 0} (x y z : A) (r : Result T E) → OnErr r (x ≡ 
 err_then x y z (Ok v) h same = tt
 err_then x y z (Err e) h same = h ∙ same
 
-module _ (change : Rows → Rows) (learns : Knowledge → Knowledge) where
+module _ (change : Rows → Rows) where
   -- the change that a round makes, where its begin failed
-  pub round_stopped : (b after : Bool) (old new : State) (r q : Result (Unit {0}) StoreFault) → IsErr q → Begins b old after new r → ChangesRound change learns b old after new q
+  pub round_stopped : (b after : Bool) (old new : State) (r q : Result (Unit {0}) StoreFault) → IsErr q → Begins b old after new r → ChangesRound change b old after new q
   round_stopped b after old new r (Ok x) err begins = absurd (cc)
   round_stopped b after old new r (Err e) err begins = record {
     later = λ kept. unsure_later b after old new begins.clean (began_was b after old new r kept begins);
@@ -189,8 +185,8 @@ module _ (change : Rows → Rows) (learns : Knowledge → Knowledge) where
   }
 
   -- and where it began
-  pub round_changed : (b after : Bool) (old mid new : State) (r : Result (Unit {0}) StoreFault) → Begins b old after mid (Ok tt) → ChangesIn mid new r (mid.now.schema ≡ office_schema → Brings change learns mid new)
-      → ChangesRound change learns b old after new r
+  pub round_changed : (b after : Bool) (old mid new : State) (r : Result (Unit {0}) StoreFault) → Begins b old after mid (Ok tt) → ChangesIn mid new r (mid.now.schema ≡ office_schema → Brings change mid new)
+      → ChangesRound change b old after new r
   round_changed b after old mid new r begins changes =
       let went = λ (kept : IsKept b old). begins.ok kept in
       let abides = λ (kept : IsKept b old). abides_then old mid new (begins.abides kept) (changed_abides after mid new _ (went kept) r changes) in
@@ -205,36 +201,19 @@ module _ (change : Rows → Rows) (learns : Knowledge → Knowledge) where
         err = λ kept h. err_then _ _ _ r (changed_err after mid new _ (went kept) r changes h) (same kept h);
       }
     where
-      ok_by : (q : Result (Unit {0}) StoreFault) → OnOk q (IsTrue mid.is_open × IsTrue new.is_open × IsTrue new.in_transaction × (mid.now.schema ≡ office_schema → Brings change learns mid new)) → mid.now ≡ old.now → mid.now.schema ≡ office_schema
-          → OnOk q (Brings change learns old new)
-      ok_by (Ok x) it is has = brings_same change learns old mid new new is refl (it.3 has)
+      ok_by : (q : Result (Unit {0}) StoreFault) → OnOk q (IsTrue mid.is_open × IsTrue new.is_open × IsTrue new.in_transaction × (mid.now.schema ≡ office_schema → Brings change mid new)) → mid.now ≡ old.now → mid.now.schema ≡ office_schema
+          → OnOk q (Brings change old new)
+      ok_by (Ok x) it is has = brings_same change old mid new new is refl (it.3 has)
       ok_by (Err e) it is has = tt
 
--- what is known is kept up
-pub round_told : (change : Rows → Rows) (learns : Knowledge → Knowledge) (b after : Bool) (old new : State) (r : Result (Unit {0}) StoreFault) → IsKept b old → ChangesRound change learns b old after new r
-    → (made : Bool) → made ≡ is_ok r → (was is : Option Known) → IsKeptUp made learns was is → KnowsIn b old was → KnowsIn after new is
-round_told change learns b after old new r kept it made ok was None up tells = λ h. tt
-round_told change learns b after old new (Err e) kept it true ok was (Some known) up tells = absurd (cc)
-round_told change learns b after old new (Ok x) kept it false ok was (Some known) up tells = absurd (cc)
-round_told change learns b after old new (Err e) kept it false ok was (Some known) up tells = λ h.
-    let sure = sure_zero _ _ (it.later kept) h in
-    subst (λ (d : Database). IsKnown d.trees (known_of known)) (sym (it.err kept h)) (subst (λ o. KnowsIn b old o) up tells sure)
-round_told change learns b after old new (Ok x) kept it true ok was (Some known) up tells = λ h.
-    let sure = sure_zero _ _ (it.later kept) h in
-    subst (IsKnown new.now.trees) (sym up.2) ((it.ok kept h).known _ (subst (λ o. KnowsIn b old o) up.1 tells sure))
-
--- and after a settle
-pub settle_told : (b : Bool) (old new : State) (r : Result (Unit {0}) StoreFault) → IsKept b old → Ends b old new r → (was : Option Known) → OnOk r (KnowsIn b old was → KnowsIn false new was)
-settle_told b old new (Ok x) kept ends was = λ tells h.
-    let it = sure_in false new h in
-    let done = ends.ok kept it.1 in
-    subst (λ (d : Database). AreKnown d.trees was) (sym done.3) (tells done.0)
-settle_told b old new (Err e) kept ends was = tt
-
--- what is said of an answer that is no fault
+-- what is said of an answer that is no fault, and of one that is
 pub ok_said : {T E P : Type 0} (r : Result T E) (b : Bool) → b ≡ is_err r → b ≡ false → OnOk r P → P
 ok_said (Ok x) b is none it = it
 ok_said (Err e) b is none it = absurd (cc)
+
+pub err_said : {T E P : Type 0} (r : Result T E) (b : Bool) → b ≡ is_err r → b ≡ true → OnErr r P → P
+err_said (Ok x) b is one it = absurd (cc)
+err_said (Err e) b is one it = it
 
 -- ---- reads
 

@@ -8,8 +8,7 @@ use Rattle.sqlite.specs.declared.savepoint.Savepoint.{Savepoint}
 use Rattle.sqlite.specs.Held.{Held}
 use Rattle.sqlite.specs.State.{HasCleanDisk}
 use Rattle.mx_book.specs.declared.contract.StoreFault.{StoreFault}
-use Rattle.mx_tables.specs.Known.{Knowledge}
-use Rattle.mx_tables.specs.States.{IsAwake, IsOurs, Stays, Brings, WritesWith, Reads, ReadsAt, Steps, Runs, Within, Writes, Finds}
+use Rattle.mx_tables.specs.States.{IsAwake, IsOurs, Stays, Brings, Reads, Steps, Runs, Within, Writes, Finds}
 use Rattle.mx_tables.proofs.StateLemmas.{on_ok_anyway, on_ok_never, brings_same, brings_none, stays_same, stays_then, sure_first, within_none, within_then}
 use Rattle.mx_tables.proofs.WriteLemmas.{goes_as, goes_then}
 
@@ -53,30 +52,6 @@ module _ {S : Type 0} (g : Ghosts S) where
         let before = sure_first (two.stays kept.ours).later calm in
         let same : Holds (state g b).now rows = subst (λ (d : Database). Holds d rows) (sym (kept.same before)) holds in
         IfOk-weaker r _ _ (λ y is. (one.value ours before rows holds, is)) (two.value kept.ours calm rows same);
-    live = two.live;
-  }
-
-  -- the same for a round that has begun, or for none
-  pub reads_at : {T : Type 0} {begun : Bool} {old new : Held S} {r : Result T StoreFault} {is : Rows → T → Type 0} → Reads g old new r is → ReadsAt begun g old new r is
-  reads_at h = record { stays = λ ours. h.stays ours; value = λ ours. h.value ours; live = h.live }
-
-  pub reads_more_at : {T : Type 0} {begun : Bool} {old new : Held S} {r : Result T StoreFault} {is other : Rows → T → Type 0}
-      → ReadsAt begun g old new r is → ((rows : Rows) → Holds (state g old).now rows → (x : T) → is rows x → other rows x) → ReadsAt begun g old new r other
-  reads_more_at {r = r} h f = record { stays = h.stays; value = λ ours calm rows holds. IfOk-weaker r _ _ (f rows holds) (h.value ours calm rows holds); live = h.live }
-
-  pub reads_to_at : {T U : Type 0} {begun : Bool} {old new : Held S} {x : T} {r : Result U StoreFault} {is : Rows → T → Type 0} {other : Rows → U → Type 0}
-      → ReadsAt begun g old new (Ok x) is → ((rows : Rows) → Holds (state g old).now rows → is rows x → IfOk r (other rows)) → ReadsAt begun g old new r other
-  reads_to_at {r = r} h f = record { stays = h.stays; value = λ ours calm rows holds. f rows holds (h.value ours calm rows holds); live = on_ok_anyway r h.live }
-
-  pub reads_then_at : {T U : Type 0} {begun : Bool} {a b c : Held S} {x : T} {r : Result U StoreFault} {is : Rows → T → Type 0} {other : Rows → U → Type 0}
-      → Reads g a b (Ok x) is → ReadsAt begun g b c r other → ReadsAt begun g a c r (λ rows y. is rows x × other rows y)
-  reads_then_at {a = a} {b = b} {c = c} {r = r} one two = record {
-    stays = λ ours. stays_then (state g a) (state g b) (state g c) (one.stays ours) (two.stays (one.stays ours).ours);
-    value = λ ours calm rows holds.
-        let kept = one.stays ours in
-        let before = sure_first (two.stays kept.ours).later calm in
-        let there : Holds (state g b).now rows = subst (λ (d : Database). Holds d rows) (sym (kept.same before)) holds in
-        IfOk-weaker r _ _ (λ y is. (one.value ours before rows holds, is)) (two.value kept.ours calm rows there);
     live = two.live;
   }
 
@@ -125,11 +100,11 @@ module _ {S : Type 0} (g : Ghosts S) where
   }
 
   -- what a statement does to the rows
-  pub runs_to : {T : Type 0} (sql : List ℕ) (params : Row) {old new : Savepoint S g} {r : Result T StoreFault} {counts : ℕ → Type 0} {change : Rows → Rows} {learns : Knowledge → Knowledge}
+  pub runs_to : {T : Type 0} (sql : List ℕ) (params : Row) {old new : Savepoint S g} {r : Result T StoreFault} {counts : ℕ → Type 0} {change : Rows → Rows}
       → Runs g sql params old new r counts
       → ((count : ℕ) → counts count → (state g old.conn.now).now.schema ≡ office_schema
-      → Executes sql params (state g old.conn.now) (state g new.conn.now) (Ok count) → Brings change learns (state g old.conn.now) (state g new.conn.now))
-      → WritesWith g old new r change learns
+      → Executes sql params (state g old.conn.now) (state g new.conn.now) (Ok count) → Brings change (state g old.conn.now) (state g new.conn.now))
+      → Writes g old new r change
   runs_to sql params h f = steps_to h (λ x it has. f it.0 it.1 has it.2)
 
   -- what a statement does that changed one row
@@ -147,15 +122,10 @@ module _ {S : Type 0} (g : Ghosts S) where
   finds_to (Err e) h f = steps_fault h
 
   -- a change as another that gives the same
-  pub writes_as : {T : Type 0} {old new : Savepoint S g} {r : Result T StoreFault} {one two : Rows → Rows} {learns : Knowledge → Knowledge}
-      → WritesWith g old new r one learns → ((rows : Rows) → Holds (state g old.conn.now).now rows → one rows ≡ two rows) → WritesWith g old new r two learns
+  pub writes_as : {T : Type 0} {old new : Savepoint S g} {r : Result T StoreFault} {one two : Rows → Rows}
+      → Writes g old new r one → ((rows : Rows) → Holds (state g old.conn.now).now rows → one rows ≡ two rows) → Writes g old new r two
   writes_as {old = old} {new = new} {one = one} {two = two} h same =
-      steps_to h (λ x went has. goes_as one two _ (state g old.conn.now) (state g new.conn.now) same (went has))
-
-  -- the same, where the learns is another that is the same too
-  pub writes_with : {T : Type 0} {old new : Savepoint S g} {r : Result T StoreFault} {one two : Rows → Rows} {i j : Knowledge → Knowledge}
-      → WritesWith g old new r one i → ((rows : Rows) → one rows ≡ two rows) → ((k : Knowledge) → i k ≡ j k) → WritesWith g old new r two j
-  writes_with {old = old} {new = new} {r = r} {one = one} h rows known = writes_as (subst (WritesWith g old new r one) (λ t k. known k t) h) (λ r holds. rows r)
+      steps_to h (λ x went has. goes_as one two (state g old.conn.now) (state g new.conn.now) same (went has))
 
   -- no change yet
   pub writes_none : (a : Savepoint S g) → Writes g a a going (λ rows. rows)
@@ -167,7 +137,7 @@ module _ {S : Type 0} (g : Ghosts S) where
   finds_none {a = a} {b = b} {y = y} found f =
       let old = state g a.conn.now in
       let new = state g b.conn.now in
-      steps_as (Ok y) found (λ seen has. goes_as _ _ _ old new (λ r holds. f r holds ((seen has).value r holds)) (brings_same _ _ old old old new refl (seen has).same (brings_none old has)))
+      steps_as (Ok y) found (λ seen has. goes_as _ _ old new (λ r holds. f r holds ((seen has).value r holds)) (brings_same _ old old old new refl (seen has).same (brings_none old has)))
 
   -- a change after a look
   pub finds_then : {T U : Type 0} {a b c : Savepoint S g} {x : T} {r : Result U StoreFault} {is : Rows → T → Type 0} {one two : Rows → Rows}
@@ -176,13 +146,13 @@ module _ {S : Type 0} (g : Ghosts S) where
       steps_to (steps_then found wrote) (λ y both has.
       let seen = both.0 has in
       let went = both.1 (ap (λ (d : Database). d.schema) seen.same ∙ has) in
-      goes_as _ _ _ (state g a.conn.now) (state g c.conn.now) (λ r holds. f r holds (seen.value r holds))
-      (brings_same _ _ (state g a.conn.now) (state g b.conn.now) (state g c.conn.now) (state g c.conn.now) seen.same refl went))
+      goes_as _ _ (state g a.conn.now) (state g c.conn.now) (λ r holds. f r holds (seen.value r holds))
+      (brings_same _ (state g a.conn.now) (state g b.conn.now) (state g c.conn.now) (state g c.conn.now) seen.same refl went))
 
   -- a change after a change
-  pub writes_then : {T U : Type 0} {a b c : Savepoint S g} {x : T} {r : Result U StoreFault} {one two : Rows → Rows} {i j : Knowledge → Knowledge}
-      → WritesWith g a b (Ok x) one i → WritesWith g b c r two j → WritesWith g a c r (λ rows. two (one rows)) (λ k. j (i k))
-  writes_then {a = a} {b = b} {c = c} {one = one} {two = two} {i = i} {j = j} first second =
+  pub writes_then : {T U : Type 0} {a b c : Savepoint S g} {x : T} {r : Result U StoreFault} {one two : Rows → Rows}
+      → Writes g a b (Ok x) one → Writes g b c r two → Writes g a c r (λ rows. two (one rows))
+  writes_then {a = a} {b = b} {c = c} {one = one} {two = two} first second =
       steps_to (steps_then first second) (λ y both has.
       let went = both.0 has in
-      goes_then one two i j (state g a.conn.now) (state g b.conn.now) (state g c.conn.now) went (both.1 went.schema))
+      goes_then one two (state g a.conn.now) (state g b.conn.now) (state g c.conn.now) went (both.1 went.schema))

@@ -7,7 +7,7 @@ pub use Rattle.mx_pay.specs.Names.{is_name, name_cmp}
 pub use Rattle.mx_tables.specs.Holds.{Holds}
 pub use Rattle.mx_tables.specs.Schema.{office_schema}
 pub use Rattle.mx_cells.specs.Cells.{number}
-pub use Rattle.mx_tables.specs.States.{Goes, going}
+pub use Rattle.mx_tables.specs.States.{Brings, going}
 pub use Rattle.sqlite.specs.Effect.{Database}
 pub use Rattle.sqlite.specs.Held.{state}
 pub use Rattle.sqlite.specs.State.{Executes}

@@ -27,7 +27,8 @@ use Rattle.mx_book.specs.declared.contract.StoreFault.TheVariants.{Memory, Store
 use Rattle.mx_book.specs.declared.values.PurseRow.{PurseRow}
 use Rattle.sqlite_sql.specs.Term.{eval_all}
 use Rattle.mx_tables.specs.Answers.{at_key, about_text, text_shown, next_shown}
-use Rattle.mx_cells.specs.Cells.{member_shown, purse_shown}
+use Rattle.mx_purse.specs.State.{IsPurse}
+use Rattle.mx_cells.specs.Cells.{member_shown, purse_columns, purse_shown}
 use Rattle.mx_tables.specs.Holds.{Spells}
 use Rattle.mx_tables.specs.declared.asking.About.{About}
 use Rattle.mx_tables.specs.declared.asking.About.TheVariants.{Member, Holder, Purse, Owner, Next}
@@ -41,7 +42,7 @@ use Rattle.mx_pay.proofs.SameLemmas.{names_turned}
 use Rattle.mx_tables.proofs.Texts.{scan, alone, IsSelect, is_given}
 use Rattle.mx_tables.proofs.ReadLemmas.{answers, selects, asked}
 use Rattle.mx_tables.proofs.KeptLemmas as kept
-use Rattle.mx_tables.proofs.SoundLemmas.{holders_named, members_named, members_valid}
+use Rattle.mx_tables.proofs.SoundLemmas.{holders_named, members_named, members_valid, purses_valid}
 use Rattle.mx_book.specs.Spells as book
 use Rattle.mx_book.specs.declared.values.MemberRow.{MemberRow}
 use Rattle.mx_pay.specs.Limits.{most_number}
@@ -148,12 +149,6 @@ pub err_by_fault : {X : Type 0} (r : Result X StoreFault) (old new : State) → 
 err_by_fault (Ok x) old new h = tt
 err_by_fault (Err f) old new h = by_fault old new f h
 
--- a fault of a later call is one of all of them
-later_blames : (a b c : State) → a.faults ≤ b.faults → b.step_limit ≡ a.step_limit → (f : StoreFault) → Blames b c f → Blames a c f
-later_blames a b c counts limit Memory h = tt
-later_blames a b c counts limit Store (inl h) = inl (omega (arith, counts, h))
-later_blames a b c counts limit Store (inr h) = inr (subst IsSome limit h)
-
 pub explains_as : {k l x y : Type 0} (old new : State) → Explains old new k x → (HasCleanDisk new → worry old ≡ 0 → l → k × (x → y)) → Explains old new l y
 explains_as old new h f = record {
   clean = h.clean;
@@ -176,43 +171,12 @@ explains_to old new r h f = record {
   ];
 }
 
--- one read and then another
-pub explains_then : {k l x : Type 0} {U : Type 0} (a b c : State) (r : Result U StoreFault) → Explains a b k x → Explains b c l (IfErr r (Blames b c)) → (worry a ≡ 0 → worry b ≡ 0 → k → l) → Explains a c k (IfErr r (Blames a c))
-explains_then a b c r one two f =
-    let early = λ (clean : HasCleanDisk c). let it : HasCleanDisk b = (let e = two.clean in omega arith) in it in
-    let faulted : IsFaulted a b → IsFaulted a c = λ h. omega (arith, two.counts, h) in
-    let later : IsFaulted b c → IsFaulted a c = λ h. omega (arith, one.counts, h) in
-    record {
-      clean = (let e = one.clean in let g = two.clean in omega arith);
-      counts = omega (arith, one.counts, two.counts);
-      limit = two.limit ∙ one.limit;
-      closes = λ clean live. elim (one.closes (early clean) live) [
-        | inl mid ↦ elim (two.closes clean mid) [ inl end ↦ inl end | inr h ↦ inr (later h) ]
-        | inr h ↦ inr (faulted h)
-      ];
-      cause = λ clean calm known. elim (one.closes (early clean) (sure a calm).0) [
-        | inl mid ↦
-            let sound = no_worry b mid (early clean) in
-            IfErr-weaker r _ _ (later_blames a b c one.counts one.limit) (two.cause clean sound (f calm sound known))
-        | inr h ↦ err_by_fault r a c (faulted h)
-      ];
-    }
-
 module _ {S : Type 0} (g : Ghosts S) where
   -- what was read of the rows is decoded
   pub why_to : {X U : Type 0} {old new : Held S} {x : X} {r : Result U StoreFault} {is : Rows → X → Type 0} → Reads g old new (Ok x) is → IsExplained g old new (Ok x)
       → ((w : World) (s : Spells (state g old).now w) → is s.rows x → IfErr r IsForMemory) → IsExplained g old new r
   why_to {old = old} {new = new} {r = r} h one f = record {
     why = λ ours. explains_to (state g old) (state g new) r (one.why ours) (λ was calm it. f it.0 it.1 (h.value ours (idle_sure (state g new) calm) it.1.rows it.1.holds));
-  }
-
-  -- one read and then another
-  pub why_then : {X U : Type 0} {a b c : Held S} {x : X} {r : Result U StoreFault} {is : Rows → X → Type 0} → Reads g a b (Ok x) is → IsExplained g a b (Ok x) → IsExplained g b c r → IsExplained g a c r
-  why_then {a = a} {b = b} {c = c} {r = r} h one two = record {
-    why = λ ours.
-        let kept = h.stays ours in
-        explains_then (state g a) (state g b) (state g c) r (one.why ours) (two.why kept.ours)
-        (λ was calm it. (it.0, subst (λ (d : Database). Spells d it.0) (sym (kept.same (idle_sure (state g b) calm))) it.1));
   }
 
 -- a decoding that gives a value has no fault
@@ -246,10 +210,17 @@ holder_read r w h k row is = subst (λ o. IfSome o HasName) (sym is) (by (fmap.g
     by None e = tt
     by (Some m) e = (m, members_named r w h k m e, refl)
 
--- the number of a purse's next message is shown
-pub next_read : (o : Option PurseRow) (row : Option Row) → row ≡ option_map next_shown o → IfSome row (λ c. (n : ℕ) × (column c 0 ≡ number n))
-next_read None row is = rw is tt
-next_read (Some x) row is = rw is (x.next_message, refl)
+-- the columns show a purse of that name
+abbrev pub HasPurse : Name → Row → Type 0
+HasPurse p c = (x : PurseRow) × IsPurse x.purse × (x.purse.name ≡ p) × (is_name_text x.holder ≡ true) × (purse_columns c ≡ purse_shown x)
+
+-- a purse that is shown is one
+pub purse_read : (r : Rows) (w : World) → book.Spells r w → (p : Name) (row : Option Row) → row ≡ option_map purse_shown (fmap.get r.purses p) → IfSome row (HasPurse p)
+purse_read r w h p row is = subst (λ o. IfSome o (HasPurse p)) (sym is) (by (fmap.get r.purses p) refl)
+  where
+    by : (o : Option PurseRow) → fmap.get r.purses p ≡ o → IfSome (option_map purse_shown o) (HasPurse p)
+    by None e = tt
+    by (Some x) e = let it = purses_valid r w h p x e in (x, it.1, it.0, holders_named r w h p x e, refl)
 
 -- the money of a member that is shown is within its limit
 pub member_read : (r : Rows) (w : World) → book.Spells r w → (m : Name) (row : Option Row) → row ≡ option_map member_shown (fmap.get r.members m) → IfSome row HasMoney

@@ -20,7 +20,7 @@ use Rattle.sqlite.specs.State.{State, Shown}
 use Rattle.mx_pay.specs.Limits.{most_number}
 use Rattle.mx_pay.proofs.SameLemmas.{names_turned}
 use Rattle.mx_book.specs.RowEdits.{on_purse}
-use Rattle.mx_book.specs.declared.edits.Edit.TheVariants.{AddMessage, DropMessage}
+use Rattle.mx_book.specs.declared.edits.Edit.TheVariants.{AddMessage}
 use Rattle.mx_book.specs.RowReads.{row_inbox_of, of_name}
 use Rattle.mx_book.specs.Under.{pair_cmp}
 use Rattle.mx_book.proofs.NameLemmas.{same_name}
@@ -35,10 +35,7 @@ use Rattle.mx_tables.specs.States.{Accepts, Brings}
 use Rattle.mx_tables.proofs.FaultLemmas.{IsWhole, select_accepted}
 use Rattle.mx_tables.proofs.ReadLemmas.{answers, answers_in_order, keyed}
 use Rattle.mx_tables.proofs.StateLemmas.{brings_same}
-use Rattle.mx_tables.proofs.WriteLemmas.{adds_known, drops, goes_as, goes_then}
-use Rattle.mx_tables.proofs.KnownLemmas.{IsChanged, changed_is, at_most_put, at_most_beside, at_most_left, numbered_put, numbered_left, lies_put, lies_left}
-use Rattle.mx_tables.specs.Owners.{Owned}
-use Rattle.mx_tables.specs.Known.{Knowledge, AreNumbered, IsKnown, Lies, Stands, AtMost, is_message_at, known_sent, known_after}
+use Rattle.mx_tables.proofs.WriteLemmas.{adds, drops, goes_as, goes_then}
 use Rattle.sqlite_trees.specs.Tree.{put_row}
 use Rattle.sqlite_rules.specs.Edit.{is_taken, without_all}
 use Rattle.sqlite_rules.specs.Calls.{ids_of}
@@ -126,28 +123,10 @@ pub both_hold : {X E : Type 0} (r : Result X E) (P Q : X → Type 0) → IfOk r 
 both_hold (Ok x) P Q p q = (p, q)
 both_hold (Err e) P Q p q = tt
 
--- what is known with fewer messages
-left_known : (p : Name) (n : ℕ) (old new : State) (read : List Row) → IsPermutation (map (λ r. column r 0 ∷ []) (filter (is_message_at (p, n)) (old.now.trees 10))) read → Wrote office_schema kept.inbox_place.table old new (without_all (old.now.trees 10) (ids_of read))
-    → (k : Knowledge) → IsKnown old.now.trees k → IsKnown new.now.trees (known_after k (DropMessage p n))
-left_known p n old new read got wrote k it =
-    let purses : new.now.trees 8 ≡ old.now.trees 8 = wrote.others.1.1.1.1.0 (λ e. cc) in
-    record {
-      owned = subst (λ rows. Owned rows k.owners) (sym purses) it.owned;
-      stand = λ q x at. subst (λ rows. Stands rows q x) (sym purses) (it.stand q x at);
-      bound = λ q n at. subst (λ rows. AtMost rows q n) (sym wrote.rows_are) (at_most_left (ids_of read) (old.now.trees 10) q n (it.bound q n at));
-      numbered = subst AreNumbered (sym wrote.rows_are) (numbered_left (ids_of read) (old.now.trees 10) it.numbered);
-      lies = λ q at.
-          let had = sym (ap (λ (o : Option (Unit {0})). is_some o) (fmap.get-remove kept.pairs_key.total k.seen (p, n) q)) ∙ at in
-          let other : eq_by_cmp (pair_cmp name_cmp nat_cmp) q (p, n) ≡ false = grind (arith, had) in
-          subst (λ rows. Lies rows q) (sym wrote.rows_are) (lies_left (old.now.trees 10) q (p, n) read it.numbered got other (it.lies q (grind (arith, had, other))));
-    }
-
-pub drops_message : (p : Name) (n : ℕ) (old new : State) (count : ℕ) → old.now.schema ≡ office_schema → Executes delete_message (Text p ∷ number n ∷ []) old new (Ok count)
-    → Brings (λ r. record r { inbox = fmap.remove r.inbox (p, n) }) (λ k. known_after k (DropMessage p n)) old new
+pub drops_message : (p : Name) (n : ℕ) (old new : State) (count : ℕ) → old.now.schema ≡ office_schema → Executes delete_message (Text p ∷ number n ∷ []) old new (Ok count) → Brings (λ r. record r { inbox = fmap.remove r.inbox (p, n) }) old new
 drops_message p n old new count has ran =
-    goes_as _ _ _ old new (λ r h. ap (λ m. record r { inbox = m }) (remove_is r.inbox (p, n)))
-    (drops kept.inbox delete_message _ _ delete_message_is (Text p ∷ number n ∷ []) (eq_by_cmp (pair_cmp name_cmp nat_cmp) (p, n))
-    (at_message p n) (λ id e. refl) _ (λ old new read got wrote k it. left_known p n old new read got wrote k it) old new count has ran)
+    goes_as _ _ old new (λ r h. ap (λ m. record r { inbox = m }) (remove_is r.inbox (p, n)))
+    (drops kept.inbox delete_message _ _ delete_message_is (Text p ∷ number n ∷ []) (eq_by_cmp (pair_cmp name_cmp nat_cmp) (p, n)) (at_message p n) (λ id e. refl) old new count has ran)
 
 -- no message has a number above 10^15
 pub none_above : (r : Rows) (p : Name) (n : ℕ) → HaveNumbers r → most_number < n → fmap.get r.inbox (p, n) ≡ None
@@ -157,35 +136,14 @@ none_above r p n low above = by_message (fmap.get r.inbox (p, n)) refl
     by_message None e = refl
     by_message (Some m) e = absurd (let it = low (p, n) m e in omega (arith, it, above))
 
--- what is known after a message more
-sent_known : (id : ℤ) (p : Name) (rest : Row) (old new : State) → is_taken (old.now.trees 10) (Int id ∷ Text p ∷ rest) ≡ false → Wrote office_schema kept.inbox_place.table old new (put_row (Int id ∷ Text p ∷ rest) (old.now.trees 10)) → (k : Knowledge) → IsKnown old.now.trees k → IsKnown new.now.trees (known_sent p k)
-sent_known id p rest old new fresh wrote k it =
-    let purses : new.now.trees 8 ≡ old.now.trees 8 = wrote.others.1.1.1.1.0 (λ e. cc) in
-    record {
-      owned = subst (λ rows. Owned rows k.owners) (sym purses) it.owned;
-      stand = λ q x at. subst (λ rows. Stands rows q x) (sym purses) (it.stand q x at);
-      bound = λ q n at. subst (λ rows. AtMost rows q n) (sym wrote.rows_are) (bound q n (changed_is k.waiting p (λ n. n + 1) q n at));
-      numbered = subst AreNumbered (sym wrote.rows_are) (numbered_put (old.now.trees 10) id (Text p ∷ rest) fresh it.numbered);
-      lies = λ q at. subst (λ rows. Lies rows q) (sym wrote.rows_are) (lies_put (old.now.trees 10) _ q fresh (it.lies q at));
-    }
-  where
-    bound : (q : Name) (n : ℕ) → IsChanged k.waiting p (λ n. n + 1) q n → AtMost (put_row (Int id ∷ Text p ∷ rest) (old.now.trees 10)) q n
-    bound q n (inl (m, same, at, is)) =
-        subst (AtMost (put_row (Int id ∷ Text p ∷ rest) (old.now.trees 10)) q) (sym is) (at_most_put (old.now.trees 10) (Int id ∷ Text p ∷ rest) q m (subst (λ n. AtMost (old.now.trees 10) n m) (sym same) (it.bound p m at)))
-    bound q n (inr (apart, at)) =
-        at_most_beside (old.now.trees 10) (Int id ∷ Text p ∷ rest) q n (and_true _ ∙ same_text p q ∙ names_turned p q ∙ apart) (it.bound q n at)
-
 pub adds_message : (p : Name) (n : ℕ) (m : Message) (old new : State) (count : ℕ) → old.now.schema ≡ office_schema
-    → Executes insert_message (Text p ∷ number n ∷ Text (message_word m) ∷ Text (message_details m) ∷ []) old new (Ok count) → Brings (λ r. record r { inbox = fmap.insert r.inbox (p, n) m }) (known_sent p) old new
+    → Executes insert_message (Text p ∷ number n ∷ Text (message_word m) ∷ Text (message_details m) ∷ []) old new (Ok count) → Brings (λ r. record r { inbox = fmap.insert r.inbox (p, n) m }) old new
 adds_message p n m =
-    adds_known kept.inbox insert_message _ _ insert_message_is (Text p ∷ number n ∷ Text (message_word m) ∷ Text (message_details m) ∷ []) ((p, n), m) (rw (cast_null, cast_int (pos n)) refl) (known_sent p)
-    (λ old new id fresh wrote. sent_known id p _ old new fresh wrote)
+    adds kept.inbox insert_message _ _ insert_message_is (Text p ∷ number n ∷ Text (message_word m) ∷ Text (message_details m) ∷ []) ((p, n), m) (rw (cast_null, cast_int (pos n)) refl)
 
 -- a message under the next number of its purse, which rises
-pub delivers : (p : Name) (m : Message) (n : ℕ) (a b c d : State) → b.now ≡ a.now → Raises p n b c → Brings (λ r. record r { inbox = fmap.insert r.inbox (p, n) m }) (known_sent p) c d
-    → Brings (λ r. rewritten r (AddMessage p m)) (λ k. known_after k (AddMessage p m)) a d
-delivers p m n a b c d same one two =
-    goes_as _ _ _ a d (λ r holds. is r (fmap.get r.purses p) (one.was r (subst (λ (db : Database). Holds db r) (sym same) holds))) (goes_then _ _ _ _ a c d (brings_same _ _ a b c c same refl one.goes) two)
+pub delivers : (p : Name) (m : Message) (n : ℕ) (a b c : State) → Raises p n a b → Brings (λ r. record r { inbox = fmap.insert r.inbox (p, n) m }) b c → Brings (λ r. rewritten r (AddMessage p m)) a c
+delivers p m n a b c one two = goes_as _ _ a c (λ r holds. is r (fmap.get r.purses p) (one.was r holds)) (goes_then _ _ a b c one.goes two)
   where
     put_in : Rows → Rows
     put_in r = record r { inbox = fmap.insert r.inbox (p, n) m }

@@ -405,9 +405,9 @@ tokens_once : (db : Database) (b c : Contents) → HasContents db b → HasConte
 tokens_once db b c h g = first_and_others _ _ _ _ _
     (same_lists token_cells (λ e. IsToken e.0) tells_token (db.trees 3) (tokens_of b) (tokens_of c) (stored token_rows db b h).have (stored token_rows db c g).have h.tokens g.tokens)
 
--- a database spells one World at most
-one_spelled : (db : Database) (v w : World) → Spells db v → Spells db w → v ≡ w
-one_spelled db v w h g =
+-- a database holds one book's rows at most that spell a World
+pub one_held : (db : Database) (v w : World) (h : Spells db v) (g : Spells db w) → h.rows ≡ g.rows
+one_held db v w h g =
     let r = h.rows in
     let s = g.rows in
     let tokens = tokens_once db h.holds.contents g.holds.contents h.holds.has g.holds.has in
@@ -425,8 +425,11 @@ one_spelled db v w h g =
       redemptions = listed_once redemptions (λ _. Unit {0}) tells_redemption db r s h.holds g.holds (λ _ _ _. tt) (λ _ _ _. tt) i;
       settled = listed_once settled (λ e. IsDetails e.0) tells_settled db r s h.holds g.holds (settled_valid r v h.spells) (settled_valid s w g.spells) i;
     } in
-    let same : r ≡ s = sym h.holds.rows ∙ ap rows_of contents ∙ g.holds.rows in
-    one_world s v w (subst (λ (x : Rows). book.Spells x v) same h.spells) g.spells
+    sym h.holds.rows ∙ ap rows_of contents ∙ g.holds.rows
+
+-- so it spells one World at most
+one_spelled : (db : Database) (v w : World) → Spells db v → Spells db w → v ≡ w
+one_spelled db v w h g = one_world g.rows v w (subst (λ (x : Rows). book.Spells x v) (one_held db v w h g) h.spells) g.spells
 
 -- so one that it spells is the only one
 pub spelled_one : {db : Database} {w : World} → Spells db w → SpellsOne db w
@@ -438,6 +441,10 @@ in_order : (es : List Edit) (r : Rows) → fold rewritten r es ≡ all_rewritten
 in_order [] r = refl
 in_order (e ∷ es) r = in_order es (rewritten r e)
 
+-- the rows after edits spell the World after them
+pub spells_after : (es : List Edit) (w : World) (r : Rows) → book.Spells r w → Fits w es → book.Spells (fold rewritten r es) (all_edited w es)
+spells_after es w r h fits = applied r (fold rewritten r es) w es h fits (in_order es r)
+
 pub spelled_after : (es : List Edit) (w : World) (old new : Database) (h : Spells old w) → Fits w es → Holds new (fold rewritten h.rows es) → Spells new (all_edited w es)
 spelled_after es w old new h fits holds =
-    record { rows = fold rewritten h.rows es; holds = holds; spells = applied h.rows (fold rewritten h.rows es) w es h.spells fits (in_order es h.rows) }
+    record { rows = fold rewritten h.rows es; holds = holds; spells = spells_after es w h.rows h.spells fits }

@@ -13,9 +13,8 @@ pub mod Places
 pub mod KeptLemmas
 pub mod ReadLemmas
 pub mod CallLemmas
+pub mod ThroughLemmas
 pub mod WriteLemmas
-pub mod OwnerLemmas
-pub mod KnownLemmas
 pub mod PurseLemmas
 pub mod MemberLemmas
 pub mod MadeLemmas
@@ -26,7 +25,9 @@ pub mod ResultLemmas
 pub mod SettledLemmas
 pub mod CountedSums
 pub mod LoadLemmas
-pub mod RecallLemmas
+pub mod OwnerLemmas
+pub mod CacheLemmas
+pub mod InvariantLemmas
 pub mod ToldLemmas
 pub mod FaultLemmas
 pub mod MigrationLemmas

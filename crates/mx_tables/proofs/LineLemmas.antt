@@ -1,5 +1,5 @@
 -- The statements on lines, and what is read of the lines of a purse.
-use Rattle.mx_tables.proofs.Common.{◌≡◌, ℕ, pos, List, [], ◌∷◌, codes, Ok, refl, arith, ◌+◌, ◌≤◌, ◌&&◌, ◌++◌, take, length, ◌∙◌, Some, None, Null, Text, Int, col, Term, Executes, is_name, Name, Rows, office_schema, number, Goes, AllByRecursion, length-map, Binary, Row, Database, state, Holds}
+use Rattle.mx_tables.proofs.Common.{◌≡◌, ℕ, pos, List, [], ◌∷◌, codes, Ok, refl, arith, ◌+◌, ◌≤◌, ◌&&◌, ◌++◌, take, length, ◌∙◌, Some, None, Null, Text, Int, col, Term, Executes, is_name, Name, Rows, office_schema, number, Brings, AllByRecursion, length-map, Binary, Row, Database, state, Holds}
 use Rattle.std.proofs.Common.{map, sym, ap, ap₂}
 use Rattle.std.specs.FinMap as fmap
 use Rattle.std.specs.Ordering.{is_gt}
@@ -57,10 +57,10 @@ insert_line_is = record { is = refl; plain = (refl, refl) }
 
 pub adds_line : (p : Name) (l : Line) (old new : State) (count : ℕ) → old.now.schema ≡ office_schema
     → Executes insert_line (Text p ∷ number l.number ∷ Text (kind_text l.kind) ∷ number l.amount ∷ number l.balance ∷ Text (note_text l.note) ∷ []) old new (Ok count)
-    → Goes (λ r. record r { lines = fmap.insert r.lines (p, l.number) (line_row l) }) old new
+    → Brings (λ r. record r { lines = fmap.insert r.lines (p, l.number) (line_row l) }) old new
 adds_line p l =
     adds kept.lines insert_line _ _ insert_line_is (Text p ∷ number l.number ∷ Text (kind_text l.kind) ∷ number l.amount ∷ number l.balance ∷ Text (note_text l.note) ∷ []) ((p, l.number), line_row l)
-    (rw (cast_null, cast_int (pos l.number), cast_int (pos l.amount), cast_int (pos l.balance)) refl) refl refl
+    (rw (cast_null, cast_int (pos l.number), cast_int (pos l.amount), cast_int (pos l.balance)) refl)
 
 -- ---- the page of a purse
 

@@ -1,5 +1,5 @@
 -- The statements on loads and redemptions, and redemptions that are collected purse by purse.
-use Rattle.mx_tables.proofs.Common.{◌≡◌, ℕ, pos, List, [], ◌∷◌, Ok, refl, ◌∙◌, arith, true, ◌&&◌, false, ◌+◌, ◌<◌, ◌≤◌, Bool, ◌++◌, take, length, Option, codes, IsPermutation, eq_by_cmp, Text, Null, Int, option_map, Binary, Row, column, Executes, name_cmp, is_name, Name, Rows, office_schema, number, Holds, Goes, PurseRow, col}
+use Rattle.mx_tables.proofs.Common.{◌≡◌, ℕ, pos, List, [], ◌∷◌, Ok, refl, ◌∙◌, arith, true, ◌&&◌, false, ◌+◌, ◌<◌, ◌≤◌, Bool, ◌++◌, take, length, Option, codes, IsPermutation, eq_by_cmp, Text, Null, Int, option_map, Binary, Row, column, Executes, name_cmp, is_name, Name, Rows, office_schema, number, Holds, Brings, PurseRow, col}
 use Rattle.std.proofs.Common.{map, T, cond, ◌||◌, get_or, sym, ap, subst}
 use Rattle.std.specs.Cmp.{tied_then}
 use Rattle.std.specs.FinMap as fmap
@@ -13,7 +13,7 @@ use Rattle.mx_book.specs.Under.{pair_cmp, remake}
 use Rattle.mx_tables.specs.Answers.{amount_shown, one_or_none}
 use Rattle.mx_tables.proofs.StoredLemmas.{same_text, cast_int, cast_null, and_true}
 use Rattle.mx_tables.proofs.ReadLemmas.{answers, keyed}
-use Rattle.mx_tables.proofs.WriteLemmas.{adds, alters, goes_as, untouched}
+use Rattle.mx_tables.proofs.WriteLemmas.{adds, alters, goes_as}
 use Rattle.mx_tables.proofs.KeptLemmas.{loads, redemptions, purses}
 use Rattle.mx_book.specs.declared.values.Redemption.{Redemption}
 use Rattle.std.specs.List.{list_any}
@@ -65,9 +65,9 @@ pub load_is : (p reference : Name) (old new : State) (rows : List Row) → Shown
 load_is p reference = keyed loads (p, reference) select_load _ _ _ select_load_is (Text p ∷ Text reference ∷ []) amount_shown (λ id e. reference_passes p reference e.0) (λ id e. refl)
 
 pub adds_load : (p reference : Name) (amount : ℕ) (old new : State) (count : ℕ) → old.now.schema ≡ office_schema → Executes insert_load (Text p ∷ Text reference ∷ number amount ∷ []) old new (Ok count)
-    → Goes (λ r. record r { loads = fmap.insert r.loads (p, reference) amount }) old new
+    → Brings (λ r. record r { loads = fmap.insert r.loads (p, reference) amount }) old new
 adds_load p reference amount =
-    adds loads insert_load _ _ insert_load_is (Text p ∷ Text reference ∷ number amount ∷ []) ((p, reference), amount) (rw (cast_null, cast_int (pos amount)) refl) refl refl
+    adds loads insert_load _ _ insert_load_is (Text p ∷ Text reference ∷ number amount ∷ []) ((p, reference), amount) (rw (cast_null, cast_int (pos amount)) refl)
 
 -- ---- redemptions
 
@@ -98,10 +98,10 @@ redemption_is p reference =
     keyed redemptions (p, reference) select_redemption _ _ _ select_redemption_is (Text p ∷ Text reference ∷ []) (λ (x : Redemption). amount_shown x.amount) (λ id e. reference_passes p reference e.0) (λ id e. refl)
 
 pub adds_redemption : (p reference : Name) (amount : ℕ) (old new : State) (count : ℕ) → old.now.schema ≡ office_schema → Executes insert_redemption (Text p ∷ Text reference ∷ number amount ∷ []) old new (Ok count)
-    → Goes (λ r. record r { redemptions = fmap.insert r.redemptions (p, reference) (record { amount = amount; collected = false }) }) old new
+    → Brings (λ r. record r { redemptions = fmap.insert r.redemptions (p, reference) (record { amount = amount; collected = false }) }) old new
 adds_redemption p reference amount =
     adds redemptions insert_redemption _ _ insert_redemption_is (Text p ∷ Text reference ∷ number amount ∷ []) ((p, reference), record { amount = amount; collected = false })
-    (rw (cast_null, cast_int (pos amount), cast_int (pos 0)) refl) refl refl
+    (rw (cast_null, cast_int (pos amount), cast_int (pos 0)) refl)
 
 -- ---- collecting
 
@@ -114,11 +114,11 @@ set_or_left : (b : Bool) (x : Redemption) → cond b (record x { collected = tru
 set_or_left b x = grind (arith, or-true x.collected, or-false x.collected)
 
 pub collects_purse : (p : Name) (old new : State) (count : ℕ) → old.now.schema ≡ office_schema → Executes mark_purse (Text p ∷ []) old new (Ok count)
-    → Goes (λ r. record r { redemptions = remake (collected_where (λ q. is_name q p)) r.redemptions }) old new
+    → Brings (λ r. record r { redemptions = remake (collected_where (λ q. is_name q p)) r.redemptions }) old new
 collects_purse p old new count has ran =
-    goes_as _ _ _ old new (λ r h. λ i. record r { redemptions = remake (λ k x. set_or_left (is_name k.0 p) x i) r.redemptions })
+    goes_as _ _ old new (λ r h. λ i. record r { redemptions = remake (λ k x. set_or_left (is_name k.0 p) x i) r.redemptions })
     (alters redemptions mark_purse _ _ mark_purse_is (Text p ∷ []) (λ e. is_name e.0.0 p) (λ k x. record x { collected = true }) (λ id e. rw (same_text e.0.0 p) (and_true _)) (λ id e. refl)
-    (λ id e. rw (cast_int id, cast_int (pos e.1.amount), cast_int (pos 1)) refl) old new count has ran (λ k. k) (λ read picks fresh wrote all. untouched _ old new _ refl refl wrote))
+    (λ id e. rw (cast_int id, cast_int (pos e.1.amount), cast_int (pos 1)) refl) old new count has ran)
 
 -- ---- one after the other
 

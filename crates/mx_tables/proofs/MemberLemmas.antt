@@ -1,5 +1,5 @@
 -- The statements on members, holders and tokens.
-use Rattle.mx_tables.proofs.Common.{◌≡◌, ℕ, pos, true, List, [], ◌∷◌, filter, codes, Ok, refl, ◌∙◌, Bool, ◌++◌, Some, Option, IsPermutation, ◌&&◌, Text, Binary, Row, column, col, Executes, is_name, Name, Rows, office_schema, number, Holds, Goes, Database}
+use Rattle.mx_tables.proofs.Common.{◌≡◌, ℕ, pos, true, List, [], ◌∷◌, filter, codes, Ok, refl, ◌∙◌, Bool, ◌++◌, Some, Option, IsPermutation, ◌&&◌, Text, Binary, Row, column, col, Executes, is_name, Name, Rows, office_schema, number, Holds, Brings, Database}
 use Rattle.std.proofs.Common.{map, sym, ap, subst}
 use Rattle.std.specs.FinMap as fmap
 use Rattle.sqlite_value.specs.Keys.{ascending}
@@ -16,7 +16,7 @@ use Rattle.mx_tables.specs.Answers.{at_key, text_shown}
 use Rattle.mx_tables.proofs.Texts.{select_members, select_members_is, insert_member, insert_member_is, update_member, update_member_is, insert_holder, insert_holder_is, select_token, select_token_is, insert_token, insert_token_is}
 use Rattle.mx_tables.proofs.StoredLemmas.{and_true, same_text, cast_int, cast_null, stores_put}
 use Rattle.mx_tables.proofs.ReadLemmas.{answers_in_order, answered}
-use Rattle.mx_tables.proofs.WriteLemmas.{untouched, adds, alters_one, has_then, no_actions}
+use Rattle.mx_tables.proofs.WriteLemmas.{adds, alters_one, has_then, no_actions}
 use Rattle.mx_tables.proofs.KeptLemmas.{members, holders, token_place, token_rows}
 use Rattle.mx_tables.proofs.Places.{stored, distinct}
 use Rattle.std.specs.Cmp.{both_ways}
@@ -57,21 +57,20 @@ names_read rows names keys read is =
 -- ---- writes
 
 pub adds_member : (name : Name) (old new : State) (count : ℕ) → old.now.schema ≡ office_schema → Executes insert_member (Text name ∷ []) old new (Ok count)
-    → Goes (λ r. record r { members = fmap.insert r.members name (record { granted = 0; float = 0 }) }) old new
-adds_member name = adds members insert_member _ _ insert_member_is (Text name ∷ []) (name, record { granted = 0; float = 0 }) (rw (cast_null, cast_int (pos 0)) refl) refl refl
+    → Brings (λ r. record r { members = fmap.insert r.members name (record { granted = 0; float = 0 }) }) old new
+adds_member name = adds members insert_member _ _ insert_member_is (Text name ∷ []) (name, record { granted = 0; float = 0 }) (rw (cast_null, cast_int (pos 0)) refl)
 
 pub resets : (m : Name) (row : MemberRow) (old new : State) → old.now.schema ≡ office_schema → Executes update_member (Text m ∷ number row.granted ∷ number row.float ∷ []) old new (Ok 1)
-    → Goes (λ r. record r { members = fmap.insert r.members m row }) old new
+    → Brings (λ r. record r { members = fmap.insert r.members m row }) old new
 resets m row old new has ran =
     alters_one members update_member _ _ update_member_is (Text m ∷ number row.granted ∷ number row.float ∷ []) m (λ _. true) (λ _. row) (λ id e. ap (λ b. b && true) (same_text e.0 m)) (λ id e. refl)
-    (λ id e. rw (cast_int id, cast_int (pos row.granted), cast_int (pos row.float)) refl) old new has ran
-    (λ k. k) (λ read picks fresh wrote all. untouched _ old new _ refl refl wrote) _ (λ r v at. refl)
+    (λ id e. rw (cast_int id, cast_int (pos row.granted), cast_int (pos row.float)) refl) old new has ran _ (λ r v at. refl)
 
 -- ---- holders
 
 pub adds_holder : (name member : Name) (old new : State) (count : ℕ) → old.now.schema ≡ office_schema → Executes insert_holder (Text name ∷ Text member ∷ []) old new (Ok count)
-    → Goes (λ r. record r { holders = fmap.insert r.holders name member }) old new
-adds_holder name member = adds holders insert_holder _ _ insert_holder_is (Text name ∷ Text member ∷ []) (name, member) (rw cast_null refl) refl refl
+    → Brings (λ r. record r { holders = fmap.insert r.holders name member }) old new
+adds_holder name member = adds holders insert_holder _ _ insert_holder_is (Text name ∷ Text member ∷ []) (name, member) (rw cast_null refl)
 
 -- ---- tokens
 
@@ -107,7 +106,7 @@ finds_token t old new rows shown one r h =
 -- ---- writes
 
 pub adds_token : (t : Token) (caller : Caller) (old new : State) (count : ℕ) → IsToken t → old.now.schema ≡ office_schema → Executes insert_token (token_cells (t, caller)) old new (Ok count)
-    → Goes (λ r. record r { tokens = fmap.insert r.tokens t caller }) old new
+    → Brings (λ r. record r { tokens = fmap.insert r.tokens t caller }) old new
 adds_token t caller old new count one has h =
     let e : Token × Caller = (t, caller) in
     let wrote = (inserted office_schema 2 token_place.table refl (no_actions token_place.table) insert_token (token_cells e) old new has insert_token_is.plain count h _ _ (token_cells e) insert_token_is.is refl (rw cast_null refl)).0 in
@@ -121,5 +120,4 @@ adds_token t caller old new count one has h =
           let after = has_then 1 token_place.table refl old new _ _ c d wrote h.has refl (subst (Stores _) (sym (map-append token_cells (tokens_of c) (e ∷ []))) stores) tokens in
           let pushed = map_push token_cmp names_total names_exact c.tokens t caller (distinct token_rows new.now d after).1 in
           record { contents = d; has = after; rows = (λ i. record (rows_of c) { tokens = pushed i }) ∙ ap (λ (x : Rows). record x { tokens = fmap.insert x.tokens t caller }) h.rows };
-      known = untouched token_place.table old new _ refl refl wrote;
     }

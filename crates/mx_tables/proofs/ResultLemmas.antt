@@ -1,5 +1,5 @@
 -- The statements on the tray and the archive.
-use Rattle.mx_tables.proofs.Common.{◌≡◌, ℕ, pos, ◌+◌, ◌<◌, Bool, true, ◌&&◌, List, [], ◌∷◌, ◌++◌, filter, take, length, codes, Ok, refl, ◌∙◌, arith, Option, Some, is_eq, IsPermutation, eq_by_cmp, nat_cmp, Null, Int, Text, Row, column, col, Database, Executes, is_name, Name, Rows, rewritten, office_schema, number, Holds, Goes}
+use Rattle.mx_tables.proofs.Common.{◌≡◌, ℕ, pos, ◌+◌, ◌<◌, Bool, true, ◌&&◌, List, [], ◌∷◌, ◌++◌, filter, take, length, codes, Ok, refl, ◌∙◌, arith, Option, Some, is_eq, IsPermutation, eq_by_cmp, nat_cmp, Null, Int, Text, Row, column, col, Database, Executes, is_name, Name, Rows, rewritten, office_schema, number, Holds, Brings}
 use Rattle.std.proofs.Common.{le_refl, if◌then◌else◌, ◌||◌, map, get_or, sym, ap, ap₂, subst, length-append, is_some}
 use Rattle.std.specs.List.{list_any}
 use Rattle.std.specs.FinMap as fmap
@@ -33,7 +33,6 @@ use Rattle.mx_book.proofs.NameLemmas.{same_name, name_itself}
 use Rattle.mx_book.proofs.MapLemmas.{AllEntries, all_entries}
 use Rattle.mx_book.proofs.LogLemmas.{same_members, has_kept, under_has}
 use Rattle.mx_book.proofs.ResultLemmas.{has-both, results_total, results_exact}
-use Rattle.mx_tables.specs.Known.{IsKnown}
 use Rattle.mx_tables.specs.States.{Sees}
 use Rattle.mx_tables.specs.Answers.{at_key}
 use Rattle.mx_tables.specs.Results.{Archives, details_shown, first_one, AreDetails, Shows, and_details}
@@ -46,7 +45,7 @@ use Rattle.mx_tables.specs.States.{Accepts}
 use Rattle.mx_tables.proofs.FaultLemmas.{IsWhole, select_accepted}
 use Rattle.mx_tables.proofs.ReadLemmas.{answers}
 use Rattle.mx_tables.proofs.StateLemmas.{brings_none}
-use Rattle.mx_tables.proofs.WriteLemmas.{adds, drops, no_actions, goes_as, goes_then, untouched}
+use Rattle.mx_tables.proofs.WriteLemmas.{adds, drops, no_actions, goes_as, goes_then}
 use Rattle.mx_tables.proofs.Statements.{inserted}
 use Rattle.mx_pay.proofs.TextLemmas.{same_entry}
 use Rattle.mx_tables.proofs.KeptLemmas as kept
@@ -94,26 +93,26 @@ select_archived_is = record { is = refl; query = record { plain = (refl, refl); 
 -- ---- writes
 
 pub adds_tray : (p : Name) (d : Details) (old new : State) (count : ℕ) → old.now.schema ≡ office_schema → Executes insert_tray (Text p ∷ Text (entry_text d) ∷ []) old new (Ok count)
-    → Goes (λ r. record r { tray = fmap.insert r.tray (p, d) tt }) old new
-adds_tray p d = adds kept.tray insert_tray _ _ insert_tray_is (Text p ∷ Text (entry_text d) ∷ []) ((p, d), tt) (rw cast_null refl) refl refl
+    → Brings (λ r. record r { tray = fmap.insert r.tray (p, d) tt }) old new
+adds_tray p d = adds kept.tray insert_tray _ _ insert_tray_is (Text p ∷ Text (entry_text d) ∷ []) ((p, d), tt) (rw cast_null refl)
 
 pub archives_one : (p text : List ℕ) (old new : State) (count : ℕ) → old.now.schema ≡ office_schema → Executes insert_archive (Text p ∷ Text text ∷ []) old new (Ok count) → Archives p ((Text text ∷ []) ∷ []) old new
 archives_one p text old new count has ran =
     let wrote = (inserted office_schema 8 kept.archive_place.table refl (no_actions kept.archive_place.table) insert_archive (Text p ∷ Text text ∷ []) old new has insert_archive_is.plain count ran
     (lit Null ∷ col 0 0 ∷ col 0 1 ∷ []) 3 (Text p ∷ Text text ∷ []) insert_archive_is.is refl (rw cast_null refl)).0 in
-    record { schema = wrote.schema_is; goes = one; spares = untouched _ old new _ refl refl wrote }
+    record { schema = wrote.schema_is; goes = one }
   where
-    one : (ds : List Details) → map details_shown ds ≡ (Text text ∷ []) ∷ [] → Goes (λ r. record r { archive = and_details p r.archive ds }) old new
+    one : (ds : List Details) → map details_shown ds ≡ (Text text ∷ []) ∷ [] → Brings (λ r. record r { archive = and_details p r.archive ds }) old new
     one (d ∷ []) from =
         let same : text ≡ entry_text d = cc in
-        adds kept.archive insert_archive _ _ insert_archive_is (Text p ∷ Text (entry_text d) ∷ []) ((p, d), tt) (rw cast_null refl) refl refl old new count has
+        adds kept.archive insert_archive _ _ insert_archive_is (Text p ∷ Text (entry_text d) ∷ []) ((p, d), tt) (rw cast_null refl) old new count has
         (subst (λ t. Executes insert_archive (Text p ∷ Text t ∷ []) old new (Ok count)) same ran)
     one ds from = absurd (let k = ap length from in omega (arith, k))
 
 pub drops_tray : (p : Name) (old new : State) (count : ℕ) → old.now.schema ≡ office_schema → Executes delete_tray (Text p ∷ []) old new (Ok count)
-    → Goes (λ r. record r { tray = results_but p r.tray }) old new
+    → Brings (λ r. record r { tray = results_but p r.tray }) old new
 drops_tray p = drops kept.tray delete_tray _ _ delete_tray_is (Text p ∷ []) (λ (k : Name × Details). is_name p k.0)
-    (λ id e. rw (same_text e.0.0 p) (and_true _ ∙ names_turned e.0.0 p)) (λ id e. refl) (λ k. k) (λ old new read got wrote. untouched _ old new _ refl refl wrote)
+    (λ id e. rw (same_text e.0.0 p) (and_true _ ∙ names_turned e.0.0 p)) (λ id e. refl)
 
 -- ---- reads
 
@@ -235,9 +234,9 @@ details_last p s (e ∷ ds) d = details_last p (fmap.insert s (p, e) tt) ds d
 
 -- no row goes to the archive
 pub archives_none : (p : Name) (s : State) → s.now.schema ≡ office_schema → Archives p [] s s
-archives_none p s has = record { schema = has; goes = none; spares = λ held tells. tells }
+archives_none p s has = record { schema = has; goes = none }
   where
-    none : (ds : List Details) → map details_shown ds ≡ [] → Goes (λ r. record r { archive = and_details p r.archive ds }) s s
+    none : (ds : List Details) → map details_shown ds ≡ [] → Brings (λ r. record r { archive = and_details p r.archive ds }) s s
     none [] from = brings_none s has
     none (d ∷ ds) from = absurd (let k = ap length from in omega (arith, k))
 
@@ -258,15 +257,14 @@ archives_more p rows at row text a b c within is shows one two = record {
   goes = λ ds from.
       let it = last_shown ds (take at rows) row (from ∙ take_more rows at row within ∙ ap (λ r. take at rows ++ r ∷ []) (sym is)) in
       let cell : ◌≡◌ {A = Value} (Text (entry_text it.1)) (Text text) = ap (λ (r : Row). column r 0) it.4 ∙ shows in
-      goes_as _ _ _ a c (λ (r : Rows) holds. ap (λ s. record r { archive = s }) (sym (ap (and_details p r.archive) it.2 ∙ details_last p r.archive it.0 it.1)))
-      (goes_then _ _ _ _ a b c (one.goes it.0 it.3) (two.goes (it.1 ∷ []) (ap (λ (v : Value). (v ∷ []) ∷ []) cell)));
-  spares = λ held tells. two.spares held (one.spares held tells);
+      goes_as _ _ a c (λ (r : Rows) holds. ap (λ s. record r { archive = s }) (sym (ap (and_details p r.archive) it.2 ∙ details_last p r.archive it.0 it.1)))
+      (goes_then _ _ a b c (one.goes it.0 it.3) (two.goes (it.1 ∷ []) (ap (λ (v : Value). (v ∷ []) ∷ []) cell)));
 }
 
 -- what is read of a tray, added to the archive and dropped from the tray, has moved
 pub archives : (p : Name) (rows items : List Row) (first read put last : State) → rows ≡ items
     → Sees first read (λ r. IsPermutation (map (λ (e : Result). details_shown e.0.1) (of_name p (fmap.entries r.tray))) items)
-    → Archives p rows read put → Goes (λ r. record r { tray = results_but p r.tray }) put last → Goes (λ r. rewritten r (ArchiveTray p)) first last
+    → Archives p rows read put → Brings (λ r. record r { tray = results_but p r.tray }) put last → Brings (λ r. rewritten r (ArchiveTray p)) first last
 archives p rows items first read put last is found moved emptied = record {
   schema = emptied.schema;
   rows = λ r holds.
@@ -274,7 +272,6 @@ archives p rows items first read put last is found moved emptied = record {
       let moves = moved.goes (map second of.0) (map-map details_shown second of.0 ∙ sym of.2 ∙ sym is) in
       let after = emptied.rows _ (moves.rows r (subst (λ (d : Database). Holds d r) (sym found.same) holds)) in
       subst (λ s. Holds last.now (record r { tray = results_but p r.tray; archive = s })) (archive_all p r.tray r.archive of.0 of.1) after;
-  known = λ k so. emptied.known k (moved.spares k (subst (λ (d : Database). IsKnown d.trees k) (sym found.same) so));
 }
 
 archived_whole : IsWhole select_archived 2 (understood office_schema select_archived)

@@ -1,5 +1,5 @@
 -- The statements on the settled details.
-use Rattle.mx_tables.proofs.Common.{◌≡◌, ℕ, pos, List, [], ◌∷◌, filter, codes, Ok, refl, ◌∙◌, IsPermutation, eq_by_cmp, nat_cmp, Null, Int, Text, Row, col, Executes, Rows, office_schema, number, Holds, Goes}
+use Rattle.mx_tables.proofs.Common.{◌≡◌, ℕ, pos, List, [], ◌∷◌, filter, codes, Ok, refl, ◌∙◌, IsPermutation, eq_by_cmp, nat_cmp, Null, Int, Text, Row, col, Executes, Rows, office_schema, number, Holds, Brings}
 use Rattle.std.proofs.Common.{le_refl, map, subst}
 use Rattle.std.specs.Cmp.Lexicographic.{slice_cmp}
 use Rattle.std.specs.FinMap as fmap
@@ -42,8 +42,8 @@ unfolding understood everything
 select_settled_is = record { is = refl; query = record { plain = (refl, refl); silent = λ _ _. refl }; unlisted = refl }
 
 pub adds_settled : (d : Details) (old new : State) (count : ℕ) → old.now.schema ≡ office_schema → Executes insert_settled (Text (entry_text d) ∷ []) old new (Ok count)
-    → Goes (λ r. rewritten r (AddSettled d)) old new
-adds_settled d = adds kept.settled insert_settled _ _ insert_settled_is (Text (entry_text d) ∷ []) (d, tt) (rw cast_null refl) refl refl
+    → Brings (λ r. rewritten r (AddSettled d)) old new
+adds_settled d = adds kept.settled insert_settled _ _ insert_settled_is (Text (entry_text d) ∷ []) (d, tt) (rw cast_null refl)
 
 abbrev Settled : Type 0
 Settled = Details × Unit {0}

@@ -22,9 +22,7 @@ use Rattle.sqlite.specs.Held.{Held}
 use Rattle.sqlite.proofs.Callers.{begun_plain}
 use Rattle.sqlite.specs.Listing.{understood, listing_schema, if_select}
 use Rattle.sqlite.specs.State.{State, HasCleanDisk, IsUnchanged, IsRolledBack, Shows, Fails, FailsToQuery, FailsToShow, IsNotRun, Shown, ShowsRows, KeepsCommit, ExecutesInside, IsTooLate, Survives, CommitsShowing}
-use Rattle.mx_tables.specs.declared.known.Known.{Known}
-use Rattle.mx_tables.specs.Known.{Knowledge, IsKnown, AreKnown}
-use Rattle.mx_tables.specs.States.{unsure, worry, IsAwake, IsAt, IsOurs, IsText, IsSilent, ShowsNothing, StaysIdle, Stays, StaysAt, KeepsMarks, Within, Brings, Knows}
+use Rattle.mx_tables.specs.States.{unsure, worry, IsAwake, IsAt, IsOurs, IsText, IsSilent, ShowsNothing, StaysIdle, Stays, StaysAt, KeepsMarks, Within, Brings}
 
 -- a statement that fails changes nothing, or its transaction is rolled back
 abbrev pub Quits : State → State → Type 0
@@ -147,10 +145,6 @@ idle_sure s h = let it = sure s h in no_unsure false s it.0 it.1 (inl refl)
 pub sure_first : {a b : ℕ} → a ≤ b → b ≡ 0 → a ≡ 0
 sure_first later h = omega (arith, later, h)
 
--- what is known is so of a database that is the same
-pub known_kept : (begun : Bool) (old new : State) → unsure begun old ≤ unsure begun new → (unsure begun new ≡ 0 → new.now ≡ old.now) → (held : Option Known) → Knows begun old held → Knows begun new held
-known_kept begun old new later same known tells = λ h. subst (λ (d : Database). AreKnown d.trees known) (sym (same h)) (tells (sure_first later h))
-
 pub stays : {begun : Bool} {of : Schema} (old new : State) → IsAt begun of old → (old.in_transaction ≡ false → new.in_transaction ≡ false) → doubt old.is_clean ≤ doubt new.is_clean
     → (HasCleanDisk new → IsTrue new.is_open → IsTrue old.is_open) → (worry new ≡ 0 → old.now.schema ≡ of → Quits old new)
     → (HasCleanDisk new → (db : Trees) → new.may_leave db → old.may_leave db) → StaysAt begun of old new
@@ -194,7 +188,6 @@ stays {begun} old new ours mode clean opened quits crash =
       same = same;
       base = base;
       stops = λ h db gone. crash (not_lied new h) db gone;
-      known = known_kept begun old new later same;
     }
 
 -- what is idle and steady is so in its schema
@@ -215,7 +208,7 @@ pub rests_at : {of : Schema} (old new : State) → old.in_transaction ≡ false 
 rests_at old new idle h = record { autocommit = h.mode idle; later = h.lasts; same = λ sure. h.same (idle_sure new sure); stops = h.stops }
 
 pub stays_same : {begun : Bool} {of : Schema} (a : State) → IsAt begun of a → StaysAt begun of a a
-stays_same a ours = record { ours = ours; lasts = omega arith; later = omega arith; mode = λ outside. outside; same = λ h. refl; base = λ h. refl; stops = λ h db left. left; known = λ held tells. tells }
+stays_same a ours = record { ours = ours; lasts = omega arith; later = omega arith; mode = λ outside. outside; same = λ h. refl; base = λ h. refl; stops = λ h db left. left }
 
 pub stays_then : {begun : Bool} {of : Schema} (a b c : State) → StaysAt begun of a b → StaysAt begun of b c → StaysAt begun of a c
 stays_then a b c one two = record {
@@ -226,7 +219,6 @@ stays_then a b c one two = record {
   same = λ h. two.same h ∙ one.same (sure_first two.later h);
   base = λ h. two.base h ∙ one.base (sure_before b c two.lasts h);
   stops = λ h db left. one.stops (let e = two.lasts in omega arith) db (two.stops h db left);
-  known = λ held tells. two.known held (one.known held tells);
 }
 
 -- ---- what a stop leaves
@@ -330,8 +322,8 @@ refused_quits sql params old new e (inr late) = inl late.5
 -- ---- a transaction as a whole
 
 -- what a call that made all its changes, or none, leaves
-abbrev pub Changed : {S : Type 0} → Ghosts S → Held S → Held S → (Rows → Rows) → (Knowledge → Knowledge) → Type 0
-Changed g old new change learns = (state g old).now.schema ≡ office_schema → Brings change learns (state g old) (state g new)
+abbrev pub Changed : {S : Type 0} → Ghosts S → Held S → Held S → (Rows → Rows) → Type 0
+Changed g old new change = (state g old).now.schema ≡ office_schema → Brings change (state g old) (state g new)
 
 keeps_then : (a b c : State) → KeepsCommit a b → KeepsCommit b c → KeepsCommit a c
 keeps_then a b c one two = record { was_open = λ o. one.was_open (two.was_open o); committed = λ o. two.committed o ∙ one.committed (two.was_open o) }
@@ -388,13 +380,12 @@ pub within_none : {T F : Type 0} (held : ℕ) (a : State) (x : T) → Within {T 
 within_none held a x = record { marks = λ clean inside. inl (λ low. refl); clean = omega arith; kept = λ clean inside. record { was_open = λ o. o; committed = λ o. refl }; inside = λ clean inside. inside; stops = λ clean db left. left }
 
 -- a change of rows that were the same before, and leave the same
-pub brings_same : (change : Rows → Rows) (learns : Knowledge → Knowledge) (a b c d : State) → b.now ≡ a.now → d.now ≡ c.now → Brings change learns b c → Brings change learns a d
-brings_same change learns a b c d before after went = record {
+pub brings_same : (change : Rows → Rows) (a b c d : State) → b.now ≡ a.now → d.now ≡ c.now → Brings change b c → Brings change a d
+brings_same change a b c d before after went = record {
   schema = ap (λ (x : Database). x.schema) after ∙ went.schema;
   rows = λ r holds. subst (λ (x : Database). Holds x (change r)) (sym after) (went.rows r (subst (λ (x : Database). Holds x r) (sym before) holds));
-  known = λ k so. subst (λ (x : Database). IsKnown x.trees (learns k)) (sym after) (went.known k (subst (λ (x : Database). IsKnown x.trees k) (sym before) so));
 }
 
 -- no change
-pub brings_none : (a : State) → a.now.schema ≡ office_schema → Brings (λ r. r) (λ k. k) a a
-brings_none a has = record { schema = has; rows = λ r holds. holds; known = λ k so. so }
+pub brings_none : (a : State) → a.now.schema ≡ office_schema → Brings (λ r. r) a a
+brings_none a has = record { schema = has; rows = λ r holds. holds }

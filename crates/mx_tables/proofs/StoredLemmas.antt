@@ -1,6 +1,6 @@
 -- How typed rows are stored: what INSERT, DELETE and UPDATE leave of the rows of a table.
 use Rattle.mx_tables.proofs.Common.{◌≡◌, ℕ, ℤ, pos, Bool, true, false, List, [], ◌∷◌, ◌++◌, fold, refl, ◌∙◌, arith, is_eq, Some, ◌&&◌, inl, inr, filter, AllByRecursion, Null, Int, Text, Row, Binary, nat_cmp, eq_by_cmp, IsPermutation}
-use Rattle.std.proofs.Common.{◌+ℤ◌, ◌<ℤ◌, sym, ap, ap₂, subst, Less, int_cmp, not, if◌then◌else◌, map}
+use Rattle.std.proofs.Common.{Equal, ◌+ℤ◌, ◌<ℤ◌, sym, ap, ap₂, subst, Less, int_cmp, not, if◌then◌else◌, map}
 use Rattle.std.proofs.lemmas.Int.{ints}
 use Rattle.std.proofs.lemmas.Bool.Decides.{nat_tests}
 use Rattle.sqlite_value.specs.declared.value.Value.{Value}
@@ -16,7 +16,6 @@ use Rattle.sqlite_sql.specs.Ops.{binary, unary, is_true, from_truth}
 use Rattle.sqlite_schema.specs.declared.schema.Kind.TheVariants.{Integer}
 use Rattle.sqlite_rules.specs.Cast.{cast}
 use Rattle.std.specs.Prelude.{cond}
-use Rattle.mx_tables.specs.Owners.{NumbersDiffer}
 use Rattle.mx_tables.specs.Holds.{HaveCells, Stores}
 use Rattle.std.specs.Ordering.{ordering_reverse}
 use Rattle.std.specs.Cmp.Lexicographic.{slice_cmp}
@@ -157,6 +156,10 @@ map_table f (r ∷ rows) keeps up = (
       ap₂ value_cmp (keeps r (inl refl)) after ∙ all_has _ rows x.0 up.0 x.1),
   map_table f rows (λ x h. keeps x (inr h)) up.1,
 )
+
+-- no two rows have one number
+abbrev NumbersDiffer : List Row → Type 0
+NumbersDiffer rows = (a b : Row) → Has rows a → Has rows b → value_cmp (rowid a) (rowid b) ≡ Equal → a ≡ b
 
 abbrev pub HaveIds : List Row → Type 0
 HaveIds tree = (r : Row) → Has tree r → (id : ℤ) × (rowid r ≡ Int id)

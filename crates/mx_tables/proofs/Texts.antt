@@ -91,18 +91,11 @@ unfolding understood everything
 insert_holder_is = record { is = refl; plain = (refl, refl) }
 
 abbrev pub select_owners : List ℕ
-select_owners = codes "SELECT rowid, name, holder FROM purse"
+select_owners = codes "SELECT name, holder FROM purse"
 
-pub select_owners_is : IsSelect select_owners 8 [] (col 1 0 ∷ col 1 1 ∷ col 1 2 ∷ []) [] (codes "rowid" ∷ codes "name" ∷ codes "holder" ∷ [])
+pub select_owners_is : IsSelect select_owners 8 [] (col 1 1 ∷ col 1 2 ∷ []) [] (codes "name" ∷ codes "holder" ∷ [])
 unfolding understood everything
 select_owners_is = record { is = refl; query = record { plain = (refl, refl); silent = λ _ _. refl }; unlisted = refl }
-
-abbrev pub select_numbers : List ℕ
-select_numbers = codes "SELECT rowid, kind FROM inbox"
-
-pub select_numbers_is : IsSelect select_numbers 10 [] (col 1 0 ∷ col 1 3 ∷ []) [] (codes "rowid" ∷ codes "kind" ∷ [])
-unfolding understood everything
-select_numbers_is = record { is = refl; query = record { plain = (refl, refl); silent = λ _ _. refl }; unlisted = refl }
 
 abbrev pub select_members : List ℕ
 select_members = codes "SELECT name FROM member ORDER BY name"

@@ -28,7 +28,7 @@ use Rattle.mx_book.proofs.SpellLemmas as spell
 use Rattle.mx_tables.specs.Answers.{ArePurses, AreMessages, HaveNumbers}
 use Rattle.mx_tables.specs.Pages.{AreLines}
 use Rattle.mx_tables.specs.Results.{AreDetails, AreEntries}
-use Rattle.mx_tables.specs.States.{IsOurs, Stays, Reads, ReadsAt, Tells, TellsAt}
+use Rattle.mx_tables.specs.States.{IsOurs, Stays, Reads, Tells}
 use Rattle.mx_tables.proofs.StateLemmas.{on_ok_never}
 use Rattle.mx_tables.proofs.SoundLemmas.{messages_valid, numbers_valid, purses_valid, lines_valid, entries_valid, tray_valid, tray_as}
 
@@ -56,33 +56,9 @@ module _ {S : Type 0} (g : Ghosts S) {old new : Held S} where
       → Reads g old new r (λ rows v. v ≡ row_who_of rows t) → Tells g old new r (λ w v. v ≡ who_of w t)
   tell_caller t = tell (λ rows w s v is. is ∙ spell.who_at rows w t s)
 
-  pub tell_holder : {r : Result (Option HolderRow) StoreFault} (h : Name)
-      → Reads g old new r (λ rows v. v ≡ row_holder_of rows h) → Tells g old new r (λ w v. v ≡ holder_of w h)
-  tell_holder h = tell (λ rows w s v is. is ∙ spell.holder_at rows w h s)
-
   pub tell_account : {r : Result (Option given.Account) StoreFault} (p : Name)
       → Reads g old new r (λ rows v. ArePurses rows → v ≡ row_account_of rows p) → Tells g old new r (λ w v. v ≡ account_of w p)
   tell_account p = tell (λ rows w s v is. is (purses_valid rows w s) ∙ spell.account_at rows w p s)
-
-  pub tell_own : {r : Result (Option Purse) StoreFault} (h p : Name)
-      → Reads g old new r (λ rows v. ArePurses rows → v ≡ row_own_purse rows h p) → Tells g old new r (λ w v. v ≡ own_purse w h p)
-  tell_own h p = tell (λ rows w s v is. is (purses_valid rows w s) ∙ spell.own_at rows w h p s)
-
-  pub tell_there : {r : Result Bool StoreFault} (p : Name)
-      → Reads g old new r (λ rows b. b ≡ is_some (fmap.get rows.purses p)) → Tells g old new r (λ w b. b ≡ has_purse w p)
-  tell_there p = tell (λ rows w s b is. is ∙ spell.there_at rows w p s)
-
-  pub tell_is_own : {r : Result Bool StoreFault} (h p : Name)
-      → Reads g old new r (λ rows b. b ≡ is_some (row_own_purse rows h p)) → Tells g old new r (λ w b. b ≡ is_some (own_purse w h p))
-  tell_is_own h p = tell (λ rows w s b is. is ∙ ap is_some (spell.own_at rows w h p s))
-
-  pub tell_message : {r : Result (Option Message) StoreFault} (p : Name) (n : ℕ)
-      → Reads g old new r (λ rows v. AreMessages rows → HaveNumbers rows → v ≡ fmap.get rows.inbox (p, n)) → Tells g old new r (λ w v. v ≡ message_of w p n)
-  tell_message p n = tell (λ rows w s v is. is (messages_valid rows w s) (numbers_valid rows w s) ∙ spell.message_at rows w p n s)
-
-  pub tell_has_message : {r : Result Bool StoreFault} (p : Name) (n : ℕ)
-      → Reads g old new r (λ rows b. HaveNumbers rows → b ≡ is_some (fmap.get rows.inbox (p, n))) → Tells g old new r (λ w b. b ≡ is_some (message_of w p n))
-  tell_has_message p n = tell (λ rows w s b is. is (numbers_valid rows w s) ∙ ap is_some (spell.message_at rows w p n s))
 
   pub tell_load : {r : Result (Option ℕ) StoreFault} (p ref : Name)
       → Reads g old new r (λ rows v. v ≡ row_load_of rows p ref) → Tells g old new r (λ w v. v ≡ load_of w p ref)
@@ -111,10 +87,6 @@ module _ {S : Type 0} (g : Ghosts S) {old new : Held S} where
         → Reads g old new r (λ rows v. v.items ≡ row_members_of rows) → Tells g old new r (λ w v. v.items ≡ members_of w)
     tell_members = tell (λ rows w s v is. is ∙ spell.members_at rows w s)
 
-    pub tell_held : {r : Result (Vec Name Z) StoreFault} (h : Name)
-        → Reads g old new r (λ rows v. v.items ≡ row_purses_of rows h) → Tells g old new r (λ w v. v.items ≡ purses_of w h)
-    tell_held h = tell (λ rows w s v is. is ∙ spell.purses_at rows w h s)
-
     pub tell_inbox : {r : Result (Vec (ℕ × Message) Z) StoreFault} (p : Name)
         → Reads g old new r (λ rows v. AreMessages rows → v.items ≡ row_inbox_of rows p) → Tells g old new r (λ w v. v.items ≡ inbox_of w p)
     tell_inbox p = tell (λ rows w s v is. is (messages_valid rows w s) ∙ spell.inbox_at rows w p s)
@@ -126,49 +98,3 @@ module _ {S : Type 0} (g : Ghosts S) {old new : Held S} where
     pub tell_members_totals : {r : Result (Vec (Name × MemberTotals) Z) StoreFault}
         → Reads g old new r (λ rows v. v.items ≡ row_members_totals_of rows) → Tells g old new r (λ w v. v.items ≡ members_totals_of w)
     tell_members_totals = tell (λ rows w s v is. is ∙ spell.members_totals_at rows w s)
-
-  -- ---- the same for a round that has begun, or for none
-
-  tell_at : {T : Type 0} {begun : Bool} {r : Result T StoreFault} {is : Rows → T → Type 0} {says : World → T → Type 0}
-      → ((rows : Rows) (w : World) → book.Spells rows w → (x : T) → is rows x → says w x) → ReadsAt begun g old new r is → TellsAt begun g old new r says
-  tell_at {r = r} f h = record {
-    stays = h.stays;
-    value = λ ours w calm one.
-        IfOk-weaker r _ _ (f one.spelled.rows w one.spelled.spells) (h.value ours calm one.spelled.rows one.spelled.holds);
-    live = h.live;
-  }
-
-  pub tells_at : {T : Type 0} {begun : Bool} {r : Result T StoreFault} {says : World → T → Type 0} → Tells g old new r says → TellsAt begun g old new r says
-  tells_at h = record { stays = λ ours. h.stays ours; value = λ ours. h.value ours; live = h.live }
-
-  pub at_holder : {begun : Bool} {r : Result (Option HolderRow) StoreFault} (h : Name)
-      → ReadsAt begun g old new r (λ rows v. v ≡ row_holder_of rows h) → TellsAt begun g old new r (λ w v. v ≡ holder_of w h)
-  at_holder h = tell_at (λ rows w s v is. is ∙ spell.holder_at rows w h s)
-
-  pub at_own : {begun : Bool} {r : Result (Option Purse) StoreFault} (h p : Name)
-      → ReadsAt begun g old new r (λ rows v. ArePurses rows → v ≡ row_own_purse rows h p) → TellsAt begun g old new r (λ w v. v ≡ own_purse w h p)
-  at_own h p = tell_at (λ rows w s v is. is (purses_valid rows w s) ∙ spell.own_at rows w h p s)
-
-  pub at_there : {begun : Bool} {r : Result Bool StoreFault} (p : Name)
-      → ReadsAt begun g old new r (λ rows b. b ≡ is_some (fmap.get rows.purses p)) → TellsAt begun g old new r (λ w b. b ≡ has_purse w p)
-  at_there p = tell_at (λ rows w s b is. is ∙ spell.there_at rows w p s)
-
-  pub at_is_own : {begun : Bool} {r : Result Bool StoreFault} (h p : Name)
-      → ReadsAt begun g old new r (λ rows b. b ≡ is_some (row_own_purse rows h p)) → TellsAt begun g old new r (λ w b. b ≡ is_some (own_purse w h p))
-  at_is_own h p = tell_at (λ rows w s b is. is ∙ ap is_some (spell.own_at rows w h p s))
-
-  pub at_message : {begun : Bool} {r : Result (Option Message) StoreFault} (p : Name) (n : ℕ)
-      → ReadsAt begun g old new r (λ rows v. AreMessages rows → HaveNumbers rows → v ≡ fmap.get rows.inbox (p, n)) → TellsAt begun g old new r (λ w v. v ≡ message_of w p n)
-  at_message p n = tell_at (λ rows w s v is. is (messages_valid rows w s) (numbers_valid rows w s) ∙ spell.message_at rows w p n s)
-
-  pub at_has_message : {begun : Bool} {r : Result Bool StoreFault} (p : Name) (n : ℕ)
-      → ReadsAt begun g old new r (λ rows b. HaveNumbers rows → b ≡ is_some (fmap.get rows.inbox (p, n))) → TellsAt begun g old new r (λ w b. b ≡ is_some (message_of w p n))
-  at_has_message p n = tell_at (λ rows w s b is. is (numbers_valid rows w s) ∙ ap is_some (spell.message_at rows w p n s))
-
-  pub at_held : {Z : Type 0} {begun : Bool} {r : Result (Vec Name Z) StoreFault} (h : Name)
-      → ReadsAt begun g old new r (λ rows v. v.items ≡ row_purses_of rows h) → TellsAt begun g old new r (λ w v. v.items ≡ purses_of w h)
-  at_held h = tell_at (λ rows w s v is. is ∙ spell.purses_at rows w h s)
-
-  pub tells_fault_at : {T U : Type 0} {begun : Bool} {q : Result T StoreFault} {r : Result U StoreFault} {is : Rows → T → Type 0} {says : World → U → Type 0}
-      → ReadsAt begun g old new q is → IsErr r → TellsAt begun g old new r says
-  tells_fault_at {r = r} {says = says} h fault = record { stays = h.stays; value = λ ours w calm one. IfOk-from_err r (says w) fault; live = on_ok_never r _ fault }

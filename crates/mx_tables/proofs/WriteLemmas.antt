@@ -1,5 +1,5 @@
 -- What the changes of one table do to the rows of a book.
-use Rattle.mx_tables.proofs.Common.{◌≡◌, ℕ, ℤ, Bool, true, false, List, [], ◌∷◌, ◌++◌, filter, length, Some, Ok, refl, ◌∙◌, arith, ◌&&◌, option_map, AllByRecursion, eq_by_cmp, Ordering, length-map, Null, Int, Row, IsPermutation, Term, Executes, Rows, office_schema, Holds, Goes}
+use Rattle.mx_tables.proofs.Common.{◌≡◌, ℕ, ℤ, Bool, true, false, List, [], ◌∷◌, ◌++◌, filter, length, Some, Ok, refl, ◌∙◌, arith, ◌&&◌, option_map, AllByRecursion, eq_by_cmp, Ordering, length-map, Null, Int, Row, IsPermutation, Term, Executes, Rows, office_schema, Holds, Brings}
 use Rattle.std.proofs.Common.{◌≢◌, zero, suc, ◌/◌, not, cond, if◌then◌else◌, map, drop, set, slice_get, sym, ap, subst}
 use Rattle.std.specs.Prelude.{◌==◌}
 use Rattle.std.specs.List.{list_all}
@@ -28,9 +28,6 @@ use Rattle.mx_book.specs.Under.{remake}
 use Rattle.mx_book.proofs.UnderLemmas.{get-remake}
 use Rattle.mx_tables.specs.Schema.{Contents, cells_of, rows_of, AreTokens}
 use Rattle.mx_tables.specs.Holds.{HasContents, Stores, AllStore}
-use Rattle.mx_tables.specs.Owners.{Owned}
-use Rattle.mx_tables.specs.Known.{Knowledge, IsKnown, Stands, AtMost, AreNumbered, Lies}
-use Rattle.mx_tables.specs.States.{Brings, SparesKnown}
 use Rattle.mx_tables.proofs.Texts.{IsInsert, IsUpdate, IsDelete}
 use Rattle.mx_tables.proofs.Statements.{Wrote, IsQuiet, inserted, updated, deleted, picked, shown_rows, env, passes}
 use Rattle.mx_tables.proofs.ReadLemmas.{one_mapped}
@@ -84,30 +81,11 @@ quiet b tree olds news e = grind (arith, e)
 pub no_actions : (table : Table) → IsQuiet office_schema table
 no_actions table olds news = quiet _ table.tree olds news refl
 
-pub goes_then : (one two : Rows → Rows) (i j : Knowledge → Knowledge) (a b c : State) → Brings one i a b → Brings two j b c → Brings (λ r. two (one r)) (λ k. j (i k)) a c
-goes_then one two i j a b c first second = record {
-  schema = second.schema;
-  rows = λ r holds. second.rows (one r) (first.rows r holds);
-  known = λ k so. second.known (i k) (first.known k so);
-}
+pub goes_then : (one two : Rows → Rows) (a b c : State) → Brings one a b → Brings two b c → Brings (λ r. two (one r)) a c
+goes_then one two a b c first second = record { schema = second.schema; rows = λ r holds. second.rows (one r) (first.rows r holds) }
 
-pub goes_as : (one two : Rows → Rows) (learns : Knowledge → Knowledge) (a b : State) → ((r : Rows) → Holds a.now r → one r ≡ two r) → Brings one learns a b → Brings two learns a b
-goes_as one two learns a b same h = record { schema = h.schema; rows = λ r holds. subst (Holds b.now) (same r holds) (h.rows r holds); known = h.known }
-
--- what is known is so of the same rows
-pub known_of_rows : (old new : State) (k : Knowledge) → new.now.trees 8 ≡ old.now.trees 8 → new.now.trees 10 ≡ old.now.trees 10 → IsKnown old.now.trees k → IsKnown new.now.trees k
-known_of_rows old new k purses inbox it = record {
-  owned = subst (λ rows. Owned rows k.owners) (sym purses) it.owned;
-  stand = λ p x at. subst (λ rows. Stands rows p x) (sym purses) (it.stand p x at);
-  bound = λ p n at. subst (λ rows. AtMost rows p n) (sym inbox) (it.bound p n at);
-  numbered = subst AreNumbered (sym inbox) it.numbered;
-  lies = λ q at. subst (λ rows. Lies rows q) (sym inbox) (it.lies q at);
-}
-
--- a write to a table of neither purses nor messages leaves what is known
-pub untouched : (table : Table) (old new : State) (rows : List Row) → not (table.tree == 8) ≡ true → not (table.tree == 10) ≡ true → Wrote office_schema table old new rows → SparesKnown old new
-untouched table old new rows one two wrote k =
-    known_of_rows old new k (wrote.others.1.1.1.1.0 (λ e. differs table.tree 8 one (sym e))) (wrote.others.1.1.1.1.1.0 (λ e. differs table.tree 10 two (sym e)))
+pub goes_as : (one two : Rows → Rows) (a b : State) → ((r : Rows) → Holds a.now r → one r ≡ two r) → Brings one a b → Brings two a b
+goes_as one two a b same h = record { schema = h.schema; rows = λ r holds. subst (Holds b.now) (same r holds) (h.rows r holds) }
 
 -- ---- a value at one key
 
@@ -137,11 +115,11 @@ same_row b e v = grind arith
 
 module _ {K V : Type 0} {R : K → K → Ordering} {t : Place R V} (b : Belongs t) where
   -- a change of the table's rows is one of its map
-  goes : (learns : Knowledge → Knowledge) (old new : State) (rows : List Row) (f : List (K × V) → List (K × V)) (change : fmap.FinMap R V → fmap.FinMap R V) → Wrote office_schema t.table old new rows
+  goes : (old new : State) (rows : List Row) (f : List (K × V) → List (K × V)) (change : fmap.FinMap R V → fmap.FinMap R V) → Wrote office_schema t.table old new rows
       → ((c : Contents) → HasContents old.now c → Stores rows (map t.cells (f (t.list.get c))))
       → ((es : List (K × V)) → AreDistinct R (f es) → fmap.from_entries {R = R} (f es) ≡ change (fmap.from_entries es))
-      → ((k : Knowledge) → IsKnown old.now.trees k → IsKnown new.now.trees (learns k)) → Brings (λ r. t.map.put (change (t.map.get r)) r) learns old new
-  goes learns old new rows f change wrote stores same known = record {
+      → Brings (λ r. t.map.put (change (t.map.get r)) r) old new
+  goes old new rows f change wrote stores same = record {
     schema = wrote.schema_is;
     rows = λ r h.
         let c = h.contents in
@@ -152,24 +130,16 @@ module _ {K V : Type 0} {R : K → K → Ordering} {t : Place R V} (b : Belongs 
         let apart = subst (AreDistinct R) w.listed (distinct b.kept new.now (t.list.put l c) after) in
         let made = w.rows ∙ ap (λ m. t.map.put m (rows_of c)) (same (t.list.get c) apart ∙ ap change (sym (b.is c))) in
         record { contents = t.list.put l c; has = after; rows = made ∙ ap (λ x. t.map.put (change (t.map.get x)) x) h.rows };
-    known = known;
   }
 
   -- an INSERT of one row
-  pub adds_known : (sql : List ℕ) (terms : List Term) (width : ℕ) → IsInsert sql (suc t.at) terms width → (params : Row) (e : K × V) → map (cast_row t.table) (value_rows (stamped t.table params) width (length terms / width) terms) ≡ (Null ∷ t.cells e) ∷ []
-      → (learns : Knowledge → Knowledge) → ((old new : State) (id : ℤ) → is_taken (old.now.trees t.table.tree) (Int id ∷ t.cells e) ≡ false → Wrote office_schema t.table old new (put_row (Int id ∷ t.cells e) (old.now.trees t.table.tree))
-      → (k : Knowledge) → IsKnown old.now.trees k → IsKnown new.now.trees (learns k))
-      → (old new : State) (count : ℕ) → old.now.schema ≡ office_schema → Executes sql params old new (Ok count) → Brings (λ r. t.map.put (fmap.insert (t.map.get r) e.0 e.1) r) learns old new
-  adds_known sql terms width text params e source learns known old new count has h =
-      let it = inserted office_schema (suc t.at) t.table b.kept.found (no_actions t.table) sql params old new has text.plain count h terms width (t.cells e) text.is (uncounted b.kept) source in
-      goes learns old new _ (λ es. es ++ e ∷ []) (λ m. fmap.insert m e.0 e.1) it.0
-      (λ c holds. subst (Stores _) (sym (map-append t.cells (t.list.get c) (e ∷ []))) (stores_put (old.now.trees t.table.tree) (map t.cells (t.list.get c)) (t.cells e) (stored b.kept old.now c holds)))
-      (λ es apart. map_push R b.kept.key.total b.kept.key.exact es e.0 e.1 apart) (known old new _ it.1 it.0)
-
-  -- an INSERT into a table of neither purses nor messages
   pub adds : (sql : List ℕ) (terms : List Term) (width : ℕ) → IsInsert sql (suc t.at) terms width → (params : Row) (e : K × V) → map (cast_row t.table) (value_rows (stamped t.table params) width (length terms / width) terms) ≡ (Null ∷ t.cells e) ∷ []
-      → not (t.table.tree == 8) ≡ true → not (t.table.tree == 10) ≡ true → (old new : State) (count : ℕ) → old.now.schema ≡ office_schema → Executes sql params old new (Ok count) → Goes (λ r. t.map.put (fmap.insert (t.map.get r) e.0 e.1) r) old new
-  adds sql terms width text params e source one two = adds_known sql terms width text params e source (λ k. k) (λ old new id fresh wrote. untouched t.table old new _ one two wrote)
+      → (old new : State) (count : ℕ) → old.now.schema ≡ office_schema → Executes sql params old new (Ok count) → Brings (λ r. t.map.put (fmap.insert (t.map.get r) e.0 e.1) r) old new
+  adds sql terms width text params e source old new count has h =
+      let it = inserted office_schema (suc t.at) t.table b.kept.found (no_actions t.table) sql params old new has text.plain count h terms width (t.cells e) text.is (uncounted b.kept) source in
+      goes old new _ (λ es. es ++ e ∷ []) (λ m. fmap.insert m e.0 e.1) it.0
+      (λ c holds. subst (Stores _) (sym (map-append t.cells (t.list.get c) (e ∷ []))) (stores_put (old.now.trees t.table.tree) (map t.cells (t.list.get c)) (t.cells e) (stored b.kept old.now c holds)))
+      (λ es apart. map_push R b.kept.key.total b.kept.key.exact es e.0 e.1 apart)
 
   -- an UPDATE of the rows that pass
   module _ (sql : List ℕ) (terms project : List Term) (text : IsUpdate sql (suc t.at) t.table.tree terms project) (params : Row) (p : K × V → Bool) (g : K → V → V)
@@ -180,28 +150,20 @@ module _ {K V : Type 0} {R : K → K → Ordering} {t : Place R V} (b : Belongs 
     abbrev tree : List Row
     tree = old.now.trees t.table.tree
 
-    -- what is known after such an UPDATE
-    abbrev pub UpdateTells : (Knowledge → Knowledge) → Type 0
-    UpdateTells learns = (read : List Row) → IsPermutation (map (λ r. eval_all project (env params r)) (filter (passes terms params) tree)) read
-        → are_fresh (without_all tree (ids_of read)) (map (λ s. cast_row t.table (drop 1 s)) read) ≡ true
-        → Wrote office_schema t.table old new (put_all (without_all tree (ids_of read)) (map (λ s. cast_row t.table (drop 1 s)) read))
-        → length read ≡ count → (k : Knowledge) → IsKnown old.now.trees k → IsKnown new.now.trees (learns k)
-
     abbrev pub altered : K → V → V
     altered k v = cond (p (k, v)) (g k v) v
 
     abbrev alter : K × V → K × V
     alter e = if p e then (e.0, g e.0 e.1) else e
 
-    pub alters : (learns : Knowledge → Knowledge) → UpdateTells learns → Brings (λ r. t.map.put (remake altered (t.map.get r)) r) learns old new
-    alters learns known =
+    pub alters : Brings (λ r. t.map.put (remake altered (t.map.get r)) r) old new
+    alters =
         let it = updated office_schema (suc t.at) t.table b.kept.found (no_actions t.table) sql params old new has text.plain count ran _ text.is in
         let got = picked t.table.tree terms project [] [] (record old.now { schema = office_schema }) params it.0 it.1 in
-        goes learns old new _ (λ es. map alter es) (remake altered) it.2
+        goes old new _ (λ es. map alter es) (remake altered) it.2
         (λ c holds. stores_changed t.cells (old.now.trees t.table.tree) (t.list.get c) (stored b.kept old.now c holds) (passes terms params) p tests (λ r. eval_all project (env params r)) first it.0 got
         (λ s. cast_row t.table (drop 1 s)) (λ e. (e.0, g e.0 e.1)) forms it.4)
         (λ es apart. (λ i. fmap.from_entries {R = R} (map (λ (e : K × V). same_row (p e) e (g e.0 e.1) i) es)) ∙ map_anew b.kept.key.total b.kept.key.exact altered es)
-        (known it.0 got it.4 it.2 it.3)
 
     -- as many pass as it says
     pub counts_in : (c : Contents) → HasContents old.now c → length (filter p (t.list.get c)) ≡ count
@@ -235,22 +197,20 @@ module _ {K V : Type 0} {R : K → K → Ordering} {t : Place R V} (b : Belongs 
         (it.0, ap (λ m. fmap.get m k) (sym (ap t.map.get h.rows) ∙ b.is c) ∙ fmap.get-from_entries b.kept.key.total (t.list.get c) k ∙ it.1, it.2)
 
     -- and has another value
-    pub alters_one : (learns : Knowledge → Knowledge) → UpdateTells sql terms project text params here (λ _ x. g x) tests first forms old new 1 has ran learns → (change : Rows → Rows) → ((r : Rows) (v : V) → fmap.get (t.map.get r) k ≡ Some v → change r ≡ t.map.put (fmap.insert (t.map.get r) k (g v)) r) → Brings change learns old new
-    alters_one learns known change is =
-        goes_as _ change learns old new
+    pub alters_one : (change : Rows → Rows) → ((r : Rows) (v : V) → fmap.get (t.map.get r) k ≡ Some v → change r ≡ t.map.put (fmap.insert (t.map.get r) k (g v)) r) → Brings change old new
+    alters_one change is =
+        goes_as _ change old new
         (λ r h. let it = was_there r h in ap (λ m. t.map.put m r) (remake_where R b.kept.key.total b.kept.key.exact k q (t.map.get r) g it.0 it.1 it.2) ∙ sym (is r it.0 it.1))
-        (alters sql terms project text params here (λ _ x. g x) tests first forms old new 1 has ran learns known)
+        (alters sql terms project text params here (λ _ x. g x) tests first forms old new 1 has ran)
 
   -- a DELETE of the rows whose keys pass
   pub drops : (sql : List ℕ) (terms project : List Term) → IsDelete sql (suc t.at) t.table.tree terms project → (params : Row) (p : K → Bool)
       → ((id : ℤ) (e : K × V) → passes terms params (Int id ∷ t.cells e) ≡ p e.0)
       → ((id : ℤ) (e : K × V) → rowid (eval_all project (env params (Int id ∷ t.cells e))) ≡ Int id)
-      → (learns : Knowledge → Knowledge) → ((old new : State) (read : List Row) → IsPermutation (map (λ r. eval_all project (env params r)) (filter (passes terms params) (old.now.trees t.table.tree))) read
-      → Wrote office_schema t.table old new (without_all (old.now.trees t.table.tree) (ids_of read)) → (k : Knowledge) → IsKnown old.now.trees k → IsKnown new.now.trees (learns k))
-      → (old new : State) (count : ℕ) → old.now.schema ≡ office_schema → Executes sql params old new (Ok count) → Brings (λ r. t.map.put (fmap.retain_keys (t.map.get r) (λ k. not (p k))) r) learns old new
-  drops sql terms project text params p tests first learns known old new count has ran =
+      → (old new : State) (count : ℕ) → old.now.schema ≡ office_schema → Executes sql params old new (Ok count) → Brings (λ r. t.map.put (fmap.retain_keys (t.map.get r) (λ k. not (p k))) r) old new
+  drops sql terms project text params p tests first old new count has ran =
       let it = deleted office_schema (suc t.at) t.table b.kept.found (no_actions t.table) sql params old new has text.plain count ran _ text.is in
       let got = picked t.table.tree terms project [] [] (record old.now { schema = office_schema }) params it.0 it.1 in
-      goes learns old new _ (λ es. filter (λ (e : K × V). not (p e.0)) es) (λ m. fmap.retain_keys m (λ k. not (p k))) it.2
+      goes old new _ (λ es. filter (λ (e : K × V). not (p e.0)) es) (λ m. fmap.retain_keys m (λ k. not (p k))) it.2
       (λ c holds. stores_left t.cells (old.now.trees t.table.tree) (t.list.get c) (stored b.kept old.now c holds) (passes terms params) (λ e. p e.0) tests (λ r. eval_all project (env params r)) first it.0 got)
-      (λ es apart. map_left b.kept.key.total b.kept.key.exact p es) (known old new it.0 got it.2)
+      (λ es apart. map_left b.kept.key.total b.kept.key.exact p es)

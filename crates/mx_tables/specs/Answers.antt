@@ -1,9 +1,10 @@
 -- What the statements that read answer from the typed rows.
-use Rattle.std.specs.Prelude.{ℕ, false, if◌then◌else◌, List, [], ◌∷◌, codes, filter, ◌≡◌, ◌≤◌, ◌+◌, Option, Some, None, option_map}
+use Rattle.std.specs.Prelude.{ℕ, Bool, false, ◌&&◌, List, [], ◌∷◌, codes, filter, ◌≡◌, ◌≤◌, ◌+◌, Option, Some, None, option_map}
 use Rattle.std.specs.Ordering.{eq_by_cmp}
 use Rattle.std.specs.declared.cmp.Ordering.{Ordering}
 use Rattle.sqlite_value.specs.Order.{Row, column}
-use Rattle.sqlite_value.specs.declared.value.Value.TheVariants.{Text}
+use Rattle.sqlite_value.specs.declared.value.Value.{Value}
+use Rattle.sqlite_value.specs.declared.value.Value.TheVariants.{Null, Int, Real, Text, Blob}
 use Rattle.std.specs.FinMap as fmap
 use Rattle.mx_purse.specs.declared.message.Message.{Message}
 use Rattle.mx_purse.specs.Messages.{IsMessage}
@@ -19,7 +20,6 @@ use Rattle.mx_book.specs.RowReads.{row_finds_place}
 use Rattle.mx_tables.specs.declared.asking.About.{About}
 use Rattle.mx_tables.specs.declared.asking.About.TheVariants.{Member, Holder, Purse, Owner, Next}
 use Rattle.mx_tables.specs.Holds.{Holds}
-use Rattle.mx_tables.specs.Known.{known_raised}
 use Rattle.mx_tables.specs.States.{Brings}
 use Rattle.mx_cells.specs.Cells.{member_shown, purse_shown, state_columns, state_shown, number}
 
@@ -41,11 +41,17 @@ AreMessages r = (k : Name × ℕ) (m : Message) → fmap.get r.inbox k ≡ Some 
 abbrev pub HaveNumbers : Rows → Type 0
 HaveNumbers r = (k : Name × ℕ) (m : Message) → fmap.get r.inbox k ≡ Some m → k.1 ≤ most_number
 
--- the row shows the purse of this name, which is the holder's, or another holder
-abbrev pub ShowsOwn : Name → Name → Row → Option State → Type 0
-ShowsOwn h p row None = (owner : Name) × (column row 0 ≡ Text owner) × (is_name h owner ≡ false)
-ShowsOwn h p row (Some s) = (column row 0 ≡ Text h) × (state_columns row ≡ state_shown s)
-    × IsPurse s × (s.name ≡ p)
+-- the value is this text
+abbrev pub is_text : Name → Value → Bool
+is_text t Null = false
+is_text t (Int n) = false
+is_text t (Real x) = false
+is_text t (Text u) = is_name t u
+is_text t (Blob b) = false
+
+-- the row shows the name of a purse and its holder
+abbrev pub is_owned_in : Name → Name → Row → Bool
+is_owned_in h p r = is_text p (column r 0) && is_text h (column r 1)
 
 abbrev pub next_shown : PurseRow → Row
 next_shown x = number x.next_message ∷ []
@@ -61,12 +67,8 @@ one_or_none (Some x) = x ∷ []
 
 -- the number of a purse's next message, which is this one, is raised by one
 pub record Raises (p : Name) (next : ℕ) (old new : Connected) : Type 0 where
-  pub goes : Brings (λ r. on_purse (fmap.get r.purses p) r (λ x. record r { purses = fmap.insert r.purses p (record x { next_message = next + 1 }) })) (known_raised p) old new
+  pub goes : Brings (λ r. on_purse (fmap.get r.purses p) r (λ x. record r { purses = fmap.insert r.purses p (record x { next_message = next + 1 }) })) old new
   pub was : (r : Rows) → Holds old.now r → option_map (λ (x : PurseRow). x.next_message) (fmap.get r.purses p) ≡ Some next
-
--- the number that a message to a purse gets, where it finds a place
-abbrev pub place_of : Rows → Name → Option ℕ
-place_of r p = if row_finds_place r p then option_map (λ (x : PurseRow). x.next_message) (fmap.get r.purses p) else None
 
 -- what is asked about a name, and the row that answers
 abbrev pub about_text : About → List ℕ

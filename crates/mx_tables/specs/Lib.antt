@@ -1,9 +1,8 @@
 pub mod Holds
 pub mod Schema
-pub mod Owners
-pub mod Known
 pub mod States
 pub mod Rounds
+pub mod Cached
 pub mod Steady
 pub mod Answers
 pub mod Pages

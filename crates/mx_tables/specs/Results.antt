@@ -7,7 +7,7 @@ use Rattle.sqlite_value.specs.Order.{Row, column}
 use Rattle.sqlite_value.specs.declared.value.Value.TheVariants.{Text}
 use Rattle.sqlite.specs.State.{State}
 use Rattle.mx_tables.specs.Schema.{office_schema}
-use Rattle.mx_tables.specs.States.{Goes, SparesKnown}
+use Rattle.mx_tables.specs.States.{Brings}
 use Rattle.mx_pay.specs.Details.{Details, IsDetails, is_details}
 use Rattle.mx_pay.specs.Codes.{entry_text}
 use Rattle.mx_pay.specs.Log.{Entries, has_logged}
@@ -46,5 +46,4 @@ and_details p s (d ∷ ds) = and_details p (fmap.insert s (p, d) tt) ds
 -- what these rows show becomes a part of the archive of a purse
 pub record Archives (p : Name) (rows : List Row) (old new : State) : Type 0 where
   pub schema : new.now.schema ≡ office_schema
-  pub spares : SparesKnown old new
-  pub goes : (ds : List Details) → map details_shown ds ≡ rows → Goes (λ r. record r { archive = and_details p r.archive ds }) old new
+  pub goes : (ds : List Details) → map details_shown ds ≡ rows → Brings (λ r. record r { archive = and_details p r.archive ds }) old new

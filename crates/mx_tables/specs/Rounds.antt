@@ -1,5 +1,5 @@
 -- A round over a connection: changes in one transaction, which is committed at the end of the round.
-use Rattle.std.specs.Prelude.{◌≡◌, ℕ, ◌≤◌, ◌⊎◌, Bool, true, false, Option, Result, OnOk, OnErr, IsTrue}
+use Rattle.std.specs.Prelude.{◌≡◌, ℕ, ◌≤◌, ◌⊎◌, Bool, true, false, Result, OnOk, OnErr, IsTrue}
 use Rattle.sqlite_trees.specs.Tree.{Trees}
 use Rattle.sqlite_trees.specs.View.{doubt}
 use Rattle.sqlite_trees.specs.declared.store.Store.{Ghosts}
@@ -9,8 +9,6 @@ use Rattle.sqlite.specs.State.{State, HasCleanDisk}
 use Rattle.mx_book.specs.declared.contract.StoreFault.{StoreFault}
 use Rattle.mx_tables.specs.Schema.{office_schema}
 use Rattle.mx_book.specs.Rows.{Rows}
-use Rattle.mx_tables.specs.Known.{Knowledge, AreKnown}
-use Rattle.mx_tables.specs.declared.known.Known.{Known}
 use Rattle.mx_tables.specs.States.{Brings, Leaves, unsure, worry}
 
 -- between calls, in a round or in none
@@ -80,14 +78,10 @@ module _ {S : Type 0} (g : Ghosts S) where
   abbrev pub LeavesBase : Lent S → Database → Type 0
   LeavesBase t = Leaves (state g t.0)
 
--- without doubt what is known is so of the rows
-abbrev pub KnowsIn : Bool → State → Option Known → Type 0
-KnowsIn begun s known = unsure begun s ≡ 0 → AreKnown s.now.trees known
-
 -- A change in a round or in none, which begins one: it is made, or the rows are as they were, unless a fault undid the round.
-pub record ChangesRound (change : Rows → Rows) (learns : Knowledge → Knowledge) (before : Bool) (old : State) (after : Bool) (new : State) (result : Result (Unit {0}) StoreFault) : Type 0 where
+pub record ChangesRound (change : Rows → Rows) (before : Bool) (old : State) (after : Bool) (new : State) (result : Result (Unit {0}) StoreFault) : Type 0 where
   pub later : IsKept before old → unsure before old ≤ unsure after new
   pub abides : IsKept before old → Abides old new
   pub kept : IsKept before old → IsKept after new
-  pub ok : IsKept before old → unsure after new ≡ 0 → OnOk result (Brings change learns old new)
+  pub ok : IsKept before old → unsure after new ≡ 0 → OnOk result (Brings change old new)
   pub err : IsKept before old → unsure after new ≡ 0 → OnErr result (new.now ≡ old.now)

@@ -26,8 +26,6 @@ use Rattle.mx_book.specs.Rows.{Rows}
 use Rattle.mx_book.specs.declared.contract.StoreFault.{StoreFault}
 use Rattle.mx_book.specs.World.{World}
 use Rattle.mx_tables.specs.Holds.{Holds, Spells, SpellsOne}
-use Rattle.mx_tables.specs.declared.known.Known.{Known}
-use Rattle.mx_tables.specs.Known.{Knowledge, IsKnown, AreKnown}
 
 -- 0 while the disk has returned what was written and the connection is open, 1 once a fault has shut it, 2 once the disk has lied
 abbrev pub worry_at : Bool → Bool → ℕ
@@ -82,10 +80,6 @@ pub record LeavesAt (of : Schema) (s : State) (db : Database) : Type 0 where
 abbrev pub Leaves : State → Database → Type 0
 Leaves = LeavesAt office_schema
 
--- without worry what is known is so of the rows
-abbrev pub Knows : Bool → State → Option Known → Type 0
-Knows begun s known = unsure begun s ≡ 0 → AreKnown s.now.trees known
-
 -- A read, in a round or in none: doubt doesn't fall, and without any in the end the database is as it was. While the disk didn't lie,
 -- a stop leaves what it could leave before.
 pub record StaysAt (begun : Bool) (of : Schema) (old new : State) : Type 0 where
@@ -96,7 +90,6 @@ pub record StaysAt (begun : Bool) (of : Schema) (old new : State) : Type 0 where
   pub same : unsure begun new ≡ 0 → new.now ≡ old.now
   pub base : IsSound new → new.committed ≡ old.committed
   pub stops : IsHonest new → (db : Trees) → new.may_leave db → old.may_leave db
-  pub known : (k : Option Known) → Knows begun old k → Knows begun new k
 
 -- a read of the tables
 abbrev pub Stays : Bool → State → State → Type 0
@@ -138,19 +131,10 @@ ShowsNothing (Err e) = Unit {0}
 abbrev pub IsSilent : List ℕ → Type 0
 IsSilent sql = ShowsNothing (first sql)
 
--- the schema is that of the office, the rows of a book become those of the change, and so does what is known of them
-pub record Brings (change : Rows → Rows) (learns : Knowledge → Knowledge) (old new : State) : Type 0 where
+-- the schema is that of the office, and the rows of a book become those of the change
+pub record Brings (change : Rows → Rows) (old new : State) : Type 0 where
   pub schema : new.now.schema ≡ office_schema
   pub rows : (r : Rows) → Holds old.now r → Holds new.now (change r)
-  pub known : (k : Knowledge) → IsKnown old.now.trees k → IsKnown new.now.trees (learns k)
-
--- what is known stays so
-abbrev pub SparesKnown : State → State → Type 0
-SparesKnown old new = (k : Knowledge) → IsKnown old.now.trees k → IsKnown new.now.trees k
-
--- nothing that is known changes
-abbrev pub Goes : (Rows → Rows) → State → State → Type 0
-Goes change = Brings change (λ k. k)
 
 -- the rows are as they were, and this is so of them
 pub record Sees (old new : State) (is : Rows → Type 0) : Type 0 where
@@ -172,22 +156,6 @@ pub record Tells {S T : Type 0} (g : Ghosts S) (old new : Held S) (result : Resu
   pub value : {begun : Bool} → IsOurs begun (state g old) → (w : World) → unsure begun (state g new) ≡ 0 → SpellsOne (state g old).now w → IfOk result (is w)
   pub live : OnOk result (IsAwake (state g new))
 
--- the same for a round that has begun, or for none
-pub record ReadsAt {S T : Type 0} (begun : Bool) (g : Ghosts S) (old new : Held S) (result : Result T StoreFault) (is : Rows → T → Type 0) : Type 0 where
-  pub stays : IsOurs begun (state g old) → Stays begun (state g old) (state g new)
-  pub value : IsOurs begun (state g old) → unsure begun (state g new) ≡ 0 → (r : Rows) → Holds (state g old).now r → IfOk result (is r)
-  pub live : OnOk result (IsAwake (state g new))
-
-pub record TellsAt {S T : Type 0} (begun : Bool) (g : Ghosts S) (old new : Held S) (result : Result T StoreFault) (is : World → T → Type 0) : Type 0 where
-  pub stays : IsOurs begun (state g old) → Stays begun (state g old) (state g new)
-  pub value : IsOurs begun (state g old) → (w : World) → unsure begun (state g new) ≡ 0 → SpellsOne (state g old).now w → IfOk result (is w)
-  pub live : OnOk result (IsAwake (state g new))
-
--- a read that goes by what is known, or comes to know more
-pub record Looks {S : Type 0} (g : Ghosts S) (old new : Held S) (before after : Option Known) (read : Bool → Type 0) : Type 0 where
-  pub reads : {begun : Bool} → IsOurs begun (state g old) → Knows begun (state g old) before → read begun
-  pub known : {begun : Bool} → IsOurs begun (state g old) → Knows begun (state g old) before → Knows begun (state g new) after
-
 -- A step inside a savepoint: the same one is lent, and where it answers Ok this is so of what it gives.
 pub record Steps {S T E : Type 0} (g : Ghosts S) (old new : Savepoint S g) (result : Result T E) (does : T → Type 0) : Type 0 where
   pub same_reference : new.conn.ghost_name ≡ old.conn.ghost_name
@@ -195,14 +163,10 @@ pub record Steps {S T E : Type 0} (g : Ghosts S) (old new : Savepoint S g) (resu
   pub within : Within (old.at + 1) (state g old.conn.now) (state g new.conn.now) result
   pub ok : HasCleanDisk (state g new.conn.now) → IsTrue old.conn.now.in_transaction → IfOk result does
 
--- a step that makes this change of the rows, and of what is known of them
-abbrev pub WritesWith : {S T : Type 0} → (g : Ghosts S) → Savepoint S g → Savepoint S g → Result T StoreFault → (Rows → Rows) → (Knowledge → Knowledge) → Type 0
-WritesWith g old new result change learns =
-    Steps g old new result (λ _. (state g old.conn.now).now.schema ≡ office_schema → Brings change learns (state g old.conn.now) (state g new.conn.now))
-
--- a step that makes this change of the rows, by which nothing that is known changes
+-- a step that makes this change of the rows
 abbrev pub Writes : {S T : Type 0} → (g : Ghosts S) → Savepoint S g → Savepoint S g → Result T StoreFault → (Rows → Rows) → Type 0
-Writes g old new result change = WritesWith g old new result change (λ k. k)
+Writes g old new result change =
+    Steps g old new result (λ _. (state g old.conn.now).now.schema ≡ office_schema → Brings change (state g old.conn.now) (state g new.conn.now))
 
 -- a step that leaves the rows, and gives what is so of them
 abbrev pub Finds : {S T : Type 0} → (g : Ghosts S) → Savepoint S g → Savepoint S g → Result T StoreFault → (Rows → T → Type 0) → Type 0

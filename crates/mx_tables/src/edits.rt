@@ -1,14 +1,16 @@
 //! The edits, each a few statements of a transaction.
-ghost use Rattle.std.specs.Prelude.{◌≡◌, fold};
+ghost use Rattle.std.specs.Prelude.{◌≡◌, OnOk, fold};
 ghost use Rattle.sqlite.specs.Held.{state};
 ghost use Rattle.sqlite.specs.State.{IsUnchanged};
 ghost use Rattle.mx_book.specs.RowEdits.{rewritten};
-ghost use Rattle.mx_tables.specs.Known.{known_after};
+ghost use Rattle.mx_book.specs.Rows.{Rows};
+ghost use Rattle.mx_tables.specs.Cached.{Agrees, AreFresh};
 ghost use Rattle.mx_tables.specs.Schema.{office_schema};
-ghost use Rattle.mx_tables.specs.States.{Brings, Finds, Steps, Writes, WritesWith};
+ghost use Rattle.mx_tables.specs.States.{Brings, Finds, Steps, Writes};
 ghost use Rattle.mx_tables.specs.Rounds.{ChangesIn, ChangesRound};
 
 use crate::asking::fault_of;
+use crate::cache::Cache;
 use crate::collecting::collect;
 use crate::holders::insert_holder;
 use crate::inbox::{drop_message, insert_message};
@@ -22,7 +24,6 @@ use crate::rounds::begin;
 use crate::settled::insert_settled;
 use crate::tokens::insert_token;
 use mx_book::{Caller, Edit, StoreFault};
-use mx_pay::names::same_name;
 use mx_pay::{MOST_NUMBER, Name, Token};
 use mx_purse::Message;
 use sqlite::{Alter, Connection, Savepoint};
@@ -54,60 +55,46 @@ fn add_holder<S: Alter>(
     insert_token(tx, &token, &Caller::Holder(holder))
 }
 
-/// The number that is expected of a purse's next message, where one is, and then expected no more.
-fn take_expected(expected: &mut Option<(Name, u64)>, purse: &Name) -> Option<u64> {
-    let (name, number) = expected.take()?;
-    if same_name(&name, purse) {
-        return Some(number);
-    }
-    *expected = Some((name, number));
-    None
-}
-
-/// The number of a purse's next message: the expected one, else that of the purse's row.
+/// The number of a purse's next message: the cached one, else that of the purse's row.
 fn number_for<S: Alter>(
     tx: &mut Savepoint<'_, S>,
-    expected: Option<u64>,
+    cached: Option<u64>,
     purse: &Name,
 ) -> Result<u64, StoreFault>
     ensures { Finds S.Store tx.old tx.new result (λ _ _. Unit {0}) }
 {
-    match expected {
+    match cached {
         Some(number) => Ok(number),
         None => next_number(tx, purse),
     }
 }
 
-/// Puts a message into the inbox of a purse under its next message number, which rises by one. Store where there is
-/// no such purse, that number is 10^15, or another one is expected.
+/// Puts a message into the inbox of a purse under this number, which is the purse's next one and rises by one. Store where there
+/// is no such purse, it has another next number, or that is 10^15.
 fn add_message<S: Alter>(
     tx: &mut Savepoint<'_, S>,
     alloc: Global,
-    expected: Option<u64>,
-    purse: &Name,
+    key: (Name, u64),
     message: &Message,
 ) -> Result<(), StoreFault>
-    ensures { WritesWith S.Store tx.old tx.new result
-        (λ r. rewritten r (Edit.AddMessage purse.now message.now))
-        (λ k. known_after k (Edit.AddMessage purse.now message.now)) }
+    ensures { Writes S.Store tx.old tx.new result
+        (λ r. rewritten r (Edit.AddMessage key.0 message.now)) }
 {
-    let number = number_for(tx, expected, purse)?;
-    if number >= MOST_NUMBER {
+    if key.1 >= MOST_NUMBER {
         return Err(StoreFault::Store);
     }
-    raise_next(tx, purse, number)?;
-    insert_message(tx, alloc, purse, number, message)
+    raise_next(tx, &key.0, key.1)?;
+    insert_message(tx, alloc, key, message)
 }
 
-/// Makes one edit, where this is expected of the number of a purse's next message.
+/// Makes one edit, by the cached number of the message that it adds, where there is one.
 fn edit_one<S: Alter>(
     tx: &mut Savepoint<'_, S>,
     alloc: Global,
-    expected: &mut Option<(Name, u64)>,
+    cached: Option<u64>,
     edit: &Edit,
 ) -> Result<(), StoreFault>
-    ensures { WritesWith S.Store tx.old tx.new result
-        (λ r. rewritten r edit.now) (λ k. known_after k edit.now) }
+    ensures { Writes S.Store tx.old tx.new result (λ r. rewritten r edit.now) }
 {
     match edit {
         Edit::NewMember { member, clerk } => add_member(tx, *member, *clerk),
@@ -124,8 +111,8 @@ fn edit_one<S: Alter>(
         Edit::NewPurse { purse, holder } => insert_purse(tx, purse, holder),
         Edit::SetPurse { purse } => set_purse(tx, alloc, purse),
         Edit::AddMessage { purse, message } => {
-            let number = take_expected(expected, purse);
-            add_message(tx, alloc, number, purse, message)
+            let number = number_for(tx, cached, purse)?;
+            add_message(tx, alloc, (*purse, number), message)
         }
         Edit::DropMessage { purse, number } => drop_message(tx, purse, *number),
         Edit::AddLine { purse, line } => insert_line(alloc, tx, purse, line),
@@ -146,19 +133,20 @@ fn edit_one<S: Alter>(
     }
 }
 
-/// Makes these edits in order. Of the number of a purse's next message it may be known what to expect.
+/// Makes these edits in order, and follows them in the cache.
 fn edit_each<S: Alter>(
     tx: &mut Savepoint<'_, S>,
-    alloc: Global,
-    expected: Option<(Name, u64)>,
+    cache: &mut Cache,
     edits: &[Edit],
 ) -> Result<(), StoreFault>
-    ensures { WritesWith S.Store tx.old tx.new result
-        (λ r. fold rewritten r edits.now) (λ k. fold known_after k edits.now) }
+    ensures writes { Writes S.Store tx.old tx.new result (λ r. fold rewritten r edits.now) }
+    ensures follows { (r : Rows) → AreFresh r edits.now → Agrees r cache.old
+        → OnOk result (Agrees (fold rewritten r edits.now) cache.new) }
 {
-    let mut expected = expected;
     for edit in edits {
-        edit_one(tx, alloc, &mut expected, edit)?;
+        let cached = cache.number_for(edit);
+        edit_one(tx, cache.alloc(), cached, edit)?;
+        cache.follow(edit);
     }
     Ok(())
 }
@@ -174,41 +162,44 @@ pub fn find_open<S: Alter>(tx: &mut Savepoint<'_, S>) -> Result<(), StoreFault>
     }
 }
 
-/// Makes these edits in order in a transaction, all of them or none, in a savepoint. Of the number of a purse's next message
-/// it may be known what to expect, which spares a look at it; another number that is found there is Store.
-pub fn edit_marked<S: Alter>(
-    alloc: Global,
+/// Makes these edits in order in a transaction, all of them or none, in a savepoint, and follows them in the cache. What is
+/// cached says nothing where it answers a fault.
+fn edit_marked<S: Alter>(
     conn: &mut Connection<S>,
-    expected: Option<(Name, u64)>,
+    cache: &mut Cache,
     edits: &[Edit],
 ) -> Result<(), StoreFault>
-    ensures { ChangesIn (state S.Store conn.old) (state S.Store conn.new) result
+    ensures changes { ChangesIn (state S.Store conn.old) (state S.Store conn.new) result
         ((state S.Store conn.old).now.schema ≡ office_schema
-        → Brings (λ r. fold rewritten r edits.now) (λ k. fold known_after k edits.now)
+        → Brings (λ r. fold rewritten r edits.now)
         (state S.Store conn.old) (state S.Store conn.new)) }
+    ensures follows { (r : Rows) → AreFresh r edits.now → Agrees r cache.old
+        → OnOk result (Agrees (fold rewritten r edits.now) cache.new) }
 {
     let mut mark = match conn.savepoint() {
         Ok(mark) => mark,
         Err(error) => return Err(fault_of(error)),
     };
-    edit_each(&mut mark, alloc, expected, edits)?;
+    edit_each(&mut mark, cache, edits)?;
     match mark.commit() {
         Ok(()) => Ok(()),
         Err(error) => Err(fault_of(error)),
     }
 }
 
-/// Makes these edits in order in a round, all of them or none, and begins the round where none has begun.
+/// Makes these edits in order in a round, all of them or none, and follows them in the cache; it begins the round where none
+/// has begun. What is cached says nothing where it answers a fault.
 pub fn change_in<S: Alter>(
-    alloc: Global,
     conn: &mut Connection<S>,
     begun: &mut bool,
-    expected: Option<(Name, u64)>,
+    cache: &mut Cache,
     edits: &[Edit],
 ) -> Result<(), StoreFault>
-    ensures { ChangesRound (λ r. fold rewritten r edits.now) (λ k. fold known_after k edits.now)
-        begun.old (state S.Store conn.old) begun.new (state S.Store conn.new) result }
+    ensures changes { ChangesRound (λ r. fold rewritten r edits.now) begun.old
+        (state S.Store conn.old) begun.new (state S.Store conn.new) result }
+    ensures follows { (r : Rows) → AreFresh r edits.now → Agrees r cache.old
+        → OnOk result (Agrees (fold rewritten r edits.now) cache.new) }
 {
     begin(conn, begun)?;
-    edit_marked(alloc, conn, expected, edits)
+    edit_marked(conn, cache, edits)
 }

@@ -2,13 +2,15 @@
 ghost use Rattle.std.specs.Prelude.{◌≡◌};
 ghost use Rattle.std.specs.FinMap as fmap;
 ghost use Rattle.mx_book.specs.World.{is_of};
-ghost use Rattle.mx_tables.specs.States.{TellsAt, IsExplained, Looks, Reads, Tells, Writes};
+ghost use Rattle.mx_tables.specs.Cached.{ReadsThrough};
+ghost use Rattle.mx_tables.specs.States.{IsExplained, Reads, Writes};
 ghost use Rattle.mx_book.specs.Reads.{holder_of};
 
 use crate::asking::{About, ask_about, run};
+use crate::cache::Cache;
 use crate::given;
-use crate::known::Known;
-use crate::owners::count_purses;
+use crate::owners::take_owners;
+use mx_book::held::count_held;
 use mx_book::{HolderRow, StoreFault};
 use mx_cells::cells::name_in;
 use mx_pay::Name;
@@ -48,16 +50,18 @@ pub fn find_holder<S: Alter>(
 pub fn read_holder<S: Alter>(
     alloc: Global,
     conn: &mut Connection<S>,
-    kept: &mut Option<Known>,
+    cache: &mut Cache,
     name: &Name,
 ) -> Result<Option<HolderRow>, StoreFault>
-    ensures { Looks S.Store conn.old conn.new kept.old kept.new
-        (λ b. TellsAt b S.Store conn.old conn.new result (λ w v. v ≡ holder_of w name.now)) }
+    ensures { ReadsThrough S.Store conn.old conn.new cache.old cache.new result
+        (λ r w v. v ≡ holder_of w name.now) }
 {
     let Some(member) = find_holder(conn, name)? else {
         return Ok(None);
     };
-    let purses = count_purses(alloc, conn, kept, name)?;
+    let owners = take_owners(alloc, conn, cache)?;
+    let purses = count_held(&owners, *name);
+    cache.fill_owners(owners);
     Ok(Some(HolderRow { member, purses }))
 }
 

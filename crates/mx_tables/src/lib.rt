@@ -3,12 +3,12 @@
 
 mod asking;
 mod between;
+mod cache;
 mod collecting;
 mod edits;
 mod given;
 mod holders;
 mod inbox;
-mod known;
 mod lines;
 mod loads;
 mod making;

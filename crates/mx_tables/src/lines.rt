@@ -24,13 +24,9 @@ use std::alloc::Global;
 fn text_of(alloc: Global, note: &Note) -> Result<String, StoreFault>
     ensures { IfOk result (λ text. string_bytes text ≡ words.note_text note.now) }
 {
-    let Ok(mut text) = String::with_capacity(alloc, MOST_ENTRY_BYTES) else {
-        return Err(StoreFault::Memory);
-    };
-    match push_note(&mut text, note) {
-        Ok(()) => Ok(text),
-        Err(_) => Err(StoreFault::Memory),
-    }
+    let mut text = String::with_capacity(alloc, MOST_ENTRY_BYTES)?;
+    push_note(&mut text, note)?;
+    Ok(text)
 }
 
 /// Adds a line of a purse. Store where its number or its balance is above 2^63 - 1.
@@ -83,31 +79,39 @@ fn next_line<S: Alter>(rows: &mut Rows<'_, S>) -> Result<Option<Line>, StoreFaul
     Ok(Some(line_in(row, note_at(row, 4)?)?))
 }
 
-/// The first `most` lines of a purse that are numbered above `after`, by number. The rows after them are not taken.
+/// Which lines of a purse are asked for: the first `most` that are numbered above `after`.
+#[derive(Clone, Copy)]
+pub struct Page {
+    /// The number that all of them are above.
+    pub after: u64,
+    /// How many at most.
+    pub most: u64,
+}
+
+/// The lines of a purse on a page, by number. The rows after them are not taken.
 pub fn list_lines<S: Alter>(
     alloc: Global,
     conn: &mut Connection<S>,
     purse: &Name,
-    after: u64,
-    most: u64,
+    page: Page,
 ) -> Result<Vec<Line>, StoreFault>
     ensures { Tells S.Store conn.old conn.new result
-        (λ w v. v.items ≡ lines_of w purse.now after most) }
+        (λ w v. v.items ≡ lines_of w purse.now page.after page.most) }
 {
     let mut lines = Vec::new(alloc);
-    if after > MOST_KEPT {
+    if page.after > MOST_KEPT {
         find_live(conn)?;
         return Ok(lines);
     }
     let found = conn.query(
         "SELECT number, kind, amount, balance, note FROM line WHERE purse = ?1 AND number > ?2 ORDER BY number",
-        &[given::text(purse.as_str()), given::number(after)],
+        &[given::text(purse.as_str()), given::number(page.after)],
     );
     let mut rows = match found {
         Ok(rows) => rows,
         Err(error) => return Err(fault_of(error)),
     };
-    'rows: for _ in 0..most {
+    'rows: for _ in 0..page.most {
         let Some(line) = next_line(&mut rows)? else {
             return Ok(lines);
         };

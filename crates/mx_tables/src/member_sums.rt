@@ -31,9 +31,7 @@ fn add_to(sums: &mut Table<Name, u128>, member: Name, more: u128) -> Result<(), 
         (sum_at before member + more)) }
 {
     let sum = plus(sum_at(sums, member), more)?;
-    if sums.reserve(1).is_err() {
-        return Err(StoreFault::Memory);
-    }
+    sums.reserve(1)?;
     sums.put(member, sum);
     Ok(())
 }
@@ -141,9 +139,7 @@ fn totals_in_rows(
     let mut totals = Vec::new(alloc);
     for row in rows {
         let total = totals_in(row, sums)?;
-        if totals.push(total).is_err() {
-            return Err(StoreFault::Memory);
-        }
+        totals.push(total)?;
     }
     Ok(totals)
 }

@@ -66,9 +66,7 @@ pub fn names_in(alloc: Global, rows: &[Row]) -> Result<Vec<Name>, StoreFault>
     let mut names = Vec::new(alloc);
     for row in rows {
         let name = name_at(row, 0)?;
-        if names.push(name).is_err() {
-            return Err(StoreFault::Memory);
-        }
+        names.push(name)?;
     }
     Ok(names)
 }

@@ -1,32 +1,30 @@
 //! Purses.
-ghost use Rattle.std.specs.Prelude.{Bool, ◌≡◌, ◌<◌, ◌^◌, if◌then◌else◌, IfOk, None, Some, is_some, option_map};
+ghost use Rattle.std.specs.Prelude.{◌≡◌, ◌<◌, ◌^◌, if◌then◌else◌, None, Some, is_some, option_and_then, option_map};
 ghost use Rattle.mx_pay.specs.Names.{is_name};
 ghost use Rattle.std.specs.FinMap as fmap;
 ghost use Rattle.sqlite.specs.Held.{state};
 ghost use Rattle.mx_book.specs.RowEdits.{rewritten};
 ghost use Rattle.mx_book.specs.declared.edits.Edit.TheVariants.{NewPurse, SetPurse};
-ghost use Rattle.mx_book.specs.declared.values.PurseRow.{PurseRow};
-ghost use Rattle.mx_tables.specs.Answers.{ArePurses, Raises, ShowsOwn, place_of};
-ghost use Rattle.mx_tables.specs.Known.{known_after};
+ghost use Rattle.mx_tables.specs.Answers.{ArePurses, Raises};
+ghost use Rattle.mx_tables.specs.Cached.{ReadsThrough};
 ghost use Rattle.mx_tables.specs.Schema.{office_schema};
-ghost use Rattle.mx_tables.specs.States.{TellsAt, ReadsAt, Finds, IsExplained, IsOurs, Knows, Looks, Reads, Steps, Tells, WritesWith};
-ghost use Rattle.mx_book.specs.Reads.{account_of, own_purse, has_purse};
+ghost use Rattle.mx_tables.specs.States.{Finds, IsExplained, Reads, Steps, Tells, Writes};
+ghost use Rattle.mx_book.specs.Reads.{account_of, finds_place, has_purse, own_purse};
 
-use crate::asking::{About, ask_about, ask_about_inside, find_live, run, run_one};
+use crate::asking::{About, ask_about, ask_about_inside, run, run_one};
+use crate::cache::Cache;
 use crate::given;
-use crate::holders::{find_holder, is_of};
-use crate::inbox::count_messages;
-use crate::known::{Known, learn_purse, recall_place, recall_purse, remember_waiting};
-use crate::owners::try_known;
-use mx_book::{Account, MOST_MESSAGES, PurseRow, StoreFault};
-use mx_cells::cells::{name_at, name_in, number_at, number_in};
+use crate::holders::find_holder;
+use crate::inbox::{count_messages, has_room};
+use mx_book::{Account, PurseRow, StoreFault};
+use mx_cells::cells::{name_in, number_in};
 use mx_cells::codes::{log_code, status_code};
-use mx_cells::shown::{purse_in, state_in};
+use mx_cells::shown::purse_in;
 use mx_pay::names::same_name;
 use mx_pay::{MOST_NUMBER, Name};
 use mx_purse::Purse;
 use mx_purse::words::status_word;
-use sqlite::{Alter, Connection, Row, Savepoint};
+use sqlite::{Alter, Connection, Savepoint};
 use std::alloc::Global;
 
 /// Adds a purse of a holder: at rest, with nothing in it and nothing logged.
@@ -35,9 +33,8 @@ pub fn insert_purse<S: Alter>(
     name: &Name,
     holder: &Name,
 ) -> Result<(), StoreFault>
-    ensures { WritesWith S.Store tx.old tx.new result
-        (λ r. rewritten r (NewPurse name.now holder.now))
-        (λ k. known_after k (NewPurse name.now holder.now)) }
+    ensures { Writes S.Store tx.old tx.new result
+        (λ r. rewritten r (NewPurse name.now holder.now)) }
 {
     run(
         tx,
@@ -51,8 +48,9 @@ pub fn find_purse<S: Alter>(
     conn: &mut Connection<S>,
     name: &Name,
 ) -> Result<Option<PurseRow>, StoreFault>
-    ensures { Reads S.Store conn.old conn.new result
+    ensures reads { Reads S.Store conn.old conn.new result
         (λ r v. ArePurses r → v ≡ fmap.get r.purses name.now) }
+    ensures why { IsExplained S.Store conn.old conn.new result }
 {
     match ask_about(conn, About::Purse, name)? {
         Some(row) => Ok(Some(purse_in(name, &row)?)),
@@ -83,83 +81,6 @@ pub fn read_account<S: Alter>(
     }))
 }
 
-/// The purse of a row where it is the holder's.
-fn own_in(holder: &Name, row: &PurseRow) -> Option<Purse>
-    ensures { result ≡ if is_name holder.now row.now.holder then Some row.now.purse else None }
-{
-    same_name(holder, &row.holder).then_some(row.purse)
-}
-
-/// The purse of that name that a row shows, where it is the holder's, or None where it is another's.
-fn own_shown(holder: &Name, name: &Name, row: &Row) -> Result<Option<Purse>, StoreFault>
-    ensures { IfOk result (ShowsOwn holder.now name.now row.now) }
-{
-    let owner = name_at(row, 0)?;
-    if !same_name(holder, &owner) {
-        return Ok(None);
-    }
-    Ok(Some(state_in(name, row)?))
-}
-
-/// The purse of that name where it is the holder's, or None where it is another's or there is none. It is known then.
-fn find_own<S: Alter>(
-    alloc: Global,
-    conn: &mut Connection<S>,
-    known: &mut Option<Known>,
-    holder: &Name,
-    name: &Name,
-) -> Result<Option<Purse>, StoreFault>
-    ensures { Looks S.Store conn.old conn.new known.old known.new
-        (λ b. TellsAt b S.Store conn.old conn.new result
-        (λ w v. v ≡ own_purse w holder.now name.now)) }
-{
-    let Some(row) = ask_about(conn, About::Purse, name)? else {
-        return Ok(None);
-    };
-    let Some(purse) = own_shown(holder, name, &row)? else {
-        return Ok(None);
-    };
-    learn_purse(alloc, known, *holder, purse, number_at(&row, 7));
-    Ok(Some(purse))
-}
-
-/// The same, which is asked for only where it isn't known.
-fn own_known<S: Alter>(
-    alloc: Global,
-    conn: &mut Connection<S>,
-    known: &mut Option<Known>,
-    holder: &Name,
-    name: &Name,
-) -> Result<Option<Purse>, StoreFault>
-    ensures { Looks S.Store conn.old conn.new known.old known.new
-        (λ b. TellsAt b S.Store conn.old conn.new result
-        (λ w v. v ≡ own_purse w holder.now name.now)) }
-{
-    let Some(row) = recall_purse(known, name) else {
-        return find_own(alloc, conn, known, holder, name);
-    };
-    find_live(conn)?;
-    Ok(own_in(holder, row))
-}
-
-/// The purse of that name where it is the holder's, or None where it is another's or there is none. The purses of each
-/// holder are made known first, where that wasn't tried.
-pub fn read_own<S: Alter>(
-    alloc: Global,
-    conn: &mut Connection<S>,
-    known: &mut Option<Known>,
-    tried: &mut bool,
-    holder: &Name,
-    name: &Name,
-) -> Result<Option<Purse>, StoreFault>
-    ensures { Looks S.Store conn.old conn.new known.old known.new
-        (λ b. TellsAt b S.Store conn.old conn.new result
-        (λ w v. v ≡ own_purse w holder.now name.now)) }
-{
-    try_known(alloc, conn, known, tried);
-    own_known(alloc, conn, known, holder, name)
-}
-
 /// The holder of a purse, or None where there is no such purse.
 pub fn find_owner<S: Alter>(
     conn: &mut Connection<S>,
@@ -172,103 +93,101 @@ pub fn find_owner<S: Alter>(
     name_in(ask_about(conn, About::Owner, name)?)
 }
 
-/// Whether there is a purse of that name.
-pub fn find_has_purse<S: Alter>(conn: &mut Connection<S>, name: &Name) -> Result<bool, StoreFault>
-    ensures tells { Tells S.Store conn.old conn.new result (λ w b. b ≡ has_purse w name.now) }
-    ensures why { IsExplained S.Store conn.old conn.new result }
+/// What is kept of a purse that the cache misses, which fills it, or None where there is no such purse.
+fn fill_purse<S: Alter>(
+    conn: &mut Connection<S>,
+    cache: &mut Cache,
+    name: &Name,
+) -> Result<Option<PurseRow>, StoreFault>
+    ensures { ReadsThrough S.Store conn.old conn.new cache.old cache.new result
+        (λ r w x. x ≡ fmap.get r.purses name.now) }
 {
-    Ok(find_owner(conn, name)?.is_some())
+    let Some(row) = find_purse(conn, name)? else {
+        return Ok(None);
+    };
+    cache.fill_purse(*name, &row);
+    Ok(Some(row))
+}
+
+/// What is kept of a purse, or None where there is no such purse.
+fn read_purse<S: Alter>(
+    conn: &mut Connection<S>,
+    cache: &mut Cache,
+    name: &Name,
+) -> Result<Option<PurseRow>, StoreFault>
+    ensures { ReadsThrough S.Store conn.old conn.new cache.old cache.new result
+        (λ r w x. x ≡ fmap.get r.purses name.now) }
+{
+    let Some(row) = cache.purse(name) else {
+        return fill_purse(conn, cache, name);
+    };
+    Ok(Some(row))
+}
+
+/// The purse of a row, where it is the holder's.
+fn own_in(holder: &Name, row: &Option<PurseRow>) -> Option<Purse>
+    ensures { result ≡ option_and_then
+        (λ x. if is_name holder.now x.holder then Some x.purse else None) row.now }
+{
+    match row {
+        Some(row) if same_name(holder, &row.holder) => Some(row.purse),
+        _ => None,
+    }
+}
+
+/// The purse of that name where it is the holder's, or None where it is another's or there is none.
+pub fn own_purse<S: Alter>(
+    conn: &mut Connection<S>,
+    cache: &mut Cache,
+    holder: &Name,
+    name: &Name,
+) -> Result<Option<Purse>, StoreFault>
+    ensures { ReadsThrough S.Store conn.old conn.new cache.old cache.new result
+        (λ r w v. v ≡ own_purse w holder.now name.now) }
+{
+    let row = read_purse(conn, cache, name)?;
+    Ok(own_in(holder, &row))
 }
 
 /// Whether the purse of that name is there and is the holder's.
-pub fn find_is_own<S: Alter>(
+pub fn is_own<S: Alter>(
     conn: &mut Connection<S>,
+    cache: &mut Cache,
     holder: &Name,
     name: &Name,
 ) -> Result<bool, StoreFault>
-    ensures tells { Tells S.Store conn.old conn.new result
-        (λ w b. b ≡ is_some (own_purse w holder.now name.now)) }
-    ensures why { IsExplained S.Store conn.old conn.new result }
+    ensures { ReadsThrough S.Store conn.old conn.new cache.old cache.new result
+        (λ r w b. b ≡ is_some (own_purse w holder.now name.now)) }
 {
-    Ok(is_of(holder, &find_owner(conn, name)?))
+    Ok(own_purse(conn, cache, holder, name)?.is_some())
 }
 
-/// Whether there is a purse of that name, which is asked for only where it isn't known.
-pub fn read_has_purse<S: Alter>(
+/// Whether there is a purse of that name.
+pub fn has_purse<S: Alter>(
     conn: &mut Connection<S>,
-    known: &Option<Known>,
+    cache: &mut Cache,
     name: &Name,
 ) -> Result<bool, StoreFault>
-    ensures looks { Looks S.Store conn.old conn.new known.now known.now
-        (λ b. TellsAt b S.Store conn.old conn.new result (λ w b. b ≡ has_purse w name.now)) }
-    ensures why { IsExplained S.Store conn.old conn.new result }
+    ensures { ReadsThrough S.Store conn.old conn.new cache.old cache.new result
+        (λ r w b. b ≡ has_purse w name.now) }
 {
-    let Some(_row) = recall_purse(known, name) else {
-        return find_has_purse(conn, name);
-    };
-    find_live(conn)?;
-    Ok(true)
+    Ok(read_purse(conn, cache, name)?.is_some())
 }
 
-/// Whether the purse of that name is there and is the holder's, which is asked for only where it isn't known.
-pub fn read_is_own<S: Alter>(
+/// Whether a message to a purse finds a place.
+pub fn finds_place<S: Alter>(
     conn: &mut Connection<S>,
-    known: &Option<Known>,
-    holder: &Name,
-    name: &Name,
+    cache: &mut Cache,
+    purse: &Name,
 ) -> Result<bool, StoreFault>
-    ensures looks { Looks S.Store conn.old conn.new known.now known.now
-        (λ b. TellsAt b S.Store conn.old conn.new result
-        (λ w b. b ≡ is_some (own_purse w holder.now name.now))) }
-    ensures why { IsExplained S.Store conn.old conn.new result }
+    ensures { ReadsThrough S.Store conn.old conn.new cache.old cache.new result
+        (λ r w b. b ≡ finds_place w purse.now) }
 {
-    let Some(row) = recall_purse(known, name) else {
-        return find_is_own(conn, holder, name);
+    let Some(row) = read_purse(conn, cache, purse)? else {
+        return Ok(false);
     };
-    find_live(conn)?;
-    Ok(same_name(holder, &row.holder))
-}
-
-/// The number that a message to a purse gets, or None where it finds no place. How many messages it has is known then.
-pub fn find_place<S: Alter>(
-    alloc: Global,
-    conn: &mut Connection<S>,
-    known: &mut Option<Known>,
-    name: &Name,
-) -> Result<Option<u64>, StoreFault>
-    ensures reads { Reads S.Store conn.old conn.new result
-        (λ r v. v ≡ place_of r name.now) }
-    ensures why { IsExplained S.Store conn.old conn.new result }
-    ensures knows { (begun : Bool) → IsOurs begun (state S.Store conn.old)
-        → Knows begun (state S.Store conn.old) known.old
-        → Knows begun (state S.Store conn.new) known.new }
-{
-    let Some(next_message) = number_in(ask_about(conn, About::Next, name)?)? else {
-        return Ok(None);
-    };
-    let held = count_messages(conn, name)?;
-    remember_waiting(alloc, known, *name, held);
-    let fits = held < MOST_MESSAGES && next_message < MOST_NUMBER;
-    Ok(fits.then_some(next_message))
-}
-
-/// The number that a message to a purse gets, or None where it finds no place, which is asked for only where it isn't
-/// known.
-pub fn read_place<S: Alter>(
-    alloc: Global,
-    conn: &mut Connection<S>,
-    known: &mut Option<Known>,
-    name: &Name,
-) -> Result<Option<u64>, StoreFault>
-    ensures looks { Looks S.Store conn.old conn.new known.old known.new
-        (λ b. ReadsAt b S.Store conn.old conn.new result (λ r v. v ≡ place_of r name.now)) }
-    ensures why { IsExplained S.Store conn.old conn.new result }
-{
-    let Some(number) = recall_place(known, name) else {
-        return find_place(alloc, conn, known, name);
-    };
-    find_live(conn)?;
-    Ok(Some(number))
+    let has_room = has_room(conn, cache, purse)?;
+    Ok(has_room && row.next_message < MOST_NUMBER)
 }
 
 /// Sets the purse of that name, which is there.
@@ -277,8 +196,8 @@ pub fn set_purse<S: Alter>(
     alloc: Global,
     purse: &Purse,
 ) -> Result<(), StoreFault>
-    ensures { WritesWith S.Store tx.old tx.new result
-        (λ r. rewritten r (SetPurse purse.now)) (λ k. known_after k (SetPurse purse.now)) }
+    ensures { Writes S.Store tx.old tx.new result
+        (λ r. rewritten r (SetPurse purse.now)) }
 {
     let details = status_code(alloc, &purse.status())?;
     let log = log_code(alloc, &purse.log())?;

@@ -2,7 +2,7 @@
 ghost use Rattle.std.specs.Prelude.{◌≡◌, ◌≢◌, ◌≤◌, false, IfOk, IfErr, MatchResult};
 ghost use Rattle.std.proofs.Common.{inl, inr};
 ghost use Rattle.sqlite.specs.Held.{state};
-ghost use Rattle.mx_book.specs.World.{opening};
+ghost use Rattle.mx_book.specs.World.{World, opening};
 ghost use Rattle.mx_tables.specs.Schema.{no_schema};
 ghost use Rattle.mx_tables.specs.declared.opening.OpenFault.TheVariants.{NotThisSchema};
 ghost use Rattle.mx_tables.specs.Made.{HasVersion, IsUnknown};
@@ -13,17 +13,17 @@ ghost use Rattle.sqlite.specs.State.{HasCleanDisk};
 ghost use Rattle.sqlite.specs.Effect.{Database};
 ghost use Rattle.mx_tables.specs.Holds.{SpellsOne};
 
+use crate::cache::Cache;
 use crate::edits::change_in;
 use crate::holders::read_holder;
-use crate::inbox::{find_message, list_inbox, read_has_message};
-use crate::known::{Known, keep_up};
-use crate::lines::list_lines;
+use crate::inbox::{find_message, has_message, list_inbox};
+use crate::lines::{Page, list_lines};
 use crate::loads::find_load;
 use crate::member_sums::sum_members;
 use crate::members::{find_member, list_members};
 use crate::opening::{OpenFault, OpenRefused, check_office, make_office};
 use crate::owners::list_purses;
-use crate::purses::{read_account, read_has_purse, read_is_own, read_own, read_place};
+use crate::purses::{finds_place, has_purse, is_own, own_purse, read_account};
 use crate::redemptions::find_redemption;
 use crate::results::{find_archived, list_tray};
 use crate::rounds::end;
@@ -47,19 +47,16 @@ pub struct Tables<S: Alter> {
     conn: Connection<S>,
     // Whether a round has begun.
     begun: bool,
-    // A purse to which a message was found to find a place since the last change, and the number that it gets.
-    expected: Option<(Name, u64)>,
-    // What is known of the rows, from when the purses of a holder or a purse are first asked for.
-    known: Option<Known>,
-    // Whether it was tried to make the purses of each holder known.
-    tried: bool,
+    cache: Cache,
+    // Whether the rows are known to spell a World.
+    known: bool,
 }
 
 impl<S: Alter> Model for Tables<S> {
     ghost use Rattle.sqlite.specs.Held.{Held, held_code, state as state_of};
     ghost use Rattle.std.specs.Prelude.{Bool};
     ghost use Rattle.std.specs.Coded.{coded×, coded_bool};
-    ghost use Rattle.mx_tables.specs.Rounds.{IsKept, KnowsIn};
+    ghost use Rattle.mx_tables.specs.Cached.{Invariant};
 
     ghost Value = { Held S × Bool };
 
@@ -67,8 +64,7 @@ impl<S: Alter> Model for Tables<S> {
 
     ghost view = { λ t. (t.conn, t.begun) };
 
-    ghost invariant = { λ t. IsKept t.begun (state_of S.Store t.conn)
-        × KnowsIn t.begun (state_of S.Store t.conn) t.known };
+    ghost invariant = { λ t. Invariant t.begun (state_of S.Store t.conn) t.cache t.known };
 }
 
 impl<S: Alter> Tables<S> {
@@ -102,14 +98,7 @@ impl<S: Alter> Tables<S> {
             });
         }
         match make_office(&mut store, &operator) {
-            Ok(()) => Ok(Tables {
-                alloc,
-                conn: store,
-                begun: false,
-                expected: None,
-                known: None,
-                tried: false,
-            }),
+            Ok(()) => Ok(Tables::over(alloc, store)),
             Err(fault) => Err(OpenRefused { fault, store }),
         }
     }
@@ -147,14 +136,22 @@ impl<S: Alter> Tables<S> {
             });
         }
         match check_office(alloc, &mut store) {
-            Ok(()) => Ok(Tables::over(alloc, store)),
+            Ok(()) => Ok(Tables {
+                alloc,
+                conn: store,
+                begun: false,
+                cache: Cache::new(alloc),
+                known: false,
+            }),
             Err(fault) => Err(OpenRefused { fault, store }),
         }
     }
 
-    /// A book of the tables of a store that `open` took, and that was only read since.
+    /// A book of the tables of a store that `open` took, that was only read since, and whose rows spell a World.
     pub fn over(alloc: Global, store: Connection<S>) -> Tables<S>
-        requires { IsOurs false (state S.Store store) }
+        requires ours { IsOurs false (state S.Store store) }
+        requires spelled { IsSound (state S.Store store)
+            → (w : World) × SpellsOne (state S.Store store).now w }
         ensures same { result.0 ≡ store }
         ensures settled { IsSettled S.Store result }
     {
@@ -162,9 +159,8 @@ impl<S: Alter> Tables<S> {
             alloc,
             conn: store,
             begun: false,
-            expected: None,
-            known: None,
-            tried: false,
+            cache: Cache::new(alloc),
+            known: true,
         }
     }
 
@@ -213,10 +209,10 @@ impl<S: Alter> RowBook for Tables<S> {
     }
 
     fn apply(&mut self, edits: &[Edit]) -> Result<(), StoreFault> {
-        let expected = self.expected.take();
-        let known = self.known.take();
-        let done = change_in(self.alloc, &mut self.conn, &mut self.begun, expected, edits);
-        self.known = keep_up(done.is_ok(), known, edits);
+        let done = change_in(&mut self.conn, &mut self.begun, &mut self.cache, edits);
+        if done.is_err() || !self.known {
+            self.cache.invalidate();
+        }
         done
     }
 
@@ -224,15 +220,13 @@ impl<S: Alter> RowBook for Tables<S> {
         let done = end(&mut self.conn, self.begun);
         self.begun = false;
         if done.is_err() {
-            self.expected = None;
-            self.known = None;
-            self.tried = false;
+            self.cache.invalidate();
         }
         done
     }
 
     fn holder(&mut self, alloc: Global, name: Name) -> Result<Option<HolderRow>, StoreFault> {
-        read_holder(alloc, &mut self.conn, &mut self.known, &name)
+        read_holder(alloc, &mut self.conn, &mut self.cache, &name)
     }
 
     fn members(&mut self, alloc: Global) -> Result<Vec<Name>, StoreFault> {
@@ -244,7 +238,7 @@ impl<S: Alter> RowBook for Tables<S> {
     }
 
     fn has_purse(&mut self, _alloc: Global, name: Name) -> Result<bool, StoreFault> {
-        read_has_purse(&mut self.conn, &self.known, &name)
+        has_purse(&mut self.conn, &mut self.cache, &name)
     }
 
     fn own_purse(
@@ -253,32 +247,19 @@ impl<S: Alter> RowBook for Tables<S> {
         holder: Name,
         purse: Name,
     ) -> Result<Option<Purse>, StoreFault> {
-        read_own(
-            self.alloc,
-            &mut self.conn,
-            &mut self.known,
-            &mut self.tried,
-            &holder,
-            &purse,
-        )
+        own_purse(&mut self.conn, &mut self.cache, &holder, &purse)
     }
 
     fn is_own(&mut self, _alloc: Global, holder: Name, purse: Name) -> Result<bool, StoreFault> {
-        read_is_own(&mut self.conn, &self.known, &holder, &purse)
+        is_own(&mut self.conn, &mut self.cache, &holder, &purse)
     }
 
     fn finds_place(&mut self, _alloc: Global, purse: Name) -> Result<bool, StoreFault> {
-        match read_place(self.alloc, &mut self.conn, &mut self.known, &purse)? {
-            Some(number) => {
-                self.expected = Some((purse, number));
-                Ok(true)
-            }
-            None => Ok(false),
-        }
+        finds_place(&mut self.conn, &mut self.cache, &purse)
     }
 
     fn purses_of(&mut self, alloc: Global, holder: Name) -> Result<Vec<Name>, StoreFault> {
-        list_purses(alloc, &mut self.conn, &mut self.known, &holder)
+        list_purses(alloc, &mut self.conn, &mut self.cache, &holder)
     }
 
     fn inbox(&mut self, alloc: Global, purse: Name) -> Result<Vec<(u64, Message)>, StoreFault> {
@@ -291,7 +272,7 @@ impl<S: Alter> RowBook for Tables<S> {
         purse: Name,
         number: u64,
     ) -> Result<Option<Message>, StoreFault> {
-        find_message(self.alloc, &mut self.conn, &mut self.known, &purse, number)
+        find_message(&mut self.conn, &mut self.cache, &purse, number)
     }
 
     fn has_message(
@@ -300,7 +281,7 @@ impl<S: Alter> RowBook for Tables<S> {
         purse: Name,
         number: u64,
     ) -> Result<bool, StoreFault> {
-        read_has_message(&mut self.conn, &self.known, &purse, number)
+        has_message(&mut self.conn, &self.cache, &purse, number)
     }
 
     fn lines(
@@ -310,7 +291,7 @@ impl<S: Alter> RowBook for Tables<S> {
         after: u64,
         most: u64,
     ) -> Result<Vec<Line>, StoreFault> {
-        list_lines(alloc, &mut self.conn, &purse, after, most)
+        list_lines(alloc, &mut self.conn, &purse, Page { after, most })
     }
 
     fn archived(

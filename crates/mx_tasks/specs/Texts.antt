@@ -16,7 +16,7 @@ use Rattle.mx_report.specs.declared.rolls.RollReason.TheVariants.{BadRow, Refuse
 use Rattle.mx_report.specs.declared.rolls.RollReport.{RollReport}
 use Rattle.mx_tasks.specs.declared.fault.TaskFault.{TaskFault}
 use Rattle.mx_tasks.specs.declared.fault.TaskFault.TheVariants.{NoSuchPurse}
-use Rattle.mx_tasks.specs.declared.texts.Reported.{Reported}
+use Rattle.mx_tasks.specs.declared.report.ReportText.{ReportText}
 
 -- why a row is refused
 abbrev pub reason_text : RollReason → List ℕ
@@ -55,7 +55,7 @@ is_even_of w None = is_even_report (members_totals_of w) (totals_of w)
 is_even_of w (Some purse) = is_even_account (own_lines w purse) (account_of w purse)
 
 -- what is reported of the World: its text, and whether it adds up
-abbrev pub Reports : World → Option Name → Reported → Type 0
+abbrev pub Reports : World → Option Name → ReportText → Type 0
 Reports w purse r = (report_of w purse ≡ Some r.text.items) × (r.is_even ≡ is_even_of w purse)
 
 -- the fault that there is no such purse comes only where there is none

@@ -1,23 +1,21 @@
 -- What work over the books does, and what comes of it.
-use Rattle.std.specs.Prelude.{◌≡◌, ◌≤◌, ◌⊎◌, ℕ, Bool, true, false, List, [], ◌++◌, Option, Some, None, Result, Err, IfOk, IfErr, IsOk, IsErr, MatchResult, codes, length, String, string_bytes}
+use Rattle.std.specs.Prelude.{◌≡◌, ◌≤◌, ◌⊎◌, ℕ, Bool, true, false, List, ◌++◌, Option, Some, None, Result, IfOk, IfErr, IsErr, MatchResult, codes, length, String, string_bytes}
 use Rattle.std.specs.Fmt.{decimal}
 use Rattle.mx_pay.specs.declared.names.Name.{Name}
 use Rattle.mx_book.specs.World.{World}
 use Rattle.mx_book.specs.declared.contract.StoreFault.{StoreFault}
 use Rattle.mx_desk.specs.Serve.{Marked}
 use Rattle.mx_desk.specs.Rounds.{Leads, Round}
-use Rattle.mx_desk.specs.Steps.{State, state}
 use Rattle.mx_report.specs.Import.{IsBroken, IsImported, Tally, tally_of}
 use Rattle.mx_report.specs.declared.rolls.RollReport.{RollReport}
 use Rattle.mx_tasks.specs.Connections.{ServesConnections}
 use Rattle.mx_tasks.specs.Faults.{IsReportFault}
-use Rattle.mx_tasks.specs.Runs.{TaskRuns}
 use Rattle.mx_tasks.specs.Texts.{import_text, is_even_of, report_of}
 use Rattle.mx_tasks.specs.declared.fault.TaskFault.{TaskFault}
 use Rattle.mx_tasks.specs.declared.fault.TaskFault.TheVariants.{Memory, NoSuchPurse, Store}
 use Rattle.mx_tasks.specs.declared.work.Done.{Done}
 use Rattle.mx_tasks.specs.declared.work.Work.{Work}
-use Rattle.mx_tasks.specs.declared.work.Work.TheVariants.{Run, Serve, Import, Report}
+use Rattle.mx_tasks.specs.declared.work.Work.TheVariants.{Serve, Import, Report}
 
 -- this is the text that is said, and there is no fault
 abbrev pub IsSaid : List ℕ → Done → Type 0
@@ -25,10 +23,6 @@ IsSaid text d = (d.text.items ≡ text) × (d.fault ≡ None)
 
 abbrev pub IsText : {A : Type 0} → List ℕ → String A → Type 0
 IsText text line = string_bytes line ≡ text
-
--- a run: nothing is said but its responses
-abbrev pub WorksRun : (StoreFault → Type 0) → State → Result Done TaskFault → List Marked → State → Type 0
-WorksRun fails s result ms t = (run : Result ℕ TaskFault) × TaskRuns fails s run ms t × MatchResult result (λ d. IsSaid [] d × IsOk run) (λ e. run ≡ Err e)
 
 -- how many connections were served
 abbrev pub served_text : ℕ → List ℕ
@@ -38,10 +32,10 @@ served_text n = codes "served " ++ decimal n ++ codes "\n"
 abbrev pub WorksServe : (StoreFault → Type 0) → World → ℕ → Result Done TaskFault → List Marked → World → Type 0
 WorksServe fails w count result ms now = ServesConnections fails w count result ms now × IfOk result (IsSaid (served_text count))
 
--- the import of a roll: its report is said; or it broke off; or it is done and there is no memory to report it
+-- the import of a roll: its summary is said; or it broke off; or it is done and there is no memory to sum it up
 abbrev pub Imports : {X : Type 0} → (World → Type 0) → World → List ℕ → (List ℕ → X → Type 0) → Result X TaskFault → Type 0
 Imports Stands w bytes Said result =
-    MatchResult result (λ x. (report : RollReport) × IsImported Stands w bytes (tally_of report) × Said (import_text report) x)
+    MatchResult result (λ x. (summary : RollReport) × IsImported Stands w bytes (tally_of summary) × Said (import_text summary) x)
     (λ e. ((done : ℕ) × IsBroken Stands w bytes done) ⊎ ((e ≡ Memory) × (tally : Tally) × IsImported Stands w bytes tally))
 
 -- the same of a roll in a file that could be read, of 1,048,576 bytes at most
@@ -60,11 +54,9 @@ IsReport w purse d = (report_of w purse ≡ Some d.text.items) × (d.fault ≡ f
 abbrev pub WorksReport : World → Option Name → Result Done TaskFault → Type 0
 WorksReport w purse result = MatchResult result (IsReport w purse) (λ e. e ≡ NoSuchPurse → report_of w purse ≡ None)
 
--- work that began with the World of s: what comes of it, what was read and written, and where the books stand. Of requests that
--- is said also where the store was shut on the way, and else where it is sure.
-abbrev pub Works : (StoreFault → Type 0) → Type 0 → (World → Type 0) → (List Round → World → Type 0) → State → Work → Result Done TaskFault → Option (List ℕ) → Option (List ℕ) → Type 0
-Works fails Sure Stands Moves s Run result input output = Leads (λ ms now. WorksRun fails s result ms (state [] input output now)) Moves
-Works fails Sure Stands Moves s (Serve port count) result input output = Leads (WorksServe fails s.world count result) Moves
-Works fails Sure Stands Moves s (Import roll) result input output = Sure → ImportsFile Stands s.world IsSaid result
-Works fails Sure Stands Moves s (Report purse) result input output =
-    IfErr result (IsReportFault fails) × (Sure → Stands s.world × WorksReport s.world purse result)
+-- work that began with the World w: what comes of it, and where the books stand. Of requests that is said also where the store
+-- was shut on the way, and else where it is sure.
+abbrev pub Works : (StoreFault → Type 0) → Type 0 → (World → Type 0) → (List Round → World → Type 0) → World → Work → Result Done TaskFault → Type 0
+Works fails Sure Stands Moves w (Serve port count) result = Leads (WorksServe fails w count result) Moves
+Works fails Sure Stands Moves w (Import roll) result = Sure → ImportsFile Stands w IsSaid result
+Works fails Sure Stands Moves w (Report purse) result = IfErr result (IsReportFault fails) × (Sure → Stands w × WorksReport w purse result)

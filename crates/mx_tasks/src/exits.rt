@@ -6,7 +6,7 @@ use crate::fault::TaskFault;
 use std::process::ExitCode;
 
 /// Prints a fault, and gives status 1.
-pub fn fail(rt: &HostRuntime, fault: TaskFault) -> ExitCode
+pub fn fail(rt: &impl Eprint, fault: TaskFault) -> ExitCode
     ensures { exit_status result ≡ 1 }
 {
     let text = fault.text();
@@ -15,7 +15,7 @@ pub fn fail(rt: &HostRuntime, fault: TaskFault) -> ExitCode
 }
 
 /// Prints a text that was asked for on standard output, and gives status 0; a fault where it can't be printed.
-pub fn show(rt: &HostRuntime, text: &str) -> ExitCode {
+pub fn show(rt: &(impl Print + Eprint), text: &str) -> ExitCode {
     if print!(rt; "{text}").is_err() {
         return fail(rt, TaskFault::Write);
     }
@@ -23,7 +23,7 @@ pub fn show(rt: &HostRuntime, text: &str) -> ExitCode {
 }
 
 /// Prints why a command line is bad, and gives status 2.
-pub fn refuse(rt: &HostRuntime, text: &str) -> ExitCode
+pub fn refuse(rt: &impl Eprint, text: &str) -> ExitCode
     ensures { exit_status result ≡ 2 }
 {
     let _ = eprint!(rt; "{text}");

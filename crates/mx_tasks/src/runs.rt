@@ -51,26 +51,27 @@ pub fn run_office<R: Read, W: Outlet, B: Book>(
     Ok(count)
 }
 
-/// Answers the requests of the input, as `run_office` does, over an office of this book, which is given up at the
-/// end.
-fn run_over<R: Read, W: Outlet, B: Book + Drop>(
+/// Answers the requests of the input, as `run_office` does, over an office of this book, which it gives back.
+pub fn run_in_book<R: Read, W: Outlet, B: Book>(
     alloc: Global,
     book: B,
     reader: &mut Counted<R>,
     writer: &mut Counted<W>,
-) -> Result<u64, TaskFault>
-    ensures unbegun { result ≡ Err TaskFault.Memory
+) -> (Result<u64, TaskFault>, B)
+    ensures later { (B.view book).IsSettled → (B.view book).doubt ≤ (B.view result.1).doubt }
+    ensures still { (B.view book).IsSettled → (B.view result.1).IsSettled }
+    ensures unbegun { result.0 ≡ Err TaskFault.Memory
         → Untouched reader.old reader.new writer.old writer.new }
-    ensures fault { IfErr result IsRunFault }
-    ensures runs { (w : World) → RestsAt (B.view book) w
-        → (left : B) × (IsHonest (B.view left)
+    ensures fault { IfErr result.0 IsRunFault }
+    ensures runs { (w : World) → IsHonest (B.view result.1) → RestsAt (B.view book) w
         → Leads (λ ms now. TaskRuns B.fails
-        (state [] (R.remaining reader.old.device) (W.contents writer.old.device) w) result ms
+        (state [] (R.remaining reader.old.device) (W.contents writer.old.device) w) result.0 ms
         (state [] (R.remaining reader.new.device) (W.contents writer.new.device) now))
-        (Moves (B.view book) (B.view left) w)) }
+        (Moves (B.view book) (B.view result.1) w) }
 {
     let mut office = Office::new(book);
-    run_office(alloc, &mut office, reader, writer)
+    let answer = run_office(alloc, &mut office, reader, writer);
+    (answer, office.into_book())
 }
 
 /// Answers the requests of the input over books in memory that are given up at the end, for the operator with that
@@ -98,5 +99,6 @@ pub fn run_memory<R: Read, W: Outlet>(
 {
     // The reader says that the token has its bytes.
     let _bytes = operator.as_bytes();
-    run_over(alloc, new_book(alloc, operator), reader, writer)
+    let (count, _) = run_in_book(alloc, new_book(alloc, operator), reader, writer);
+    count
 }

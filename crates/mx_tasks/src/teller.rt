@@ -1,6 +1,7 @@
 //! What is told of how far a task is, while it is under way.
 use mx_report::Progress;
 use std::io::IsTerminal;
+use std::rt::Clock;
 use std::time::{Duration, Instant};
 
 /// Tells on standard error how many rows, or what else, are done, where that is a terminal: once the task has taken a second,
@@ -19,13 +20,13 @@ pub struct Teller<'a> {
 }
 
 /// A second from now, or None where no clock tells.
-fn in_a_second(rt: &HostRuntime) -> Option<Instant> {
+fn in_a_second(rt: &impl Clock) -> Option<Instant> {
     let now = Instant::now(rt).ok()?;
     now.checked_add(Duration::from_secs(1))
 }
 
 /// Whether that time has come.
-fn has_come(rt: &HostRuntime, due: Option<Instant>) -> bool {
+fn has_come(rt: &impl Clock, due: Option<Instant>) -> bool {
     match (due, Instant::now(rt)) {
         (Some(time), Ok(now)) => now >= time,
         _ => false,

@@ -1,32 +1,32 @@
 //! What is done over the books in a file.
-ghost use Rattle.std.specs.Prelude.{◌≡◌, ◌≤◌, ◌⊎◌, [], IfOk, IfErr, string_bytes};
+ghost use Rattle.std.specs.Prelude.{◌≡◌, ◌≤◌, IfOk, IfErr, string_bytes};
 ghost use Rattle.mx_book.specs.Views.{Keeps, RestsAt, IsSure, IsHonest};
 ghost use Rattle.mx_book.specs.World.{World};
 ghost use Rattle.mx_desk.specs.Rounds.{Leads, Moves};
-ghost use Rattle.mx_desk.specs.Steps.{state};
-ghost use Rattle.mx_tasks.specs.Faults.{IsReportFault, Untouched};
-ghost use Rattle.mx_tasks.specs.Works.{ImportsFile, IsSaid, Works, WorksReport, WorksRun, WorksServe, served_text};
-ghost use Rattle.mx_tasks.specs.declared.work.Work.TheVariants.{Run};
+ghost use Rattle.mx_tasks.specs.Connections.{ServesConnections};
+ghost use Rattle.mx_tasks.specs.Faults.{IsReportFault};
+ghost use Rattle.mx_tasks.specs.Works.{ImportsFile, IsSaid, Works, WorksReport, WorksServe, served_text};
 
-use crate::connections::{listen, serve_connections};
 use crate::fault::TaskFault;
-use crate::rolls::import_from;
-use crate::runs::run_office;
-use crate::texts::report_text;
+use crate::import::import_file;
+use crate::report::report_text;
+use crate::serve::alarm::{Alarm, Alarmed};
+use crate::serve::timed::Timed;
+use crate::serve::{end_connection, listen};
 use mx_book::Book;
-use mx_desk::{Counted, Outlet};
+use mx_desk::Counted;
+use mx_desk::desk::serve_one;
 use mx_office::Office;
 use mx_pay::Name;
 use mx_wire::Routes;
 use std::alloc::{AllocError, Global};
-use std::io::Read;
-use std::net::TcpListener;
+use std::io;
+use std::net::{Net, TcpListener, TcpStream};
+use std::rt::Clock;
 
-/// What is done over the books in a file, once they are open.
+/// What is done over the books in a file, beside a run, which has the input and the output.
 #[derive(Drop)]
 pub enum Work<'a> {
-    /// The requests of the input are answered.
-    Run,
     /// Connections are served.
     Serve {
         /// The port, from 1 to 65535.
@@ -78,31 +78,49 @@ fn served_text(alloc: Global, served: u64) -> Result<String, AllocError>
     format!(in alloc; "served {served}\n")
 }
 
-/// Serves so many connections that come to a listener, and gives the line that says how many were served.
-fn serve_on<B: Book>(
-    rt: &HostRuntime,
+/// Serves so many connections, one after another: of each the first request alone. What is promised of these is one
+/// clause (`serves`). A fault of a connection ends that connection alone: the client has ten seconds for its request, ten for
+/// taking the response, and ten with what it sends behind, and holds the others up for so long. The first time that the store
+/// fails a request, a line on standard error says so. The answer is how many were served.
+///
+/// # Errors
+///
+/// That of the system where a connection can't be taken.
+pub fn serve_connections<B: Book>(
+    rt: &(impl AllocGlobal + Clock + Eprint),
     listener: &TcpListener,
-    count: u32,
+    count: u64,
     routes: &Routes,
     office: &mut Office<B>,
-) -> Result<Done, TaskFault>
+) -> io::Result<u64>
+    ensures all { IfOk result (λ served. served ≡ count) }
     ensures later { (B.view office.old.book).IsSettled
         → (B.view office.old.book).doubt ≤ (B.view office.new.book).doubt }
     ensures still { (B.view office.old.book).IsSettled → (B.view office.new.book).IsSettled }
     ensures serves { (w : World) → IsHonest (B.view office.new.book)
         → RestsAt (B.view office.old.book) w
-        → Leads (WorksServe B.fails w count result)
+        → Leads (ServesConnections B.fails w count result)
         (Moves (B.view office.old.book) (B.view office.new.book) w) }
 {
-    match serve_connections(rt, listener, u64::from(count), routes, office) {
-        Ok(served) => Ok(said(served_text(rt.alloc(), served)?.into_bytes())),
-        Err(_) => Err(TaskFault::Net),
+    let mut alarm = Alarm::new(rt);
+    'connections: for _ in 0..count {
+        let (stream, _) = listener.accept()?;
+        let mut reader = Counted::new(Timed::new(rt, &stream));
+        let mut writer = Counted::new(Alarmed::new(Timed::new(rt, &stream), &mut alarm));
+        let answer = serve_one(rt.alloc(), &mut reader, &mut writer, routes, office);
+        end_connection(rt, &stream, answer.is_ok());
     }
+    Ok(count)
 }
 
-/// Listens on a port of 127.0.0.1, says so on standard output, and serves so many connections.
+/// Listens on a port of 127.0.0.1, says so on standard output, and serves so many connections. Gives the line that says how
+/// many were served.
 fn serve<B: Book>(
-    rt: &HostRuntime,
+    rt: &(impl AllocGlobal
+        + Clock
+        + Eprint
+        + Net<Listener = TcpListener, Stream = TcpStream>
+        + Print),
     port: u16,
     count: u32,
     office: &mut Office<B>,
@@ -122,28 +140,10 @@ fn serve<B: Book>(
     if println!(rt; "listening on 127.0.0.1:{port}").is_err() {
         return Err(TaskFault::Write);
     }
-    serve_on(rt, &listener, count, &routes, office)
-}
-
-/// Answers the requests of the input.
-fn run<R: Read, W: Outlet, B: Book>(
-    alloc: Global,
-    office: &mut Office<B>,
-    reader: &mut Counted<R>,
-    writer: &mut Counted<W>,
-) -> Result<Done, TaskFault>
-    ensures later { (B.view office.old.book).IsSettled
-        → (B.view office.old.book).doubt ≤ (B.view office.new.book).doubt }
-    ensures still { (B.view office.old.book).IsSettled → (B.view office.new.book).IsSettled }
-    ensures runs { (w : World) → IsHonest (B.view office.new.book)
-        → RestsAt (B.view office.old.book) w
-        → Leads (λ ms now. WorksRun B.fails
-        (state [] (R.remaining reader.old.device) (W.contents writer.old.device) w) result ms
-        (state [] (R.remaining reader.new.device) (W.contents writer.new.device) now))
-        (Moves (B.view office.old.book) (B.view office.new.book) w) }
-{
-    run_office(alloc, office, reader, writer)?;
-    Ok(said(Vec::new(alloc)))
+    match serve_connections(rt, &listener, u64::from(count), &routes, office) {
+        Ok(served) => Ok(said(served_text(rt.alloc(), served)?.into_bytes())),
+        Err(_) => Err(TaskFault::Net),
+    }
 }
 
 /// Imports the roll in a file.
@@ -155,39 +155,31 @@ fn import<B: Book>(rt: &HostRuntime, roll: &str, office: &mut Office<B>) -> Resu
         → ImportsFile (λ v. (B.view office.new.book).world ≡ v)
         (B.view office.old.book).world IsSaid result }
 {
-    let lines = import_from(rt, roll, office)?;
+    let lines = import_file(rt, roll, office)?;
     Ok(said(lines.into_bytes()))
 }
 
-/// Does the work, and gives what comes of it. What that is, of what the books are then, and of what is read and written, is
-/// said of each kind of work (`works`).
+/// Does the work, and gives what comes of it. What that is, and of what the books are then, is said of each kind of work
+/// (`works`).
 ///
 /// # Errors
 ///
-/// Those of a run: `Read`, `Write`, `Turns`. Serving: `Net` where the port can't be listened on or a connection can't be
-/// taken, and `Write` where that it listens can't be printed. An import: `File`, `RollTooLarge`, `Roll`. A report:
-/// `NoSuchPurse`. `Memory` or `Store` comes with any work.
-pub fn do_work<R: Read, W: Outlet, B: Book>(
+/// Serving: `Net` where the port can't be listened on or a connection can't be taken, and `Write` where that it listens can't
+/// be printed. An import: `File`, `RollTooLarge`, `Roll`. A report: `NoSuchPurse`. `Memory` or `Store` comes with any work.
+pub fn do_work<B: Book>(
     rt: &HostRuntime,
     work: &Work<'_>,
     office: &mut Office<B>,
-    reader: &mut Counted<R>,
-    writer: &mut Counted<W>,
 ) -> Result<Done, TaskFault>
     ensures later { (B.view office.old.book).IsSettled
         → (B.view office.old.book).doubt ≤ (B.view office.new.book).doubt }
     ensures still { (B.view office.old.book).IsSettled → (B.view office.new.book).IsSettled }
-    ensures untouched { (work.now ≡ Run) ⊎ Untouched reader.old reader.new writer.old writer.new }
     ensures works { (B.view office.old.book).IsSettled → IsHonest (B.view office.new.book)
         → Works B.fails (IsSure (B.view office.new.book)) (λ v. (B.view office.new.book).world ≡ v)
         (Moves (B.view office.old.book) (B.view office.new.book) (B.view office.old.book).world)
-        (state [] (R.remaining reader.old.device) (W.contents writer.old.device)
-        (B.view office.old.book).world)
-        work.now result
-        (R.remaining reader.new.device) (W.contents writer.new.device) }
+        (B.view office.old.book).world work.now result }
 {
     match work {
-        Work::Run => run(rt.alloc(), office, reader, writer),
         Work::Serve { port, count } => serve(rt, *port, *count, office),
         Work::Import(roll) => import(rt, roll, office),
         Work::Report(purse) => report(rt.alloc(), &mut office.book, *purse),
@@ -195,25 +187,19 @@ pub fn do_work<R: Read, W: Outlet, B: Book>(
 }
 
 /// Does a piece of work over books, and gives them back with what came of it.
-pub fn work_over<R: Read, W: Outlet, B: Book>(
+pub fn work_in_book<B: Book>(
     rt: &HostRuntime,
     work: &Work<'_>,
     book: B,
-    reader: &mut Counted<R>,
-    writer: &mut Counted<W>,
 ) -> (Result<Done, TaskFault>, B)
     ensures later { (B.view book).IsSettled → (B.view book).doubt ≤ (B.view result.1).doubt }
     ensures still { (B.view book).IsSettled → (B.view result.1).IsSettled }
-    ensures untouched { (work.now ≡ Run) ⊎ Untouched reader.old reader.new writer.old writer.new }
     ensures works { (B.view book).IsSettled → IsHonest (B.view result.1)
         → Works B.fails (IsSure (B.view result.1)) (λ v. (B.view result.1).world ≡ v)
         (Moves (B.view book) (B.view result.1) (B.view book).world)
-        (state [] (R.remaining reader.old.device) (W.contents writer.old.device)
-        (B.view book).world)
-        work.now result.0
-        (R.remaining reader.new.device) (W.contents writer.new.device) }
+        (B.view book).world work.now result.0 }
 {
     let mut office = Office::new(book);
-    let answer = do_work(rt, work, &mut office, reader, writer);
+    let answer = do_work(rt, work, &mut office);
     (answer, office.into_book())
 }

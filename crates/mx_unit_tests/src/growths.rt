@@ -6,7 +6,7 @@ use crate::wire::words::words_of;
 use mx_command::{Messages, Names, Reply};
 use mx_pay::{Log, Name, PayDetails, code_text, read_code, read_details};
 use mx_purse::{Message, Purse};
-use mx_wire::{Routes, render};
+use mx_wire::{Method, Routes, render};
 use std::alloc::{AllocError, Global};
 use std::process::Abort;
 use std::test::Fail;
@@ -159,7 +159,7 @@ fn is_rendered(alloc: Global, reply: &Reply, body: &str) -> Result<bool, AllocEr
         Ok(response) => response,
         Err(_) => render(alloc, reply)?,
     };
-    let bytes = response.text(false);
+    let bytes = response.text(Method::Get);
     Ok(bytes.starts_with(b"HTTP/1.1 200 OK\r\n") && bytes.ends_with(body.as_bytes()))
 }
 

@@ -1,9 +1,8 @@
 -- What matchit finds is one of its rows, and of an ASCII path it takes ASCII parts.
-use Rattle.std.proofs.Common.{◌≡◌, ℕ, zero, suc, ◌-◌, ◌<◌, ◌&&◌, List, [], ◌∷◌, Bool, true, false, length, drop, take, refl, sym, subst, arith}
+use Rattle.std.proofs.Common.{◌≡◌, ℕ, zero, suc, ◌-◌, ◌<◌, ◌&&◌, List, [], ◌∷◌, Bool, true, false, length, drop, take, refl, subst, arith}
 use Rattle.std.specs.Prelude.{Option, Some, None, cond, ◌==◌, nat_lt, nat_le}
 use Rattle.std.specs.Char.{is_ascii}
 use Rattle.std.specs.List.{list_all}
-use Rattle.std.specs.Bool.{MatchBool}
 use Rattle.std.specs.Str.{IsAscii, IsNotAscii, IsUtf8}
 use Rattle.std.proofs.lemmas.Bool.{and_parts, and_from, false_from_ne_true}
 use Rattle.std.proofs.lemmas.Bool.Decides.{nat_tests}
@@ -13,6 +12,7 @@ use Rattle.matchit.specs.Router.{RouteOf}
 use Rattle.matchit.specs.Seek.{first, seek, param_step, own, step, or_else, longest_suffix, segment, with_suffix, same_text, has_slash}
 use Rattle.matchit.specs.Params.{walk, part_of, AllText}
 use Rattle.matchit.proofs.OnLiterals.{matchit_on_literals}
+use Rattle.mx_wire.specs.declared.routes.Method.{Method}
 use Rattle.mx_wire.specs.declared.routes.Pattern.{Pattern}
 use Rattle.mx_wire.specs.declared.routes.Route.{Route}
 use Rattle.mx_wire.specs.Routes.{Rows, table_rows, route_of, asked}
@@ -21,7 +21,7 @@ ascii_byte : (b : ℕ) → is_ascii b ≡ true → b < 128
 ascii_byte b h = grind (arith, nat_tests)
 
 -- the test and the fact
-pub IsAscii-from_test : (bs : List ℕ) → list_all is_ascii bs ≡ true → IsAscii bs
+IsAscii-from_test : (bs : List ℕ) → list_all is_ascii bs ≡ true → IsAscii bs
 IsAscii-from_test [] h i = omega arith
 IsAscii-from_test (b ∷ bs) h zero = ascii_byte b (and_parts _ _ h).0
 IsAscii-from_test (b ∷ bs) h (suc i) = IsAscii-from_test bs (and_parts _ _ h).1 i
@@ -33,11 +33,8 @@ test-from_IsAscii : (bs : List ℕ) → IsAscii bs → list_all is_ascii bs ≡ 
 test-from_IsAscii [] h = refl
 test-from_IsAscii (b ∷ bs) h = and_from _ _ (test_of_byte b (h 0)) (test-from_IsAscii bs (λ i. h (suc i)))
 
--- a test that answers by the facts is that of each byte
-pub ascii_test : (bs : List ℕ) (answer : Bool) → MatchBool answer (IsAscii bs) (IsNotAscii bs) → answer ≡ list_all is_ascii bs
-ascii_test bs true h = sym (test-from_IsAscii bs h)
-ascii_test bs false h =
-    sym (false_from_ne_true _ (λ all. let low = IsAscii-from_test bs all h.0 in absurd (omega (arith, low, h.1))))
+test-from_IsNotAscii : (bs : List ℕ) → IsNotAscii bs → list_all is_ascii bs ≡ false
+test-from_IsNotAscii bs h = false_from_ne_true _ (λ all. let low = IsAscii-from_test bs all h.0 in absurd (omega (arith, low, h.1)))
 
 -- ---- the parts of an ASCII path are texts
 
@@ -126,18 +123,18 @@ found_ascii path r found = IsAscii-from_test r.text (subst (OfFound IsText) foun
 
 -- ---- the route, by what matchit finds
 
-pub route_not_ascii : (method path : List ℕ) → list_all is_ascii path ≡ false → route_of method path ≡ None
+pub route_not_ascii : (method : Method) (path : List ℕ) → IsNotAscii path → route_of method path ≡ None
 unfolding route_of
-route_not_ascii method path h = rw h refl
+route_not_ascii method path h = rw (test-from_IsNotAscii path h) refl
 
-pub route_missing : (method path : List ℕ) → list_all is_ascii path ≡ true → first table_rows path ≡ None → route_of method path ≡ None
+pub route_missing : (method : Method) (path : List ℕ) → IsAscii path → first table_rows path ≡ None → route_of method path ≡ None
 unfolding route_of
-route_missing method path h missing = rw (h, missing) refl
+route_missing method path h missing = rw (test-from_IsAscii path h, missing) refl
 
-pub route_found : (method path taken : List ℕ) (r : RouteOf Pattern) (answer : Option Route)
-    → list_all is_ascii path ≡ true → first table_rows path ≡ Some r → taken ≡ path → answer ≡ asked method taken r → answer ≡ route_of method path
+pub route_found : (method : Method) (path taken : List ℕ) (r : RouteOf Pattern) (answer : Option Route)
+    → IsAscii path → first table_rows path ≡ Some r → taken ≡ path → answer ≡ asked method taken r → answer ≡ route_of method path
 unfolding route_of
-route_found method path taken r answer h found same e = rw (h, found, ← same) e
+route_found method path taken r answer h found same e = rw (test-from_IsAscii path h, found, ← same) e
 
 -- what a router of the table finds for a text that is the path
 pub at_table : (router : Rows) (text path : List ℕ) (o : Option (RouteOf Pattern)) → router ≡ table_rows → text ≡ path → first router text ≡ o → first table_rows path ≡ o

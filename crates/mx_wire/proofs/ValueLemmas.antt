@@ -6,7 +6,7 @@ use Rattle.std.specs.Char.{is_ascii}
 use Rattle.std.proofs.lemmas.Bool.Decides.{nat_tests}
 use Rattle.matchit.specs.Router.{RouteOf}
 use Rattle.matchit.specs.Seek.{first}
-use Rattle.matchit.specs.Params.{walk, named}
+use Rattle.matchit.specs.Params.{named}
 use Rattle.serde_json.specs.Data.{Data}
 use Rattle.mx_pay.specs.Limits.{most_amount, most_number}
 use Rattle.mx_pay.specs.Names.{is_name_text}
@@ -21,11 +21,13 @@ use Rattle.mx_pay.proofs.SameLemmas.{none_valid}
 use Rattle.mx_command.specs.declared.values.Command.{Command}
 use Rattle.mx_command.specs.declared.values.Command.TheVariants as command
 use Rattle.mx_command.specs.Commands.{IsNamed, IsCommand}
+use Rattle.mx_wire.specs.declared.routes.Method.{Method}
+use Rattle.mx_wire.specs.declared.routes.Method.TheVariants as method
 use Rattle.mx_wire.specs.declared.routes.Pattern.{Pattern}
 use Rattle.mx_wire.specs.declared.routes.Pattern.TheVariants as pattern
 use Rattle.mx_wire.specs.declared.routes.Route.{Route}
 use Rattle.mx_wire.specs.declared.routes.Route.TheVariants as route
-use Rattle.mx_wire.specs.Routes.{name_of, taken, after, is_get, is_post, got, posted, asked, table_rows, route_of}
+use Rattle.mx_wire.specs.Routes.{name_of, taken, after, got, posted, asked, table_rows, route_of}
 use Rattle.mx_wire.specs.Bodies.{text_at, name_at, token_at, at_most, number_at, amount_at, seq_at, log_of_code, log_at, details_at, bare, bare_or, of_two, of_three, said, value_of, command_of}
 
 -- ---- what holds of what is found
@@ -167,15 +169,12 @@ after_is : (p : Pattern) (parts : List (List ℕ × List ℕ)) → IfSome (after
 after_is pattern.Statement parts = found IsNumber (limited most_number) (named (codes "after") parts) (λ t. found IsNumber (at_most most_number) (number_of t) (within most_number))
 after_is p parts = tt
 
-asked_is : (method path : List ℕ) (r : RouteOf Pattern) → IfSome (asked method path r) HasValues
-asked_is method path r =
-    let parts = walk r.pattern r.text path r.names 0 0 in
-    let name = taken r.value parts in
-    let n = after r.value parts in
-    either HasValues (is_post method) (posted r.value name) _ (posted_is r.value name (taken_is r.value parts))
-    (either HasValues (is_get method) (got r.value name n) None (got_is r.value name n (taken_is r.value parts) (after_is r.value parts)) tt)
+asked_is : (m : Method) (path : List ℕ) (r : RouteOf Pattern) → IfSome (asked m path r) HasValues
+asked_is method.Post path r = posted_is r.value _ (taken_is r.value _)
+asked_is method.Other path r = tt
+asked_is _ path r = got_is r.value _ _ (taken_is r.value _) (after_is r.value _)
 
-route_is : (method path : List ℕ) → IfSome (route_of method path) HasValues
+route_is : (method : Method) (path : List ℕ) → IfSome (route_of method path) HasValues
 unfolding route_of
 route_is method path = either HasValues (list_all is_ascii path) (option_and_then (asked method path) (first table_rows path)) None (found HasValues (asked method path) (first table_rows path) (asked_is method path)) tt
 
@@ -217,5 +216,5 @@ unfolding command_of
 command_is r body h = or_is (bare r) _ (bare_is r h) (found IsCommand (said r) (value_of body) (λ d. said_is r d h))
 
 -- what a request's method, path and body ask is a command that is a value
-pub request_is : (method path body : List ℕ) (r : Route) → route_of method path ≡ Some r → IfSome (command_of r body) IsCommand
+pub request_is : (method : Method) (path body : List ℕ) (r : Route) → route_of method path ≡ Some r → IfSome (command_of r body) IsCommand
 request_is method path body r at = command_is r body (subst (λ o. IfSome o HasValues) at (route_is method path))

@@ -12,6 +12,7 @@ use Rattle.mx_pay.specs.Reading.{entry_of, entries_of}
 use Rattle.mx_pay.specs.Tokens.{token_of}
 use Rattle.mx_command.specs.declared.values.Command.{Command}
 use Rattle.mx_command.specs.declared.values.Command.TheVariants as command
+use Rattle.mx_wire.specs.declared.routes.Method.{Method}
 use Rattle.mx_wire.specs.declared.routes.Route.{Route}
 use Rattle.mx_wire.specs.declared.routes.Route.TheVariants as route
 use Rattle.mx_wire.specs.Routes.{name_of, route_of}
@@ -110,5 +111,5 @@ unfoldable pub command_of : Route → List ℕ → Option Command
 command_of r body = bare_or (bare r) (option_and_then (said r) (value_of body))
 
 -- the command of a request's method, path and body
-abbrev pub request_command : List ℕ → List ℕ → List ℕ → Option Command
+abbrev pub request_command : Method → List ℕ → List ℕ → Option Command
 request_command method path body = option_and_then (λ asked. command_of asked body) (route_of method path)

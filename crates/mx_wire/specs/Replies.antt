@@ -19,6 +19,8 @@ use Rattle.mx_command.specs.declared.values.Reply.{Reply}
 use Rattle.mx_command.specs.declared.values.Reply.TheVariants as reply
 use Rattle.mx_wire.specs.declared.replies.Fixed.{Fixed}
 use Rattle.mx_wire.specs.declared.replies.Fixed.TheVariants as fixed
+use Rattle.mx_wire.specs.declared.routes.Method.{Method}
+use Rattle.mx_wire.specs.declared.routes.Method.TheVariants.{Head}
 
 -- the two parts of a response
 pub record Parts : Type 0 where
@@ -38,10 +40,10 @@ head_text status size =
 abbrev pub response : List ℕ → List ℕ → Parts
 response status body = record { head = head_text status (length body); body = body }
 
--- the bytes that are sent: for HEAD the head alone (RFC 9110, section 9.3.2)
-abbrev pub sent : Bool → Parts → List ℕ
-sent true r = r.head
-sent false r = r.head ++ r.body
+-- the bytes that are sent: to HEAD the head alone (RFC 9110, section 9.3.2)
+abbrev pub sent : Method → Parts → List ℕ
+sent Head r = r.head
+sent _ r = r.head ++ r.body
 
 -- the response that gives up, for every method: it has no body, and says so
 unfoldable pub unavailable : List ℕ

@@ -1,5 +1,5 @@
 -- What a request asks by its method and path. A path's pattern is the one that matchit finds for it.
-use Rattle.std.specs.Prelude.{ℕ, List, [], ◌∷◌, Bool, if◌then◌else◌, ◌||◌, Option, Some, None, option_map, option_and_then, Result, Ok, Err, map, codes, bytes_eq}
+use Rattle.std.specs.Prelude.{ℕ, List, [], ◌∷◌, if◌then◌else◌, Option, Some, None, option_map, option_and_then, Result, Ok, Err, map, codes, bytes_eq}
 use Rattle.std.specs.Borrow.{Bor}
 use Rattle.std.specs.Char.{is_ascii}
 use Rattle.std.specs.List.{list_all}
@@ -15,6 +15,8 @@ use Rattle.mx_pay.specs.Names.{is_name_text}
 use Rattle.mx_pay.specs.Reading.{limited}
 use Rattle.mx_wire.specs.declared.routes.Class.{Class}
 use Rattle.mx_wire.specs.declared.routes.Class.TheVariants as class
+use Rattle.mx_wire.specs.declared.routes.Method.{Method}
+use Rattle.mx_wire.specs.declared.routes.Method.TheVariants as method
 use Rattle.mx_wire.specs.declared.routes.Pattern.{Pattern}
 use Rattle.mx_wire.specs.declared.routes.Pattern.TheVariants as pattern
 use Rattle.mx_wire.specs.declared.routes.Route.{Route}
@@ -67,13 +69,13 @@ table_rows = rows_after [] patterns
 abbrev pub entries : List (Bor (List ℕ) × Pattern) → List (List ℕ × Pattern)
 entries table = map (λ e. (e.0.now, e.1)) table
 
--- HEAD is routed as GET
-abbrev pub is_get : List ℕ → Bool
-is_get method = bytes_eq method (codes "GET") || bytes_eq method (codes "HEAD")
-
--- POST alone writes
-abbrev pub is_post : List ℕ → Bool
-is_post method = bytes_eq method (codes "POST")
+-- the method of this name (RFC 9110, section 9.1)
+abbrev pub method_of : List ℕ → Method
+method_of name =
+    if bytes_eq name (codes "GET") then method.Get
+    else if bytes_eq name (codes "HEAD") then method.Head
+    else if bytes_eq name (codes "POST") then method.Post
+    else method.Other
 
 -- the name that a text is
 abbrev pub name_of : List ℕ → Option (List ℕ)
@@ -121,17 +123,19 @@ posted pattern.Inbox name = None
 posted pattern.Statement name = None
 posted pattern.Reconcile name = None
 
--- what a pattern asks by this method
-abbrev pub asked_of : List ℕ → Pattern → Option (List ℕ) → Option ℕ → Option Route
-asked_of method p name n = if is_post method then posted p name else (if is_get method then got p name n else None)
+-- what a pattern asks by this method: HEAD is routed as GET
+abbrev pub asked_of : Method → Pattern → Option (List ℕ) → Option ℕ → Option Route
+asked_of method.Post p name n = posted p name
+asked_of method.Other p name n = None
+asked_of _ p name n = got p name n
 
 -- what the pattern that matchit found asks
-abbrev pub asked : List ℕ → List ℕ → RouteOf Pattern → Option Route
+abbrev pub asked : Method → List ℕ → RouteOf Pattern → Option Route
 asked method path found = let parts = walk found.pattern found.text path found.names 0 0 in asked_of method found.value (taken found.value parts) (after found.value parts)
 
 -- the route of a method and a path: none where the path isn't ASCII, since names are, and none where no
 -- pattern is found, the method is another or a part isn't a name
-unfoldable pub route_of : List ℕ → List ℕ → Option Route
+unfoldable pub route_of : Method → List ℕ → Option Route
 route_of method path =
     if list_all is_ascii path then option_and_then (asked method path) (first table_rows path) else None
 

@@ -9,7 +9,7 @@ ghost use Rattle.mx_wire.specs.Routes.{route_of};
 ghost use Rattle.mx_wire.specs.Bodies.{name_at, token_at, amount_at, seq_at, log_of_code, log_at, details_at, of_two, of_three, bare, said, value_of, has_body, command_of, request_command};
 ghost use Rattle.mx_wire.specs.Trees.{data_of, IsData};
 
-use crate::routes::{Route, Routes};
+use crate::routes::{Method, Route, Routes};
 use crate::trees::{is_data, number_at, text_at};
 use json::{Error, Reader, Scratch, Value};
 use mx_command::Command;
@@ -442,18 +442,18 @@ impl Routes {
     pub fn read_command(
         &self,
         alloc: Global,
-        method: &[u8],
+        method: Method,
         path: &[u8],
         body: &[u8],
     ) -> Result<Command, WireFault>
-        ensures ok { IfOk result (λ command. request_command method.now path.now body.now
+        ensures ok { IfOk result (λ command. request_command method path.now body.now
             ≡ Some command) }
         ensures no_route { (result ≡ Err WireFault.NoRoute) ↔
-            (route_of method.now path.now ≡ None) }
+            (route_of method path.now ≡ None) }
         ensures bad { result ≡ Err WireFault.BadBody
-            → request_command method.now path.now body.now ≡ None }
+            → request_command method path.now body.now ≡ None }
         ensures memory { result ≡ Err WireFault.Memory
-            → option_map has_body (route_of method.now path.now) ≡ Some true }
+            → option_map has_body (route_of method path.now) ≡ Some true }
     {
         match self.route(method, path) {
             Some(route) => read_body(alloc, &route, body, &mut Scratch::new(alloc)),

@@ -9,4 +9,4 @@ mod trees;
 pub use bodies::WireFault;
 pub use json::Scratch;
 pub use replies::{Fixed, Response, fixed_text, render, unavailable_text};
-pub use routes::{Class, Route, Routes};
+pub use routes::{Class, Method, Route, Routes};

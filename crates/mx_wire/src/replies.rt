@@ -1,10 +1,12 @@
 //! The responses: a head, and a body that is one JSON object.
-ghost use Rattle.std.specs.Prelude.{◌≡◌, ◌++◌, length, map, false, IfOk, IfErr, IsTrue, codes, string_bytes};
+ghost use Rattle.std.specs.Prelude.{◌≡◌, ◌++◌, length, map, IfOk, IfErr, IsTrue, codes, string_bytes};
 ghost use Rattle.mx_purse.specs.Words.{message_details};
 ghost use Rattle.mx_wire.specs.Made.{parts_of};
 ghost use Rattle.mx_wire.specs.Replies.{sent, unavailable, fixed_parts, refusal_parts, response, reply_parts, handled_fixed, is_made, shown_text, shown_body, started_body, collected_body, archived_body, entry_or_null, entry_body, purses_body, quoted, inbox_body, message_text, line_text, statement_body, reconciled_body, after_commas};
+ghost use Rattle.mx_wire.specs.declared.routes.Method.TheVariants.{Get};
 ghost use Rattle.std.specs.Fmt.{decimal};
 
+use crate::routes::Method;
 use mx_book::values::{Line, Totals};
 use mx_book::words::{kind_text, push_note};
 use mx_command::{Lines, Messages, Names, Refusal, Reply};
@@ -85,7 +87,7 @@ macro_rules! answer {
 /// The response to a request that the office refuses, and the size of its body.
 #[tactic(auto, unfolding(crate::proofs::ReplyLemmas::reply_texts))]
 fn refusal_answer(refusal: Refusal) -> (&'static str, usize)
-    ensures whole { result.0.now ≡ sent false (refusal_parts refusal) }
+    ensures whole { result.0.now ≡ sent Get (refusal_parts refusal) }
     ensures size { result.1 ≡ length (refusal_parts refusal).body }
 {
     match refusal {
@@ -119,7 +121,7 @@ fn refusal_answer(refusal: Refusal) -> (&'static str, usize)
 /// A response that is always the same, and the size of its body.
 #[tactic(auto, unfolding(crate::proofs::ReplyLemmas::reply_texts))]
 fn fixed_answer(fixed: Fixed) -> (&'static str, usize)
-    ensures whole { result.0.now ≡ sent false (fixed_parts fixed) }
+    ensures whole { result.0.now ≡ sent Get (fixed_parts fixed) }
     ensures size { result.1 ≡ length (fixed_parts fixed).body }
 {
     match fixed {
@@ -158,12 +160,12 @@ fn fixed_answer(fixed: Fixed) -> (&'static str, usize)
 }
 
 /// The bytes of a response that is always the same: its head alone for HEAD.
-pub fn fixed_text(fixed: Fixed, head_only: bool) -> &'static [u8]
-    ensures { result.now ≡ sent head_only (fixed_parts fixed) }
+pub fn fixed_text(fixed: Fixed, method: Method) -> &'static [u8]
+    ensures { result.now ≡ sent method (fixed_parts fixed) }
 {
     let (whole, size) = fixed_answer(fixed);
     let bytes = whole.as_bytes();
-    if head_only {
+    if method == Method::Head {
         &bytes[..bytes.len() - size]
     } else {
         bytes
@@ -198,11 +200,11 @@ impl Model for Written {
 
 impl Written {
     /// The bytes to send: the whole response, or its head alone for HEAD.
-    pub fn text(&self, head_only: bool) -> &[u8]
-        ensures { result.now ≡ sent head_only self.now }
+    pub fn text(&self, method: Method) -> &[u8]
+        ensures { result.now ≡ sent method self.now }
     {
         let bytes = self.text.as_bytes();
-        if head_only {
+        if method == Method::Head {
             &bytes[..self.head_len]
         } else {
             bytes
@@ -221,12 +223,12 @@ pub enum Response {
 
 impl Response {
     /// The bytes to send: the whole response, or its head alone for HEAD.
-    pub fn text(&self, head_only: bool) -> &[u8]
-        ensures { result.now ≡ sent head_only (parts_of self.now) }
+    pub fn text(&self, method: Method) -> &[u8]
+        ensures { result.now ≡ sent method (parts_of self.now) }
     {
         match self {
-            Response::Always(fixed) => fixed_text(*fixed, head_only),
-            Response::Made(written) => written.text(head_only),
+            Response::Always(fixed) => fixed_text(*fixed, method),
+            Response::Made(written) => written.text(method),
         }
     }
 }

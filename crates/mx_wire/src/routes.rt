@@ -1,9 +1,7 @@
 //! The routes: which command a method and a path ask for.
 ghost use Rattle.std.specs.Prelude.{◌≡◌, [], Some, IfOk, codes, option_map, option_and_then, IsAscii};
-ghost use Rattle.std.specs.Char.{is_ascii};
-ghost use Rattle.std.specs.List.{list_all};
 ghost use Rattle.matchit.specs.Params.{walk, named};
-ghost use Rattle.mx_wire.specs.Routes.{rows_after, entries, table_rows, is_get, is_post, name_of, after, asked, got, posted, taken, route_of, class_of};
+ghost use Rattle.mx_wire.specs.Routes.{rows_after, entries, table_rows, method_of, name_of, after, asked, got, posted, taken, route_of, class_of};
 ghost use Rattle.mx_pay.specs.Limits.{most_number};
 ghost use Rattle.mx_pay.specs.Reading.{limited};
 
@@ -11,6 +9,33 @@ use matchit::{InsertError, Match, Params, Router};
 use mx_pay::{Name, Seq, read_seq};
 use std::alloc::{AllocError, Global};
 use std::marker::Model;
+
+/// The method of a request.
+#[derive(Clone, Copy, PartialEq, Eq)]
+pub enum Method {
+    /// It reads.
+    Get,
+    /// It is routed as GET, and its response is the head alone.
+    Head,
+    /// It writes.
+    Post,
+    /// Another, which has no route, or none.
+    Other,
+}
+
+impl Method {
+    /// The method of this name.
+    pub fn of(name: &[u8]) -> Method
+        ensures { result ≡ method_of name.now }
+    {
+        match name {
+            b"GET" => Method::Get,
+            b"HEAD" => Method::Head,
+            b"POST" => Method::Post,
+            _ => Method::Other,
+        }
+    }
+}
 
 /// Whose command it is.
 #[derive(Clone, Copy, Debug, PartialEq, Eq)]
@@ -158,28 +183,6 @@ fn table_router(alloc: Global) -> Result<Router<Pattern>, AllocError>
     }
 }
 
-/// Whether the method is GET, or HEAD, which is routed as GET.
-fn is_get(method: &[u8]) -> bool
-    ensures { result ≡ is_get method.now }
-{
-    method == b"GET".as_slice() || method == b"HEAD".as_slice()
-}
-
-/// Whether the method is POST.
-fn is_post(method: &[u8]) -> bool
-    ensures { result ≡ is_post method.now }
-{
-    method == b"POST".as_slice()
-}
-
-/// Whether all bytes are ASCII.
-#[tactic(auto, using(crate::proofs::RouteLemmas::ascii_test))]
-fn is_ascii(path: &[u8]) -> bool
-    ensures { result ≡ list_all is_ascii path.now }
-{
-    path.is_ascii()
-}
-
 /// The name that an ASCII path has at a key of its pattern. None exactly where its part isn't a name.
 fn name_in(params: &Params, key: &str) -> Option<Name>
     requires text { IsAscii params.now.text.now }
@@ -272,10 +275,10 @@ fn posted(pattern: Pattern, name: Option<Name>) -> Option<Route>
 }
 
 /// What the pattern that an ASCII path has asks for by this method.
-fn asked(method: &[u8], found: &Match<&Pattern>) -> Option<Route>
+fn asked(method: Method, found: &Match<&Pattern>) -> Option<Route>
     requires text { IsAscii found.now.params.text.now }
     requires path { IsAscii found.now.params.path.now }
-    ensures { result ≡ asked method.now found.now.params.path.now (record {
+    ensures { result ≡ asked method found.now.params.path.now (record {
       pattern = found.now.params.pattern.now;
       text = found.now.params.text.now;
       names = found.now.params.names.now;
@@ -284,12 +287,10 @@ fn asked(method: &[u8], found: &Match<&Pattern>) -> Option<Route>
 {
     let pattern = *found.value;
     let name = taken(pattern, &found.params);
-    if is_post(method) {
-        posted(pattern, name)
-    } else if is_get(method) {
-        got(pattern, name, after(pattern, &found.params))
-    } else {
-        None
+    match method {
+        Method::Get | Method::Head => got(pattern, name, after(pattern, &found.params)),
+        Method::Post => posted(pattern, name),
+        Method::Other => None,
     }
 }
 
@@ -301,15 +302,13 @@ impl Routes {
     }
 
     /// The route of a method and a path. None exactly where there is no route. It takes no memory.
-    pub fn route(&self, method: &[u8], path: &[u8]) -> Option<Route>
-        ensures { result ≡ route_of method.now path.now }
+    pub fn route(&self, method: Method, path: &[u8]) -> Option<Route>
+        ensures { result ≡ route_of method path.now }
     {
-        if !is_ascii(path) {
+        if !path.is_ascii() {
             return None;
         }
-        let Ok(text) = std::str::from_utf8(path) else {
-            return None;
-        };
+        let text = unsafe { std::str::from_utf8_unchecked(path) };
         match self.router.at(text) {
             Ok(found) => asked(method, &found),
             Err(_) => None,
@@ -317,8 +316,8 @@ impl Routes {
     }
 
     /// Whose command a method and a path ask for. None exactly where there is no route. It takes no memory.
-    pub fn class(&self, method: &[u8], path: &[u8]) -> Option<Class>
-        ensures { result ≡ option_map class_of (route_of method.now path.now) }
+    pub fn class(&self, method: Method, path: &[u8]) -> Option<Class>
+        ensures { result ≡ option_map class_of (route_of method path.now) }
     {
         self.route(method, path).map(Route::class)
     }

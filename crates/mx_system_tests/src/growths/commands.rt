@@ -6,7 +6,7 @@ use mx_book::{Book, Caller, StoreFault};
 use mx_command::{Command, Refusal, Reply};
 use mx_office::{Office, Outcome};
 use mx_pay::Name;
-use mx_wire::{Routes, WireFault, render};
+use mx_wire::{Method, Routes, WireFault, render};
 use std::alloc::{AllocError, Global};
 use std::process::Abort;
 use std::test::Fail;
@@ -117,11 +117,11 @@ fn caller_of(who: &str) -> Option<Caller> {
 fn read_once(alloc: Global, routes: &Routes, request: &str) -> Result<Asked, WireFault> {
     let mut words = request.splitn(4, ' ');
     let who = words.next().unwrap_or("");
-    let method = words.next().unwrap_or("");
+    let method = Method::of(words.next().unwrap_or("").as_bytes());
     let path = words.next().unwrap_or("");
     let body = words.next().unwrap_or("");
     let caller = caller_of(who).ok_or(WireFault::NoRoute)?;
-    let command = routes.read_command(alloc, method.as_bytes(), path.as_bytes(), body.as_bytes())?;
+    let command = routes.read_command(alloc, method, path.as_bytes(), body.as_bytes())?;
     Ok((caller, command))
 }
 
@@ -137,7 +137,7 @@ fn read_in_the_end(alloc: Global, routes: &Routes, request: &str) -> Result<Aske
 fn is_rendered(alloc: Global, reply: &Reply, response: &str) -> Result<bool, AllocError> {
     let (_, body) = response.split_once(' ').unwrap_or(("", response));
     let rendered = render(alloc, reply)?;
-    Ok(rendered.text(false).ends_with(body.as_bytes()))
+    Ok(rendered.text(Method::Get).ends_with(body.as_bytes()))
 }
 
 /// The same, rendered again where there is no memory at first.

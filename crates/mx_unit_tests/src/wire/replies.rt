@@ -2,6 +2,7 @@
 use mx_command::{Refusal, Reply};
 use mx_pay::{PayDetails, read_details};
 use mx_purse::Handled;
+use mx_wire::Method;
 use mx_wire::replies::{Fixed, fixed_text, render, unavailable_text};
 use std::alloc::{AllocError, Global};
 use std::test::Fail;
@@ -32,7 +33,7 @@ fn is_rendered(alloc: Global, reply: &Reply, status: &str, body: &str) -> Result
     let response = render(alloc, reply)?;
     is_response(
         alloc,
-        (response.text(true), response.text(false)),
+        (response.text(Method::Head), response.text(Method::Get)),
         status,
         body,
     )
@@ -204,7 +205,8 @@ const UNAVAILABLE: &[u8] =
 #[test]
 fn responses_of_the_desk(rt: HostRuntime) -> Result<(), Fail> {
     for (fixed, status, body) in &OF_THE_DESK {
-        let bytes = (fixed_text(*fixed, true), fixed_text(*fixed, false));
+        let head = fixed_text(*fixed, Method::Head);
+        let bytes = (head, fixed_text(*fixed, Method::Get));
         assert!(rt; is_response(rt.alloc(), bytes, status, body)?, "{body}");
     }
     assert!(rt; unavailable_text() == UNAVAILABLE);

@@ -1,12 +1,12 @@
 //! Which methods and paths have a route, and whose it is.
-use mx_wire::routes::{Class, Routes};
+use mx_wire::routes::{Class, Method, Routes};
 use std::process::Abort;
 use std::test::Fail;
 
 /// Which class the route of a request, a method and a path, is of, in a word.
 fn class_of(routes: &Routes, request: &str) -> &'static str {
     let (method, path) = request.split_once(' ').unwrap_or((request, ""));
-    match routes.class(method.as_bytes(), path.as_bytes()) {
+    match routes.class(Method::of(method.as_bytes()), path.as_bytes()) {
         Some(Class::Operator) => "operator",
         Some(Class::Clerk) => "clerk",
         Some(Class::Holder) => "holder",
@@ -157,6 +157,7 @@ fn routes_have_their_class(rt: HostRuntime) -> Result<(), Fail> {
 
 /// Whether a request has no route.
 fn has_none(routes: &Routes, method: &[u8], path: &[u8]) -> bool {
+    let method = Method::of(method);
     routes.class(method, path).is_none() && routes.route(method, path).is_none()
 }
 

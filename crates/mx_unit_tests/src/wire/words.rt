@@ -1,7 +1,7 @@
 //! What requests say, in words.
 use mx_command::Command;
 use mx_pay::{Amount, Log, Name, PayDetails, Seq, Token, code_text, push_entry};
-use mx_wire::{Routes, WireFault};
+use mx_wire::{Method, Routes, WireFault};
 use std::alloc::{AllocError, Global};
 
 /// What a command is called, and the names that come first in it.
@@ -137,6 +137,7 @@ pub(crate) fn words_of(
     body: &[u8],
 ) -> Result<String, AllocError> {
     let (method, path) = request.split_once(' ').unwrap_or((request, ""));
-    let read = routes.read_command(alloc, method.as_bytes(), path.as_bytes(), body);
+    let method = Method::of(method.as_bytes());
+    let read = routes.read_command(alloc, method, path.as_bytes(), body);
     read_words(alloc, &read)
 }

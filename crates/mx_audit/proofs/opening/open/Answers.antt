@@ -10,6 +10,18 @@ use Rattle.mx_tables.specs.Steady.{deep_at}
 use Rattle.mx_tables.proofs.StateLemmas.{idle_sure, sure_before}
 use Rattle.mx_audit.proofs.opening.open.Goals as goal
 
+pub over-requires-clause-spelled : goal.over-requires-clause-spelled
+over-requires-clause-spelled g c calm =
+    let first = state g.S.Store c.into_store-opened.result in
+    let last = state g.S.Store c.expect_sound.new.store in
+    let ours = c.into_store-opened.ensures.ours c.in-Ok.ensures.settled in
+    let stays = c.expect_sound.ensures.stays ours in
+    let before : worry first ≡ 0 = sure_before first last stays.lasts calm in
+    let opened : worry (state g.S.Store c.in-Ok.book.0) ≡ 0 = rw c.into_store-opened.ensures.same at before in
+    let same : first.now ≡ (state g.S.Store c.args.store).now = rw c.into_store-opened.ensures.same (c.in-Ok.ensures.same opened) in
+    let found = c.in-Ok-expect_sound.ensures.sound ours calm (subst (HasVersion 2) (sym same) (c.in-Ok.ensures.known opened)) in
+    (found.0, subst (λ (db : Database). SpellsOne db found.0) (sym (stays.same (idle_sure last calm))) found.1)
+
 pub of-requires-clause-spelled : goal.of-requires-clause-spelled
 of-requires-clause-spelled g c doubt =
     let first = state g.S.Store c.into_store-opened.result in

@@ -1,5 +1,5 @@
-use Rattle.std.proofs.Common.{◌≡◌, ◌+◌, ◌-◌, ◌≤◌, ◌++◌, [], length, drop, sym, ◌∙◌, arith}
-use Rattle.std.proofs.Common.{refl}
+use Rattle.std.proofs.Common.{◌≡◌, ◌+◌, ◌-◌, ◌≤◌, ◌++◌, [], length, drop, refl, sym, ap, ◌∙◌, arith}
+use Rattle.mx_wire.specs.Routes.{method_of}
 use Rattle.mx_desk.specs.Requests.{fields_of}
 use Rattle.mx_desk.proofs.FirstLemmas.{head_at, whole_found, cut_at, refused_at}
 use Rattle.mx_desk.proofs.FieldLemmas.{framing_small}
@@ -11,9 +11,7 @@ returns-in-Err c =
     let at = c.requires.at.1 in
     let few = c.requires.within.section.count_fits in
     let framed = c.in-Err.ensures in
-    let stop = c.stop_of.ensures in
-    let method = c.of-method.ensures ∙ at.method in
-    λ more. rw (stop, method) (
+    λ more. rw (c.of-method.ensures, c.of.ensures, at.method) (
     refused_at (c.args.bytes.now ++ more) h (drop c.args.head.now.len c.args.bytes.now ++ more) c.in-Err.reason
     (head_at c.args.bytes.now more c.args.fields.now c.args.head.now h at c.requires.short (omega (arith, c.requires.few)))
     (sym (rw at.fields at framed)))
@@ -25,10 +23,8 @@ returns-then-bytes-head c =
     let few = c.requires.within.section.count_fits in
     let framed = c.in-Ok.ensures in
     let frames = sym (rw at.fields at framed) in
-    let small = framing_small (fields_of h) c.in-Ok.len frames in
-    let stop = c.stop_of-then-bytes-head.ensures in
-    let method = c.of-method.ensures ∙ at.method in (
-      rw (stop, method) (
+    let small = framing_small (fields_of h) c.in-Ok.len frames in (
+      rw (c.of-method.ensures, c.of.ensures, at.method) (
           cut_at c.args.bytes.now h c.args.head.now.len c.in-Ok.len
           (head_at c.args.bytes.now [] c.args.fields.now c.args.head.now h at c.requires.short (omega (arith, c.requires.few)))
           frames
@@ -52,8 +48,8 @@ returns c =
           (head_at c.args.bytes.now more c.args.fields.now c.args.head.now h at c.requires.short (omega (arith, c.requires.few)))
           frames
           within
-          (c.of-method.ensures ∙ at.method)
-          (c.of.ensures ∙ at.path)
+          (c.of-method.ensures ∙ ap method_of (c.of.ensures ∙ at.method))
+          (c.of-2.ensures ∙ at.path)
           (rw at.fields at token)
           (rw length_is refl),
     )

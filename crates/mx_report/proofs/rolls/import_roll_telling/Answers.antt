@@ -1,9 +1,9 @@
-use Rattle.std.proofs.Common.{rules, ◌≡◌, ◌≤◌, ◌<◌, ◌∷◌, ◌++◌, [], Some, inl, inr, refl, ◌∙◌, arith}
+use Rattle.std.proofs.Common.{rules, ◌≡◌, ◌<◌, ◌∷◌, ◌++◌, [], Some, inl, inr, refl, ◌∙◌, arith}
 use Rattle.std.proofs.lemmas.Result.{err_from_is_err_and}
 use Rattle.csv.specs.Reading.{owned_rows_left}
 use Rattle.csv.specs.Records.{fields_of}
 use Rattle.mx_book.proofs.StandLemmas.{sure_before}
-use Rattle.mx_report.specs.Import.{import, rows_counted, tally_of}
+use Rattle.mx_report.specs.Import.{rows_counted, tally_of}
 use Rattle.mx_report.specs.Roll.{roll_header}
 use Rattle.mx_book.proofs.ViewLemmas.{rests_here}
 use Rattle.mx_report.proofs.ReadingLemmas.{as_many, given_more}

@@ -1,4 +1,4 @@
-use Rattle.std.proofs.Common.{◌∙◌, ◌≡◌, rules, sym, subst, false, Some, None}
+use Rattle.std.proofs.Common.{◌∙◌, ◌≡◌, rules, sym, false, Some, None}
 use Rattle.mx_book.proofs.StandLemmas.{sure_before}
 use Rattle.mx_office.proofs.CallLemmas.{bides_then}
 use Rattle.mx_report.specs.Roll.{is_same, asker}

@@ -1,4 +1,4 @@
-use Rattle.std.proofs.Common.{◌≡◌, rules, refl, sym, ◌∙◌}
+use Rattle.std.proofs.Common.{rules, refl}
 use Rattle.mx_book.proofs.StandLemmas.{sure_before}
 use Rattle.mx_book.proofs.ViewLemmas.{keeps_none, keeps_then}
 use Rattle.mx_report.proofs.StatementLemmas.{all_read, more_read}

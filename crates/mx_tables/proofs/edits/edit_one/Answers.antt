@@ -1,3 +1,5 @@
+use Rattle.mx_tables.proofs.Common.{refl}
+use Rattle.mx_tables.proofs.CallLemmas.{finds_then}
 use Rattle.mx_tables.proofs.edits.edit_one.Goals as goal
 
 pub returns-in-NewMember : goal.returns-in-NewMember
@@ -18,8 +20,8 @@ returns-in-DropMessage g c = rw c.in-DropMessage.is c.drop_message.ensures
 pub returns-in-SetPurse : goal.returns-in-SetPurse
 returns-in-SetPurse g c = rw c.in-SetPurse.is c.set_purse.ensures
 
-pub returns-in-AddMessage : goal.returns-in-AddMessage
-returns-in-AddMessage g c = rw c.in-AddMessage.is c.add_message.ensures
+pub returns-in_ok-number-in-AddMessage : goal.returns-in_ok-number-in-AddMessage
+returns-in_ok-number-in-AddMessage g c = rw c.in-AddMessage.is (finds_then g.S.Store c.in_ok-number-in-AddMessage.ensures c.add_message.ensures (λ r holds it. refl))
 
 pub returns-in-AddLine : goal.returns-in-AddLine
 returns-in-AddLine g c = rw c.in-AddLine.is c.insert_line.ensures

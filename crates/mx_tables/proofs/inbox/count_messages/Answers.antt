@@ -1,8 +1,4 @@
-use Rattle.mx_tables.proofs.Common.{◌≡◌, arith, length, state, Database}
-use Rattle.std.proofs.Common.{subst, sym}
-use Rattle.mx_tables.specs.Known.{AtMost}
-use Rattle.mx_tables.proofs.StateLemmas.{sound, sure_before}
-use Rattle.mx_tables.proofs.RecallLemmas.{at_most_found}
+use Rattle.mx_tables.proofs.Common.{arith}
 use Rattle.mx_tables.proofs.CallLemmas.{reads_fault, reads_to}
 use Rattle.mx_tables.proofs.Texts.{select_held_numbers_is}
 use Rattle.mx_tables.proofs.InboxLemmas.{finds_numbers, held_accepted}
@@ -20,16 +16,6 @@ pub returns-clause-reads : goal.returns-clause-reads
 returns-clause-reads g c = reads_to g.S.Store c.in_ok-rows.ensures.reads (λ rows holds shown.
     let found = finds_numbers c.args.purse.now _ _ _ (rw (c.text.ensures, c.as_str.ensures.text) at shown) rows holds in
     omega (arith, found, c.len.ensures))
-
-pub returns-clause-most : goal.returns-clause-most
-returns-clause-most g c begun ours calm =
-    let old = state g.S.Store c.args.conn.now in
-    let new = state g.S.Store c.ask.new.conn in
-    let stays = c.in_ok-rows.ensures.reads.stays ours in
-    let has = ours.schema (sure_before old new stays.lasts (sound begun new calm)) in
-    let most = at_most_found c.args.purse.now old new c.in_ok-rows.rows.items (rw (c.text.ensures, c.as_str.ensures.text) at (c.in_ok-rows.ensures.shown (sound begun new calm))) has in
-    let size : length c.in_ok-rows.rows.items ≡ c.len.result = omega (arith, c.len.ensures) in
-    subst (λ (d : Database). AtMost (d.trees 10) c.args.purse.now c.len.result) (sym (stays.same calm)) (subst (AtMost (old.now.trees 10) c.args.purse.now) size most)
 
 pub returns-in_err-rows-clause-why : goal.returns-in_err-rows-clause-why
 returns-in_err-rows-clause-why g c = why_asked g.S.Store c.from_residual.result c.in_err-rows.ensures.why

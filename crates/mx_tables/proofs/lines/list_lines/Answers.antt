@@ -30,9 +30,9 @@ fewer n k m is below = omega arith
 both_ways : (k m : ℕ) → k ≤ m → m ≤ k → k ≡ m
 both_ways k m up down = omega arith
 
-pub returns-then-after-gt-MOST_KEPT : goal.returns-then-after-gt-MOST_KEPT
-returns-then-after-gt-MOST_KEPT g c = tell_lines g.S.Store _ _ _ (reads_to g.S.Store c.in_ok-find_live.ensures.reads (λ rows holds is valid.
-    c.new-lines.ensures.items ∙ sym (no_page c.args.purse.now c.args.after c.args.most rows valid (omega (arith, c.if-after-gt-MOST_KEPT.true)))))
+pub returns-then-page-gt-MOST_KEPT : goal.returns-then-page-gt-MOST_KEPT
+returns-then-page-gt-MOST_KEPT g c = tell_lines g.S.Store _ _ _ (reads_to g.S.Store c.in_ok-find_live.ensures.reads (λ rows holds is valid.
+    c.new-lines.ensures.items ∙ sym (no_page c.args.purse.now c.args.page.after c.args.page.most rows valid (omega (arith, c.if-page-gt-MOST_KEPT.true)))))
 
 pub returns-in-Err : goal.returns-in-Err
 returns-in-Err g c = tell_lines g.S.Store _ _ _ (record {
@@ -104,8 +104,8 @@ returns-in_default g c = tell_lines g.S.Store {r = Ok c.rows.lines} _ _ _ (recor
       let was = before.5 _ ours early in
       let there : Holds mid.now kept = subst (λ (d : Database). Holds d kept) (sym (first.same early)) holds in
       let shown = no_more g.S.Store select_lines _ c.rows.rows.conn.now c.next_line.new.rows.conn.now was.0 was.1 (rw c.in_default.is at made.shown (is_sound _ new last)) in
-      let few : length c.rows.lines.items ≤ c.args.most = fewer _ _ _ before.1 c.rows-test.true in
-      last_page c.args.purse.now c.args.after c.args.most kept valid was.0 c.rows.lines.items was.2 before.2 few (ended c.args.purse.now c.args.after mid new was.0 shown kept there);
+      let few : length c.rows.lines.items ≤ c.args.page.most = fewer _ _ _ before.1 c.rows-test.true in
+      last_page c.args.purse.now c.args.page.after c.args.page.most kept valid was.0 c.rows.lines.items was.2 before.2 few (ended c.args.purse.now c.args.page.after mid new was.0 shown kept there);
   live =
       let same : c.next_line.new.rows.conn.now ≡ c.conn-in_default-1.given.0 = sym (c.conn-in_default-1.given.1 (sym (c.next_line.ensures.same_reference ∙ c.rows.invariant.0 ∙ c.in-Ok.ensures.same_reference)) ∙ c.drop-rows-in_default.ensures) in
       subst (λ h. IsAwake (state g.S.Store h)) same c.in_ok-line.ensures.live;
@@ -132,9 +132,9 @@ returns g c = tell_lines g.S.Store {r = Ok c.rows.lines} _ _ _ (record {
       let last = same_sure _ g.S.Store c.rows.rows.conn.now c.conn-2-1.given.0 same sound in
       let was = before.5 _ ours last in
       let there : Holds mid.now kept = subst (λ (d : Database). Holds d kept) (sym ((before.3 _ ours).same last)) holds in
-      let all = begins c.args.purse.now c.args.after g.S.Store c.rows.rows.conn.now was.0 was.1 kept there in
-      let many : length c.rows.lines.items ≡ c.args.most = before.1 ∙ both_ways _ _ c.rows.auto.counter-end c.rows-test.false in
-      full_page c.args.purse.now c.args.after c.args.most kept valid was.0 all.0 c.rows.lines.items was.2 before.2 many all.1;
+      let all = begins c.args.purse.now c.args.page.after g.S.Store c.rows.rows.conn.now was.0 was.1 kept there in
+      let many : length c.rows.lines.items ≡ c.args.page.most = before.1 ∙ both_ways _ _ c.rows.auto.counter-end c.rows-test.false in
+      full_page c.args.purse.now c.args.page.after c.args.page.most kept valid was.0 all.0 c.rows.lines.items was.2 before.2 many all.1;
   live =
       let same : c.rows.rows.conn.now ≡ c.conn-2-1.given.0 = sym (c.conn-2-1.given.1 (sym (c.rows.invariant.0 ∙ c.in-Ok.ensures.same_reference)) ∙ c.drop-rows-2.ensures) in
       subst (λ h. IsAwake (state g.S.Store h)) same c.rows.invariant.4;

@@ -17,4 +17,4 @@ invariant-rows g l =
     × AllByRecursion (λ line. IsNote line.note) l.lines.items
     × ((begun : Bool) → IsOurs begun old → Stays begun old now)
     × IsAwake now
-    × ((begun : Bool) → IsOurs begun old → unsure begun now ≡ 0 → (rows : List Row) × HasGiven g.S.Store select_lines (given l.purse l.after) l.rows.conn.now rows × (map first_five rows ≡ map line_shown l.lines.items))
+    × ((begun : Bool) → IsOurs begun old → unsure begun now ≡ 0 → (rows : List Row) × HasGiven g.S.Store select_lines (given l.purse l.fn.page.after) l.rows.conn.now rows × (map first_five rows ≡ map line_shown l.lines.items))

@@ -4,7 +4,7 @@ use Rattle.mx_tables.proofs.purses.set_purse.Goals as goal
 
 pub returns : goal.returns
 returns g c =
-    runs_one g.S.Store _ _ c.run_one.ensures (λ has ran. sets_purse c.args.purse.now c.name.ensures.whole _ _ has
+    runs_one g.S.Store _ _ c.run_one.ensures (λ has ran. sets_purse c.args.purse.now _ _ has
     (rw (
       c.text.ensures,
       c.as_str.ensures.text,

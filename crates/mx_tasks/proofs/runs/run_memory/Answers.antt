@@ -10,5 +10,5 @@ returns-clause-begins g c = opening_reachable c.args.operator c.as_bytes-bytes.e
 
 pub returns-clause-runs : goal.returns-clause-runs
 returns-clause-runs g c =
-    let led = (c.run_over.ensures.runs (opening c.args.operator) (record { still = c.new_book.ensures.still; is = λ _. c.new_book.ensures.world })).1 (low_sure refl) in
+    let led = c.run_in_book-count.ensures.runs (opening c.args.operator) (low_sure refl) (record { still = c.new_book.ensures.still; is = λ _. c.new_book.ensures.world }) in
     (all_of led.rounds, led.end, led.holds)

@@ -1,9 +1,6 @@
 use Rattle.mx_book.proofs.ViewLemmas.{rests_here}
 use Rattle.mx_tasks.proofs.work.do_work.Goals as goal
 
-pub returns-in-Run-clause-works : goal.returns-in-Run-clause-works
-returns-in-Run-clause-works g c = λ still low. rw c.in-Run.is (c.run.ensures.runs _ low (rests_here still))
-
 pub returns-in-Serve-clause-works : goal.returns-in-Serve-clause-works
 returns-in-Serve-clause-works g c = λ still low. rw c.in-Serve.is (c.serve.ensures.serves _ low (rests_here still))
 

@@ -4,21 +4,20 @@ use Rattle.mx_tables.proofs.SoundLemmas.{archive_valid}
 use Rattle.std.proofs.Common.{sym, subst}
 use Rattle.mx_tables.specs.Holds.{SpellsOne}
 use Rattle.mx_tables.specs.Rounds.{rows_of}
-use Rattle.mx_tables.proofs.BookLemmas.{keeps_stays, kept_of, ours_of}
+use Rattle.mx_tables.proofs.BookLemmas.{keeps_stays}
+use Rattle.mx_tables.proofs.InvariantLemmas.{ours_in, stays_invariant}
 use Rattle.mx_tables.proofs.tables.TablesRowBook.archived.Goals as goal
 
 pub returns-clause-keeps : goal.returns-clause-keeps
 returns-clause-keeps g c =
-    let ours = ours_of c.self.inside.begun (state g.S.Store c.self.inside.conn) c.self.invariant.0 in
-    rw (← c.self.view_is) (keeps_stays g.S.Store (c.self.inside.conn, c.self.inside.begun) c.find_archived.new.conn c.self.invariant.0 (c.find_archived.ensures.reads.stays ours))
+    let ours = ours_in c.self.invariant in
+    rw (← c.self.view_is) (keeps_stays g.S.Store (c.self.inside.conn, c.self.inside.begun) c.find_archived.new.conn c.self.invariant.kept (c.find_archived.ensures.reads.stays ours))
 
 pub invariant_of-self : goal.invariant_of-self
-invariant_of-self g c =
-    let ours = ours_of c.self.inside.begun (state g.S.Store c.self.inside.conn) c.self.invariant.0 in
-    (kept_of c.self.inside.begun (state g.S.Store c.find_archived.new.conn) (c.find_archived.ensures.reads.stays ours).ours, (c.find_archived.ensures.reads.stays ours).known _ c.self.invariant.1)
+invariant_of-self g c = stays_invariant c.self.invariant (c.find_archived.ensures.reads.stays (ours_in c.self.invariant))
 
 pub returns-clause-value : goal.returns-clause-value
 returns-clause-value g c w sure h =
-    let ours = ours_of c.self.inside.begun (state g.S.Store c.self.inside.conn) c.self.invariant.0 in
+    let ours = ours_in c.self.invariant in
     let one = subst (λ t. SpellsOne (rows_of g.S.Store t) w) (sym c.self.view_is) h in
     IfOk-weaker c.find_archived.result _ _ (λ r is. is (archive_valid one.spelled.rows w one.spelled.spells) ∙ archived_at one.spelled.rows w c.args.purse c.args.details.now one.spelled.spells) (c.find_archived.ensures.reads.value ours sure one.spelled.rows one.spelled.holds)

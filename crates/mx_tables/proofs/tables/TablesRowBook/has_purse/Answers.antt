@@ -2,20 +2,17 @@ use Rattle.mx_tables.proofs.Common.{state}
 use Rattle.std.proofs.Common.{sym, subst}
 use Rattle.mx_tables.specs.Holds.{SpellsOne}
 use Rattle.mx_tables.specs.Rounds.{rows_of}
-use Rattle.mx_tables.proofs.BookLemmas.{keeps_stays, kept_of, ours_of}
+use Rattle.mx_tables.proofs.BookLemmas.{keeps_stays}
+use Rattle.mx_tables.proofs.InvariantLemmas.{through_invariant, through_stays, through_value}
 use Rattle.mx_tables.proofs.tables.TablesRowBook.has_purse.Goals as goal
 
 pub returns-clause-keeps : goal.returns-clause-keeps
 returns-clause-keeps g c =
-    let ours = ours_of c.self.inside.begun (state g.S.Store c.self.inside.conn) c.self.invariant.0 in
-    rw (← c.self.view_is) (keeps_stays g.S.Store (c.self.inside.conn, c.self.inside.begun) c.read_has_purse.new.conn c.self.invariant.0 ((c.read_has_purse.ensures.looks.reads ours c.self.invariant.1).stays ours))
+    rw (← c.self.view_is) (keeps_stays g.S.Store (c.self.inside.conn, c.self.inside.begun) c.has_purse.new.conn c.self.invariant.kept (through_stays g.S.Store c.self.invariant c.has_purse.ensures))
 
 pub invariant_of-self : goal.invariant_of-self
-invariant_of-self g c =
-    let ours = ours_of c.self.inside.begun (state g.S.Store c.self.inside.conn) c.self.invariant.0 in
-    (kept_of c.self.inside.begun (state g.S.Store c.read_has_purse.new.conn) ((c.read_has_purse.ensures.looks.reads ours c.self.invariant.1).stays ours).ours, c.read_has_purse.ensures.looks.known ours c.self.invariant.1)
+invariant_of-self g c = through_invariant g.S.Store c.self.invariant c.has_purse.ensures
 
 pub returns-clause-value : goal.returns-clause-value
 returns-clause-value g c w sure h =
-    let ours = ours_of c.self.inside.begun (state g.S.Store c.self.inside.conn) c.self.invariant.0 in
-    (c.read_has_purse.ensures.looks.reads ours c.self.invariant.1).value ours w sure (subst (λ t. SpellsOne (rows_of g.S.Store t) w) (sym c.self.view_is) h)
+    through_value g.S.Store c.self.invariant c.has_purse.ensures _ (λ rows w is. is) w sure (subst (λ t. SpellsOne (rows_of g.S.Store t) w) (sym c.self.view_is) h)

@@ -2,20 +2,19 @@ use Rattle.mx_tables.proofs.Common.{state}
 use Rattle.std.proofs.Common.{sym, subst}
 use Rattle.mx_tables.specs.Holds.{SpellsOne}
 use Rattle.mx_tables.specs.Rounds.{rows_of}
-use Rattle.mx_tables.proofs.BookLemmas.{keeps_stays, kept_of, ours_of}
+use Rattle.mx_tables.proofs.BookLemmas.{keeps_stays}
+use Rattle.mx_tables.proofs.InvariantLemmas.{ours_in, stays_invariant}
 use Rattle.mx_tables.proofs.tables.TablesRowBook.members_totals.Goals as goal
 
 pub returns-clause-keeps : goal.returns-clause-keeps
 returns-clause-keeps g c =
-    let ours = ours_of c.self.inside.begun (state g.S.Store c.self.inside.conn) c.self.invariant.0 in
-    rw (← c.self.view_is) (keeps_stays g.S.Store (c.self.inside.conn, c.self.inside.begun) c.sum_members.new.conn c.self.invariant.0 (c.sum_members.ensures.stays ours))
+    let ours = ours_in c.self.invariant in
+    rw (← c.self.view_is) (keeps_stays g.S.Store (c.self.inside.conn, c.self.inside.begun) c.sum_members.new.conn c.self.invariant.kept (c.sum_members.ensures.stays ours))
 
 pub invariant_of-self : goal.invariant_of-self
-invariant_of-self g c =
-    let ours = ours_of c.self.inside.begun (state g.S.Store c.self.inside.conn) c.self.invariant.0 in
-    (kept_of c.self.inside.begun (state g.S.Store c.sum_members.new.conn) (c.sum_members.ensures.stays ours).ours, (c.sum_members.ensures.stays ours).known _ c.self.invariant.1)
+invariant_of-self g c = stays_invariant c.self.invariant (c.sum_members.ensures.stays (ours_in c.self.invariant))
 
 pub returns-clause-value : goal.returns-clause-value
 returns-clause-value g c w sure h =
-    let ours = ours_of c.self.inside.begun (state g.S.Store c.self.inside.conn) c.self.invariant.0 in
+    let ours = ours_in c.self.invariant in
     c.sum_members.ensures.value ours w sure (subst (λ t. SpellsOne (rows_of g.S.Store t) w) (sym c.self.view_is) h)

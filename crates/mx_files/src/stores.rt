@@ -1,0 +1,142 @@
+//! Books in a store, wherever that keeps them, and the end of a store in files.
+ghost use Rattle.std.specs.Prelude.{◌≡◌, ◌≤◌, [], false, IfErr, IfOk, IsErr};
+ghost use Rattle.sqlite.specs.Held.{state as state_of};
+ghost use Rattle.mx_book.specs.World.{World, opening};
+ghost use Rattle.mx_desk.specs.Rounds.{Leads};
+ghost use Rattle.mx_desk.specs.Steps.{state};
+ghost use Rattle.mx_tables.specs.States.{IsOurs, Leaves, worry, IsSound, IsHonest};
+ghost use Rattle.mx_tasks.specs.Faults.{Untouched};
+ghost use Rattle.mx_tasks.specs.Runs.{TaskRuns};
+ghost use Rattle.mx_tasks.specs.Works.{Works};
+ghost use Rattle.mx_files.specs.Durable.{Endures, Represents};
+ghost use Rattle.mx_files.specs.Opened.{open_fault_of};
+
+use mx_audit::opening::as_refusal;
+use mx_audit::{Ordered, Refusal, open};
+use mx_book::Book;
+use mx_desk::{Counted, Outlet};
+use mx_pay::Token;
+use mx_standing::Standing;
+use mx_tables::Tables;
+use mx_tasks::runs::run_in_book;
+use mx_tasks::{Done, TaskFault, Work, work_in_book};
+use sqlite::{Alter, Connection, FileStore};
+use sqlite_disk::Disk;
+use std::alloc::Global;
+use std::io::Read;
+
+/// What a fault of books that can't be made or opened is.
+pub fn unmade(fault: Refusal) -> TaskFault
+    ensures { result ≡ open_fault_of fault }
+{
+    match fault {
+        Refusal::Memory => TaskFault::Memory,
+        Refusal::Store | Refusal::Unsound(_) => TaskFault::Store,
+        Refusal::NotThisSchema => TaskFault::NotThisSchema,
+    }
+}
+
+/// Makes new books in a store, for the operator with this token, and gives the store back. They represent the World that
+/// has nothing but that token.
+///
+/// # Errors
+///
+/// `NotThisSchema` where the store has tables; `Memory` or `Store` where it refuses a statement. The store is given up
+/// then.
+pub fn make_in_store<S: Alter + Drop>(
+    alloc: Global,
+    store: Connection<S>,
+    operator: Token,
+) -> Result<Connection<S>, TaskFault>
+    ensures made { IfOk result (λ c. IsSound (state_of S.Store c)
+        → Represents (state_of S.Store c).now (opening operator)) }
+    ensures ours { IfOk result (λ c. IsOurs false (state_of S.Store c)) }
+    ensures lasts { IfOk result (λ c. IsSound (state_of S.Store c)
+        → Leaves (state_of S.Store c) (state_of S.Store c).now) }
+{
+    match Tables::create(alloc, store, operator) {
+        Ok(book) => Ok(book.into_store()),
+        Err(refused) => Err(unmade(as_refusal(refused.fault))),
+    }
+}
+
+/// Answers the requests of the input over the books in a store, and gives what came of that, with the store (`runs`). It says
+/// what an opening finds after a stop at that moment (`Endures`). A stop in the midst of the run is a store that fails from
+/// there on.
+///
+/// # Errors
+///
+/// `NotThisSchema` where the store has no books of this version; `Store` where it has other tables, its rows are no books,
+/// or it refuses a statement; `Memory`. Nothing was read or written then, and the store is given up.
+pub fn run_in_store<S: Ordered + Drop, R: Read, W: Outlet>(
+    alloc: Global,
+    store: Connection<S>,
+    reader: &mut Counted<R>,
+    writer: &mut Counted<W>,
+) -> Result<(Result<u64, TaskFault>, Connection<S>), TaskFault>
+    ensures later { IfOk result
+        (λ x. worry (state_of S.Store store) ≤ worry (state_of S.Store x.1)) }
+    ensures runs { IfOk result (λ x. IsHonest (state_of S.Store x.1)
+        → (w : World) × Represents (state_of S.Store store).now w
+        × Leads (λ ms now. TaskRuns ⟦<Standing<Tables<S>> as Book>⟧.fails
+        (state [] (R.remaining reader.old.device) (W.contents writer.old.device) w) x.0 ms
+        (state [] (R.remaining reader.new.device) (W.contents writer.new.device) now))
+        (Endures (state_of S.Store x.1))) }
+    ensures lasts { IfOk result (λ x. IsSound (state_of S.Store x.1)
+        → Leaves (state_of S.Store x.1) (state_of S.Store x.1).now) }
+    ensures unopened { IsErr result → Untouched reader.old reader.new writer.old writer.new }
+{
+    match open(alloc, store, 0) {
+        Ok((book, _)) => {
+            let (answer, left) = run_in_book(alloc, book, reader, writer);
+            Ok((answer, left.into_inner().into_store()))
+        }
+        Err(refused) => Err(unmade(refused.fault)),
+    }
+}
+
+/// Does a piece of work over the books in a store, and gives what came of it, with the store (`works`). Of requests it says
+/// what `run_in_store` does.
+///
+/// # Errors
+///
+/// As of `run_in_store`.
+pub fn work_in_store<S: Ordered + Drop>(
+    rt: &HostRuntime,
+    store: Connection<S>,
+    work: &Work<'_>,
+) -> Result<(Result<Done, TaskFault>, Connection<S>), TaskFault>
+    ensures later { IfOk result
+        (λ x. worry (state_of S.Store store) ≤ worry (state_of S.Store x.1)) }
+    ensures works { IfOk result (λ x. IsHonest (state_of S.Store x.1)
+        → (w : World) × Represents (state_of S.Store store).now w
+        × Works ⟦<Standing<Tables<S>> as Book>⟧.fails (IsSound (state_of S.Store x.1))
+        (Represents (state_of S.Store x.1).now) (Endures (state_of S.Store x.1)) w work.now x.0) }
+    ensures lasts { IfOk result (λ x. IsSound (state_of S.Store x.1)
+        → Leaves (state_of S.Store x.1) (state_of S.Store x.1).now) }
+{
+    match open(rt.alloc(), store, 0) {
+        Ok((book, _)) => {
+            let (answer, left) = work_in_book(rt, work, book);
+            Ok((answer, left.into_inner().into_store()))
+        }
+        Err(refused) => Err(unmade(refused.fault)),
+    }
+}
+
+/// Closes a store in the files of a disk, and passes on what was answered before. Where that is a fault, it stays the fault;
+/// else it is `Store` where the files weren't closed.
+pub fn close<D: Disk + Drop, T: Drop>(
+    answer: Result<T, TaskFault>,
+    store: Connection<FileStore<D>>,
+) -> Result<T, TaskFault>
+    ensures ok { IfOk result (λ value. answer ≡ Ok value) }
+    ensures first { IfErr answer (λ fault. result ≡ Err fault) }
+{
+    let is_closed = store.close().is_ok();
+    let value = answer?;
+    if !is_closed {
+        return Err(TaskFault::Store);
+    }
+    Ok(value)
+}

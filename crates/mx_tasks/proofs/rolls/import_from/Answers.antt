@@ -1,5 +1,0 @@
-use Rattle.std.proofs.Common.{inr, rules}
-use Rattle.mx_tasks.proofs.rolls.import_from.Goals as goal
-
-pub returns-clause-imports : goal.returns-clause-imports
-returns-clause-imports g c = λ still sure. inr (c.as_slice.result.now, search rules, c.import_over-answer.ensures.imports still sure)

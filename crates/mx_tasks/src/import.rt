@@ -1,0 +1,104 @@
+//! The import of a roll: its file, and its rows into the books.
+ghost use Rattle.std.specs.Prelude.{◌≡◌, ◌≤◌, IfOk, vec_len};
+ghost use Rattle.mx_book.specs.Views.{IsSure};
+ghost use Rattle.mx_office.specs.Reachable.{IsReachable, StandsBalanced};
+ghost use Rattle.mx_tasks.specs.Works.{Imports, ImportsFile, IsText};
+
+use crate::cause::Cause;
+use crate::fault::TaskFault;
+use crate::import::summary::import_text;
+use crate::teller::Teller;
+use mx_book::Book;
+use mx_office::Office;
+use mx_report::{Progress, import_roll_telling};
+use std::alloc::Global;
+use std::fs;
+use std::io::Read;
+use std::rt::Files;
+
+pub mod summary;
+
+/// The most bytes of a roll.
+pub const MOST_OF_A_ROLL: u64 = 1_048_576;
+
+/// The bytes of a roll.
+///
+/// # Errors
+///
+/// `System` where the file isn't there or can't be read; `TooLarge` where it has more than 1,048,576 bytes.
+pub fn read_roll(rt: &(impl Files + AllocGlobal), path: &str) -> Result<Vec<u8>, Cause>
+    ensures { IfOk result (λ bytes. vec_len bytes ≤ 1048576) }
+{
+    let mut bytes = Vec::new(rt.alloc());
+    let file = fs::open(rt, path)?;
+    file.take(MOST_OF_A_ROLL + 1).read_to_end(&mut bytes)?;
+    if bytes.len() as u64 > MOST_OF_A_ROLL {
+        return Err(Cause::TooLarge);
+    }
+    Ok(bytes)
+}
+
+/// Imports the bytes of a roll, and gives the lines that sum it up.
+///
+/// # Errors
+///
+/// `Roll` where the bytes are no roll, and then the rows before the odd record are imported; `Memory`, or a fault of
+/// the book, and then some first rows are imported. `Memory` also where the roll is imported whole and there is none
+/// for the lines.
+pub fn import_bytes<B: Book, P: Progress>(
+    alloc: Global,
+    office: &mut Office<B>,
+    bytes: &[u8],
+    progress: &mut P,
+) -> Result<String, TaskFault>
+    ensures later { (B.view office.old.book).IsSettled
+        → (B.view office.old.book).doubt ≤ (B.view office.new.book).doubt }
+    ensures still { (B.view office.old.book).IsSettled → (B.view office.new.book).IsSettled }
+    ensures imports { (B.view office.old.book).IsSettled → IsSure (B.view office.new.book)
+        → Imports (λ v. (B.view office.new.book).world ≡ v)
+        (B.view office.old.book).world bytes.now IsText result }
+    ensures reachable { (B.view office.old.book).IsSettled → IsSure (B.view office.new.book)
+        → IsReachable (B.view office.old.book).world
+        → StandsBalanced (B.view office.new.book).world }
+{
+    let summary = import_roll_telling(alloc, office, bytes, progress)?;
+    let lines = import_text(alloc, &summary)?;
+    Ok(lines)
+}
+
+/// Tells a terminal why an import has ended at a fault, if it has.
+fn tell_end(rt: &HostRuntime, path: &str, answer: &Result<String, TaskFault>, done: u64) {
+    if let Err(fault) = answer {
+        Cause::of_import(*fault, done).tell(rt, path);
+    }
+}
+
+/// Imports the roll in a file, and gives the lines that sum it up. A terminal is told how far it is while it is under
+/// way, and at a fault what is wrong with the roll and how many rows are done and kept.
+///
+/// # Errors
+///
+/// `File` where the file isn't there or can't be read; `RollTooLarge` where it has more than 1,048,576 bytes; `Memory`:
+/// then nothing is imported. And those of `import_bytes`.
+pub fn import_file<B: Book>(
+    rt: &HostRuntime,
+    path: &str,
+    office: &mut Office<B>,
+) -> Result<String, TaskFault>
+    ensures later { (B.view office.old.book).IsSettled
+        → (B.view office.old.book).doubt ≤ (B.view office.new.book).doubt }
+    ensures still { (B.view office.old.book).IsSettled → (B.view office.new.book).IsSettled }
+    ensures imports { (B.view office.old.book).IsSettled → IsSure (B.view office.new.book)
+        → ImportsFile (λ v. (B.view office.new.book).world ≡ v)
+        (B.view office.old.book).world IsText result }
+{
+    let bytes = match read_roll(rt, path) {
+        Ok(bytes) => bytes,
+        Err(cause) => return Err(cause.tell(rt, path)),
+    };
+    let mut teller = Teller::new(rt, "rows");
+    let answer = import_bytes(rt.alloc(), office, bytes.as_slice(), &mut teller);
+    teller.end();
+    tell_end(rt, path, &answer, teller.count());
+    answer
+}
