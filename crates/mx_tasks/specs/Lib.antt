@@ -4,3 +4,6 @@ pub mod Evenness
 pub mod Runs
 pub mod Connections
 pub mod Works
+pub mod Waits
+pub mod Causes
+pub mod Voices

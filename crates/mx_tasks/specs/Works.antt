@@ -24,6 +24,10 @@ IsSaid text d = (d.text.items ≡ text) × (d.fault ≡ None)
 abbrev pub IsText : {A : Type 0} → List ℕ → String A → Type 0
 IsText text line = string_bytes line ≡ text
 
+-- that a port is listened on
+abbrev pub listening_text : ℕ → List ℕ
+listening_text port = codes "listening on 127.0.0.1:" ++ decimal port ++ codes "\n"
+
 -- how many connections were served
 abbrev pub served_text : ℕ → List ℕ
 served_text n = codes "served " ++ decimal n ++ codes "\n"

@@ -1,4 +1,7 @@
 //! Why a file that the command line names isn't used, or not to its end.
+ghost use Rattle.std.specs.Prelude.{◌≡◌};
+ghost use Rattle.mx_tasks.specs.Causes.{cause_fault};
+
 use crate::fault::TaskFault;
 use std::alloc::AllocError;
 use std::io;
@@ -10,7 +13,7 @@ use thiserror::Error;
 pub enum Cause {
     /// An error of the system.
     #[error("{0}")]
-    System(#[from] io::Error),
+    System(io::Error),
     /// Another process has it open.
     #[error("another process has it open")]
     Busy,
@@ -100,7 +103,9 @@ impl Cause {
     }
 
     /// The fault with which the task ends.
-    pub fn fault(&self) -> TaskFault {
+    pub fn fault(&self) -> TaskFault
+        ensures { result ≡ cause_fault self.now }
+    {
         match self {
             Cause::System(error) if error.kind() == ErrorKind::OutOfMemory => TaskFault::Memory,
             Cause::NotEmpty => TaskFault::FileExists,
@@ -118,6 +123,17 @@ impl Cause {
             let _ = eprintln!(rt; "{path}: {self}");
         }
         self.fault()
+    }
+}
+
+impl From<io::Error> for Cause {
+    ghost use Rattle.std.specs.Prelude.{◌≡◌};
+    ghost use Rattle.mx_tasks.specs.declared.cause.Cause.TheVariants.{System};
+
+    ghost from_gives = { λ error cause. cause ≡ System error };
+
+    fn from(error: io::Error) -> Cause {
+        Cause::System(error)
     }
 }
 

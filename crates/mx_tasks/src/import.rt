@@ -1,5 +1,5 @@
 //! The import of a roll: its file, and its rows into the books.
-ghost use Rattle.std.specs.Prelude.{◌≡◌, ◌≤◌, IfOk, vec_len};
+ghost use Rattle.std.specs.Prelude.{◌≡◌, ◌<◌, ◌≤◌, IfErr, IfOk, IfSome, length, vec_len};
 ghost use Rattle.mx_book.specs.Views.{IsSure};
 ghost use Rattle.mx_office.specs.Reachable.{IsReachable, StandsBalanced};
 ghost use Rattle.mx_tasks.specs.Works.{Imports, ImportsFile, IsText};
@@ -21,7 +21,26 @@ pub mod summary;
 /// The most bytes of a roll.
 pub const MOST_OF_A_ROLL: u64 = 1_048_576;
 
-/// The bytes of a roll.
+/// All bytes of a roll.
+///
+/// # Errors
+///
+/// `System` where it can't be read to its end, or there is no memory; `TooLarge` where it has more than 1,048,576 bytes.
+pub fn bytes_of<R: Read + Drop>(alloc: Global, roll: R) -> Result<Vec<u8>, Cause>
+    ensures whole { IfSome (R.remaining roll) (λ has. IfOk result (λ bytes. bytes.items ≡ has)) }
+    ensures most { IfOk result (λ bytes. vec_len bytes ≤ 1048576) }
+    ensures too_large { IfSome (R.remaining roll)
+        (λ has. IfErr result (λ cause. cause ≡ Cause.TooLarge → 1048576 < length has)) }
+{
+    let mut bytes = Vec::new(alloc);
+    roll.take(MOST_OF_A_ROLL + 1).read_to_end(&mut bytes)?;
+    if bytes.len() as u64 > MOST_OF_A_ROLL {
+        return Err(Cause::TooLarge);
+    }
+    Ok(bytes)
+}
+
+/// The bytes of a roll in a file: all of them, or a fault.
 ///
 /// # Errors
 ///
@@ -29,13 +48,8 @@ pub const MOST_OF_A_ROLL: u64 = 1_048_576;
 pub fn read_roll(rt: &(impl Files + AllocGlobal), path: &str) -> Result<Vec<u8>, Cause>
     ensures { IfOk result (λ bytes. vec_len bytes ≤ 1048576) }
 {
-    let mut bytes = Vec::new(rt.alloc());
     let file = fs::open(rt, path)?;
-    file.take(MOST_OF_A_ROLL + 1).read_to_end(&mut bytes)?;
-    if bytes.len() as u64 > MOST_OF_A_ROLL {
-        return Err(Cause::TooLarge);
-    }
-    Ok(bytes)
+    bytes_of(rt.alloc(), file)
 }
 
 /// Imports the bytes of a roll, and gives the lines that sum it up.

@@ -9,6 +9,7 @@ pub mod report;
 pub mod runs;
 pub mod serve;
 pub mod teller;
+pub mod voice;
 pub mod work;
 
 pub use cause::Cause;

@@ -1,11 +1,12 @@
 //! What is done over the books in a file.
-ghost use Rattle.std.specs.Prelude.{◌≡◌, ◌≤◌, IfOk, IfErr, string_bytes};
+ghost use Rattle.std.specs.Prelude.{◌≡◌, ◌≤◌, IfOk, IfErr, OnOk, string_bytes};
+ghost use Rattle.std.specs.Io.KnownBytes.{Appends};
 ghost use Rattle.mx_book.specs.Views.{Keeps, RestsAt, IsSure, IsHonest};
 ghost use Rattle.mx_book.specs.World.{World};
 ghost use Rattle.mx_desk.specs.Rounds.{Leads, Moves};
 ghost use Rattle.mx_tasks.specs.Connections.{ServesConnections};
 ghost use Rattle.mx_tasks.specs.Faults.{IsReportFault};
-ghost use Rattle.mx_tasks.specs.Works.{ImportsFile, IsSaid, Works, WorksReport, WorksServe, served_text};
+ghost use Rattle.mx_tasks.specs.Works.{ImportsFile, IsSaid, Works, WorksReport, WorksServe, listening_text, served_text};
 
 use crate::fault::TaskFault;
 use crate::import::import_file;
@@ -21,6 +22,7 @@ use mx_pay::Name;
 use mx_wire::Routes;
 use std::alloc::{AllocError, Global};
 use std::io;
+use std::io::Write;
 use std::net::{Net, TcpListener, TcpStream};
 use std::rt::Clock;
 
@@ -71,6 +73,29 @@ fn report<B: Book>(alloc: Global, book: &mut B, purse: Option<Name>) -> Result<D
     })
 }
 
+/// The line that says on which port is listened.
+fn listening_text(alloc: Global, port: u16) -> Result<String, AllocError>
+    ensures { IfOk result (λ line. string_bytes line ≡ listening_text port) }
+{
+    format!(in alloc; "listening on 127.0.0.1:{port}\n")
+}
+
+/// Writes that line.
+///
+/// # Errors
+///
+/// `Memory` where there is none for the line; `Write` where it can't be written.
+fn say_listening<W: Write>(alloc: Global, writer: &mut W, port: u16) -> Result<(), TaskFault>
+    ensures said { OnOk result (Appends (W.contents writer.old) (W.contents writer.new)
+        (listening_text port)) }
+{
+    let line = listening_text(alloc, port)?;
+    if writer.write_all(line.as_str().as_bytes()).is_err() {
+        return Err(TaskFault::Write);
+    }
+    Ok(())
+}
+
 /// The line that says how many connections were served.
 fn served_text(alloc: Global, served: u64) -> Result<String, AllocError>
     ensures { IfOk result (λ line. string_bytes line ≡ served_text served) }
@@ -108,23 +133,27 @@ pub fn serve_connections<B: Book>(
         let mut reader = Counted::new(Timed::new(rt, &stream));
         let mut writer = Counted::new(Alarmed::new(Timed::new(rt, &stream), &mut alarm));
         let answer = serve_one(rt.alloc(), &mut reader, &mut writer, routes, office);
-        end_connection(rt, &stream, answer.is_ok());
+        let _ = end_connection(rt, &mut &stream, answer.is_ok());
     }
     Ok(count)
 }
 
-/// Listens on a port of 127.0.0.1, says so on standard output, and serves so many connections. Gives the line that says how
-/// many were served.
-fn serve<B: Book>(
-    rt: &(impl AllocGlobal
-        + Clock
-        + Eprint
-        + Net<Listener = TcpListener, Stream = TcpStream>
-        + Print),
+/// Listens on a port of 127.0.0.1, writes a line that says so, and serves so many connections. Gives the line that says
+/// how many were served.
+///
+/// # Errors
+///
+/// `Net` where the port can't be listened on or a connection can't be taken, `Write` where the line can't be written, and
+/// `Memory`.
+pub fn serve<W: Write, B: Book>(
+    rt: &(impl AllocGlobal + Clock + Eprint + Net<Listener = TcpListener, Stream = TcpStream>),
+    writer: &mut W,
     port: u16,
     count: u32,
     office: &mut Office<B>,
 ) -> Result<Done, TaskFault>
+    ensures said { OnOk result (Appends (W.contents writer.old) (W.contents writer.new)
+        (listening_text port)) }
     ensures later { (B.view office.old.book).IsSettled
         → (B.view office.old.book).doubt ≤ (B.view office.new.book).doubt }
     ensures still { (B.view office.old.book).IsSettled → (B.view office.new.book).IsSettled }
@@ -137,9 +166,7 @@ fn serve<B: Book>(
         return Err(TaskFault::Net);
     };
     let routes = Routes::new(rt.alloc())?;
-    if println!(rt; "listening on 127.0.0.1:{port}").is_err() {
-        return Err(TaskFault::Write);
-    }
+    say_listening(rt.alloc(), writer, port)?;
     match serve_connections(rt, &listener, u64::from(count), &routes, office) {
         Ok(served) => Ok(said(served_text(rt.alloc(), served)?.into_bytes())),
         Err(_) => Err(TaskFault::Net),
@@ -180,7 +207,7 @@ pub fn do_work<B: Book>(
         (B.view office.old.book).world work.now result }
 {
     match work {
-        Work::Serve { port, count } => serve(rt, *port, *count, office),
+        Work::Serve { port, count } => serve(rt, &mut io::writer(rt), *port, *count, office),
         Work::Import(roll) => import(rt, roll, office),
         Work::Report(purse) => report(rt.alloc(), &mut office.book, *purse),
     }
