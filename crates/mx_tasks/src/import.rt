@@ -1,5 +1,5 @@
 //! The import of a roll: its file, and its rows into the books.
-ghost use Rattle.std.specs.Prelude.{◌≡◌, ◌<◌, ◌≤◌, IfErr, IfOk, IfSome, length, vec_len};
+ghost use Rattle.std.specs.Prelude.{◌≡◌, ◌<◌, ◌≤◌, IfErr, IfOk, IfSome, length, take, vec_len};
 ghost use Rattle.mx_book.specs.Views.{IsSure};
 ghost use Rattle.mx_office.specs.Reachable.{IsReachable, StandsBalanced};
 ghost use Rattle.mx_tasks.specs.Works.{Imports, ImportsFile, IsText};
@@ -12,14 +12,24 @@ use mx_book::Book;
 use mx_office::Office;
 use mx_report::{Progress, import_roll_telling};
 use std::alloc::Global;
-use std::fs;
 use std::io::Read;
 use std::rt::Files;
+use std::{fs, io};
 
 pub mod summary;
 
 /// The most bytes of a roll.
 pub const MOST_OF_A_ROLL: u64 = 1_048_576;
+
+/// The first bytes that a reader gives, so many at the most.
+fn first_bytes<R: Read + Drop>(alloc: Global, reader: R, most: u64) -> io::Result<Vec<u8>>
+    ensures { IfSome (R.remaining reader)
+        (λ has. IfOk result (λ bytes. bytes.items ≡ take most has)) }
+{
+    let mut bytes = Vec::new(alloc);
+    reader.take(most).read_to_end(&mut bytes)?;
+    Ok(bytes)
+}
 
 /// All bytes of a roll.
 ///
@@ -32,8 +42,7 @@ pub fn bytes_of<R: Read + Drop>(alloc: Global, roll: R) -> Result<Vec<u8>, Cause
     ensures too_large { IfSome (R.remaining roll)
         (λ has. IfErr result (λ cause. cause ≡ Cause.TooLarge → 1048576 < length has)) }
 {
-    let mut bytes = Vec::new(alloc);
-    roll.take(MOST_OF_A_ROLL + 1).read_to_end(&mut bytes)?;
+    let bytes = first_bytes(alloc, roll, MOST_OF_A_ROLL + 1)?;
     if bytes.len() as u64 > MOST_OF_A_ROLL {
         return Err(Cause::TooLarge);
     }
