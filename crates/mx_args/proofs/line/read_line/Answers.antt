@@ -1,9 +1,13 @@
 -- clap's matches of the words are those that the command's function gives.
-use Rattle.std.proofs.Common.{◌≡◌, ◌∙◌, ap, sym, map, List, true, inl, inr, Err}
+use Rattle.std.proofs.Common.{◌≡◌, ◌⊎◌, ◌∙◌, ap, sym, subst, map, List, Option, IfErr, true, inl, inr, Err}
 use Rattle.std.proofs.lemmas.Result.{IfOk-weaker}
-use Rattle.clap.specs.Words.{App, Text, app_of, fault_of, is_simple, is_simple_and_free, subcommand_of, subcommand_rows_of}
+use Rattle.clap.specs.Words.{App, HasKind, IsAmong, Kinds, Row, Text, app_of, fault_of, is_simple, is_simple_and_free, subcommand_of, subcommand_rows_of}
+use Rattle.clap.specs.declared.error.kind.ErrorKind.{ErrorKind}
+use Rattle.clap.specs.declared.error.kind.ErrorKind.TheVariants.{OutOfMemory}
 use Rattle.mx_args.specs.Line.{line_app}
+use Rattle.mx_args.specs.Misfits.{BadOrMemory, TellsMisfit}
 use Rattle.mx_args.proofs.CommandLemmas.{line_is_free, line_is_simple, only_memory}
+use Rattle.mx_args.proofs.MisfitLemmas.{fits}
 use Rattle.mx_args.proofs.line.read_line.Goals as goal
 
 pub returns-in-Ok-clause-named : goal.returns-in-Ok-clause-named
@@ -29,4 +33,37 @@ returns-in-Err-clause-answered c = λ task named.
     let free : is_simple_and_free (app_of c.in_ok-line_command.field-0) ≡ true = ap is_simple_and_free app ∙ line_is_free in
     let words : List Text = map (λ w. w.now) c.args.words.now in
     let faults = ap (λ (a : App). fault_of a words) app ∙ named.0 in
-    inr (ap (λ fault. Err fault) (c.line_fault.ensures (only_memory _ c.in-Err.error faults (c.in-Err.ensures.kinds free))))
+    inr (ap (λ fault. Err fault) (c.line_fault.ensures.memory (c.kind.ensures ∙ only_memory _ c.in-Err.error faults (c.in-Err.ensures.kinds free))))
+
+pub returns-in-Ok-clause-misfit : goal.returns-in-Ok-clause-misfit
+returns-in-Ok-clause-misfit c = λ _.
+    let app = c.in_ok-line_command.ensures in
+    let words : List Text = map (λ w. w.now) c.args.words.now in
+    let found : subcommand_rows_of c.in-Ok.matches ≡ subcommand_of line_app words =
+    (c.in-Ok.ensures.matches (ap is_simple app ∙ line_is_simple)).1 ∙ ap (λ (a : App). subcommand_of a words) app in
+    subst (λ (f : Option (Text × List Row)). IfErr c.found_task.result (BadOrMemory (TellsMisfit f))) found c.found_task.ensures.misfit
+
+pub returns-in-Ok-clause-fault : goal.returns-in-Ok-clause-fault
+returns-in-Ok-clause-fault c = λ faults.
+    let app = c.in_ok-line_command.ensures in
+    let words : List Text = map (λ w. w.now) c.args.words.now in
+    absurd (faults (sym (ap (λ (a : App). fault_of a words) app) ∙ c.in-Ok.ensures.kinds (ap is_simple_and_free app ∙ line_is_free)))
+
+pub returns-in-Err-clause-misfit : goal.returns-in-Err-clause-misfit
+returns-in-Err-clause-misfit c = λ none.
+    let app = c.in_ok-line_command.ensures in
+    let free : is_simple_and_free (app_of c.in_ok-line_command.field-0) ≡ true = ap is_simple_and_free app ∙ line_is_free in
+    let words : List Text = map (λ w. w.now) c.args.words.now in
+    let faults = ap (λ (a : App). fault_of a words) app ∙ none in
+    let memory = c.line_fault.ensures.memory (c.kind.ensures ∙ only_memory _ c.in-Err.error faults (c.in-Err.ensures.kinds free)) in
+    subst (BadOrMemory (TellsMisfit (subcommand_of line_app words))) (sym memory) tt
+
+pub returns-in-Err-clause-fault : goal.returns-in-Err-clause-fault
+returns-in-Err-clause-fault c = λ _.
+    let app = c.in_ok-line_command.ensures in
+    let free : is_simple_and_free (app_of c.in_ok-line_command.field-0) ≡ true = ap is_simple_and_free app ∙ line_is_free in
+    let words : List Text = map (λ w. w.now) c.args.words.now in
+    let faults : fault_of (app_of c.in_ok-line_command.field-0) words ≡ fault_of line_app words = ap (λ (a : App). fault_of a words) app in
+    let has : HasKind (fault_of line_app words) c.in-Err.error = subst (λ (k : Kinds). HasKind k c.in-Err.error) faults (c.in-Err.ensures.kinds free) in
+    let kinds = subst (λ (k : ErrorKind). (k ≡ OutOfMemory) ⊎ IsAmong k (fault_of line_app words)) (sym c.kind.ensures) has in
+    fits (fault_of line_app words) c.kind.result c.line_fault.ensures.text.0 c.line_fault.result kinds c.line_fault.ensures.text.1
