@@ -9,6 +9,7 @@ use mx_desk::Counted;
 use mx_files::perform::perform;
 use mx_tasks::exits::{fail, refuse, show};
 use mx_tasks::{Alarm, Alarmed, TaskFault};
+use sqlite::Unknown;
 use std::alloc::{AllocError, Global};
 use std::io;
 use std::io::BufWriter;
@@ -16,7 +17,7 @@ use std::process::ExitCode;
 
 /// What `--version` tells: the version, the schema of files, and the first digits of the sum of the sources, which
 /// `./purse-office --sources` prints and which leaves out this line. The sources are `unreleased` until there is a release of them.
-const VERSION: &str = "1.2.1 (schema 2, sources 911dbb4b9e4e18bc)";
+const VERSION: &str = "1.2.1 (schema 2, sources unreleased)";
 
 /// Does a task over standard input and output. Each read is one call, unbuffered, since the desk has an array of its own.
 /// What is written stands in a buffer until it is passed on; but in a run over a file each response is written at once, so
@@ -26,12 +27,12 @@ fn do_task(rt: &HostRuntime, task: &Task<'_>) -> Result<(), TaskFault> {
     if let Task::RunFile(_) = task {
         let mut alarm = Alarm::new(rt);
         let mut writer = Counted::new(Alarmed::new(io::writer(rt), &mut alarm));
-        return perform(rt, task, &mut reader, &mut writer);
+        return perform(rt, Unknown, task, &mut reader, &mut writer).answer;
     }
     let Ok(buffer) = BufWriter::new(rt.alloc(), io::writer(rt)) else {
         return Err(TaskFault::Memory);
     };
-    perform(rt, task, &mut reader, &mut Counted::new(buffer))
+    perform(rt, Unknown, task, &mut reader, &mut Counted::new(buffer)).answer
 }
 
 fn words_of(alloc: Global, args: &[String]) -> Result<Vec<&str>, AllocError> {

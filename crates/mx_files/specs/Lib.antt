@@ -1,3 +1,4 @@
 pub mod Opened
-pub mod Performed
 pub mod Durable
+pub mod InFiles
+pub mod Performed

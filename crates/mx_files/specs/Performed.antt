@@ -1,24 +1,90 @@
--- A run over books in memory, as a task.
-use Rattle.std.specs.Prelude.{◌≡◌, ℕ, List, [], Option, Result, Ok, Err, OnOk, IfErr}
+-- The tasks of the program: what was answered and written, and where the books stand then.
+use Rattle.std.specs.Prelude.{◌≡◌, ◌⊎◌, ℕ, List, [], Option, Some, None, Result, Ok, Err, OnOk, IfErr, IfOk, IsOk, ⊤, codes}
 use Rattle.std.specs.Io.KnownBytes.{Appends}
-use Rattle.mx_book.specs.World.{World}
+use Rattle.sqlite_disk.specs.declared.Disk.{Ghosts}
+use Rattle.sqlite_wal.specs.Recovery.{Image}
+use Rattle.mx_args.specs.declared.task.Task.{Task}
+use Rattle.mx_args.specs.declared.task.Task.TheVariants as task
+use Rattle.mx_book.specs.World.{Token, World}
 use Rattle.mx_book.specs.declared.contract.StoreFault.{StoreFault}
 use Rattle.mx_desk.specs.Serve.{Marked}
 use Rattle.mx_desk.specs.Steps.{State, state}
+use Rattle.mx_tables.specs.declared.migration.Migrated.{Migrated}
+use Rattle.mx_tables.specs.declared.migration.Migrated.TheVariants as migrated
 use Rattle.mx_tasks.specs.Runs.{TaskRuns}
+use Rattle.mx_tasks.specs.Works.{Works}
 use Rattle.mx_tasks.specs.declared.fault.TaskFault.{TaskFault}
 use Rattle.mx_tasks.specs.declared.fault.TaskFault.TheVariants.{Write}
+use Rattle.mx_tasks.specs.declared.work.Done.{Done}
+use Rattle.mx_tasks.specs.declared.work.Work.{Work}
+use Rattle.mx_tasks.specs.declared.work.Work.TheVariants.{Serve, Import, Report}
+use Rattle.mx_files.specs.InFiles.{AreShut, HoldBooksIn, HoldRounds, HoldWorld, IsNewOf, closed_answer, version_before}
+use Rattle.mx_files.specs.declared.closing.Ended.{Ended}
+use Rattle.mx_files.specs.declared.closing.Left.{Left}
+use Rattle.mx_files.specs.declared.closing.Left.TheVariants.{Nothing}
 
 -- what a run answered is the task's, where it is a fault; else what the writer holds is passed on, or that is a fault
 abbrev pub EndsRun : {X : Type 0} → Result ℕ TaskFault → Result X TaskFault → Option (List ℕ) → Option (List ℕ) → Type 0
 EndsRun (Ok n) result written output = OnOk result (Appends written output []) × IfErr result (λ e. e ≡ Write)
 EndsRun (Err e) result written output = IfErr result (λ fault. fault ≡ e) × OnOk result ⊥ × (output ≡ written)
 
--- what a task that is a run leaves
-pub record PerformsRun {X : Type 0} (fails : StoreFault → Type 0) (s : State) (result : Result X TaskFault) (input output : Option (List ℕ)) : Type 0 where
-  pub marked : List Marked
-  pub now : World
+-- a task that is a run: these requests lead to the World now, what they answered is told so behind a close, and what the writer
+-- holds is passed on
+pub record PerformsRun {X : Type 0} (fails : StoreFault → Type 0) (told : Result ℕ TaskFault → Result ℕ TaskFault) (s : State) (result : Result X TaskFault) (input output : Option (List ℕ)) (ms : List Marked) (now : World) : Type 0 where
   pub written : Option (List ℕ)
   pub run : Result ℕ TaskFault
-  pub runs : TaskRuns fails s run marked (state [] input written now)
-  pub ends : EndsRun run result written output
+  pub runs : TaskRuns fails s run ms (state [] input written now)
+  pub ends : EndsRun (told run) result written output
+
+-- the task ends with this fault, if there is one
+abbrev pub EndsWith : {X : Type 0} → Option TaskFault → Result X TaskFault → Type 0
+EndsWith None result = IsOk result
+EndsWith (Some fault) result = result ≡ Err fault
+
+-- The text that work gave is written, and the task ends with its fault; or it can't be written. A fault of work is the task's.
+abbrev pub EndsWork : {X : Type 0} → Result Done TaskFault → Result X TaskFault → Option (List ℕ) → Option (List ℕ) → Type 0
+EndsWork (Ok done) result before after = (result ≡ Err Write) ⊎ (Appends before after done.text.items × EndsWith done.fault result)
+EndsWork (Err e) result before after = (result ≡ Err e) × (after ≡ before)
+
+-- a task that is work over the books of these files, as it was told behind their close
+pub record PerformsWork {D X : Type 0} {g : Ghosts D} (fails : StoreFault → Type 0) (left : Left D g) (w : World) (work : Work) (result : Result X TaskFault) (before after : Option (List ℕ)) : Type 0 where
+  pub answer : Result Done TaskFault
+  pub works : Works fails (AreShut left) (HoldWorld left) (HoldRounds left) w work answer
+  pub ends : EndsWork (closed_answer left answer) result before after
+
+-- the work that a task is, where it is work
+abbrev pub IsWork : Task → Work → Type 0
+IsWork (task.Serve file port count) work = work ≡ Serve port count
+IsWork (task.Import file roll) work = (name : _) × (work ≡ Import name) × (name.now ≡ roll)
+IsWork (task.Report file purse) work = work ≡ Report purse
+IsWork _ work = ⊥
+
+-- whether a task has books in a file
+abbrev pub IsInFile : Task → Type 0
+IsInFile (task.RunMemory operator) = ⊥
+IsInFile _ = ⊤
+
+-- new books were closed, which have the operator's token alone, and that is said; or the task failed
+abbrev pub MakesBooks : {D X : Type 0} {g : Ghosts D} → Token → Left D g → Result X TaskFault → Option (List ℕ) → Option (List ℕ) → Type 0
+MakesBooks operator left result before after = IsNewOf operator left × OnOk result (Appends before after (codes "created\n"))
+
+-- what a migration prints
+abbrev pub migrated_text : Migrated → List ℕ
+migrated_text migrated.Done = codes "migrated\n"
+migrated_text migrated.Already = codes "already schema 2\n"
+
+-- it is said; or that can't be written. A fault of the migration is the task's.
+abbrev pub EndsMigration : {X : Type 0} → Result Migrated TaskFault → Result X TaskFault → Option (List ℕ) → Option (List ℕ) → Type 0
+EndsMigration (Ok made) result before after = IfErr result (λ e. e ≡ Write) × OnOk result (Appends before after (migrated_text made))
+EndsMigration (Err e) result before after = (result ≡ Err e) × (after ≡ before)
+
+-- a task that is a migration: what was a World in the version before is that in this one
+pub record PerformsMigration {D X : Type 0} {g : Ghosts D} (bytes : Image) (left : Left D g) (result : Result X TaskFault) (before after : Option (List ℕ)) : Type 0 where
+  pub answer : Result Migrated TaskFault
+  pub migrates : IfOk answer (λ made. (w : World) → HoldBooksIn (version_before made) bytes w → HoldWorld left w)
+  pub ends : EndsMigration (closed_answer left answer) result before after
+
+-- a fault before the files of a task are opened leaves none of them
+abbrev pub ended_of : {D X : Type 0} {g : Ghosts D} → Result (Ended X D g) TaskFault → Ended X D g
+ended_of (Ok ended) = ended
+ended_of (Err fault) = record { answer = Err fault; left = Nothing }

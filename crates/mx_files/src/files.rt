@@ -1,18 +1,21 @@
 //! The files of books.
+ghost use Rattle.std.specs.Prelude.{◌≡◌, IfOk, IsOk};
+ghost use Rattle.sqlite_wal.specs.Files.{image_at};
+ghost use Rattle.mx_files.specs.InFiles.{IsNewOf, IsOpenedOver};
 
-use crate::stores::{close, make_in_store};
+use crate::closing::{Ended, Left, make_in_files};
 use crate::unopened::unopened;
 use mx_pay::Token;
 use mx_tasks::{Cause, TaskFault};
-use sqlite::{Connection, File, FileStore};
+use sqlite::{Connection, FileFrom, FileStore, Start, Unknown};
 use std::fs::{Metadata, OpenFile, OpenOptions};
 use std::io::{ErrorKind, Read};
 use std::os::unix::fs::{MetadataExt, OpenOptionsExt};
 use std::rt::Files;
 use std::{fs, io};
 
-/// A store in a file, with its log in a file beside it.
-pub type Store = FileStore<File>;
+/// The books in a file, with its log in a file beside it, which held what the start says as they were opened.
+pub(crate) type Opened<S> = Connection<FileStore<FileFrom<S>>>;
 
 /// The most bytes of a log with no change in it.
 const MOST_OF_AN_EMPTY_LOG: u64 = 56;
@@ -24,10 +27,12 @@ fn is_empty(found: &Metadata) -> bool {
 
 /// Opens the database in a file, which makes one where there is none. A file that another process has open is refused at
 /// once.
-fn open(rt: &HostRuntime, path: &str) -> Result<Connection<Store>, Cause> {
-    match Connection::open(rt, path) {
+fn open<S: Start>(rt: &HostRuntime, path: &str, start: S) -> Result<Opened<S>, Cause>
+    ensures over { IfOk result (IsOpenedOver (image_at S.Start)) }
+{
+    match Connection::open_from(rt, path, false, start) {
         Ok(store) => Ok(store),
-        Err(error) => unopened(rt, path, error),
+        Err((error, _)) => unopened(rt, path, error),
     }
 }
 
@@ -73,12 +78,18 @@ fn has_log(rt: &(impl AllocGlobal + Files), path: &str) -> Result<bool, Cause> {
 /// # Errors
 ///
 /// `Empty`; `OtherLog` where another file stands where its log belongs; those of `unopened`.
-pub(crate) fn open_found(rt: &HostRuntime, path: &str) -> Result<Connection<Store>, Cause> {
+pub(crate) fn open_found<S: Start>(
+    rt: &HostRuntime,
+    path: &str,
+    start: S,
+) -> Result<Opened<S>, Cause>
+    ensures over { IfOk result (IsOpenedOver (image_at S.Start)) }
+{
     if is_empty(&fs::metadata(rt, path)?) {
         return Err(Cause::Empty);
     }
     has_log(rt, fs::canonicalize(rt, path)?.as_str())?;
-    open(rt, path)
+    open(rt, path, start)
 }
 
 /// Opens the database in a file that is there. Where it isn't opened, a terminal is told why.
@@ -87,8 +98,14 @@ pub(crate) fn open_found(rt: &HostRuntime, path: &str) -> Result<Connection<Stor
 ///
 /// `File` where the file isn't there, isn't a database, can't be opened, another process has it open, or another file stands
 /// where its log belongs; `NotThisSchema` where it is empty; `Memory`.
-pub(crate) fn open_told(rt: &HostRuntime, path: &str) -> Result<Connection<Store>, TaskFault> {
-    match open_found(rt, path) {
+pub(crate) fn open_told<S: Start>(
+    rt: &HostRuntime,
+    path: &str,
+    start: S,
+) -> Result<Opened<S>, TaskFault>
+    ensures over { IfOk result (IsOpenedOver (image_at S.Start)) }
+{
+    match open_found(rt, path, start) {
         Ok(store) => Ok(store),
         Err(cause) => Err(cause.tell(rt, path)),
     }
@@ -125,7 +142,7 @@ fn clear(rt: &HostRuntime, path: &str) -> Result<(), Cause> {
         }
         return Err(Cause::System(error));
     }
-    let left = open(rt, path)?;
+    let left = open(rt, path, Unknown)?;
     let _ = left.close();
     fs::remove_file(rt, path)?;
     Ok(())
@@ -149,40 +166,74 @@ fn is_there(rt: &impl Files, path: &str, number: u64) -> bool {
 
 /// Opens an empty file as a new database. Each of its pages ends in SQLite's page checksum, by which an opening finds most of
 /// what changed in the file since it was closed.
-fn open_new(rt: &HostRuntime, path: &str) -> Result<Connection<Store>, Cause> {
-    match Connection::open_with_sums(rt, path) {
+fn open_new<S: Start>(rt: &HostRuntime, path: &str, start: S) -> Result<Opened<S>, Cause> {
+    match Connection::open_from(rt, path, true, start) {
         Ok(store) => Ok(store),
-        Err(error) => unopened(rt, path, error),
+        Err((error, _)) => unopened(rt, path, error),
     }
 }
 
-/// Makes new books in an empty file with that number, closes it, and puts it in the place of another.
-fn put_books(
+/// A value, where what was answered is no fault.
+fn where_ok<T: Drop>(answer: Result<(), TaskFault>, value: T) -> Result<T, TaskFault>
+    ensures { IfOk result (λ kept. (kept ≡ value) × IsOk answer) }
+{
+    answer?;
+    Ok(value)
+}
+
+/// Makes new books in an empty file, and closes it.
+fn new_books<S: Start>(
     rt: &HostRuntime,
+    made: &str,
+    start: S,
+    operator: Token,
+) -> Result<Left<FileFrom<S>>, Cause>
+    ensures made { IfOk result (IsNewOf operator) }
+{
+    let store = open_new(rt, made, start)?;
+    let Ended { answer, left } = make_in_files(rt.alloc(), store, operator)?;
+    let kept = where_ok(answer, left)?;
+    Ok(kept)
+}
+
+/// Puts a file with that number, which has these books, in the place of another.
+fn put_books<T: Drop>(
+    rt: &impl Files,
     made: &str,
     number: u64,
     place: &str,
-    operator: Token,
-) -> Result<(), Cause> {
-    let books = make_in_store(rt.alloc(), open_new(rt, made)?, operator)?;
-    close(Ok(()), books)?;
+    books: T,
+) -> Result<T, Cause>
+    ensures same { IfOk result (λ put. put ≡ books) }
+{
     if !is_there(rt, made, number) {
         return Err(Cause::Rival);
     }
     fs::rename(rt, made, place)?;
-    Ok(())
+    Ok(books)
 }
 
 /// Makes new books in a file of its own, and puts it in the place of another. Its log is removed then, and where that fails,
 /// the file too.
-fn make_beside(rt: &HostRuntime, made: &str, place: &str, operator: Token) -> Result<(), Cause> {
+fn make_beside<S: Start>(
+    rt: &HostRuntime,
+    made: &str,
+    place: &str,
+    start: S,
+    operator: Token,
+) -> Result<Left<FileFrom<S>>, Cause>
+    ensures made { IfOk result (IsNewOf operator) }
+{
     let log = format!(in rt.alloc(); "{made}-wal")?;
     let number = match make_private(rt, made) {
         Ok(number) => number,
         Err(error) if error.kind() == ErrorKind::AlreadyExists => return Err(Cause::Rival),
         Err(error) => return Err(Cause::System(error)),
     };
-    let answer = put_books(rt, made, number, place, operator);
+    let answer = match new_books(rt, made, start, operator) {
+        Ok(books) => put_books(rt, made, number, place, books),
+        Err(cause) => Err(cause),
+    };
     if answer.is_ok() || is_there(rt, made, number) {
         let _ = fs::remove_file(rt, log.as_str());
     }
@@ -201,13 +252,20 @@ fn left_over(cause: &Cause) -> Cause {
 }
 
 /// Makes new books in a file beside that of this path, and puts it in its place.
-fn make(rt: &HostRuntime, path: &str, operator: Token) -> Result<(), Cause> {
+fn make<S: Start>(
+    rt: &HostRuntime,
+    path: &str,
+    start: S,
+    operator: Token,
+) -> Result<Left<FileFrom<S>>, Cause>
+    ensures made { IfOk result (IsNewOf operator) }
+{
     let place = place_for(rt, path)?;
     let made = format!(in rt.alloc(); "{place}-init")?;
     if let Err(cause) = clear(rt, made.as_str()) {
         return Err(left_over(&cause));
     }
-    make_beside(rt, made.as_str(), place.as_str(), operator)
+    make_beside(rt, made.as_str(), place.as_str(), start, operator)
 }
 
 /// Makes new books, in which nothing is but the operator's token, in a file that isn't there or is empty. Only its owner may
@@ -219,9 +277,16 @@ fn make(rt: &HostRuntime, path: &str, operator: Token) -> Result<(), Cause> {
 /// `FileExists` where the file is there and isn't empty; `File` where it can't be made, there is no room for its log, another
 /// process makes it, or another file stands where its log, FILE-init or the log of that belongs; `Memory` or `Store` where the
 /// database refuses a statement or can't be closed. Then no file is left, and a terminal is told why.
-pub fn make_in_file(rt: &HostRuntime, path: &str, operator: Token) -> Result<(), TaskFault> {
-    match make(rt, path, operator) {
-        Ok(()) => Ok(()),
+pub fn make_in_file<S: Start>(
+    rt: &HostRuntime,
+    path: &str,
+    start: S,
+    operator: Token,
+) -> Result<Left<FileFrom<S>>, TaskFault>
+    ensures made { IfOk result (IsNewOf operator) }
+{
+    match make(rt, path, start, operator) {
+        Ok(left) => Ok(left),
         Err(cause) => Err(cause.tell(rt, path)),
     }
 }

@@ -2,6 +2,7 @@
 #![tactic(auto)]
 
 pub mod check;
+pub mod closing;
 pub mod files;
 pub mod perform;
 pub mod stores;

@@ -1,4 +1,5 @@
 //! Why a database isn't opened, as far as a look at its files tells.
+ghost use Rattle.std.specs.Prelude.{IsErr};
 
 use crate::files::head_of;
 use mx_tasks::{Cause, TaskFault};
@@ -41,7 +42,9 @@ pub(crate) fn unopened<T>(
     rt: &(impl AllocGlobal + Files),
     path: &str,
     error: Error,
-) -> Result<T, Cause> {
+) -> Result<T, Cause>
+    ensures { IsErr result }
+{
     let cause = match error {
         Error::SqliteFailure(ErrorCode::OutOfMemory) => Cause::Fault(TaskFault::Memory),
         Error::SqliteFailure(ErrorCode::DatabaseBusy) => Cause::Busy,

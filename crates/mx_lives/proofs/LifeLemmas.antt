@@ -1,7 +1,8 @@
 -- Lives, and stops between them.
 use Rattle.std.proofs.Common.{◌≡◌, ◌≤◌, ℕ, Bool, true, false, inl, inr, List, [], ◌∷◌, ◌++◌, Option, Some, Result, ap, refl, subst, arith}
-use mathlib.Core.Logic.{∥∥₁_elim}
-use Rattle.sqlite.specs.Effect.{Database}
+use Rattle.sqlite_disk.specs.declared.Disk.{Ghosts}
+use Rattle.sqlite_disk.specs.declared.Files.{Files}
+use Rattle.sqlite.specs.Files.{image_of}
 use Rattle.sqlite.specs.State.{State as Connected, HasCleanDisk}
 use Rattle.sqlite_trees.proofs.Doubt.{clean_of}
 use Rattle.mx_book.specs.World.{World}
@@ -12,27 +13,27 @@ use Rattle.mx_desk.specs.Rounds.{Leads, Round, all_of}
 use Rattle.mx_desk.specs.Serve.{Marked}
 use Rattle.mx_desk.specs.Steps.{State, state}
 use Rattle.mx_desk.proofs.LawfulLemmas.{lawful_requests}
-use Rattle.mx_standing.specs.One.{world_set}
-use Rattle.mx_tables.specs.Schema.{office_schema}
 use Rattle.mx_tables.specs.States.{worry, worry_at}
 use Rattle.std.specs.Prelude.{IfErr}
 use Rattle.mx_tasks.specs.Runs.{IsRunFault, TaskRuns}
 use Rattle.mx_tasks.specs.declared.fault.TaskFault.{TaskFault}
-use Rattle.mx_files.specs.Durable.{Represents}
 use Rattle.mx_lives.specs.declared.answered.Life.{Life}
-use Rattle.mx_lives.specs.Lived.{LivedTo, LivesOver, RunsOver, lived, lived_more, unlived}
+use Rattle.mx_files.specs.InFiles.{AreClosed, HoldBooks}
+use Rattle.mx_lives.specs.Lived.{AreLeft, LivedTo, LivesOver, RunsOver, lived, lived_more, unlived}
 
--- up to 1 where the disk told no lie
-low_at : (live : Bool) → worry_at live true ≤ 1
-low_at true = omega arith
-low_at false = omega arith
+-- what lives left holds the books
+pub left_hold : {D : Type 0} (g : Ghosts D) (files : Files D) (inputs : List (List ℕ)) (w : World) → AreLeft g files inputs w → HoldBooks (image_of g files) w
+left_hold g files [] w held = held
+left_hold g files (input ∷ inputs) w closed = closed.seen.both
 
-pub low_if_clean : (s : Connected) → HasCleanDisk s → worry s ≤ 1
-low_if_clean s clean = rw (clean_of s.is_clean clean) (low_at s.is_open)
+-- files that were closed are left by one life more
+left_closed : {D : Type 0} (g : Ghosts D) (files : Files D) (inputs : List (List ℕ)) (input : List ℕ) (w : World) → AreClosed g files w → AreLeft g files (inputs ++ input ∷ []) w
+left_closed g files [] input w closed = closed
+left_closed g files (first ∷ inputs) input w closed = closed
 
--- tables that represent a World have the schema of the office, and represent no other
-pub one_world : {db : Database} (u w : World) → Represents db u → (db.schema ≡ office_schema → Represents db w) → w ≡ u
-one_world u w one stands = ∥∥₁_elim one (world_set w u) (λ a. ∥∥₁_elim (stands a.spelled.holds.has.schema) (world_set w u) (λ b. a.only w b.spelled))
+pub closed_left : {D : Type 0} (g : Ghosts D) (files : Files D) (inputs : List (List ℕ)) (input : List ℕ) {Holds : List Marked → World → Type 0}
+    → Leads Holds (λ _ now. AreClosed g files now) → Leads Holds (λ _ now. AreLeft g files (inputs ++ input ∷ []) now)
+closed_left g files inputs input led = record { end = led.end; rounds = led.rounds; holds = led.holds; moves = left_closed g files inputs input led.end led.moves }
 
 -- ---- lives
 
