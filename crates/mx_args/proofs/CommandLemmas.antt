@@ -62,7 +62,8 @@ module _ {X A B : Type 0} where
   firsts_are f g None = refl
   firsts_are f g (Some x) = refl
 
-names_are : (m : ArgMatches) → subcommand_name_of m ≡ option_map (λ p. p.0) (subcommand_rows_of m)
+-- the name of the subcommand is that of its rows
+pub names_are : (m : ArgMatches) → subcommand_name_of m ≡ option_map (λ p. p.0) (subcommand_rows_of m)
 names_are m = firsts_are _ _ (out-ArgMatches m).subcommand
 
 -- the name and the rows of the subcommand are those that its reader gives

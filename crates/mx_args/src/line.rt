@@ -1,11 +1,14 @@
 //! The command line of the program.
-ghost use Rattle.std.specs.Prelude.{◌≡◌, ◌⊎◌, ℕ, List, Option, IfOk, IfSome, IsNone, OnErr, Ok, Err};
-ghost use Rattle.std.specs.Prelude.{codes, map, option_map};
+ghost use Rattle.std.specs.Prelude.{◌≡◌, ℕ, List, Option, IfOk, IfErr, IfSome, IsNone, OnErr};
+ghost use Rattle.std.specs.Prelude.{Ok, codes, map, option_map, string_bytes};
 ghost use Rattle.std.specs.Option.{option_and_then};
-ghost use Rattle.clap.specs.Words.{first_of, found_of, kind_of, rows_of, subcommand_rows_of};
+ghost use Rattle.clap.specs.Words.{first_of, found_of, rows_of, subcommand_rows_of};
 ghost use Rattle.mx_pay.specs.Tokens.{token_of};
 ghost use Rattle.mx_args.specs.Named.{Absent, Given, HasPurse, HasValue};
-ghost use Rattle.mx_args.specs.Named.{IsFoundBy, IsNamedBy, IsNumber, Names, NamesNone};
+ghost use Rattle.mx_args.specs.Named.{IsFoundBy, IsNumber, Names, NamesNone};
+ghost use Rattle.mx_args.specs.Read.{IsReadAs};
+ghost use Rattle.mx_args.specs.Misfits.{BadOrMemory, HasMisfit, IsFaultOf, IsFaultOfError};
+ghost use Rattle.mx_args.specs.Misfits.{TellsMisfit, TellsWords, error_text, words_of};
 
 use crate::commands::{command_named, line_command};
 use crate::task::{LineFault, Task, Word};
@@ -13,6 +16,7 @@ use clap::ArgMatches;
 use clap::error::ErrorKind;
 use mx_pay::{Name, Token, read_seq};
 use std::alloc::{AllocError, Global};
+use std::fmt::Display;
 
 /// The highest port.
 const MOST_PORT: u32 = 65_535;
@@ -35,7 +39,9 @@ enum Misfit {
 }
 
 impl Misfit {
-    fn text(self) -> &'static str {
+    fn text(self) -> &'static str
+        ensures { result.now ≡ words_of self }
+    {
         match self {
             Misfit::Token => "the value of --token has to be 32 hexadecimal digits",
             Misfit::Port => {
@@ -75,6 +81,7 @@ fn word_of<'a>(matches: &ArgMatches<'a>, id: &str) -> Option<Word<'a>>
 fn needed_word<'a>(matches: &ArgMatches<'a>, id: &str) -> Result<Word<'a>, Misfit>
     ensures given { IfOk result (Given (rows_of (found_of matches.now)) id.now) }
     ensures absent { OnErr result (Absent (rows_of (found_of matches.now)) id.now) }
+    ensures misfit { IfErr result (λ misfit. misfit ≡ Misfit.Missing) }
 {
     word_of(matches, id).ok_or(Misfit::Missing)
 }
@@ -107,6 +114,7 @@ fn purse_of(matches: &ArgMatches<'_>) -> Result<Option<Name>, Misfit>
     ensures named { IfOk result (HasPurse (rows_of (found_of matches.now))) }
     ensures unnamed { OnErr result
         ((purse : Option (List ℕ)) → ¬ HasPurse (rows_of (found_of matches.now)) purse) }
+    ensures misfit { IfErr result (λ misfit. misfit ≡ Misfit.Purse) }
 {
     let Some(text) = text_of(matches, "purse") else {
         return Ok(None);
@@ -117,21 +125,26 @@ fn purse_of(matches: &ArgMatches<'_>) -> Result<Option<Name>, Misfit>
     }
 }
 
-// Why a `run` names no task whose token, if it has one, can be read.
-fn run_misfit(matches: &ArgMatches<'_>) -> Misfit {
+// Why a `run` that names no task names none.
+fn run_misfit(matches: &ArgMatches<'_>) -> Misfit
+    ensures { HasMisfit (codes "run") (rows_of (found_of matches.now)) result }
+{
     let is_in_memory = text_of(matches, "memory") == Some("true");
     let names_file = text_of(matches, "FILE").is_some();
-    match (is_in_memory, names_file) {
-        (true, true) => Misfit::FileAndMemory,
-        (true, false) => Misfit::NoToken,
-        (false, true) => Misfit::TokenForFile,
-        (false, false) => Misfit::NoBooks,
+    let names_token = text_of(matches, "token").is_some();
+    match (is_in_memory, names_file, names_token) {
+        (true, true, _) => Misfit::FileAndMemory,
+        (true, false, true) => Misfit::Token,
+        (true, false, false) => Misfit::NoToken,
+        (false, true, _) => Misfit::TokenForFile,
+        (false, false, _) => Misfit::NoBooks,
     }
 }
 
 fn run_task<'a>(matches: &ArgMatches<'a>) -> Result<Task<'a>, Misfit>
     ensures named { IfOk result (Names (codes "run") (rows_of (found_of matches.now))) }
     ensures unnamed { OnErr result (NamesNone (codes "run") (rows_of (found_of matches.now))) }
+    ensures misfit { IfErr result (HasMisfit (codes "run") (rows_of (found_of matches.now))) }
 {
     match (
         text_of(matches, "memory"),
@@ -140,7 +153,7 @@ fn run_task<'a>(matches: &ArgMatches<'a>) -> Result<Task<'a>, Misfit>
     ) {
         (Some("true"), None, Some(digits)) => match Token::read(digits) {
             Some(token) => Ok(Task::RunMemory(token)),
-            None => Err(Misfit::Token),
+            None => Err(run_misfit(matches)),
         },
         (Some("false"), Some(file), None) => Ok(Task::RunFile(file)),
         _ => Err(run_misfit(matches)),
@@ -150,6 +163,7 @@ fn run_task<'a>(matches: &ArgMatches<'a>) -> Result<Task<'a>, Misfit>
 fn init_task<'a>(matches: &ArgMatches<'a>) -> Result<Task<'a>, Misfit>
     ensures named { IfOk result (Names (codes "init") (rows_of (found_of matches.now))) }
     ensures unnamed { OnErr result (NamesNone (codes "init") (rows_of (found_of matches.now))) }
+    ensures misfit { IfErr result (HasMisfit (codes "init") (rows_of (found_of matches.now))) }
 {
     let file = needed_word(matches, "FILE")?;
     let Some(token) = token_of(matches) else {
@@ -161,6 +175,7 @@ fn init_task<'a>(matches: &ArgMatches<'a>) -> Result<Task<'a>, Misfit>
 fn serve_task<'a>(matches: &ArgMatches<'a>) -> Result<Task<'a>, Misfit>
     ensures named { IfOk result (Names (codes "serve") (rows_of (found_of matches.now))) }
     ensures unnamed { OnErr result (NamesNone (codes "serve") (rows_of (found_of matches.now))) }
+    ensures misfit { IfErr result (HasMisfit (codes "serve") (rows_of (found_of matches.now))) }
 {
     let file = needed_word(matches, "FILE")?;
     let Some(port) = number_of(matches, "port", MOST_PORT) else {
@@ -179,6 +194,7 @@ fn serve_task<'a>(matches: &ArgMatches<'a>) -> Result<Task<'a>, Misfit>
 fn import_task<'a>(matches: &ArgMatches<'a>) -> Result<Task<'a>, Misfit>
     ensures named { IfOk result (Names (codes "import") (rows_of (found_of matches.now))) }
     ensures unnamed { OnErr result (NamesNone (codes "import") (rows_of (found_of matches.now))) }
+    ensures misfit { IfErr result (HasMisfit (codes "import") (rows_of (found_of matches.now))) }
 {
     let file = needed_word(matches, "FILE")?;
     let roll = needed_word(matches, "ROLL")?;
@@ -188,6 +204,7 @@ fn import_task<'a>(matches: &ArgMatches<'a>) -> Result<Task<'a>, Misfit>
 fn report_task<'a>(matches: &ArgMatches<'a>) -> Result<Task<'a>, Misfit>
     ensures named { IfOk result (Names (codes "report") (rows_of (found_of matches.now))) }
     ensures unnamed { OnErr result (NamesNone (codes "report") (rows_of (found_of matches.now))) }
+    ensures misfit { IfErr result (HasMisfit (codes "report") (rows_of (found_of matches.now))) }
 {
     let file = needed_word(matches, "FILE")?;
     let purse = purse_of(matches)?;
@@ -197,6 +214,7 @@ fn report_task<'a>(matches: &ArgMatches<'a>) -> Result<Task<'a>, Misfit>
 fn check_task<'a>(matches: &ArgMatches<'a>) -> Result<Task<'a>, Misfit>
     ensures named { IfOk result (Names (codes "check") (rows_of (found_of matches.now))) }
     ensures unnamed { OnErr result (NamesNone (codes "check") (rows_of (found_of matches.now))) }
+    ensures misfit { IfErr result (HasMisfit (codes "check") (rows_of (found_of matches.now))) }
 {
     let file = needed_word(matches, "FILE")?;
     Ok(Task::Check(file))
@@ -205,6 +223,7 @@ fn check_task<'a>(matches: &ArgMatches<'a>) -> Result<Task<'a>, Misfit>
 fn migrate_task<'a>(matches: &ArgMatches<'a>) -> Result<Task<'a>, Misfit>
     ensures named { IfOk result (Names (codes "migrate") (rows_of (found_of matches.now))) }
     ensures unnamed { OnErr result (NamesNone (codes "migrate") (rows_of (found_of matches.now))) }
+    ensures misfit { IfErr result (HasMisfit (codes "migrate") (rows_of (found_of matches.now))) }
 {
     let file = needed_word(matches, "FILE")?;
     Ok(Task::Migrate(file))
@@ -213,6 +232,7 @@ fn migrate_task<'a>(matches: &ArgMatches<'a>) -> Result<Task<'a>, Misfit>
 fn task_of<'a>(name: &str, matches: &ArgMatches<'a>) -> Result<Task<'a>, Misfit>
     ensures named { IfOk result (Names name.now (rows_of (found_of matches.now))) }
     ensures unnamed { OnErr result (NamesNone name.now (rows_of (found_of matches.now))) }
+    ensures misfit { IfErr result (HasMisfit name.now (rows_of (found_of matches.now))) }
 {
     match name {
         "run" => run_task(matches),
@@ -226,29 +246,47 @@ fn task_of<'a>(name: &str, matches: &ArgMatches<'a>) -> Result<Task<'a>, Misfit>
     }
 }
 
-// What clap's error makes of the line.
-fn line_fault(alloc: Global, error: clap::Error) -> LineFault
-    ensures { kind_of error ≡ ErrorKind.OutOfMemory → result ≡ LineFault.Memory }
+// What a line is answered with for an error of this kind that shows this text, if there was memory for that.
+fn fault_of_kind(kind: ErrorKind, text: Option<String>) -> LineFault
+    ensures { IsFaultOf kind text result }
 {
-    if error.kind() == ErrorKind::OutOfMemory {
-        return LineFault::Memory;
+    match (kind, text) {
+        (ErrorKind::OutOfMemory, _) | (_, None) => LineFault::Memory,
+        (ErrorKind::DisplayVersion, Some(text)) => LineFault::Version(text),
+        (_, Some(text)) => LineFault::Bad(text),
     }
-    match error.to_string(alloc) {
-        Ok(text) if error.kind() == ErrorKind::DisplayVersion => LineFault::Version(text),
+}
+
+// What a line is answered with for an error of this kind. No clause of clap says what its errors show; the type of the
+// error is left open, so that this answers with what the error shows, and with nothing else.
+fn line_fault<E: Display>(alloc: Global, kind: ErrorKind, error: &E) -> LineFault
+    ensures memory { kind ≡ ErrorKind.OutOfMemory → result ≡ LineFault.Memory }
+    ensures text { IsFaultOfError kind (E.output error.now) result }
+{
+    fault_of_kind(kind, error.to_string(alloc).ok())
+}
+
+// The text of an error with these words and this usage, as clap writes those of its own.
+fn error_text(alloc: Global, words: &str, usage: &str) -> Result<String, AllocError>
+    ensures { IfOk result (λ text. string_bytes text ≡ error_text words.now usage.now) }
+{
+    format!(in alloc; "error: {words}\n\n{usage}\n\nFor more information, try '--help'.\n")
+}
+
+// What is told of a misfit: its words, with the usage of the command of this name.
+fn misfit_text(alloc: Global, name: &str, misfit: Misfit) -> Result<String, AllocError>
+    ensures { IfOk result (λ text. TellsWords (words_of misfit) (string_bytes text)) }
+{
+    let usage = command_named(alloc, name)?.render_usage()?;
+    error_text(alloc, misfit.text(), usage.as_str())
+}
+
+// What a line is answered with that clap takes and that names no task.
+fn misfit_fault(alloc: Global, name: &str, misfit: Misfit) -> LineFault
+    ensures { BadOrMemory (TellsWords (words_of misfit)) result }
+{
+    match misfit_text(alloc, name, misfit) {
         Ok(text) => LineFault::Bad(text),
-        Err(_) => LineFault::Memory,
-    }
-}
-
-// clap's error for a line that clap takes and that names no task, with the usage of its command.
-fn misfit_error(alloc: Global, name: &str, misfit: Misfit) -> Result<clap::Error, AllocError> {
-    command_named(alloc, name)?.error(ErrorKind::ValueValidation, misfit.text())
-}
-
-// What such a line is answered with.
-fn misfit_fault(alloc: Global, name: &str, misfit: Misfit) -> LineFault {
-    match misfit_error(alloc, name, misfit) {
-        Ok(error) => line_fault(alloc, error),
         Err(_) => LineFault::Memory,
     }
 }
@@ -258,6 +296,7 @@ fn found_task<'a>(alloc: Global, matches: &ArgMatches<'a>) -> Result<Task<'a>, L
     ensures named { IfOk result (IsFoundBy (subcommand_rows_of matches.now)) }
     ensures answered { (task : Task) → IsFoundBy (subcommand_rows_of matches.now) task
         → result ≡ Ok task }
+    ensures misfit { IfErr result (BadOrMemory (TellsMisfit (subcommand_rows_of matches.now))) }
 {
     let Some((name, found)) = matches.subcommand() else {
         return Err(misfit_fault(alloc, "", Misfit::Missing));
@@ -279,14 +318,10 @@ pub fn read_line<'a>(
     version: &'a str,
     words: &'a [&'a str],
 ) -> Result<Task<'a>, LineFault>
-    ensures named { IfOk result (IsNamedBy (map (λ w. w.now) words.entry.now)) }
-
-    // A line that names a task is answered with it, or with want of memory.
-    ensures answered { (task : Task) → IsNamedBy (map (λ w. w.now) words.entry.now) task
-        → (result ≡ Ok task) ⊎ (result ≡ Err LineFault.Memory) }
+    ensures { IsReadAs (map (λ w. w.now) words.entry.now) result }
 {
     match line_command(alloc, version)?.try_get_matches_from(words) {
         Ok(matches) => found_task(alloc, &matches),
-        Err(error) => Err(line_fault(alloc, error)),
+        Err(error) => Err(line_fault(alloc, error.kind(), &error)),
     }
 }

@@ -12,6 +12,8 @@ mod disks;
 #[cfg(test)]
 mod flushes;
 #[cfg(test)]
+mod folder;
+#[cfg(test)]
 mod growths;
 #[cfg(test)]
 mod lives;

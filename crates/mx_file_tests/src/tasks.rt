@@ -3,6 +3,7 @@ use crate::scratch::{expect, new_folder, request, response, unfolded};
 use mx_args::{Task, read_line};
 use mx_desk::Counted;
 use mx_files::perform::perform;
+use sqlite::Unknown;
 use std::alloc::{AllocError, Global};
 use std::fs;
 use std::test::Fail;
@@ -89,7 +90,8 @@ fn told(rt: &HostRuntime, task: &Task<'_>) -> Result<String, Fail> {
     let input = requests(alloc)?;
     let mut reader = Counted::new(input.as_bytes());
     let mut writer = Counted::new(Vec::new(alloc));
-    if let Err(fault) = perform(rt, task, &mut reader, &mut writer) {
+    let ended = perform(rt, Unknown, task, &mut reader, &mut writer);
+    if let Err(fault) = ended.answer {
         return Ok(format!(in alloc; "fault: {}", fault.text())?);
     }
     let bytes = writer.into_inner();

@@ -1,2 +1,4 @@
 pub mod RowLemmas
 pub mod TableLemmas
+pub mod FileLemmas
+pub mod FolderLemmas

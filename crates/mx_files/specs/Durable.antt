@@ -5,12 +5,18 @@ use Rattle.sqlite.specs.State.{State}
 use Rattle.mx_book.specs.World.{World}
 use Rattle.mx_desk.specs.Durable.{Lasts}
 use Rattle.mx_desk.specs.Rounds.{Round}
-use Rattle.mx_tables.specs.Holds.{SpellsOne}
+use Rattle.mx_tables.specs.Holds.{SpellsOneIn}
 use Rattle.mx_tables.specs.States.{Leaves, IsSound, IsHonest}
+use Rattle.mx_tables.specs.declared.making.Version.{Version}
+use Rattle.mx_tables.specs.declared.making.Version.TheVariants.{Two}
 
--- the database is one of tables of the office, whose rows spell this World, and no other
+-- the database is one of tables of the office of this version, whose rows spell this World, and no other
+abbrev pub RepresentsIn : Version → Database → World → Type 0
+RepresentsIn v db w = ∥ SpellsOneIn v db w ∥₁
+
+-- the same of the version that the office has
 abbrev pub Represents : Database → World → Type 0
-Represents db w = ∥ SpellsOne db w ∥₁
+Represents = RepresentsIn Two
 
 -- After these rounds the tables represent the World now, while the store works. While the disk told no lie, what a stop leaves
 -- represents that, or it with one of the rounds that were given up done after all.

@@ -1,3 +1,9 @@
 pub mod Opened
-pub mod Performed
 pub mod Durable
+pub mod InFiles
+pub mod Performed
+pub mod Folders
+pub mod Makings
+pub mod InMemory
+pub mod Plans
+pub mod Answered

@@ -1,4 +1,10 @@
--- Which faults of books that are made or opened are which of the program's.
+-- Which faults of books that are made or opened are which of the program's, and why a database isn't opened.
+use Rattle.std.specs.Prelude.{◌≡◌, ⊤}
+use Rattle.sqlite.specs.declared.error.Error.{Error}
+use Rattle.sqlite.specs.declared.error.Error.TheVariants.{SqliteFailure}
+use Rattle.sqlite.specs.declared.error.ErrorCode.TheVariants as code
+use Rattle.mx_tasks.specs.declared.cause.Cause.{Cause}
+use Rattle.mx_tasks.specs.declared.cause.Cause.TheVariants.{Fault, Busy, Damaged, OtherTables, NoLog, DiskFull, DiskFailed}
 use Rattle.mx_audit.specs.declared.opening.Refusal.{Refusal}
 use Rattle.mx_audit.specs.declared.opening.Refusal.TheVariants as refusal
 use Rattle.mx_tasks.specs.declared.fault.TaskFault.{TaskFault}
@@ -10,3 +16,20 @@ open_fault_of refusal.Memory = Memory
 open_fault_of refusal.Store = Store
 open_fault_of refusal.NotThisSchema = NotThisSchema
 open_fault_of (refusal.Unsound checked) = Store
+
+-- why a database isn't opened, by the error
+abbrev pub cause_of : Error → Cause
+cause_of (SqliteFailure code.OutOfMemory) = Fault Memory
+cause_of (SqliteFailure code.DatabaseBusy) = Busy
+cause_of (SqliteFailure code.DatabaseCorrupt) = Damaged
+cause_of (SqliteFailure code.NotADatabase) = OtherTables
+cause_of (SqliteFailure code.CannotOpen) = NoLog
+cause_of (SqliteFailure code.DiskFull) = DiskFull
+cause_of _ = DiskFailed
+
+-- it is told so; or its files are looked at, which may tell another cause
+abbrev pub IsExplained : Cause → Cause → Type 0
+IsExplained Damaged told = ⊤
+IsExplained OtherTables told = ⊤
+IsExplained NoLog told = ⊤
+IsExplained cause told = told ≡ cause

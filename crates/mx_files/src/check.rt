@@ -1,4 +1,11 @@
 //! Whether the books in a store are sound, in words.
+ghost use Rattle.std.specs.Prelude.{◌≡◌, ◌≤◌, IfOk, None, Some, false};
+ghost use Rattle.sqlite.specs.Held.{state};
+ghost use Rattle.mx_book.specs.Views.{Keeps};
+ghost use Rattle.mx_book.specs.World.{World};
+ghost use Rattle.mx_tables.specs.States.{IsOurs, IsSound, worry};
+ghost use Rattle.mx_files.specs.Durable.{Represents};
+
 use crate::stores::unmade;
 use mx_audit::tables::Checked;
 use mx_audit::{Ordered, Refusal, Refused, open};
@@ -37,7 +44,9 @@ fn sound_line(alloc: Global, checked: &Checked) -> Result<String, AllocError> {
 }
 
 /// A text, with the fault `Store` where it tells of one.
-fn done(text: String, is_well: bool) -> Done {
+fn done(text: String, is_well: bool) -> Done
+    ensures { is_well ≡ false → result.fault ≡ Some TaskFault.Store }
+{
     Done {
         text: text.into_bytes(),
         fault: (!is_well).then_some(TaskFault::Store),
@@ -45,14 +54,13 @@ fn done(text: String, is_well: bool) -> Done {
 }
 
 /// What the check of books in which nothing was found says of their sums and statements. A terminal is told how far it is.
-fn sums_done<B: Book>(
-    rt: &HostRuntime,
-    book: &mut B,
-    checked: &Checked,
-) -> Result<Done, TaskFault> {
+fn sums_done<B: Book>(rt: &HostRuntime, book: &mut B, checked: &Checked) -> Result<Done, TaskFault>
+    ensures keeps { Keeps (B.view book.old) (B.view book.new) }
+{
     let names = checked.purses(rt.alloc())?;
     let sums = uneven_sums(rt.alloc(), book)?;
-    let mut teller = Teller::new(rt, "purses");
+    let mut terminal = rt.stderr();
+    let mut teller = Teller::new(rt, &mut terminal, "purses");
     let purses = uneven_purses(rt.alloc(), book, names.as_slice(), &mut teller)?;
     teller.end();
     let is_well = sums.is_empty() && purses.is_empty();
@@ -77,7 +85,13 @@ fn sums_done<B: Book>(
 pub fn check_in_store<S: Ordered + Drop>(
     rt: &HostRuntime,
     store: Connection<S>,
-) -> Result<(Done, Connection<S>), TaskFault> {
+) -> Result<(Done, Connection<S>), TaskFault>
+    ensures later { IfOk result
+        (λ x. worry (state S.Store store) ≤ worry (state S.Store x.1)) }
+    ensures stays { IfOk result (λ x. x.0.fault ≡ None → IsSound (state S.Store x.1)
+        → (w : World) × Represents (state S.Store store).now w
+        × IsOurs false (state S.Store x.1) × Represents (state S.Store x.1).now w) }
+{
     match open(rt.alloc(), store, MOST_FINDINGS) {
         Ok((mut book, checked)) => {
             let answer = sums_done(rt, &mut book, &checked)?;

@@ -2,7 +2,16 @@
 #![tactic(auto)]
 
 pub mod check;
+pub mod closing;
 pub mod files;
+pub mod folder;
+pub mod in_memory;
+pub mod init;
+pub mod making;
 pub mod perform;
+pub mod places;
+pub mod plan;
+pub mod program;
+pub mod stored_file;
 pub mod stores;
 mod unopened;

@@ -1,40 +1,62 @@
 //! Every task, over an input, an output and the files that the task names.
-ghost use Rattle.std.specs.Prelude.{◌≡◌, [], OnOk, IfErr};
+ghost use Rattle.std.specs.Prelude.{◌≡◌, ℕ, List, [], IfErr, IfOk, IsErr, IsOk, None, OnOk};
 ghost use Rattle.std.specs.Io.KnownBytes.{Appends};
-ghost use Rattle.mx_args.specs.declared.task.Task.TheVariants.{RunMemory};
-ghost use Rattle.mx_book.specs.World.{Token, opening};
+ghost use Rattle.sqlite_wal.specs.Files.{image_at};
+ghost use Rattle.mx_book.specs.World.{World, opening};
+ghost use Rattle.mx_desk.specs.Rounds.{Leads};
+ghost use Rattle.mx_desk.specs.Serve.{Marked};
 ghost use Rattle.mx_desk.specs.Steps.{state};
-ghost use Rattle.mx_files.specs.Performed.{PerformsRun};
+ghost use Rattle.mx_tasks.specs.Faults.{Untouched};
+ghost use Rattle.mx_files.specs.InFiles.{AreHonest, AreShut, HoldBooks, HoldRounds, HoldWorld, closed_answer};
+ghost use Rattle.mx_files.specs.Performed.{EndsMigration, EndsRun, EndsWork, MakesBooks, Performs, PerformsInMemory, PerformsMigration, PerformsRun, PerformsWork, ended_of, streams};
 
-use crate::check::check_in_store;
+use crate::closing::{Ended, check_in_files, migrate_in_files, run_in_files, work_in_files};
 use crate::files::{make_in_file, open_found, open_told};
-use crate::stores::{close, run_in_store, unmade, work_in_store};
+use crate::plan::{Act, Plan, plan_of};
 use mx_args::Task;
-use mx_audit::migrate;
 use mx_book::Book;
+use mx_desk::output::{flush_out, write_out};
 use mx_desk::{Counted, Outlet};
 use mx_memory::PlainBook;
 use mx_pay::Token;
 use mx_standing::Standing;
-use mx_tables::Migrated;
+use mx_tables::{Migrated, Tables};
 use mx_tasks::runs::run_memory;
 use mx_tasks::{Done, TaskFault, Work};
+use sqlite::{FileFrom, FileStore, Start};
+use sqlite_disk::Disk;
 use std::alloc::Global;
 use std::io::{Read, Write};
 
-/// Writes a text, and passes on what the writer holds.
-fn say<W: Write>(writer: &mut W, text: &[u8]) -> Result<(), TaskFault>
-    ensures ok { OnOk result (Appends (W.contents writer.old) (W.contents writer.new) text.now) }
+/// Writes a text, and passes on what the writer holds. Where that is no fault, no call of the writer failed.
+fn say<W: Write>(writer: &mut Counted<W>, text: &[u8]) -> Result<(), TaskFault>
+    ensures ok { OnOk result (Appends (W.contents writer.old.device)
+        (W.contents writer.new.device) text.now
+        × (writer.new.failures ≡ writer.old.failures)) }
     ensures fault { IfErr result (λ e. e ≡ TaskFault.Write) }
 {
-    if writer.write_all(text).is_err() || writer.flush().is_err() {
-        return Err(TaskFault::Write);
-    }
+    write_out(writer, text)?;
+    flush_out(writer)?;
     Ok(())
 }
 
-/// Writes what came of a task. A fault that leaves a text comes behind it.
-fn say_done<W: Write>(writer: &mut W, done: &Done) -> Result<(), TaskFault> {
+/// Passes on what the writer holds behind a run. A fault of the run stays the fault.
+fn pass_on<W: Write>(run: Result<u64, TaskFault>, writer: &mut Counted<W>) -> Result<(), TaskFault>
+    ensures ends { EndsRun run result (W.contents writer.old.device) (W.contents writer.new.device) }
+{
+    run?;
+    say(writer, b"")
+}
+
+/// Writes the text of what came of work. A fault that leaves a text comes behind it.
+fn say_done<W: Write>(
+    answer: Result<Done, TaskFault>,
+    writer: &mut Counted<W>,
+) -> Result<(), TaskFault>
+    ensures ends { EndsWork answer result
+        (W.contents writer.old.device) (W.contents writer.new.device) }
+{
+    let done = answer?;
     say(writer, done.text.as_slice())?;
     match done.fault {
         Some(fault) => Err(fault),
@@ -42,58 +64,92 @@ fn say_done<W: Write>(writer: &mut W, done: &Done) -> Result<(), TaskFault> {
     }
 }
 
-/// Answers the requests of the input over the books in a file, and passes on what the writer holds once that is closed.
-fn run_in_file<R: Read, W: Outlet>(
-    rt: &HostRuntime,
-    path: &str,
-    reader: &mut Counted<R>,
+/// Writes what came of a migration.
+fn say_migrated<W: Write>(
+    answer: Result<Migrated, TaskFault>,
     writer: &mut Counted<W>,
-) -> Result<(), TaskFault> {
-    let store = open_told(rt, path)?;
-    let (answer, left) = run_in_store(rt.alloc(), store, reader, writer)?;
-    close(answer, left)?;
-    say(writer, b"")
-}
-
-/// Does a piece of work over the books in a file, and writes its text once that is closed.
-fn work_in_file<W: Write>(
-    rt: &HostRuntime,
-    path: &str,
-    work: &Work<'_>,
-    writer: &mut W,
-) -> Result<(), TaskFault> {
-    let store = open_told(rt, path)?;
-    let (answer, left) = work_in_store(rt, store, work)?;
-    let done = close(answer, left)?;
-    say_done(writer, &done)
-}
-
-/// Tells whether the books in a file are sound, or what is wrong in them. Where the file isn't opened, a line says why.
-fn check_in_file(rt: &HostRuntime, path: &str) -> Result<Done, TaskFault> {
-    match open_found(rt, path) {
-        Ok(store) => {
-            let (done, left) = check_in_store(rt, store)?;
-            close(Ok(done), left)
-        }
-        Err(cause) => {
-            let line = format!(in rt.alloc(); "{path}: {cause}\n")?;
-            Ok(Done {
-                text: line.into_bytes(),
-                fault: Some(cause.fault()),
-            })
-        }
+) -> Result<(), TaskFault>
+    ensures ends { EndsMigration answer result
+        (W.contents writer.old.device) (W.contents writer.new.device) }
+{
+    match answer? {
+        Migrated::Done => say(writer, b"migrated\n"),
+        Migrated::Already => say(writer, b"already schema 2\n"),
     }
 }
 
-/// Brings the books in a file to the schema of this version, and audits them. Where the audit has a finding, the file is of
-/// this schema then, with its rows as they were.
-fn migrate_in_file(rt: &HostRuntime, path: &str) -> Result<Migrated, TaskFault> {
-    let mut store = open_told(rt, path)?;
-    let answer = match migrate(rt.alloc(), &mut store) {
-        Ok(migrated) => Ok(migrated),
-        Err(fault) => Err(unmade(fault)),
-    };
-    close(answer, store)
+/// Answers the requests of the input over the books in a file, and passes on what the writer holds once that is closed.
+fn run_in_file<S: Start, R: Read, W: Outlet>(
+    rt: &HostRuntime,
+    path: &str,
+    start: S,
+    reader: &mut Counted<R>,
+    writer: &mut Counted<W>,
+) -> Result<Ended<(), FileFrom<S>>, TaskFault>
+    ensures unopened { IsErr result → Untouched reader.old reader.new writer.old writer.new }
+    ensures shut { IfOk result (λ ended. IsOk ended.answer → AreShut ended.left) }
+    ensures runs { (w : World) → HoldBooks (image_at S.Start) w
+        → IfOk result (λ ended. AreHonest ended.left
+        → Leads (PerformsRun ⟦<Standing<Tables<FileStore<FileFrom<S>>>> as Book>⟧.fails
+        (closed_answer ended.left)
+        (state [] (R.remaining reader.old.device) (W.contents writer.old.device) w) ended.answer
+        (R.remaining reader.new.device) (W.contents writer.new.device))
+        (HoldRounds ended.left)) }
+{
+    let store = open_told(rt, path, start)?;
+    let Ended { answer, left } = run_in_files(rt.alloc(), store, reader, writer)?;
+    Ok(Ended {
+        answer: pass_on(answer, writer),
+        left,
+    })
+}
+
+/// Does a piece of work over the books in a file, and writes its text once that is closed.
+fn work_in_file<S: Start, W: Write>(
+    rt: &HostRuntime,
+    path: &str,
+    start: S,
+    work: &Work<'_>,
+    writer: &mut Counted<W>,
+) -> Result<Ended<(), FileFrom<S>>, TaskFault>
+    ensures unopened { IsErr result → writer.new ≡ writer.old }
+    ensures shut { IfOk result (λ ended. IsOk ended.answer → AreShut ended.left) }
+    ensures works { (w : World) → HoldBooks (image_at S.Start) w
+        → IfOk result (λ ended. AreHonest ended.left
+        → PerformsWork ⟦<Standing<Tables<FileStore<FileFrom<S>>>> as Book>⟧.fails ended.left w
+        work.now ended.answer (W.contents writer.old.device) (W.contents writer.new.device)) }
+{
+    let store = open_told(rt, path, start)?;
+    let Ended { answer, left } = work_in_files(rt, store, work)?;
+    Ok(Ended {
+        answer: say_done(answer, writer),
+        left,
+    })
+}
+
+/// Tells whether the books in a file are sound, or what is wrong in them. Where the file isn't opened, a line says why.
+fn check_in_file<S: Start>(
+    rt: &HostRuntime,
+    path: &str,
+    start: S,
+) -> Result<Ended<Done, FileFrom<S>>, TaskFault>
+    ensures shut { IfOk result (λ ended. IfOk ended.answer
+        (λ done. done.fault ≡ None → AreShut ended.left)) }
+    ensures checks { (w : World) → HoldBooks (image_at S.Start) w
+        → IfOk result (λ ended. IfOk ended.answer (λ done. done.fault ≡ None
+        → AreHonest ended.left → HoldWorld ended.left w)) }
+{
+    match open_found(rt, path, start) {
+        Ok(store) => check_in_files(rt, store),
+        Err(cause) => {
+            let line = format!(in rt.alloc(); "{path}: {cause}\n")?;
+            let done = Done {
+                text: line.into_bytes(),
+                fault: Some(cause.fault()),
+            };
+            Ok(Ended::of(Ok(done)))
+        }
+    }
 }
 
 /// Answers the requests of the input over new books in memory, and passes on what the writer holds.
@@ -103,63 +159,115 @@ fn perform_memory<R: Read, W: Outlet>(
     reader: &mut Counted<R>,
     writer: &mut Counted<W>,
 ) -> Result<(), TaskFault>
-    ensures performs { PerformsRun ⟦<Standing<PlainBook> as Book>⟧.fails
+    ensures performs { (ms : List Marked) × (now : World)
+        × PerformsRun ⟦<Standing<PlainBook> as Book>⟧.fails (λ run. run)
         (state [] (R.remaining reader.old.device) (W.contents writer.old.device)
         (opening operator)) result
-        (R.remaining reader.new.device) (W.contents writer.new.device) }
+        (R.remaining reader.new.device) (W.contents writer.new.device) ms now }
 {
-    run_memory(alloc, operator, reader, writer)?;
-    say(writer, b"")
+    pass_on(run_memory(alloc, operator, reader, writer), writer)
 }
 
-/// Does a task. A run reads requests from the reader and writes their responses to the writer. Any other task writes what it
-/// prints once it is done, and only where there is no fault; but a report is written also where it doesn't add up, and a check
-/// where it finds something wrong, which is `Store`. What the writer holds is passed on at the end, and the file of the books
-/// is closed. Of a run over books in memory all is said (`memory`); of the others, what `run_in_store`, `work_in_store` and
-/// `make_in_store` say of the store in the file.
+/// Makes new books in a file, and says so.
+fn init_file<S: Start, W: Write>(
+    rt: &HostRuntime,
+    path: &str,
+    start: S,
+    operator: Token,
+    writer: &mut Counted<W>,
+) -> Result<Ended<(), FileFrom<S>>, TaskFault>
+    ensures shut { IfOk result (λ ended. IsOk ended.answer → AreShut ended.left) }
+    ensures makes { IfOk result (λ ended. MakesBooks operator ended.left ended.answer
+        (W.contents writer.old.device) (W.contents writer.new.device)) }
+{
+    let left = make_in_file(rt, path, start, operator)?;
+    Ok(Ended {
+        answer: say(writer, b"created\n"),
+        left,
+    })
+}
+
+/// Checks the books in a file, and says what was found.
+fn check_file<S: Start, W: Write>(
+    rt: &HostRuntime,
+    path: &str,
+    start: S,
+    writer: &mut Counted<W>,
+) -> Result<Ended<(), FileFrom<S>>, TaskFault>
+    ensures shut { IfOk result (λ ended. IsOk ended.answer → AreShut ended.left) }
+    ensures checks { (w : World) → HoldBooks (image_at S.Start) w
+        → IfOk result (λ ended. IsOk ended.answer → AreHonest ended.left
+        → HoldWorld ended.left w) }
+{
+    let Ended { answer, left } = check_in_file(rt, path, start)?;
+    Ok(Ended {
+        answer: say_done(answer, writer),
+        left,
+    })
+}
+
+/// Brings the books in a file to the schema of this version, audits them, and says what came of it. Where the audit has a
+/// finding, the file is of this schema then, with its rows as they were.
+fn migrate_file<S: Start, W: Write>(
+    rt: &HostRuntime,
+    path: &str,
+    start: S,
+    writer: &mut Counted<W>,
+) -> Result<Ended<(), FileFrom<S>>, TaskFault>
+    ensures shut { IfOk result (λ ended. IsOk ended.answer → AreShut ended.left) }
+    ensures migrates { IfOk result (λ ended. AreHonest ended.left
+        → PerformsMigration (image_at S.Start) ended.left ended.answer
+        (W.contents writer.old.device) (W.contents writer.new.device)) }
+{
+    let store = open_told(rt, path, start)?;
+    let Ended { answer, left } = migrate_in_files(rt.alloc(), store);
+    Ok(Ended {
+        answer: say_migrated(answer, writer),
+        left,
+    })
+}
+
+/// A task as it ended: a fault that came before its files were opened leaves none.
+fn ended<T, D: Disk>(performed: Result<Ended<T, D>, TaskFault>) -> Ended<T, D>
+    ensures { result ≡ ended_of performed }
+{
+    match performed {
+        Ok(ended) => ended,
+        Err(fault) => Ended::of(Err(fault)),
+    }
+}
+
+/// Does a task. A run answers the requests of the reader on the writer. Any other task writes what it prints once it is done; a
+/// report also where it doesn't add up, and a check where it finds something wrong, which is `Store`. The files of the books are
+/// closed, and given back.
 ///
 /// # Errors
 ///
-/// The first that is met, in this order: those of the file (`File`, `FileExists`), of its books (`NotThisSchema`), of the
-/// roll (`File`, then `RollTooLarge`) or the port (`Net`), and of the work: those of a run (`Read`, `Write`, `Turns`),
-/// `Roll`, `NoSuchPurse`. `Memory` and `Store` come at any step that takes memory or asks the store; `Store` too where the
-/// file can't be closed, and `Write` where what is printed can't be written or flushed.
-pub fn perform<R: Read, W: Outlet>(
+/// The first in this order: of the file (`File`, `FileExists`), of its books (`NotThisSchema`), of the roll (`File`,
+/// `RollTooLarge`) or the port (`Net`), of the work (`Read`, `Write`, `Turns`, `Roll`, `NoSuchPurse`). `Memory` and `Store` come
+/// at any step; `Write` too where what is printed can't be written or flushed.
+pub fn perform<S: Start, R: Read, W: Outlet>(
     rt: &HostRuntime,
+    start: S,
     task: &Task<'_>,
     reader: &mut Counted<R>,
     writer: &mut Counted<W>,
-) -> Result<(), TaskFault>
-    ensures memory { (operator : Token) → task.now ≡ RunMemory operator
-        → PerformsRun ⟦<Standing<PlainBook> as Book>⟧.fails
-        (state [] (R.remaining reader.old.device) (W.contents writer.old.device)
-        (opening operator)) result
-        (R.remaining reader.new.device) (W.contents writer.new.device) }
+) -> Ended<(), FileFrom<S>>
+    ensures { Performs (image_at S.Start)
+        (streams (R.remaining reader.old.device) (W.contents writer.old.device))
+        (streams (R.remaining reader.new.device) (W.contents writer.new.device))
+        task.now result }
 {
-    match task {
-        Task::RunMemory(operator) => perform_memory(rt.alloc(), *operator, reader, writer),
-        Task::RunFile(file) => run_in_file(rt, file.as_str(), reader, writer),
-        Task::Init { file, token } => {
-            make_in_file(rt, file.as_str(), *token)?;
-            say(writer, b"created\n")
+    match &plan_of(task) {
+        Plan::InMemory(operator) => {
+            Ended::of(perform_memory(rt.alloc(), *operator, reader, writer))
         }
-        Task::Serve { file, port, count } => {
-            let work = Work::Serve {
-                port: *port,
-                count: *count,
-            };
-            work_in_file(rt, file.as_str(), &work, writer)
-        }
-        Task::Import { file, roll } => {
-            work_in_file(rt, file.as_str(), &Work::Import(roll.as_str()), writer)
-        }
-        Task::Report { file, purse } => {
-            work_in_file(rt, file.as_str(), &Work::Report(*purse), writer)
-        }
-        Task::Check(file) => say_done(writer, &check_in_file(rt, file.as_str())?),
-        Task::Migrate(file) => match migrate_in_file(rt, file.as_str())? {
-            Migrated::Done => say(writer, b"migrated\n"),
-            Migrated::Already => say(writer, b"already schema 2\n"),
+        Plan::InFile(path, act) => match act {
+            Act::Run => ended(run_in_file(rt, path, start, reader, writer)),
+            Act::Make(operator) => ended(init_file(rt, path, start, *operator, writer)),
+            Act::Work(work) => ended(work_in_file(rt, path, start, work, writer)),
+            Act::Check => ended(check_file(rt, path, start, writer)),
+            Act::Migrate => ended(migrate_file(rt, path, start, writer)),
         },
     }
 }

@@ -1,27 +1,27 @@
-//! Books in a store, wherever that keeps them, and the end of a store in files.
-ghost use Rattle.std.specs.Prelude.{◌≡◌, ◌≤◌, [], false, IfErr, IfOk, IsErr};
+//! Books in a store, wherever that keeps them.
+ghost use Rattle.std.specs.Prelude.{◌≡◌, ◌≤◌, [], false, IfErr, IfOk, IsErr, OnOk};
 ghost use Rattle.sqlite.specs.Held.{state as state_of};
 ghost use Rattle.mx_book.specs.World.{World, opening};
 ghost use Rattle.mx_desk.specs.Rounds.{Leads};
 ghost use Rattle.mx_desk.specs.Steps.{state};
+ghost use Rattle.mx_tables.specs.Migration.{Migrates};
 ghost use Rattle.mx_tables.specs.States.{IsOurs, Leaves, worry, IsSound, IsHonest};
 ghost use Rattle.mx_tasks.specs.Faults.{Untouched};
-ghost use Rattle.mx_tasks.specs.Runs.{TaskRuns};
+ghost use Rattle.mx_tasks.specs.Runs.{IsRunFault, TaskRuns};
 ghost use Rattle.mx_tasks.specs.Works.{Works};
 ghost use Rattle.mx_files.specs.Durable.{Endures, Represents};
 ghost use Rattle.mx_files.specs.Opened.{open_fault_of};
 
 use mx_audit::opening::as_refusal;
-use mx_audit::{Ordered, Refusal, open};
+use mx_audit::{Ordered, Refusal, migrate, open};
 use mx_book::Book;
 use mx_desk::{Counted, Outlet};
 use mx_pay::Token;
 use mx_standing::Standing;
-use mx_tables::Tables;
+use mx_tables::{Migrated, Tables};
 use mx_tasks::runs::run_in_book;
 use mx_tasks::{Done, TaskFault, Work, work_in_book};
-use sqlite::{Alter, Connection, FileStore};
-use sqlite_disk::Disk;
+use sqlite::{Alter, Connection};
 use std::alloc::Global;
 use std::io::Read;
 
@@ -76,12 +76,14 @@ pub fn run_in_store<S: Ordered + Drop, R: Read, W: Outlet>(
 ) -> Result<(Result<u64, TaskFault>, Connection<S>), TaskFault>
     ensures later { IfOk result
         (λ x. worry (state_of S.Store store) ≤ worry (state_of S.Store x.1)) }
+    ensures fault { IfOk result (λ x. IfErr x.0 IsRunFault) }
     ensures runs { IfOk result (λ x. IsHonest (state_of S.Store x.1)
         → (w : World) × Represents (state_of S.Store store).now w
         × Leads (λ ms now. TaskRuns ⟦<Standing<Tables<S>> as Book>⟧.fails
         (state [] (R.remaining reader.old.device) (W.contents writer.old.device) w) x.0 ms
         (state [] (R.remaining reader.new.device) (W.contents writer.new.device) now))
         (Endures (state_of S.Store x.1))) }
+    ensures ours { IfOk result (λ x. IsOurs false (state_of S.Store x.1)) }
     ensures lasts { IfOk result (λ x. IsSound (state_of S.Store x.1)
         → Leaves (state_of S.Store x.1) (state_of S.Store x.1).now) }
     ensures unopened { IsErr result → Untouched reader.old reader.new writer.old writer.new }
@@ -112,6 +114,7 @@ pub fn work_in_store<S: Ordered + Drop>(
         → (w : World) × Represents (state_of S.Store store).now w
         × Works ⟦<Standing<Tables<S>> as Book>⟧.fails (IsSound (state_of S.Store x.1))
         (Represents (state_of S.Store x.1).now) (Endures (state_of S.Store x.1)) w work.now x.0) }
+    ensures ours { IfOk result (λ x. IsOurs false (state_of S.Store x.1)) }
     ensures lasts { IfOk result (λ x. IsSound (state_of S.Store x.1)
         → Leaves (state_of S.Store x.1) (state_of S.Store x.1).now) }
 {
@@ -124,19 +127,23 @@ pub fn work_in_store<S: Ordered + Drop>(
     }
 }
 
-/// Closes a store in the files of a disk, and passes on what was answered before. Where that is a fault, it stays the fault;
-/// else it is `Store` where the files weren't closed.
-pub fn close<D: Disk + Drop, T: Drop>(
-    answer: Result<T, TaskFault>,
-    store: Connection<FileStore<D>>,
-) -> Result<T, TaskFault>
-    ensures ok { IfOk result (λ value. answer ≡ Ok value) }
-    ensures first { IfErr answer (λ fault. result ≡ Err fault) }
+/// Brings the books in a store to the schema of this version, and audits them.
+///
+/// # Errors
+///
+/// `NotThisSchema` where the store has no books of a version that is known; `Store` where the rows are no books, or it refuses a
+/// statement; `Memory`.
+pub fn migrate_in_store<S: Ordered>(
+    alloc: Global,
+    store: &mut Connection<S>,
+) -> Result<Migrated, TaskFault>
+    ensures later { worry (state_of S.Store store.old) ≤ worry (state_of S.Store store.new) }
+    ensures ours { OnOk result (IsOurs false (state_of S.Store store.new)) }
+    ensures migrates { IsSound (state_of S.Store store.new) → IfOk result
+        (λ made. Migrates made (state_of S.Store store.old).now (state_of S.Store store.new).now) }
 {
-    let is_closed = store.close().is_ok();
-    let value = answer?;
-    if !is_closed {
-        return Err(TaskFault::Store);
+    match migrate(alloc, store) {
+        Ok(migrated) => Ok(migrated),
+        Err(fault) => Err(unmade(fault)),
     }
-    Ok(value)
 }

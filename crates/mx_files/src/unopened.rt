@@ -1,48 +1,48 @@
 //! Why a database isn't opened, as far as a look at its files tells.
+ghost use Rattle.std.specs.Prelude.{◌≡◌, IfErr, IsErr, OnOk};
+ghost use Rattle.mx_files.specs.Folders.{IsPlain, spot_behind};
+ghost use Rattle.mx_files.specs.Opened.{cause_of, IsExplained};
 
-use crate::files::head_of;
+use crate::folder::{FileKind, Folder};
+use crate::places::{MAGIC, with_ending};
 use mx_tasks::{Cause, TaskFault};
 use sqlite::{Error, ErrorCode};
-use std::fs;
-use std::fs::OpenOptions;
-use std::os::unix::fs::MetadataExt;
-use std::rt::Files;
-
-/// What a database of SQLite begins with.
-const MAGIC: &[u8] = b"SQLite format 3\0";
+use std::alloc::Global;
 
 /// Fails where a database and its log can't be opened for a cause of the database's own.
-fn look(rt: &(impl AllocGlobal + Files), path: &str) -> Result<(), Cause> {
-    let found = fs::metadata(rt, path)?;
-    if !found.is_file() {
-        return Err(Cause::Irregular);
+fn look<F: Folder>(folder: &F, alloc: Global, path: &str) -> Result<(), Cause>
+    ensures plain { OnOk result (IsPlain (spot_behind (F.paths folder.now) path.now)) }
+{
+    if let Some(entry) = folder.entry_behind(path)? {
+        if !matches!(entry.kind, FileKind::Regular) {
+            return Err(Cause::Irregular);
+        }
+        if entry.names != 1 {
+            return Err(Cause::SecondName);
+        }
     }
-    if found.nlink() != 1 {
-        return Err(Cause::SecondName);
-    }
-    OpenOptions::new().read(true).write(true).open(rt, path)?;
-    let journal = format!(in rt.alloc(); "{path}-journal")?;
-    if fs::symlink_metadata(rt, journal.as_str()).is_ok() {
+    folder.try_writing(path)?;
+    let journal = with_ending(alloc, path, "-journal")?;
+    if let Ok(Some(_)) = folder.entry_at(journal.as_str()) {
         return Err(Cause::Journal);
     }
     Ok(())
 }
 
 /// Fails where a file doesn't begin as a database does.
-fn look_at_head(rt: &(impl AllocGlobal + Files), path: &str) -> Result<(), Cause> {
-    if head_of(rt, path)?.as_slice().starts_with(MAGIC) {
+fn look_at_head<F: Folder>(folder: &F, alloc: Global, path: &str) -> Result<(), Cause> {
+    let head = folder.head_behind(alloc, path, MAGIC.len() as u64)?;
+    if head.as_slice().starts_with(MAGIC) {
         return Ok(());
     }
     Err(Cause::NotADatabase)
 }
 
-/// Fails with why the database at a path isn't opened, where this is the error.
-pub(crate) fn unopened<T>(
-    rt: &(impl AllocGlobal + Files),
-    path: &str,
-    error: Error,
-) -> Result<T, Cause> {
-    let cause = match error {
+/// Why the database isn't opened, where this is the error, and its files tell nothing else.
+fn cause_of(error: &Error) -> Cause
+    ensures { result ≡ cause_of error.now }
+{
+    match error {
         Error::SqliteFailure(ErrorCode::OutOfMemory) => Cause::Fault(TaskFault::Memory),
         Error::SqliteFailure(ErrorCode::DatabaseBusy) => Cause::Busy,
         Error::SqliteFailure(ErrorCode::DatabaseCorrupt) => Cause::Damaged,
@@ -50,10 +50,23 @@ pub(crate) fn unopened<T>(
         Error::SqliteFailure(ErrorCode::CannotOpen) => Cause::NoLog,
         Error::SqliteFailure(ErrorCode::DiskFull) => Cause::DiskFull,
         _ => Cause::DiskFailed,
-    };
+    }
+}
+
+/// Fails with why the database at a path isn't opened, where this is the error.
+pub(crate) fn unopened<F: Folder, T>(
+    folder: &F,
+    alloc: Global,
+    path: &str,
+    error: Error,
+) -> Result<T, Cause>
+    ensures fails { IsErr result }
+    ensures cause { IfErr result (IsExplained (cause_of error)) }
+{
+    let cause = cause_of(&error);
     match &cause {
-        Cause::Damaged | Cause::OtherTables => look_at_head(rt, path)?,
-        Cause::NoLog => look(rt, path)?,
+        Cause::Damaged | Cause::OtherTables => look_at_head(folder, alloc, path)?,
+        Cause::NoLog => look(folder, alloc, path)?,
         _ => {}
     }
     Err(cause)

@@ -1,3 +1,2 @@
 pub mod LifeLemmas
 pub mod TableLemmas
-pub mod FileLemmas

@@ -1,9 +1,8 @@
 -- Lives, and stops between them.
-use Rattle.std.proofs.Common.{◌≡◌, ◌≤◌, ℕ, Bool, true, false, inl, inr, List, [], ◌∷◌, ◌++◌, Option, Some, Result, ap, refl, subst, arith}
-use mathlib.Core.Logic.{∥∥₁_elim}
-use Rattle.sqlite.specs.Effect.{Database}
-use Rattle.sqlite.specs.State.{State as Connected, HasCleanDisk}
-use Rattle.sqlite_trees.proofs.Doubt.{clean_of}
+use Rattle.std.proofs.Common.{◌≡◌, ℕ, Bool, true, false, inl, inr, List, [], ◌∷◌, ◌++◌, None, Option, Some, Result, ap, refl, subst}
+use Rattle.sqlite_disk.specs.declared.Disk.{Ghosts}
+use Rattle.sqlite_disk.specs.declared.Files.{Files}
+use Rattle.sqlite.specs.Files.{image_of}
 use Rattle.mx_book.specs.World.{World}
 use Rattle.mx_book.specs.declared.contract.StoreFault.{StoreFault}
 use Rattle.mx_desk.specs.Durable.{Lasts, Lives, ended, stopped, unborn}
@@ -12,27 +11,48 @@ use Rattle.mx_desk.specs.Rounds.{Leads, Round, all_of}
 use Rattle.mx_desk.specs.Serve.{Marked}
 use Rattle.mx_desk.specs.Steps.{State, state}
 use Rattle.mx_desk.proofs.LawfulLemmas.{lawful_requests}
-use Rattle.mx_standing.specs.One.{world_set}
-use Rattle.mx_tables.specs.Schema.{office_schema}
-use Rattle.mx_tables.specs.States.{worry, worry_at}
-use Rattle.std.specs.Prelude.{IfErr}
+use Rattle.std.specs.Prelude.{IfErr, IfSome}
+use Rattle.sqlite_wal.specs.Reads.{AreClean}
 use Rattle.mx_tasks.specs.Runs.{IsRunFault, TaskRuns}
 use Rattle.mx_tasks.specs.declared.fault.TaskFault.{TaskFault}
-use Rattle.mx_files.specs.Durable.{Represents}
 use Rattle.mx_lives.specs.declared.answered.Life.{Life}
-use Rattle.mx_lives.specs.Lived.{LivedTo, LivesOver, RunsOver, lived, lived_more, unlived}
+use Rattle.mx_files.specs.InFiles.{AreClosed, AreHonest, HoldBooks, HoldRounds, HoldWorld, closed_answer}
+use Rattle.mx_files.specs.declared.closing.Left.{Left}
+use Rattle.mx_files.specs.declared.closing.Left.TheVariants.{Closed}
+use Rattle.mx_lives.specs.Lived.{AreLeft, LivedTo, LivesOver, RunsOver, lived, lived_more, unlived}
 
--- up to 1 where the disk told no lie
-low_at : (live : Bool) → worry_at live true ≤ 1
-low_at true = omega arith
-low_at false = omega arith
+-- what lives left holds the books
+pub left_hold : {D : Type 0} (g : Ghosts D) (files : Files D) (inputs : List (List ℕ)) (w : World) → AreLeft g files inputs w → HoldBooks (image_of g files) w
+left_hold g files [] w held = held
+left_hold g files (input ∷ inputs) w closed = closed.seen.both
 
-pub low_if_clean : (s : Connected) → HasCleanDisk s → worry s ≤ 1
-low_if_clean s clean = rw (clean_of s.is_clean clean) (low_at s.is_open)
+-- files that were closed are left by one life more
+left_closed : {D : Type 0} (g : Ghosts D) (files : Files D) (inputs : List (List ℕ)) (input : List ℕ) (w : World) → AreClosed g files w → AreLeft g files (inputs ++ input ∷ []) w
+left_closed g files [] input w closed = closed
+left_closed g files (first ∷ inputs) input w closed = closed
 
--- tables that represent a World have the schema of the office, and represent no other
-pub one_world : {db : Database} (u w : World) → Represents db u → (db.schema ≡ office_schema → Represents db w) → w ≡ u
-one_world u w one stands = ∥∥₁_elim one (world_set w u) (λ a. ∥∥₁_elim (stands a.spelled.holds.has.schema) (world_set w u) (λ b. a.only w b.spelled))
+pub closed_left : {D : Type 0} (g : Ghosts D) (files : Files D) (inputs : List (List ℕ)) (input : List ℕ) {Holds : List Marked → World → Type 0}
+    → Leads Holds (λ _ now. AreClosed g files now) → Leads Holds (λ _ now. AreLeft g files (inputs ++ input ∷ []) now)
+closed_left g files inputs input led = record { end = led.end; rounds = led.rounds; holds = led.holds; moves = left_closed g files inputs input led.end led.moves }
+
+-- files that were closed hold what was left
+pub closed_hold : {D : Type 0} {g : Ghosts D} (left : Left D g) (closed : Option (Files D)) (w : World) → IfSome closed (λ files. left ≡ Closed files) → (AreHonest left → HoldWorld left w)
+    → IfSome closed (λ files. AreClean g files.log files.db → AreClosed g files w)
+closed_hold left None w is held = tt
+closed_hold left (Some files) w is held = rw is at held
+
+-- so it is of a run, where the files were closed behind it
+pub closed_run : {D : Type 0} {g : Ghosts D} {Was : Type 0} {Stood : World → Type 0} {Holds : World → Result ℕ TaskFault → List Marked → World → Type 0} (left : Left D g) (files : Files D) (answer : Result ℕ TaskFault) → left ≡ Closed files
+    → (AreHonest left → Was × (w : World) × (run : Result ℕ TaskFault) × Stood w × (answer ≡ closed_answer left run) × IfErr run IsRunFault × Leads (Holds w run) (HoldRounds left))
+    → AreClean g files.log files.db → Was × (w : World) × Stood w × IfErr answer IsRunFault × Leads (Holds w answer) (λ _ now. AreClosed g files now)
+closed_run {g} {Was} {Stood} {Holds} left files answer closed it clean = by (told closed it clean) where
+  told : left ≡ Closed files → (AreHonest left → Was × (w : World) × (run : Result ℕ TaskFault) × Stood w × (answer ≡ closed_answer left run) × IfErr run IsRunFault × Leads (Holds w run) (HoldRounds left))
+      → AreClean g files.log files.db → Was × (w : World) × (run : Result ℕ TaskFault) × Stood w × (answer ≡ run) × IfErr run IsRunFault × Leads (Holds w run) (λ _ now. AreClosed g files now)
+  told closed it = rw closed at it
+
+  by : Was × (w : World) × (run : Result ℕ TaskFault) × Stood w × (answer ≡ run) × IfErr run IsRunFault × Leads (Holds w run) (λ _ now. AreClosed g files now)
+      → Was × (w : World) × Stood w × IfErr answer IsRunFault × Leads (Holds w answer) (λ _ now. AreClosed g files now)
+  by (was, w, run, stood, is, fault, led) = rw is (was, w, stood, fault, led)
 
 -- ---- lives
 
@@ -71,6 +91,14 @@ module _ {fails : StoreFault → Type 0} where
     };
     moves = f led.rounds led.end led.moves;
   }
+
+  -- a run, and lives, from a World that is told otherwise
+  pub run_from : {input : List ℕ} {life : Life} {Moves : List Round → World → Type 0} (w u : World) → w ≡ u → Leads (RunsOver fails u input life) Moves → Leads (RunsOver fails w input life) Moves
+  run_from w u is led = rw is led
+
+  pub lived_from : {have_stops : Bool} {Stands Left : World → Type 0} {inputs : List (List ℕ)} {lives : List Life} (w u : World) → w ≡ u → ((v : World) → Stands v → Left v) → LivedTo fails have_stops Stands inputs lives u
+      → LivedTo fails have_stops Left inputs lives w
+  lived_from w u is f led = rw is (record { marked = led.marked; end = led.end; over = led.over; as_one = led.as_one; stands = f led.end led.stands })
 
   -- before the first
   pub lived_none : {have_stops : Bool} (Stands : World → Type 0) (w : World) → Stands w → LivedTo fails have_stops Stands [] [] w

@@ -1,5 +1,8 @@
 -- Lives over the same books: each is a run of requests over an input of its own, and is ended by a stop or a close.
 use Rattle.std.specs.Prelude.{◌≡◌, ℕ, Bool, true, List, [], ◌∷◌, ◌++◌, Option, Some, IfErr}
+use Rattle.sqlite_disk.specs.declared.Disk.{Ghosts}
+use Rattle.sqlite_disk.specs.declared.Files.{Files}
+use Rattle.sqlite.specs.Files.{image_of}
 use Rattle.mx_book.specs.World.{World}
 use Rattle.mx_book.specs.declared.contract.StoreFault.{StoreFault}
 use Rattle.mx_desk.specs.Durable.{IsGivenUpOf, Lives}
@@ -8,6 +11,7 @@ use Rattle.mx_desk.specs.Serve.{Marked, world_after}
 use Rattle.mx_desk.specs.Steps.{state}
 use Rattle.mx_lives.specs.declared.answered.Life.{Life}
 use Rattle.mx_tasks.specs.Runs.{IsRunFault, TaskRuns}
+use Rattle.mx_files.specs.InFiles.{AreClosed, HoldBooks}
 
 -- a run over exactly these bytes, from the World w, which ended and wrote as the life says: it answered these requests, which lead
 -- to the World now
@@ -41,3 +45,8 @@ pub record LivedTo (fails : StoreFault → Type 0) (have_stops : Bool) (Stands :
   -- all lives as one list of requests: what is promised of it is said by the law `lives` of mx_desk
   pub as_one : Lives w marked end
   pub stands : Stands end
+
+-- what lives over these inputs left, each of which ended with a close: files that were closed, where there was a life
+abbrev pub AreLeft : {D : Type 0} → Ghosts D → Files D → List (List ℕ) → World → Type 0
+AreLeft g files [] w = HoldBooks (image_of g files) w
+AreLeft g files (input ∷ inputs) w = AreClosed g files w

@@ -1,24 +1,19 @@
 //! Lives over the books in two files of any disk, a database and its log. Each life opens the files and closes them.
-ghost use Rattle.std.specs.Prelude.{◌≡◌, ◌≤◌, IfSome, IsTrue, map, false, true};
-ghost use Rattle.sqlite.specs.Effect.{IsDatabase};
+ghost use Rattle.std.specs.Prelude.{◌≡◌, IfSome, map, false, true};
 ghost use Rattle.sqlite_wal.specs.Reads.{AreClean};
-ghost use Rattle.sqlite.specs.Closing.{IsCopied};
-ghost use Rattle.sqlite.specs.Files.{Finds, IsOpened, file_state, image_of};
-ghost use Rattle.sqlite.specs.Held.{state};
+ghost use Rattle.sqlite.specs.Files.{file_state, image_of};
 ghost use Rattle.sqlite.specs.State.{HasCleanDisk};
 ghost use Rattle.mx_book.specs.World.{World, opening};
 ghost use Rattle.mx_desk.specs.Rounds.{Leads};
 ghost use Rattle.mx_office.specs.Reachable.{IsReachable};
-ghost use Rattle.mx_tables.specs.States.{IsOurs, worry, IsSound};
-ghost use Rattle.mx_files.specs.Durable.{Represents};
-ghost use Rattle.mx_lives.specs.InFiles.{AreClosed, AreLeft, HoldBooks};
-ghost use Rattle.mx_lives.specs.Lived.{LivedTo, RunsOver};
+ghost use Rattle.mx_files.specs.InFiles.{AreClosed, HoldBooks, IsOpenedOver};
+ghost use Rattle.mx_lives.specs.Lived.{AreLeft, LivedTo, RunsOver};
 
-use crate::answered::{Life, answered};
+use crate::answered::Life;
 use crate::lives::live_on;
-use mx_audit::{Ordered, open};
 use mx_book::Book;
-use mx_files::stores::make_in_store;
+use mx_desk::Counted;
+use mx_files::closing::{Ended, close, make_in_files, run_in_files};
 use mx_pay::Token;
 use mx_standing::Standing;
 use mx_tables::Tables;
@@ -32,8 +27,9 @@ fn opened<D: Disk + Drop>(
     files: Files<D>,
     options: Options,
 ) -> Option<Connection<FileStore<D>>>
-    ensures found { IfSome result (λ c. HasCleanDisk (file_state c) → Finds files c) }
-    ensures opened { IfSome result (λ c. HasCleanDisk (file_state c) → IsOpened c) }
+    ensures over { IfSome result (IsOpenedOver (image_of D.Disk files)) }
+    ensures clean { IfSome result
+        (λ c. HasCleanDisk (file_state c) → AreClean D.Disk files.log files.db) }
 {
     if !files.may_be_used() {
         return None;
@@ -41,21 +37,6 @@ fn opened<D: Disk + Drop>(
     match Connection::open_files_with(alloc, files, options, true) {
         Ok(store) => Some(store),
         Err(_) => None,
-    }
-}
-
-/// Closes the two files of a database, and gives them back. None where they can't be closed.
-fn closed<D: Disk + Drop>(store: Connection<FileStore<D>>) -> Option<Files<D>>
-    ensures sound { IsTrue (file_state store).is_open → IsDatabase (file_state store).now }
-    ensures copied { IfSome result
-        (λ files. AreClean D.Disk files.log files.db → IsCopied store files) }
-{
-    match store.close_files() {
-        Ok(files) => Some(files),
-        Err((_, left)) => {
-            drop(left.close());
-            None
-        }
     }
 }
 
@@ -77,32 +58,10 @@ pub fn new_files<D: Disk + Drop>(
     // The reader says that the token has its bytes.
     let _bytes = operator.as_bytes();
     let store = opened(alloc, files, options)?;
-    let Ok(made) = make_in_store(alloc, store, operator) else {
+    let Ok(made) = make_in_files(alloc, store, operator) else {
         return None;
     };
-    closed(made)
-}
-
-/// Opens the books in a store, answers the requests of an input, and gives the store back. None where it
-/// has no books.
-fn life_over<S: Ordered + Drop>(
-    alloc: Global,
-    store: Connection<S>,
-    input: &[u8],
-) -> Option<(Connection<S>, Life)>
-    ensures later { IfSome result
-        (λ r. worry (state S.Store store) ≤ worry (state S.Store r.0)) }
-    ensures ours { IfSome result (λ r. IsOurs false (state S.Store r.0)) }
-    ensures lives { IfSome result (λ r. IsSound (state S.Store r.0)
-        → (w : World) × Represents (state S.Store store).now w
-        × Leads (RunsOver ⟦<Standing<Tables<S>> as Book>⟧.fails w input.now r.1)
-        (λ _ now. Represents (state S.Store r.0).now now)) }
-{
-    let Ok((book, _)) = open(alloc, store, 0) else {
-        return None;
-    };
-    let (left, life) = answered(alloc, book, input);
-    Some((left.into_inner().into_store(), life))
+    made.left.into_closed()
 }
 
 /// One life: opens the books in two files, answers the requests of an input, and closes the files. None where the files can't be
@@ -121,8 +80,17 @@ fn closed_life<D: Disk + Drop>(
         (λ _ now. AreClosed D.Disk r.0 now)) }
 {
     let store = opened(alloc, files, options)?;
-    let (left, life) = life_over(alloc, store, input)?;
-    Some((closed(left)?, life))
+    let mut reader = Counted::new(input);
+    let mut writer = Counted::new(Vec::new(alloc));
+    let Ok(Ended { answer, left }) = run_in_files(alloc, store, &mut reader, &mut writer) else {
+        return None;
+    };
+    let files = left.into_closed()?;
+    let life = Life {
+        ended: answer,
+        written: writer.into_inner(),
+    };
+    Some((files, life))
 }
 
 /// Lives over the books in two files of any disk, a database and its log, one for each input, in order. A life opens
@@ -171,5 +139,6 @@ pub fn stopped_lives<D: Crash + Drop>(
 {
     let store = opened(alloc, files, options)?;
     let (end, lives) = live_on(alloc, store, inputs)?;
-    Some((closed(end)?, lives))
+    let files = close(Ok(()), end).left.into_closed()?;
+    Some((files, lives))
 }

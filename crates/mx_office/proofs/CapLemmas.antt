@@ -2,6 +2,7 @@
 use Rattle.std.proofs.Common.{◌≡◌, ℕ, ◌+◌, ◌≤◌, Bool, true, false, cond, refl, sym, ◌∙◌, ap, Option, Some, None, IsSome, arith}
 use Rattle.std.specs.FinMap as fmap
 use Rattle.mx_pay.specs.Limits.{most_number}
+use Rattle.mx_pay.specs.Names.{is_name}
 use Rattle.mx_pay.specs.Details.{Details, details_cmp}
 use Rattle.mx_pay.proofs.LogLemmas.{details_total}
 use Rattle.mx_pay.proofs.SameLemmas.{details_itself}
@@ -72,6 +73,14 @@ balance_within w p r at =
     let y : value_of balance_row (fmap.get w.rows p) ≡ balance_row r = ap (value_of balance_row) at in
     omega (arith, x, y)
 
+two_within : (w : World) (p q : Name) (r s : Row) → fmap.get w.rows p ≡ Some r → fmap.get w.rows q ≡ Some s → is_name q p ≡ false → balance_row r + balance_row s ≤ of_all w balance_row
+two_within w p q r s at there apart =
+    let none : World = set_row w p (new_row p p) in
+    let x : of_all none balance_row + value_of balance_row (fmap.get w.rows p) ≡ of_all w balance_row + 0 = sum_values-insert names_total balance_row w.rows p (new_row p p) in
+    let y : value_of balance_row (fmap.get w.rows p) ≡ balance_row r = ap (value_of balance_row) at in
+    let z : balance_row s ≤ of_all none balance_row = balance_within none q s (fmap.get-insert names_total w.rows p (new_row p p) q ∙ ap (λ b. cond b (Some (new_row p p)) (fmap.get w.rows q)) apart ∙ there) in
+    omega (arith, x, y, z)
+
 float_within : (w : World) (m : Name) (row : MemberRow) → fmap.get w.members m ≡ Some row → row.float ≤ floats w
 float_within w m row at =
     let none : MemberRow = record { granted = 0; float = 0 } in
@@ -111,6 +120,14 @@ module _ (w : World) (s : Sane w) (is : IsWorld w) (balanced : IsBalanced w) whe
   value_fits : HasRoom w
   value_fits p r d n at was sent = flow_fits d p r at (value_left w p r at s.invariant d (ap (λ x. expects_val x d) was ∙ details_itself d) (s.invariant.timely p r at n (message.Val d) sent)).2
 
+  -- the balances of two purses fit one
+  pub balances_fit : (p q : Name) (r t : Row) → fmap.get w.rows p ≡ Some r → fmap.get w.rows q ≡ Some t → is_name q p ≡ false → balance_row r + balance_row t ≤ most_number
+  balances_fit p q r t at there apart =
+      let both : balance_row r + balance_row t ≤ of_all w balance_row = two_within w p q r t at there apart in
+      let sum : ((floats w + of_all w uncollected_row) + of_all w balance_row) + sum_values (λ n. n) s.books.out ≡ all_granted w = whole_sum w s is balanced in
+      let cap : all_granted w ≤ most_number = is.members.granted in
+      omega (arith, both, sum, cap)
+
   -- a load that the float covers fits the purse
   pub load_fits : (p m : Name) (r : Row) (row : MemberRow) (amount : ℕ) → fmap.get w.rows p ≡ Some r → fmap.get w.members m ≡ Some row → amount ≤ row.float → balance_row r + amount ≤ most_number
   load_fits p m r row amount at member enough =
@@ -138,3 +155,6 @@ module _ (w : World) (s : Sane w) (is : IsWorld w) (balanced : IsBalanced w) whe
 
 pub reachable_room : (w : World) → IsReachable w → HasRoom w
 reachable_room w r = value_fits w (reachable_sane w r) (reachable_world w r) (reachable_balanced w r)
+
+pub reachable_fit : (w : World) → IsReachable w → (p q : Name) (r t : Row) → fmap.get w.rows p ≡ Some r → fmap.get w.rows q ≡ Some t → is_name q p ≡ false → balance_row r + balance_row t ≤ most_number
+reachable_fit w r = balances_fit w (reachable_sane w r) (reachable_world w r) (reachable_balanced w r)

@@ -44,3 +44,5 @@ pub mod RefinementLemmas
 pub mod AccountedLemmas
 pub mod TogetherLemmas
 pub mod WrittenLemmas
+pub mod ArrivalLemmas
+pub mod PossibleLemmas

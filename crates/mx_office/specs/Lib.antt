@@ -11,3 +11,4 @@ pub mod Faults
 pub mod Conservation
 pub mod Statement
 pub mod Abstract
+pub mod Arrival

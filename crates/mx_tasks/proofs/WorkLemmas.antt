@@ -1,5 +1,5 @@
 -- Work that leaves the books so, and otherwise.
-use Rattle.std.proofs.Common.{ℕ, List, Ok, Err, inl, inr}
+use Rattle.std.proofs.Common.{ℕ, List, None, Ok, Err, inl, inr}
 use Rattle.std.specs.Prelude.{Result}
 use Rattle.mx_book.specs.World.{World}
 use Rattle.mx_book.specs.declared.contract.StoreFault.{StoreFault}
@@ -32,9 +32,9 @@ imports_so S T w bytes f (Ok x) it = (it.0, imported_so f it.1, it.2)
 imports_so S T w bytes f (Err e) (inl broken) = inl (broken.0, broken_so f broken.1)
 imports_so S T w bytes f (Err e) (inr whole) = inr (whole.0, whole.1, imported_so f whole.2)
 
-file_so : (S T : World → Type 0) (w : World) → ((v : World) → S v → T v) → (result : Result Done TaskFault) → ImportsFile S w IsSaid result → ImportsFile T w IsSaid result
+file_so : (S T : World → Type 0) (w : World) → ((v : World) → S v → T v) → (result : Result Done TaskFault) → ImportsFile None S w IsSaid result → ImportsFile None T w IsSaid result
 file_so S T w f result (inl none) = inl (f _ none.0, none.1)
-file_so S T w f result (inr some) = inr (some.0, some.1, imports_so S T w some.0 f result some.2)
+file_so S T w f result (inr some) = inr (some.0, some.1, some.2, imports_so S T w some.0 f result some.3)
 
 -- and so does work, where what is sure is so otherwise
 pub works_so : (fails : StoreFault → Type 0) (Sure Certain : Type 0) (S T : World → Type 0) (M N : List Round → World → Type 0) → (Certain → Sure) → (Certain → (v : World) → S v → T v)

@@ -2,5 +2,10 @@ pub mod Faults
 pub mod Texts
 pub mod Evenness
 pub mod Runs
+pub mod Clients
+pub mod Visitors
 pub mod Connections
 pub mod Works
+pub mod Waits
+pub mod Causes
+pub mod Voices

@@ -1,8 +1,15 @@
 //! Why a file that the command line names isn't used, or not to its end.
+ghost use Rattle.std.specs.Prelude.{◌≡◌, IfSome, Some, false, true};
+ghost use Rattle.std.specs.Io.KnownBytes.{Appends};
+ghost use Rattle.mx_tasks.specs.Causes.{cause_fault};
+ghost use Rattle.mx_tasks.specs.Voices.{cause_line};
+
 use crate::fault::TaskFault;
+use crate::terminal::Terminal;
 use std::alloc::AllocError;
+use std::fmt::Display;
 use std::io;
-use std::io::{ErrorKind, IsTerminal};
+use std::io::ErrorKind;
 use thiserror::Error;
 
 /// Why a file of books or of a roll isn't used, or not to its end. A terminal is told its words.
@@ -10,7 +17,7 @@ use thiserror::Error;
 pub enum Cause {
     /// An error of the system.
     #[error("{0}")]
-    System(#[from] io::Error),
+    System(io::Error),
     /// Another process has it open.
     #[error("another process has it open")]
     Busy,
@@ -86,6 +93,17 @@ pub enum Cause {
     Fault(#[from] TaskFault),
 }
 
+/// Tells a terminal something of the file of a path. A voice that isn't a terminal is told nothing.
+fn tell_of<T: Terminal, D: Display + Drop>(terminal: &mut T, path: &str, words: D)
+    ensures unseen { T.is_seen terminal.old ≡ Some false → terminal.new ≡ terminal.old }
+    ensures seen { T.is_seen terminal.old ≡ Some true → IfSome (D.output words)
+        (λ words. Appends (T.said terminal.old) (T.said terminal.new) (cause_line path.now words)) }
+{
+    if terminal.is_terminal() {
+        terminal.say(format_args!("{path}: {words}\n"));
+    }
+}
+
 impl Cause {
     /// Why the import of a roll ended at a fault, once so many rows were done.
     pub fn of_import(fault: TaskFault, done: u64) -> Cause {
@@ -100,7 +118,9 @@ impl Cause {
     }
 
     /// The fault with which the task ends.
-    pub fn fault(&self) -> TaskFault {
+    pub fn fault(&self) -> TaskFault
+        ensures { result ≡ cause_fault self.now }
+    {
         match self {
             Cause::System(error) if error.kind() == ErrorKind::OutOfMemory => TaskFault::Memory,
             Cause::NotEmpty => TaskFault::FileExists,
@@ -112,12 +132,31 @@ impl Cause {
         }
     }
 
-    /// Tells it of the file at a path, where standard error is a terminal, and gives the fault.
-    pub fn tell(&self, rt: &HostRuntime, path: &str) -> TaskFault {
-        if rt.stderr().is_terminal() {
-            let _ = eprintln!(rt; "{path}: {self}");
-        }
+    /// Tells a terminal why the file of a path isn't used, and gives the fault. A voice that isn't a terminal is told nothing.
+    pub fn tell_to<T: Terminal>(&self, terminal: &mut T, path: &str) -> TaskFault
+        ensures fault { result ≡ cause_fault self.now }
+        ensures unseen { T.is_seen terminal.old ≡ Some false → terminal.new ≡ terminal.old }
+    {
+        tell_of(terminal, path, self);
         self.fault()
+    }
+
+    /// Tells standard error, where that is a terminal.
+    pub fn tell(&self, rt: &HostRuntime, path: &str) -> TaskFault
+        ensures { result ≡ cause_fault self.now }
+    {
+        self.tell_to(&mut rt.stderr(), path)
+    }
+}
+
+impl From<io::Error> for Cause {
+    ghost use Rattle.std.specs.Prelude.{◌≡◌};
+    ghost use Rattle.mx_tasks.specs.declared.cause.Cause.TheVariants.{System};
+
+    ghost from_gives = { λ error cause. cause ≡ System error };
+
+    fn from(error: io::Error) -> Cause {
+        Cause::System(error)
     }
 }
 

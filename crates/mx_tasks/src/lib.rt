@@ -9,6 +9,8 @@ pub mod report;
 pub mod runs;
 pub mod serve;
 pub mod teller;
+pub mod terminal;
+pub mod voice;
 pub mod work;
 
 pub use cause::Cause;

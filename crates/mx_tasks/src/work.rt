@@ -1,26 +1,29 @@
 //! What is done over the books in a file.
-ghost use Rattle.std.specs.Prelude.{◌≡◌, ◌≤◌, IfOk, IfErr, string_bytes};
+ghost use Rattle.std.specs.Prelude.{◌≡◌, ◌≤◌, None, IfOk, IfErr, OnOk, string_bytes};
+ghost use Rattle.std.specs.Io.KnownBytes.{Appends};
 ghost use Rattle.mx_book.specs.Views.{Keeps, RestsAt, IsSure, IsHonest};
 ghost use Rattle.mx_book.specs.World.{World};
 ghost use Rattle.mx_desk.specs.Rounds.{Leads, Moves};
 ghost use Rattle.mx_tasks.specs.Connections.{ServesConnections};
 ghost use Rattle.mx_tasks.specs.Faults.{IsReportFault};
-ghost use Rattle.mx_tasks.specs.Works.{ImportsFile, IsSaid, Works, WorksReport, WorksServe, served_text};
+ghost use Rattle.mx_tasks.specs.Voices.{RingsOnce};
+ghost use Rattle.mx_tasks.specs.Works.{ImportsFile, IsSaid, Works, WorksReport, WorksServe, listening_text, served_text};
 
 use crate::fault::TaskFault;
 use crate::import::import_file;
 use crate::report::report_text;
-use crate::serve::alarm::{Alarm, Alarmed};
-use crate::serve::timed::Timed;
-use crate::serve::{end_connection, listen};
+use crate::serve::alarm::Alarm;
+use crate::serve::listen;
+use crate::serve::listener::Listener;
+use crate::serve::reception::{Reception, serve_client};
+use crate::voice::Voice;
 use mx_book::Book;
-use mx_desk::Counted;
-use mx_desk::desk::serve_one;
 use mx_office::Office;
 use mx_pay::Name;
 use mx_wire::Routes;
 use std::alloc::{AllocError, Global};
 use std::io;
+use std::io::Write;
 use std::net::{Net, TcpListener, TcpStream};
 use std::rt::Clock;
 
@@ -71,6 +74,29 @@ fn report<B: Book>(alloc: Global, book: &mut B, purse: Option<Name>) -> Result<D
     })
 }
 
+/// The line that says on which port is listened.
+fn listening_text(alloc: Global, port: u16) -> Result<String, AllocError>
+    ensures { IfOk result (λ line. string_bytes line ≡ listening_text port) }
+{
+    format!(in alloc; "listening on 127.0.0.1:{port}\n")
+}
+
+/// Writes that line.
+///
+/// # Errors
+///
+/// `Memory` where there is none for the line; `Write` where it can't be written.
+fn say_listening<W: Write>(alloc: Global, writer: &mut W, port: u16) -> Result<(), TaskFault>
+    ensures said { OnOk result (Appends (W.contents writer.old) (W.contents writer.new)
+        (listening_text port)) }
+{
+    let line = listening_text(alloc, port)?;
+    if writer.write_all(line.as_str().as_bytes()).is_err() {
+        return Err(TaskFault::Write);
+    }
+    Ok(())
+}
+
 /// The line that says how many connections were served.
 fn served_text(alloc: Global, served: u64) -> Result<String, AllocError>
     ensures { IfOk result (λ line. string_bytes line ≡ served_text served) }
@@ -81,14 +107,14 @@ fn served_text(alloc: Global, served: u64) -> Result<String, AllocError>
 /// Serves so many connections, one after another: of each the first request alone. What is promised of these is one
 /// clause (`serves`). A fault of a connection ends that connection alone: the client has ten seconds for its request, ten for
 /// taking the response, and ten with what it sends behind, and holds the others up for so long. The first time that the store
-/// fails a request, a line on standard error says so. The answer is how many were served.
+/// fails a request, the alarm says so behind the response. The answer is how many were served.
 ///
 /// # Errors
 ///
 /// That of the system where a connection can't be taken.
-pub fn serve_connections<B: Book>(
-    rt: &(impl AllocGlobal + Clock + Eprint),
-    listener: &TcpListener,
+pub fn serve_connections<L: Listener, V: Voice, B: Book>(
+    rt: &(impl AllocGlobal + Clock),
+    reception: &mut Reception<L, V>,
     count: u64,
     routes: &Routes,
     office: &mut Office<B>,
@@ -99,32 +125,33 @@ pub fn serve_connections<B: Book>(
     ensures still { (B.view office.old.book).IsSettled → (B.view office.new.book).IsSettled }
     ensures serves { (w : World) → IsHonest (B.view office.new.book)
         → RestsAt (B.view office.old.book) w
-        → Leads (ServesConnections B.fails w count result)
+        → Leads (ServesConnections B.fails (L.clients reception.old.listener) w count result
+        (L.clients reception.new.listener))
         (Moves (B.view office.old.book) (B.view office.new.book) w) }
+    ensures rings { RingsOnce V.said reception.old.alarm reception.new.alarm }
 {
-    let mut alarm = Alarm::new(rt);
     'connections: for _ in 0..count {
-        let (stream, _) = listener.accept()?;
-        let mut reader = Counted::new(Timed::new(rt, &stream));
-        let mut writer = Counted::new(Alarmed::new(Timed::new(rt, &stream), &mut alarm));
-        let answer = serve_one(rt.alloc(), &mut reader, &mut writer, routes, office);
-        end_connection(rt, &stream, answer.is_ok());
+        serve_client(rt, reception, routes, office)?;
     }
     Ok(count)
 }
 
-/// Listens on a port of 127.0.0.1, says so on standard output, and serves so many connections. Gives the line that says how
-/// many were served.
-fn serve<B: Book>(
-    rt: &(impl AllocGlobal
-        + Clock
-        + Eprint
-        + Net<Listener = TcpListener, Stream = TcpStream>
-        + Print),
+/// Listens on a port of 127.0.0.1, writes a line that says so, and serves so many connections. Gives the line that says
+/// how many were served.
+///
+/// # Errors
+///
+/// `Net` where the port can't be listened on or a connection can't be taken, `Write` where the line can't be written, and
+/// `Memory`.
+pub fn serve<W: Write, B: Book>(
+    rt: &(impl AllocGlobal + Clock + Eprint + Net<Listener = TcpListener, Stream = TcpStream>),
+    writer: &mut W,
     port: u16,
     count: u32,
     office: &mut Office<B>,
 ) -> Result<Done, TaskFault>
+    ensures said { OnOk result (Appends (W.contents writer.old) (W.contents writer.new)
+        (listening_text port)) }
     ensures later { (B.view office.old.book).IsSettled
         → (B.view office.old.book).doubt ≤ (B.view office.new.book).doubt }
     ensures still { (B.view office.old.book).IsSettled → (B.view office.new.book).IsSettled }
@@ -137,10 +164,12 @@ fn serve<B: Book>(
         return Err(TaskFault::Net);
     };
     let routes = Routes::new(rt.alloc())?;
-    if println!(rt; "listening on 127.0.0.1:{port}").is_err() {
-        return Err(TaskFault::Write);
-    }
-    match serve_connections(rt, &listener, u64::from(count), &routes, office) {
+    say_listening(rt.alloc(), writer, port)?;
+    let mut reception = Reception {
+        listener,
+        alarm: Alarm::new(rt),
+    };
+    match serve_connections(rt, &mut reception, u64::from(count), &routes, office) {
         Ok(served) => Ok(said(served_text(rt.alloc(), served)?.into_bytes())),
         Err(_) => Err(TaskFault::Net),
     }
@@ -152,10 +181,10 @@ fn import<B: Book>(rt: &HostRuntime, roll: &str, office: &mut Office<B>) -> Resu
         → (B.view office.old.book).doubt ≤ (B.view office.new.book).doubt }
     ensures still { (B.view office.old.book).IsSettled → (B.view office.new.book).IsSettled }
     ensures imports { (B.view office.old.book).IsSettled → IsSure (B.view office.new.book)
-        → ImportsFile (λ v. (B.view office.new.book).world ≡ v)
+        → ImportsFile None (λ v. (B.view office.new.book).world ≡ v)
         (B.view office.old.book).world IsSaid result }
 {
-    let lines = import_file(rt, roll, office)?;
+    let lines = import_file(rt, rt, &mut rt.stderr(), roll, office)?;
     Ok(said(lines.into_bytes()))
 }
 
@@ -180,7 +209,7 @@ pub fn do_work<B: Book>(
         (B.view office.old.book).world work.now result }
 {
     match work {
-        Work::Serve { port, count } => serve(rt, *port, *count, office),
+        Work::Serve { port, count } => serve(rt, &mut io::writer(rt), *port, *count, office),
         Work::Import(roll) => import(rt, roll, office),
         Work::Report(purse) => report(rt.alloc(), &mut office.book, *purse),
     }

@@ -37,3 +37,6 @@ returns-in-Ok-clause-runs g c = λ low_end.
 
 pub returns-in-Ok-clause-lasts : goal.returns-in-Ok-clause-lasts
 returns-in-Ok-clause-lasts g c = c.into_store.ensures.lasts (subst (λ t. IsSettled g.S.Store t) (sym c.into_inner.ensures) (c.run_in_book-answer.ensures.still c.in-Ok.ensures.settled))
+
+pub returns-in-Ok-clause-ours : goal.returns-in-Ok-clause-ours
+returns-in-Ok-clause-ours g c = c.into_store.ensures.ours (subst (λ t. IsSettled g.S.Store t) (sym c.into_inner.ensures) (c.run_in_book-answer.ensures.still c.in-Ok.ensures.settled))

@@ -1,8 +1,7 @@
 use Rattle.std.proofs.Common.{◌≡◌, ◌≤◌, ◌<◌, ◌∷◌, ◌++◌, [], map, take, length, arith, rules}
 use Rattle.std.proofs.lemmas.List.{get_or-map, length-map, take_all, take_more}
-use Rattle.mx_lives.specs.InFiles.{AreLeft}
-use Rattle.mx_lives.proofs.FileLemmas.{closed_left, left_hold}
-use Rattle.mx_lives.proofs.LifeLemmas.{closed_next, lived_none}
+use Rattle.mx_lives.specs.Lived.{AreLeft}
+use Rattle.mx_lives.proofs.LifeLemmas.{closed_left, closed_next, left_hold, lived_none}
 use Rattle.mx_lives.proofs.files.closed_lives.Goals as goal
 
 pub inputs-init : goal.inputs-init

@@ -2,8 +2,8 @@ use Rattle.std.proofs.Common.{map, take, false}
 use Rattle.sqlite_wal.specs.Reads.{AreClean}
 use Rattle.sqlite.specs.Files.{image_of}
 use Rattle.mx_book.specs.World.{World}
-use Rattle.mx_lives.specs.InFiles.{AreLeft, HoldBooks}
-use Rattle.mx_lives.specs.Lived.{LivedTo}
+use Rattle.mx_files.specs.InFiles.{HoldBooks}
+use Rattle.mx_lives.specs.Lived.{AreLeft, LivedTo}
 use Rattle.mx_lives.proofs.files.closed_lives.Given as goal
 
 -- where the files are clean, the lives so far led to what their bytes hold

@@ -6,7 +6,7 @@ use Rattle.sqlite.specs.Held.{state}
 use Rattle.mx_tables.specs.Rounds.{IsSettled}
 use Rattle.mx_tables.specs.States.{Leaves, worry}
 use Rattle.mx_tables.proofs.StateLemmas.{sure, sure_before}
-use Rattle.mx_lives.proofs.LifeLemmas.{low_if_clean}
+use Rattle.mx_files.proofs.FileLemmas.{low_if_clean}
 use Rattle.mx_lives.proofs.lives.stopped.Goals as goal
 
 pub returns-in-Ok-open-clause-calm : goal.returns-in-Ok-open-clause-calm

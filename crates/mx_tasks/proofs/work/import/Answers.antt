@@ -8,8 +8,8 @@ returns-clause-imports g c = λ still sure.
     elim (c.in_ok-lines.ensures.imports still sure) [
       | inl none ↦ absurd (false≢true none.1)
       | inr some ↦
-          let done = some.2 in
-          inr (some.0, some.1, (done.0, done.1, (c.said.ensures.0 ∙ ap (λ v. v.items) c.into_bytes.ensures.value ∙ done.2, c.said.ensures.1)))
+          let done = some.3 in
+          inr (some.0, some.1, some.2, (done.0, done.1, (c.said.ensures.0 ∙ ap (λ v. v.items) c.into_bytes.ensures.value ∙ done.2, c.said.ensures.1)))
     ]
 
 -- the fault of the import, passed on

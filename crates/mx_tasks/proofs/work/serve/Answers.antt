@@ -15,8 +15,10 @@ returns-in_err-routes-clause-serves g c = λ w low was.
     rw (p.1) (unserved p.0 was)
 
 -- that it listens can't be said
-pub returns-then-is_err-clause-serves : goal.returns-then-is_err-clause-serves
-returns-then-is_err-clause-serves g c = λ w low was. unserved _ was
+pub returns-in_err-say_listening-clause-serves : goal.returns-in_err-say_listening-clause-serves
+returns-in_err-say_listening-clause-serves g c = λ w low was.
+    let p = err_from_is_err_and c.from_residual-in_err-say_listening.result c.from_residual-in_err-say_listening.ensures.1 in
+    rw (p.1) (unserved p.0 was)
 
 -- there is no memory for the line
 pub returns-in_err-served_text-in-Ok-serve_connections-clause-serves : goal.returns-in_err-served_text-in-Ok-serve_connections-clause-serves

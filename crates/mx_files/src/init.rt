@@ -1,0 +1,211 @@
+//! How new books are made in a file beside their place, and put there.
+ghost use Rattle.std.specs.Prelude.{◌≡◌, ◌≢◌, Bool, IfOk, IsErr, Ok, OnErr, OnOk, false, true, string_bytes, ◌⊎◌};
+ghost use Rattle.mx_tasks.specs.Causes.{cause_fault};
+ghost use Rattle.mx_files.specs.Folders.{ChangesAt, ChangesAtBoth, ChangesNothing, HadNumber, HasNumber, IsLog, Makes, MayBeLeftOver, TellsNumber, log_spot, named, removed, vacant};
+ghost use Rattle.mx_files.specs.Makings.{Begins, ChangesBeside, ChangesIn, IsGivenUp, IsPut};
+
+use crate::folder::{DatabaseFolder, Entry, FileKind, Folder};
+use crate::making::Making;
+use crate::places::{has_log, place_for, with_ending};
+use mx_tasks::{Cause, TaskFault};
+use std::alloc::Global;
+use std::io;
+use std::io::ErrorKind;
+
+/// Removes what an `init` that was broken off has left, where it left something. What is no database, or no log of one, isn't
+/// that, and stays; and so does a link.
+fn clear<F: DatabaseFolder>(folder: &mut F, alloc: Global, path: &str) -> Result<(), Cause>
+    ensures left { OnOk result (MayBeLeftOver ((F.paths folder.old).spot path.now)) }
+    ensures log { OnOk result ((has_change : Bool)
+        × IsLog (log_spot (F.paths folder.old) path.now) has_change) }
+    ensures gone { OnOk result ((F.paths folder.new).spot path.now
+        ≡ removed ((F.paths folder.old).spot path.now)) }
+    ensures err { IsErr result → ChangesNothing (F.paths folder.old) (F.paths folder.new) }
+    ensures others { ChangesAt path.now (F.paths folder.old) (F.paths folder.new) }
+{
+    has_log(&*folder, alloc, path)?;
+    match folder.entry_at(path)? {
+        None => return Ok(()),
+        Some(
+            Entry {
+                kind: FileKind::Regular,
+                ..
+            },
+        ) => {}
+        Some(_) => return Err(Cause::Irregular),
+    }
+    folder.try_database(path)?;
+    folder.remove(path)?;
+    Ok(())
+}
+
+/// Makes an empty file that only its owner may read and write, where none is. Gives its number in the file system.
+fn make_private<F: Folder>(folder: &mut F, path: &str) -> Result<u64, Cause>
+    ensures ok { IfOk result (λ number. Makes ((F.paths folder.old).spot path.now)
+        ((F.paths folder.new).spot path.now) number 0o600) }
+    ensures others { ChangesAt path.now (F.paths folder.old) (F.paths folder.new) }
+{
+    match folder.make_file(path, 0o600) {
+        Ok(number) => Ok(number),
+        Err(error) if error.kind() == ErrorKind::AlreadyExists => Err(Cause::Rival),
+        Err(error) => Err(Cause::System(error)),
+    }
+}
+
+/// What is said of a file FILE-init that can't be removed.
+fn left_over(cause: &Cause) -> Cause
+    ensures { cause_fault result ≡ cause_fault cause.now }
+{
+    match cause.fault() {
+        TaskFault::File => Cause::Leftover,
+        fault => Cause::Fault(fault),
+    }
+}
+
+/// Makes an empty file beside the place of new books, for them, where they may be put at this path. What an init that was broken
+/// off has left there is removed.
+///
+/// # Errors
+///
+/// Those of `place_for`; `Leftover` where what is at FILE-init can't be removed; `Rival` where another process makes it;
+/// `System` where it can't be made; `Memory`.
+pub fn begin<F: DatabaseFolder>(folder: &mut F, alloc: Global, path: &str) -> Result<Making, Cause>
+    ensures begins { IfOk result
+        (λ making. Begins path.now (F.paths folder.old) (F.paths folder.new) making) }
+    ensures others { ChangesBeside path.now (F.paths folder.old) (F.paths folder.new) }
+{
+    let place = place_for(&*folder, alloc, path)?;
+    let made = with_ending(alloc, place.as_str(), "-init")?;
+    let log = with_ending(alloc, made.as_str(), "-wal")?;
+    if let Err(cause) = clear(folder, alloc, made.as_str()) {
+        return Err(left_over(&cause));
+    }
+    let number = make_private(folder, made.as_str())?;
+    Ok(Making {
+        place,
+        made,
+        log,
+        number,
+    })
+}
+
+/// Whether the file with that number is still at this path: another `init` may have taken it for one that was broken off.
+fn is_there<F: Folder>(folder: &F, path: &str, number: u64) -> bool
+    ensures { TellsNumber ((F.paths folder.now).spot path.now) number result }
+{
+    match folder.entry_at(path) {
+        Ok(Some(entry)) => entry.number == number,
+        _ => false,
+    }
+}
+
+/// Gives the file that was made its place.
+fn put<F: Folder>(folder: &mut F, making: &Making) -> Result<(), Cause>
+    ensures ours { OnOk result (HasNumber ((F.paths folder.old).spot (string_bytes making.now.made))
+        making.now.number) }
+    ensures put { OnOk result ((F.paths folder.new).spot (string_bytes making.now.place)
+        ≡ named false ((F.paths folder.old).spot (string_bytes making.now.made))) }
+    ensures gone { OnOk result ((F.paths folder.new).spot (string_bytes making.now.made)
+        ≡ removed ((F.paths folder.old).spot (string_bytes making.now.made))) }
+    ensures err { IsErr result → ChangesNothing (F.paths folder.old) (F.paths folder.new) }
+    ensures others { ChangesAtBoth (string_bytes making.now.made) (string_bytes making.now.place)
+        (F.paths folder.old) (F.paths folder.new) }
+{
+    if !is_there(&*folder, making.made.as_str(), making.number) {
+        return Err(Cause::Rival);
+    }
+    folder.rename(making.made.as_str(), making.place.as_str())?;
+    Ok(())
+}
+
+/// Gives the file its place, where books were made in it.
+fn put_made<F: Folder, T: Drop>(
+    folder: &mut F,
+    making: &Making,
+    books: Result<T, Cause>,
+) -> Result<T, Cause>
+    ensures same { IfOk result (λ put. books ≡ Ok put) }
+    ensures ours { OnOk result (HasNumber ((F.paths folder.old).spot (string_bytes making.now.made))
+        making.now.number) }
+    ensures put { OnOk result ((F.paths folder.new).spot (string_bytes making.now.place)
+        ≡ named false ((F.paths folder.old).spot (string_bytes making.now.made))) }
+    ensures gone { OnOk result ((F.paths folder.new).spot (string_bytes making.now.made)
+        ≡ removed ((F.paths folder.old).spot (string_bytes making.now.made))) }
+    ensures err { IsErr result → ChangesNothing (F.paths folder.old) (F.paths folder.new) }
+    ensures others { ChangesAtBoth (string_bytes making.now.made) (string_bytes making.now.place)
+        (F.paths folder.old) (F.paths folder.new) }
+{
+    let books = books?;
+    put(folder, making)?;
+    Ok(books)
+}
+
+/// Removes the log of books that are in their place, which has nothing in it then, and waits until the disk has their name.
+fn settle<F: Folder>(folder: &mut F, making: &Making) -> io::Result<()>
+    ensures log { (F.paths folder.new).spot (string_bytes making.now.log)
+        ≡ removed ((F.paths folder.old).spot (string_bytes making.now.log)) }
+    ensures ok { OnOk result ((F.paths folder.new).spot (string_bytes making.now.place)
+        ≡ named true ((F.paths folder.old).spot (string_bytes making.now.place))) }
+    ensures err { OnErr result ((F.paths folder.new).spot (string_bytes making.now.place)
+        ≡ (F.paths folder.old).spot (string_bytes making.now.place)) }
+    ensures others { ChangesAtBoth (string_bytes making.now.log) (string_bytes making.now.place)
+        (F.paths folder.old) (F.paths folder.new) }
+{
+    let _ = folder.remove(making.log.as_str());
+    folder.sync_name(making.place.as_str())
+}
+
+/// Removes the file in which new books were made, and its log, unless another `init` has taken it.
+fn give_up<F: Folder>(folder: &mut F, making: &Making)
+    ensures gone { HadNumber ((F.paths folder.old).spot (string_bytes making.now.made))
+        making.now.number
+        → (F.paths folder.new).spot (string_bytes making.now.made) ≡ vacant }
+    ensures log { HadNumber ((F.paths folder.old).spot (string_bytes making.now.made))
+        making.now.number
+        → (F.paths folder.new).spot (string_bytes making.now.log)
+        ≡ removed ((F.paths folder.old).spot (string_bytes making.now.log)) }
+    ensures others { ChangesAtBoth (string_bytes making.now.made) (string_bytes making.now.log)
+        (F.paths folder.old) (F.paths folder.new) }
+{
+    let Making {
+        made,
+        log,
+        number,
+        ..
+    } = making;
+    if is_there(&*folder, made.as_str(), *number) {
+        let _ = folder.remove(log.as_str());
+        let _ = folder.remove(made.as_str());
+    }
+}
+
+/// Puts new books in their place, where they were made. Where they weren't, or that fails, the file in which they were made is
+/// removed.
+///
+/// # Errors
+///
+/// That of the making; `Rival` where another `init` has taken the file; `System` where it can't be put in its place, or the disk
+/// can't be waited for. In this last case the books are in their place.
+pub fn end<F: Folder, T: Drop>(
+    folder: &mut F,
+    making: &Making,
+    books: Result<T, Cause>,
+) -> Result<T, Cause>
+    ensures same { IfOk result (λ put. books ≡ Ok put) }
+    ensures put { OnOk result (IsPut true (F.paths folder.old) (F.paths folder.new) making.now) }
+    ensures unmade { OnErr books (IsGivenUp (F.paths folder.old) (F.paths folder.new) making.now) }
+    ensures err { OnErr result (IsGivenUp (F.paths folder.old) (F.paths folder.new) making.now
+        ⊎ IsPut false (F.paths folder.old) (F.paths folder.new) making.now) }
+    ensures others { ChangesIn making.now (F.paths folder.old) (F.paths folder.new) }
+{
+    match put_made(folder, making, books) {
+        Ok(books) => {
+            settle(folder, making)?;
+            Ok(books)
+        }
+        Err(cause) => {
+            give_up(folder, making);
+            Err(cause)
+        }
+    }
+}

@@ -1,0 +1,18 @@
+//! New books that are made.
+ghost use Rattle.std.specs.Prelude.{◌≡◌, string_bytes};
+ghost use Rattle.mx_files.specs.Folders.{init_of, log_of};
+
+/// New books that are made.
+#[derive(Drop)]
+pub struct Making {
+    /// The path at which they are to be.
+    pub place: String,
+    /// The path at which they are made.
+    pub made: String,
+    /// The path of their log.
+    pub log: String,
+    /// The number of the file in which they are made.
+    pub number: u64,
+    ghost made_beside: { string_bytes made ≡ init_of (string_bytes place) },
+    ghost log_beside: { string_bytes log ≡ log_of (string_bytes made) },
+}

@@ -1,0 +1,57 @@
+//! What a task is to do, and in which file.
+ghost use Rattle.std.specs.Prelude.{◌≡◌};
+ghost use Rattle.mx_files.specs.Plans.{planned_task};
+
+use mx_args::Task;
+use mx_pay::Token;
+use mx_tasks::Work;
+
+/// What is done with the books in a file.
+#[derive(Drop)]
+pub enum Act<'a> {
+    /// Requests are answered over them.
+    Run,
+    /// They are made, for the operator with this token.
+    Make(Token),
+    /// This work is done over them.
+    Work(Work<'a>),
+    /// It is told whether they are sound.
+    Check,
+    /// They are brought to the schema of this version.
+    Migrate,
+}
+
+/// What a task is to do.
+#[derive(Drop)]
+pub enum Plan<'a> {
+    /// Requests are answered over new books in memory, for the operator with this token.
+    InMemory(Token),
+    /// This is done with the books in the file at this path.
+    InFile(&'a str, Act<'a>),
+}
+
+/// The plan of a task.
+pub fn plan_of<'a>(task: &Task<'a>) -> Plan<'a>
+    ensures { planned_task result ≡ task.now }
+{
+    match task {
+        Task::RunMemory(operator) => Plan::InMemory(*operator),
+        Task::RunFile(file) => Plan::InFile(file.as_str(), Act::Run),
+        Task::Init { file, token } => Plan::InFile(file.as_str(), Act::Make(*token)),
+        Task::Serve { file, port, count } => {
+            let work = Work::Serve {
+                port: *port,
+                count: *count,
+            };
+            Plan::InFile(file.as_str(), Act::Work(work))
+        }
+        Task::Import { file, roll } => {
+            Plan::InFile(file.as_str(), Act::Work(Work::Import(roll.as_str())))
+        }
+        Task::Report { file, purse } => {
+            Plan::InFile(file.as_str(), Act::Work(Work::Report(*purse)))
+        }
+        Task::Check(file) => Plan::InFile(file.as_str(), Act::Check),
+        Task::Migrate(file) => Plan::InFile(file.as_str(), Act::Migrate),
+    }
+}

@@ -1,0 +1,27 @@
+-- What is said on standard error.
+use Rattle.std.specs.Prelude.{◌≡◌, ◌⊎◌, ℕ, List, ◌++◌, Option, true, false, codes}
+use Rattle.std.specs.Fmt.{decimal}
+use Rattle.std.specs.Io.KnownBytes.{Appends}
+use Rattle.mx_tasks.specs.Faults.{fault_text}
+use Rattle.mx_tasks.specs.declared.fault.TaskFault.{TaskFault}
+use Rattle.mx_tasks.specs.declared.serve.alarm.Alarm.{Alarm}
+
+-- when the store fails for the first time
+abbrev pub alarm_line : List ℕ
+alarm_line = codes "store: the disk is full or the file is damaged; requests are answered 503\n"
+
+-- where the task ends with a fault
+abbrev pub fault_line : TaskFault → List ℕ
+fault_line fault = codes "fault: " ++ fault_text fault ++ codes "\n"
+
+-- why the file of a path isn't used, or not to its end
+abbrev pub cause_line : List ℕ → List ℕ → List ℕ
+cause_line path words = path ++ codes ": " ++ words ++ codes "\n"
+
+-- how many are done, over what was said so before
+abbrev pub progress_text : ℕ → List ℕ → List ℕ
+progress_text count what = codes "\r" ++ decimal count ++ codes " " ++ what
+
+-- an alarm didn't ring; or it rang for the first time, and said its line
+abbrev pub RingsOnce : {V : Type 0} → (V → Option (List ℕ)) → Alarm V → Alarm V → Type 0
+RingsOnce said old new = (new ≡ old) ⊎ ((old.has_rung ≡ false) × (new.has_rung ≡ true) × Appends (said old.voice) (said new.voice) alarm_line)
