@@ -15,11 +15,14 @@ use Rattle.mx_book.specs.World.{World, Name}
 use Rattle.mx_book.specs.declared.contract.StoreFault.{StoreFault}
 use Rattle.std.specs.FinMap as fmap
 use Rattle.mx_tables.specs.Holds.{Spells, SpellsOne}
-use Rattle.mx_tables.specs.Made.{HasVersion}
-use Rattle.mx_tables.specs.States.{IsAwake, IsOurs, Stays, unsure, IsSound}
+use Rattle.mx_tables.specs.Made.{HasVersion, IsUnknown}
+use Rattle.mx_tables.specs.States.{IsAwake, IsOurs, Stays, StaysIdle, unsure, IsHonest, IsSound}
 use Rattle.mx_audit.specs.Audit.{Goes}
 use Rattle.mx_audit.specs.Scans.{TakesAll}
 use Rattle.mx_audit.specs.declared.audit.Audit.{Audit}
+use Rattle.mx_audit.specs.declared.opening.Refusal.{Refusal}
+use Rattle.mx_audit.specs.declared.opening.Refusal.TheVariants.{NotThisSchema, Unsound}
+use Rattle.mx_audit.specs.declared.tables.Checked.{Checked}
 use Rattle.mx_audit.specs.declared.typed.Source.{Source}
 use Rattle.mx_audit.specs.declared.typed.Source.TheVariants.{Meta, Members, Holders, Tokens, Purses, Inbox, Lines, Tray, Archive, Loads, Redemptions, Settled}
 
@@ -92,3 +95,10 @@ pub record Audits {S : Type 0} (g : Ghosts S) (old new : Held S) (result : Resul
   pub whole : {begun : Bool} → IsOurs begun (state g old) → unsure begun (state g new) ≡ 0 → (w : World) → Spells (state g old).now w
       → IfOk result (λ found. found ≡ 0)
   pub live : OnOk result (IsAwake (state g new))
+
+-- A store that is refused is as it was, and so is what a stop leaves: as NotThisSchema, only where it has no tables of version 2; as
+-- Unsound, only where they spell no World.
+pub record Refuses {S : Type 0} (g : Ghosts S) (old : Held S) (fault : Refusal) (new : Held S) : Type 0 where
+  pub rests : StaysIdle (state g old) (state g new)
+  pub unknown : fault ≡ NotThisSchema → IsHonest (state g new) → IsUnknown (λ _. 2) (state g old).now
+  pub unsound : (c : Checked) → fault ≡ Unsound c → IsSound (state g new) → (w : World) → ¬ Spells (state g old).now w

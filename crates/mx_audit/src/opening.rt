@@ -1,17 +1,17 @@
 //! Openings that audit: what is opened spells a World.
-ghost use Rattle.std.specs.Prelude.{◌≡◌, ◌≢◌, ◌≤◌, ◌⊎◌, IfErr, IfOk, MatchResult, None, OnErr, OnOk, codes, false};
+ghost use Rattle.std.specs.Prelude.{◌≡◌, ◌≢◌, ◌≤◌, ◌⊎◌, IfErr, IfOk, OnErr, OnOk, false};
 ghost use Rattle.sqlite.specs.Held.{state};
 ghost use Rattle.sqlite.specs.State.{HasCleanDisk};
-ghost use Rattle.sqlite_schema.specs.Names.{table_named};
 ghost use Rattle.mx_book.specs.World.{World};
 ghost use Rattle.mx_tables.specs.Holds.{Spells, SpellsOne};
 ghost use Rattle.mx_tables.specs.Made.{HasVersion, IsUnknown};
-ghost use Rattle.mx_tables.specs.Migration.{IsWhole, Migrates};
+ghost use Rattle.mx_tables.specs.Migration.{Migrates};
 ghost use Rattle.mx_tables.specs.Rounds.{IsSettled};
-ghost use Rattle.mx_tables.specs.Schema.{office_schema};
-ghost use Rattle.mx_tables.specs.States.{IsAwake, IsOurs, Stays, worry, IsSound, IsHonest};
+ghost use Rattle.mx_tables.specs.Schema.{number_of, office_schema};
+ghost use Rattle.mx_tables.specs.States.{IsAwake, IsOurs, Stays, StaysIdle, worry, IsSound, IsHonest};
 ghost use Rattle.mx_tables.specs.declared.migration.Migrated.TheVariants.{Done};
 ghost use Rattle.mx_tables.specs.declared.opening.OpenFault.TheVariants as open_fault;
+ghost use Rattle.mx_audit.specs.Audited.{Refuses};
 ghost use Rattle.mx_audit.specs.declared.opening.Refusal.TheVariants.{NotThisSchema, Unsound};
 ghost use Rattle.mx_audit.specs.declared.tables.Checked.{Checked};
 
@@ -90,25 +90,14 @@ pub fn open<S: Ordered>(
     store: Connection<S>,
     most: usize,
 ) -> Result<(Standing<Tables<S>>, Checked), Refused<S>>
-    ensures later { MatchResult result
-        (λ t. worry (state S.Store store) ≤ worry (state S.Store t.0.book.0))
-        (λ e. worry (state S.Store store) ≤ worry (state S.Store e.store)) }
-    ensures same { IfOk result (λ t. IsSound (state S.Store t.0.book.0)
-        → (state S.Store t.0.book.0).now ≡ (state S.Store store).now) }
+    ensures rests { IfOk result
+        (λ t. StaysIdle (state S.Store store) (state S.Store t.0.book.0)) }
     ensures settled { IfOk result (λ t. IsSettled S.Store t.0.book) }
     ensures ours { IfOk result (λ t. IsOurs false (state S.Store t.0.book.0)) }
     ensures live { IfOk result (λ t. IsAwake (state S.Store t.0.book.0)) }
     ensures sound { IfOk result (λ t. IsSound (state S.Store t.0.book.0)
         → (w : World) × SpellsOne (state S.Store store).now w) }
-    ensures unsound { IfErr result (λ e. (c : Checked) → e.fault ≡ Unsound c
-        → IsSound (state S.Store e.store) → (w : World) → ¬ Spells (state S.Store store).now w) }
-    ensures left { IfErr result (λ e. IsSound (state S.Store e.store)
-        → (state S.Store e.store).now ≡ (state S.Store store).now) }
-    ensures idle { store.in_transaction ≡ false → IfErr result
-        (λ e. HasCleanDisk (state S.Store e.store) → e.store.in_transaction ≡ false) }
-    ensures unknown { IfErr result
-        (λ e. e.fault ≡ NotThisSchema → IsSound (state S.Store e.store)
-        → IsUnknown (state S.Store store).now) }
+    ensures refused { IfErr result (λ e. Refuses S.Store store e.fault e.store) }
 {
     let mut opened = match Tables::open(alloc, store) {
         Ok(book) => book.into_store(),
@@ -145,13 +134,12 @@ pub fn migrate<S: Ordered>(alloc: Global, store: &mut Connection<S>) -> Result<M
         → (w : World) → ¬ Spells (state S.Store store.new).now w) }
     ensures left { IsSound (state S.Store store.new) → OnErr result
         (((state S.Store store.new).now ≡ (state S.Store store.old).now)
-        ⊎ Migrates Done (state S.Store store.old).now (state S.Store store.new).now) }
+        ⊎ (IsOurs false (state S.Store store.new)
+        × Migrates Done (state S.Store store.old).now (state S.Store store.new).now)) }
     ensures idle { store.old.in_transaction ≡ false
         → HasCleanDisk (state S.Store store.new) → store.new.in_transaction ≡ false }
-    ensures unknown { IsSound (state S.Store store.new) → IfErr result
-        (λ fault. fault ≡ NotThisSchema
-        → (table_named (state S.Store store.old).now.schema (codes "meta") ≡ None)
-        ⊎ ((version : _) → ¬ IsWhole version (state S.Store store.old).now)) }
+    ensures unknown { IsHonest (state S.Store store.new) → IfErr result
+        (λ fault. fault ≡ NotThisSchema → IsUnknown number_of (state S.Store store.old).now) }
     ensures stops { IsHonest (state S.Store store.new) → (db : _)
         → (state S.Store store.new).may_leave db → (state S.Store store.old).may_leave db
         ⊎ ((IsSound (state S.Store store.old)) × Migrates Done (state S.Store store.old).now

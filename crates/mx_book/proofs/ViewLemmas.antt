@@ -21,7 +21,7 @@ bides_then one two = record {
 }
 
 pub keeps_none : (v : View) → Keeps v v
-keeps_none v = record { later = omega arith; same = λ sure. refl; bides = bides_none v; rests = λ still. still }
+keeps_none v = record { later = omega arith; same = λ sure. refl; bides = bides_none v; rests = λ still. still; counts = omega arith; limits = λ limited. limited }
 
 pub keeps_then : {a b c : View} → Keeps a b → Keeps b c → Keeps a c
 keeps_then one two = record {
@@ -29,6 +29,8 @@ keeps_then one two = record {
   same = λ sure. two.same sure ∙ one.same (sure_before two.later sure);
   bides = bides_then one.bides two.bides;
   rests = λ still. two.rests (one.rests still);
+  counts = later_then one.counts two.counts;
+  limits = λ limited. one.limits (two.limits limited);
 }
 
 -- ---- a round

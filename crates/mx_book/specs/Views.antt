@@ -3,6 +3,8 @@ use Rattle.std.specs.Prelude.{◌≡◌, ◌⊎◌, ◌≤◌, ℕ, true, false,
 use Rattle.mx_book.specs.World.{World}
 use Rattle.mx_book.specs.Conditions.{IsWorld}
 use Rattle.mx_book.specs.Stands.{Attempt, attempt, attempt_all, OneMore}
+use Rattle.mx_book.specs.declared.contract.StoreFault.{StoreFault}
+use Rattle.mx_book.specs.Keeps.{HasCause}
 
 -- what a book shows
 pub record View : Type 1 where
@@ -22,6 +24,10 @@ pub record View : Type 1 where
   pub IsSettled : Type 0
   -- what an opening after a stop at this moment may find
   pub leaves : World → Type 0
+  -- how often the store has failed or refused
+  pub faults : ℕ
+  -- the store stops a query that takes too many steps
+  pub limited : Type 0
 
 -- The store of a book is sound; or a fault has shut it; or it has lied.
 abbrev pub HasSoundStore : View → Type 0
@@ -62,23 +68,26 @@ pub record Bides (old new : View) : Type 0 where
   pub stops : HasHonestStore new → (w : World) → new.leaves w → old.leaves w
 
 -- Doubt doesn't fall, and where there is none in the end the World is as it was. What was settled is left, and nothing waits
--- for a settle where nothing did.
+-- for a settle where nothing did. Faults of the store are counted.
 pub record Keeps (old new : View) : Type 0 where
   pub later : old.doubt ≤ new.doubt
   pub same : IsSure new → new.world ≡ old.world
   pub bides : Bides old new
   pub rests : old.IsSettled → new.IsSettled
+  pub counts : old.faults ≤ new.faults
+  pub limits : new.limited → old.limited
 
 -- What an answer says of the World, where there is no doubt in the end.
 abbrev pub Gives : {T E : Type 0} → View → View → Result T E → (World → T → Type 0) → Type 0
 Gives old new result said = IsSure new → IfOk result (said old.world)
 
--- A read: the World stays, this is said of it, and a fault is one of these.
-pub record Answers {T E : Type 0} (fails : E → Type 0) (old new : View) (result : Result T E)
-    (said : World → T → Type 0) : Type 0 where
+-- A read: the World stays, this is said of it, and a fault is one of these, and has a cause where there is no doubt in the end.
+pub record Answers {T : Type 0} (fails : StoreFault → Type 0) (old new : View)
+    (result : Result T StoreFault) (said : World → T → Type 0) : Type 0 where
   pub keeps : Keeps old new
   pub value : Gives old new result said
   pub fault : IfErr result fails
+  pub cause : IsSure new → IfErr result (HasCause old.limited old.faults new.faults)
 
 -- A change of the World is made and waits for a settle, or nothing is where there is a fault, which is one of these. Doubt
 -- doesn't fall.

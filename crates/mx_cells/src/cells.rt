@@ -121,8 +121,10 @@ pub fn amount_at(row: &Row, at: usize) -> Result<Amount, StoreFault>
 
 /// The amount in the first column of a row, where there is a row.
 pub fn amount_in(row: Option<Row>) -> Result<Option<Amount>, StoreFault>
-    ensures { IfOk result
+    ensures is { IfOk result
         (λ amount. option_map (λ r. column r 0) row ≡ option_map (λ n. Int (pos n)) amount) }
+    ensures there { IfSome row (λ r. (n : _) × (n ≤ most_amount) × (column r 0 ≡ Int (pos n)))
+        → is_ok result ≡ true }
 {
     match row {
         Some(row) => Ok(Some(amount_at(&row, 0)?)),

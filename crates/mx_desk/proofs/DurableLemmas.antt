@@ -12,27 +12,27 @@ use Rattle.mx_desk.proofs.LawfulLemmas.{lawful_requests, lawful_then}
 use Rattle.mx_desk.proofs.RoundLemmas.{attempts_lead}
 
 -- what was made after all is what a round does that was given up, to the World at the end
-more_rounds : (w : World) (rs : List Round) (v : World) → OneMore w (attempts rs) v → (r : Round) × IsGivenUpOf rs r × (v ≡ world_after (world_after w (all_of rs)) r.held)
+more_rounds : (w : World) (rs : List Round) (v : World) → OneMore w (attempts rs) v → (r : Round) × IsGivenUpOf w rs r × (v ≡ world_after (world_after w (all_of rs)) r.held)
 more_rounds w [] v one = absurd one
 more_rounds w (r ∷ rs) v (inl one) =
     let here : attempt_one w (record { given_up = r.given_up; change = λ u. world_after u r.held }) ≡ w = rw one.0 refl in
     let still : world_after w (all_of (r ∷ rs)) ≡ w = sym (attempts_lead w (r ∷ rs)) ∙ ap (λ u. attempt_all u (attempts rs)) here ∙ one.1 in
-    (r, ([], rs, refl, one.0), one.2 ∙ ap (λ u. world_after u r.held) (sym still))
+    (r, ([], rs, refl, one.0, sym still), one.2 ∙ ap (λ u. world_after u r.held) (sym still))
 more_rounds w (q ∷ rs) v (inr one) =
     let after = attempt_one w (record { given_up = q.given_up; change = λ u. world_after u q.held }) in
     let more = more_rounds after rs v one in
     let place = more.1 in
-    let same : world_after after (all_of rs) ≡ world_after w (all_of (q ∷ rs)) = sym (attempts_lead after rs) ∙ attempts_lead w (q ∷ rs) in
-    (more.0, (q ∷ place.0, place.1, ap (λ l. q ∷ l) place.2, place.3), more.2 ∙ ap (λ u. world_after u more.0.held) same)
+    let same : (l : List Round) → world_after after (all_of l) ≡ world_after w (all_of (q ∷ l)) = λ l. sym (attempts_lead after l) ∙ attempts_lead w (q ∷ l) in
+    (more.0, (q ∷ place.0, place.1, ap (λ l. q ∷ l) place.2, place.3, sym (same place.0) ∙ place.4 ∙ same rs), more.2 ∙ ap (λ u. world_after u more.0.held) (same rs))
 
 -- a stop leaves what it could leave before, where nothing was done, or the World now, or that with one round more
 pub left_last : {old new : View} {w now : World} (rs : List Round) → RestsAt old w → Moves old new w rs now → new.doubt ≤ 1 → (v : World) → new.leaves v
-    → (old.leaves v × (now ≡ w)) ⊎ Lasts (λ u. v ≡ u) rs now
+    → (old.leaves v × (now ≡ w)) ⊎ Lasts (λ u. v ≡ u) w rs now
 left_last {old} {w = w} {now = now} rs at moved low v left = by (left_moved (attempts rs) at moved.moves low v left) where
   is : now ≡ world_after w (all_of rs)
   is = moved.world ∙ attempts_lead w rs
 
-  by : (old.leaves v × (attempt_all w (attempts rs) ≡ w)) ⊎ ((v ≡ attempt_all w (attempts rs)) ⊎ OneMore w (attempts rs) v) → (old.leaves v × (now ≡ w)) ⊎ Lasts (λ u. v ≡ u) rs now
+  by : (old.leaves v × (attempt_all w (attempts rs) ≡ w)) ⊎ ((v ≡ attempt_all w (attempts rs)) ⊎ OneMore w (attempts rs) v) → (old.leaves v × (now ≡ w)) ⊎ Lasts (λ u. v ≡ u) w rs now
   by (inl before) = inl (before.0, moved.world ∙ before.1)
   by (inr (inl here)) = inr (inl (here ∙ sym moved.world))
   by (inr (inr more)) =
@@ -41,9 +41,9 @@ left_last {old} {w = w} {now = now} rs at moved low v left = by (left_moved (att
 
 -- of a book that left nothing but its World, a stop leaves nothing else
 pub moves_last : {old new : View} {w now : World} (rs : List Round) → ((v : World) → old.leaves v → v ≡ w) → RestsAt old w → Moves old new w rs now → new.doubt ≤ 1 → (v : World) → new.leaves v
-    → Lasts (λ u. v ≡ u) rs now
+    → Lasts (λ u. v ≡ u) w rs now
 moves_last {old} {w = w} {now = now} rs was at moved low v left = by (left_last rs at moved low v left) where
-  by : (old.leaves v × (now ≡ w)) ⊎ Lasts (λ u. v ≡ u) rs now → Lasts (λ u. v ≡ u) rs now
+  by : (old.leaves v × (now ≡ w)) ⊎ Lasts (λ u. v ≡ u) w rs now → Lasts (λ u. v ≡ u) w rs now
   by (inl before) = inl (was v before.0 ∙ sym before.1)
   by (inr lasts) = lasts
 

@@ -29,9 +29,25 @@ impl Read for Pieces<'_> {
 
 /// Holds what is written, and shows it at a flush. Remembers how many bytes it showed after each flush.
 #[derive(Drop)]
-struct Shown {
+pub(super) struct Shown {
     held: Vec<u8>,
     shown: Vec<usize>,
+}
+
+impl Shown {
+    /// Nothing was written yet.
+    pub(super) fn new(alloc: Global) -> Self {
+        Shown {
+            held: Vec::new(alloc),
+            shown: Vec::new(alloc),
+        }
+    }
+
+    /// What the last flush showed.
+    pub(super) fn passed(&self) -> &[u8] {
+        let count = self.shown.last().copied().unwrap_or(0);
+        self.held.get(..count).unwrap_or(&[])
+    }
 }
 
 impl Write for Shown {
@@ -65,10 +81,7 @@ fn shown_of(
     pieces: &[String],
 ) -> Result<Vec<usize>, Fail> {
     let mut reader = Counted::new(Pieces { left: pieces });
-    let mut writer = Counted::new(Shown {
-        held: Vec::new(alloc),
-        shown: Vec::new(alloc),
-    });
+    let mut writer = Counted::new(Shown::new(alloc));
     run(alloc, &mut reader, &mut writer, routes, office)?;
     Ok(writer.into_inner().shown)
 }

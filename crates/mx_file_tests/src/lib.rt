@@ -28,6 +28,8 @@ mod offices;
 #[cfg(test)]
 mod requests;
 #[cfg(test)]
+mod rolls;
+#[cfg(test)]
 mod scratch;
 #[cfg(test)]
 mod scripts;

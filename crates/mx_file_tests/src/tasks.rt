@@ -1,4 +1,5 @@
 //! Each task of the program over real files, from the words of its command line to what it prints.
+use crate::flushes::Shown;
 use crate::scratch::{expect, new_folder, request, response, unfolded};
 use mx_args::{Task, read_line};
 use mx_desk::Counted;
@@ -69,6 +70,7 @@ fn responses(alloc: Global, is_first: bool) -> Result<String, AllocError> {
 fn word_of(alloc: Global, folder: &str, word: &str) -> Result<String, AllocError> {
     match word {
         "FILE" => format!(in alloc; "{folder}/book.db"),
+        "LOG" => format!(in alloc; "{folder}/book.db-wal"),
         "ROLL" => format!(in alloc; "{folder}/roll.csv"),
         "NONE" => format!(in alloc; "{folder}/none.csv"),
         _ => format!(in alloc; "{word}"),
@@ -84,18 +86,18 @@ fn words_of(alloc: Global, folder: &str, line: &str) -> Result<Vec<String>, Allo
     Ok(words)
 }
 
-/// What a task prints, or its fault.
+/// What a task prints and passes on, or its fault.
 fn told(rt: &HostRuntime, task: &Task<'_>) -> Result<String, Fail> {
     let alloc = rt.alloc();
     let input = requests(alloc)?;
     let mut reader = Counted::new(input.as_bytes());
-    let mut writer = Counted::new(Vec::new(alloc));
+    let mut writer = Counted::new(Shown::new(alloc));
     let ended = perform(rt, Unknown, task, &mut reader, &mut writer);
     if let Err(fault) = ended.answer {
         return Ok(format!(in alloc; "fault: {}", fault.text())?);
     }
-    let bytes = writer.into_inner();
-    let text = std::str::from_utf8(bytes.as_slice())?;
+    let shown = writer.into_inner();
+    let text = std::str::from_utf8(shown.passed())?;
     Ok(format!(in alloc; "{text}")?)
 }
 
@@ -131,12 +133,23 @@ fn expect_told(rt: &HostRuntime, folder: &str) -> Result<(), Fail> {
     Ok(())
 }
 
+/// Removes the books, their log and the roll, and fails where the folder has another file.
+fn remove_three(rt: &HostRuntime, folder: &str) -> Result<(), Fail> {
+    for word in ["FILE", "LOG", "ROLL"] {
+        let path = word_of(rt.alloc(), folder, word)?;
+        fs::remove_file(rt, path.as_str())?;
+    }
+    fs::remove_dir(rt, folder)?;
+    Ok(())
+}
+
+/// What is printed is passed on by a flush, and no other file is made.
 #[test]
 fn each_task_over_files(rt: HostRuntime) -> Result<(), Fail> {
     let folder = new_folder(&rt, "tasks")?;
-    let answer = expect_told(&rt, folder.as_str());
-    let removed = fs::remove_dir_all(&rt, folder.as_str());
-    answer?;
-    removed?;
-    Ok(())
+    if let Err(fail) = expect_told(&rt, folder.as_str()) {
+        let _removed = fs::remove_dir_all(&rt, folder.as_str());
+        return Err(fail);
+    }
+    remove_three(&rt, folder.as_str())
 }

@@ -13,9 +13,9 @@ use Rattle.mx_standing.specs.Shown.{AreLeft, IsKept, IsOne, shown}
 use Rattle.mx_standing.proofs.ShownLemmas.{left_shown, shown_is, spelled_shown}
 
 -- what a stop leaves, known otherwise
-lasts_so : {P Q : World → Type 0} (rs : List Round) (now : World) → ((w : World) → P w → Q w) → Lasts P rs now → Lasts Q rs now
-lasts_so rs now f (inl here) = inl (f now here)
-lasts_so rs now f (inr more) = inr (more.0, more.1, f _ more.2)
+lasts_so : {P Q : World → Type 0} (w : World) (rs : List Round) (now : World) → ((v : World) → P v → Q v) → Lasts P w rs now → Lasts Q w rs now
+lasts_so w rs now f (inl here) = inl (f now here)
+lasts_so w rs now f (inr more) = inr (more.0, more.1, f _ more.2)
 
 module _ {B : Type 0} (g : Ghosts B) where
   -- a book whose rows spell a World rests at it
@@ -33,10 +33,10 @@ module _ {B : Type 0} (g : Ghosts B) where
 
     -- and what a stop leaves, where nothing but that World was left before
     pub lasts_moved : ((r : g.Rows) → g.leaves old r → r ≡ g.rows old) → ((r : g.Rows) (u v : World) → g.spells r u → g.spells r v → u ≡ v) → ∥ g.spells (g.rows old) w ∥₁ → AreLeft g new
-        → g.doubt new ≤ 1 → g.harm new ≤ 1 → (r : g.Rows) → g.leaves new r → Lasts (λ u. ∥ g.spells r u ∥₁) rs now
+        → g.doubt new ≤ 1 → g.harm new ≤ 1 → (r : g.Rows) → g.leaves new r → Lasts (λ u. ∥ g.spells r u ∥₁) w rs now
     lasts_moved steady single spelled left low less r leaves =
         let found = left_shown g new one' kept' left less r leaves in
-        lasts_so rs now (λ (u : World) (is : found.0 ≡ u). subst (λ (v : World). ∥ g.spells r v ∥₁) is found.2) (moves_last rs was at moved low found.0 found.1)
+        lasts_so w rs now (λ (u : World) (is : found.0 ≡ u). subst (λ (v : World). ∥ g.spells r v ∥₁) is found.2) (moves_last rs was at moved low found.0 found.1)
       where
         was : (v : World) → ((q : g.Rows) × g.leaves old q × ∥ g.spells q v ∥₁) → v ≡ w
         was v (q, l, sp) =

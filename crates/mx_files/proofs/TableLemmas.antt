@@ -9,7 +9,7 @@ use Rattle.mx_book.specs.declared.rows.RowBook.{Ghosts as RowBook}
 use Rattle.mx_desk.specs.Rounds.{Moves, Round}
 use Rattle.mx_standing.specs.Shown.{AreLeft, IsKept, IsOne, shown}
 use Rattle.mx_tables.specs.Holds.{SpellsOne}
-use Rattle.mx_tables.specs.Rounds.{IsSettled, LeavesBase, Lent, base_of, doubt_of, harm_of, rows_of}
+use Rattle.mx_tables.specs.Rounds.{IsLimited, IsSettled, LeavesBase, Lent, base_of, doubt_of, faults_of, harm_of, rows_of}
 use Rattle.mx_tables.specs.States.{Leaves, worry}
 use Rattle.mx_tables.specs.Steady.{left_as_base, rest_of}
 use Rattle.mx_files.specs.Durable.{Endures, Represents}
@@ -29,6 +29,8 @@ module _ {S : Type 0} (g : Ghosts S) where
     defers = Unit {0};
     leaves = LeavesBase g;
     fails = λ _. Unit {0};
+    faults = faults_of g;
+    limited = IsLimited g;
   }
 
   -- what was settled is all that a stop leaves of tables that rest
@@ -39,7 +41,7 @@ module _ {S : Type 0} (g : Ghosts S) where
   -- after rounds over tables that rest, what their store holds is the World now
   pub endures_moved : (old new : Lent S) (one : IsOne tables old) (kept : IsKept tables old) (one' : IsOne tables new) (kept' : IsKept tables new) → AreLeft tables new
       → ((db : Trees) → IsTrue (state g old.0).is_open → (state g old.0).may_leave db → db ≡ (state g old.0).committed.trees) → IsSettled g old → worry (state g old.0) ≡ 0 → IsSettled g new
-      → (w now : World) (rs : List Round) → Represents (rows_of g old) w → Moves (shown tables old one kept) (shown tables new one' kept') w rs now → Endures (state g new.0) rs now
+      → (w now : World) (rs : List Round) → Represents (rows_of g old) w → Moves (shown tables old one kept) (shown tables new one' kept') w rs now → Endures (state g new.0) w rs now
   endures_moved old new one kept one' kept' left law still sure ends w now rs spelled moved =
       let at = rests_shown tables old one kept w still spelled in
       let last = (rest_of g new ends).0 in

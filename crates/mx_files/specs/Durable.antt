@@ -18,8 +18,8 @@ RepresentsIn v db w = ∥ SpellsOneIn v db w ∥₁
 abbrev pub Represents : Database → World → Type 0
 Represents = RepresentsIn Two
 
--- After these rounds the tables represent the World now, while the store works. While the disk told no lie, what a stop leaves
--- represents that, or it with one of the rounds that were given up done after all.
-pub record Endures (s : State) (rs : List Round) (now : World) : Type 0 where
+-- After these rounds, from the World w, the tables represent the World now, while the store works. While the disk told no lie,
+-- what a stop leaves represents that, or it with one round more, as `Lasts` says.
+pub record Endures (s : State) (w : World) (rs : List Round) (now : World) : Type 0 where
   pub stands : IsSound s → Represents s.now now
-  pub lasts : IsHonest s → (db : Database) → Leaves s db → Lasts (Represents db) rs now
+  pub lasts : IsHonest s → (db : Database) → Leaves s db → Lasts (Represents db) w rs now

@@ -1,5 +1,5 @@
 -- What the bytes of two files hold, those of a database and of its log, and what a close leaves of them.
-use Rattle.std.specs.Prelude.{◌≡◌, List, [], false, true, Result, Ok, Err, ⊤}
+use Rattle.std.specs.Prelude.{◌≡◌, ◌⊎◌, List, [], false, true, Result, Ok, Err, ⊤}
 use Rattle.sqlite_disk.specs.declared.Disk.{Ghosts}
 use Rattle.sqlite_disk.specs.declared.Files.{Files}
 use Rattle.sqlite_store.specs.FileStore.{faults, is_shielded, recovers, view}
@@ -9,15 +9,16 @@ use Rattle.sqlite_wal.specs.Reads.{AreClean}
 use Rattle.sqlite_wal.specs.Recovery.{Image}
 use Rattle.sqlite_trees.specs.Tree.{Trees}
 use Rattle.sqlite_trees.specs.View.{IsClean, IsQuiet}
-use Rattle.sqlite.specs.Closing.{IsCopied}
-use Rattle.sqlite.specs.Effect.{IsDatabase}
+use Rattle.sqlite.specs.Closing.{HoldsAlone, IsCopied}
+use Rattle.sqlite.specs.Effect.{Database, IsDatabase}
 use Rattle.sqlite.specs.Files.{HoldsDatabase, IsBlankAs, IsOpened, file_state, image_of}
 use Rattle.sqlite.specs.Held.{Held}
 use Rattle.sqlite.specs.Start.{FindsIn}
-use Rattle.sqlite.specs.State.{HasCleanDisk}
+use Rattle.sqlite.specs.State.{HasCleanDisk, Opens}
 use Rattle.mx_book.specs.World.{Token, World, opening}
 use Rattle.mx_desk.specs.Durable.{Lasts}
 use Rattle.mx_desk.specs.Rounds.{Round}
+use Rattle.mx_tables.specs.Made.{IsUnknown}
 use Rattle.mx_tables.specs.Schema.{office_schema, schema_of}
 use Rattle.mx_tables.specs.States.{IsOurs, IsSound, IsHonest}
 use Rattle.mx_tables.specs.declared.making.Version.{Version}
@@ -27,8 +28,16 @@ use Rattle.mx_tables.specs.declared.migration.Migrated.TheVariants.{Done, Alread
 use Rattle.mx_tasks.specs.declared.fault.TaskFault.{TaskFault}
 use Rattle.mx_tasks.specs.declared.fault.TaskFault.TheVariants.{Store}
 use Rattle.mx_files.specs.Durable.{Endures, Represents, RepresentsIn}
+use Rattle.mx_files.specs.Opened.{IsRefusal}
+use Rattle.mx_files.specs.declared.closing.Ended.{Ended}
 use Rattle.mx_files.specs.declared.closing.Left.{Left}
 use Rattle.mx_files.specs.declared.closing.Left.TheVariants.{Closed, Unclosed, Nothing}
+
+-- the bytes are those of a database whose trees, as tables of the office of this version, represent this World
+pub record HoldTablesIn (v : Version) (bytes : Image) (w : World) : Type 0 where
+  pub trees : Trees
+  pub held : ∥ HoldsDatabase bytes trees ∥₁
+  pub stands : RepresentsIn v (record { schema = schema_of v; trees = trees }) w
 
 -- the bytes are those of a database that lists the tables of the office of this version, which represent this World
 pub record HoldBooksIn (v : Version) (bytes : Image) (w : World) : Type 0 where
@@ -40,6 +49,9 @@ pub record HoldBooksIn (v : Version) (bytes : Image) (w : World) : Type 0 where
 -- the same of the version that the office has
 abbrev pub HoldBooks : Image → World → Type 0
 HoldBooks = HoldBooksIn Two
+
+abbrev pub HoldTables : Image → World → Type 0
+HoldTables = HoldTablesIn Two
 
 -- and so are those of the database file without its log
 pub record HoldBooksAlone (bytes : Image) (w : World) : Type 0 where
@@ -78,15 +90,27 @@ module _ {D : Type 0} {g : Ghosts D} where
   HoldWorld (Closed files) w = AreClosed g files w
   HoldWorld _ w = ⊤
 
+  -- Files that were closed hold this database, with their log and without, as they are and as a stop may leave them. A stop leaves
+  -- no other of files that couldn't be closed.
+  abbrev pub HoldTrees : Left D g → Trees → Type 0
+  HoldTrees (Closed files) db = HoldsAlone (image_of g files) db × ((bytes : Image) → outcomes g files.log files.db bytes → HoldsAlone bytes db)
+  HoldTrees (Unclosed store) db = (found : Trees) → recovers store found → found ≡ db
+  HoldTrees Nothing db = ⊤
+
+  -- the files hold this database still, which is the one that these bytes hold, if they hold one
+  pub record Keeps (bytes : Image) (left : Left D g) (tables : Database) : Type 0 where
+    pub found : (db : Trees) → HoldsDatabase bytes db → tables.trees ≡ db
+    pub held : HoldTrees left tables.trees
+
   -- new books were made and closed: they have the token of this operator alone
   abbrev pub IsNewOf : Token → Left D g → Type 0
   IsNewOf operator left = AreShut left × (AreHonest left → HoldWorld left (opening operator))
 
-  -- So they have after these rounds. What a stop leaves of files that couldn't be closed represents that World, or it with one of
-  -- the rounds that were given up done after all.
-  abbrev pub HoldRounds : Left D g → List Round → World → Type 0
-  HoldRounds (Unclosed store) rs now = (db : Trees) → recovers store db → Lasts (Represents (record { schema = office_schema; trees = db })) rs now
-  HoldRounds left rs now = HoldWorld left now
+  -- So they have after these rounds, from the World w. What a stop leaves of files that couldn't be closed represents that World
+  -- now, or it with one round more, as `Lasts` says.
+  abbrev pub HoldRounds : Left D g → World → List Round → World → Type 0
+  HoldRounds (Unclosed store) w rs now = (db : Trees) → recovers store db → Lasts (Represents (record { schema = office_schema; trees = db })) w rs now
+  HoldRounds left w rs now = HoldWorld left now
 
   -- where files couldn't be closed, an answer is a fault
   abbrev pub closed_answer : {X : Type 0} → Left D g → Result X TaskFault → Result X TaskFault
@@ -104,9 +128,21 @@ module _ {D : Type 0} {g : Ghosts D} where
     pub honest : AreHonest left → IsHonest (file_state c)
     pub sound : AreHonest left → AreShut left → IsSound (file_state c)
     pub world : AreHonest left → (w : World) → IsOurs false (file_state c) → (IsSound (file_state c) → Represents (file_state c).now w) → HoldWorld left w
-    pub rounds : AreHonest left → (rs : List Round) (now : World) → IsOurs false (file_state c) → Endures (file_state c) rs now → HoldRounds left rs now
+    pub trees : AreHonest left → (db : Trees) → c.in_transaction ≡ false → (IsSound (file_state c) → (file_state c).now.trees ≡ db) → AreShut left ⊎ ((found : Trees) → (file_state c).may_leave found → found ≡ db) → HoldTrees left db
+    pub rounds : AreHonest left → (w : World) (rs : List Round) (now : World) → IsOurs false (file_state c) → Endures (file_state c) w rs now → HoldRounds left w rs now
+
+  -- The books in a store were refused: the files hold what was in it, and a task's fault is of that.
+  pub record IsRefused {X : Type 0} (c : Held (FileStore D g)) (ended : Ended X D g) : Type 0 where
+    pub clean : HasCleanDisk (file_state c)
+    pub held : Opens (file_state c) → HoldTrees ended.left (file_state c).now.trees
+    pub fault : IsRefusal (IsUnknown (λ _. 2) (file_state c).now) ended.answer
 
 -- the version that tables had before a migration that answers so
 abbrev pub version_before : Migrated → Version
 version_before Done = One
 version_before Already = Two
+
+-- a migration that answers so was of tables of that version, and files that were closed hold their World in this one
+abbrev pub Raises : {D : Type 0} {g : Ghosts D} → Held (FileStore D g) → Left D g → Migrated → Type 0
+Raises c left made =
+    ((file_state c).now.schema ≡ schema_of (version_before made)) × ((w : World) → RepresentsIn (version_before made) (file_state c).now w → HoldWorld left w)

@@ -2,6 +2,7 @@ pub mod Opened
 pub mod Durable
 pub mod InFiles
 pub mod Performed
+pub mod Series
 pub mod Folders
 pub mod Makings
 pub mod InMemory

@@ -1,5 +1,5 @@
 -- Which faults of books that are made or opened are which of the program's, and why a database isn't opened.
-use Rattle.std.specs.Prelude.{◌≡◌, ⊤}
+use Rattle.std.specs.Prelude.{◌≡◌, ◌⊎◌, Result, Err, Some, ⊤}
 use Rattle.sqlite.specs.declared.error.Error.{Error}
 use Rattle.sqlite.specs.declared.error.Error.TheVariants.{SqliteFailure}
 use Rattle.sqlite.specs.declared.error.ErrorCode.TheVariants as code
@@ -7,6 +7,7 @@ use Rattle.mx_tasks.specs.declared.cause.Cause.{Cause}
 use Rattle.mx_tasks.specs.declared.cause.Cause.TheVariants.{Fault, Busy, Damaged, OtherTables, NoLog, DiskFull, DiskFailed}
 use Rattle.mx_audit.specs.declared.opening.Refusal.{Refusal}
 use Rattle.mx_audit.specs.declared.opening.Refusal.TheVariants as refusal
+use Rattle.mx_tasks.specs.declared.work.Done.{Done}
 use Rattle.mx_tasks.specs.declared.fault.TaskFault.{TaskFault}
 use Rattle.mx_tasks.specs.declared.fault.TaskFault.TheVariants.{Memory, Store, NotThisSchema}
 
@@ -16,6 +17,14 @@ open_fault_of refusal.Memory = Memory
 open_fault_of refusal.Store = Store
 open_fault_of refusal.NotThisSchema = NotThisSchema
 open_fault_of (refusal.Unsound checked) = Store
+
+-- the fault of a task whose books were refused: want of memory; one of the store; or that they aren't known, only where this is so
+abbrev pub IsRefusal : {X : Type 0} → Type 0 → Result X TaskFault → Type 0
+IsRefusal Unknown result = (result ≡ Err Memory) ⊎ ((result ≡ Err Store) ⊎ ((result ≡ Err NotThisSchema) × Unknown))
+
+-- a check tells of something wrong
+abbrev pub IsWrong : Done → Type 0
+IsWrong done = done.fault ≡ Some Store
 
 -- why a database isn't opened, by the error
 abbrev pub cause_of : Error → Cause

@@ -1,14 +1,17 @@
 -- The tasks of the program: what was answered and written, and where the books stand then.
-use Rattle.std.specs.Prelude.{◌≡◌, ◌⊎◌, ℕ, List, [], Option, Some, None, Result, Ok, Err, OnOk, IfErr, IfOk, IsOk, codes}
+use Rattle.std.specs.Prelude.{◌≡◌, ◌⊎◌, ℕ, List, [], Option, Some, None, Result, Ok, Err, OnOk, OnErr, IfErr, IfOk, IsErr, IsOk, codes}
 use Rattle.std.specs.Io.KnownBytes.{Appends}
 use Rattle.sqlite_disk.specs.declared.Disk.{Ghosts}
 use Rattle.sqlite_wal.specs.Recovery.{Image}
+use Rattle.sqlite.specs.Effect.{Database}
 use Rattle.mx_args.specs.declared.task.Task.{Task}
 use Rattle.mx_book.specs.World.{Token, World, opening}
 use Rattle.mx_book.specs.declared.contract.StoreFault.{StoreFault}
 use Rattle.mx_desk.specs.Rounds.{Leads}
 use Rattle.mx_desk.specs.Serve.{Marked}
 use Rattle.mx_desk.specs.Steps.{State, state}
+use Rattle.mx_tables.specs.Made.{IsUnknown}
+use Rattle.mx_tables.specs.declared.making.Version.TheVariants.{One}
 use Rattle.mx_tables.specs.declared.migration.Migrated.{Migrated}
 use Rattle.mx_tables.specs.declared.migration.Migrated.TheVariants as migrated
 use Rattle.mx_tasks.specs.Runs.{TaskRuns}
@@ -17,7 +20,8 @@ use Rattle.mx_tasks.specs.declared.fault.TaskFault.{TaskFault}
 use Rattle.mx_tasks.specs.declared.fault.TaskFault.TheVariants.{Write}
 use Rattle.mx_tasks.specs.declared.work.Done.{Done}
 use Rattle.mx_tasks.specs.declared.work.Work.{Work}
-use Rattle.mx_files.specs.InFiles.{AreHonest, AreShut, HoldBooks, HoldBooksIn, HoldRounds, HoldWorld, IsNewOf, closed_answer, version_before}
+use Rattle.mx_files.specs.InFiles.{AreHonest, AreShut, HoldBooksIn, HoldRounds, HoldTables, HoldWorld, IsNewOf, Keeps, closed_answer, version_before}
+use Rattle.mx_files.specs.Opened.{IsRefusal}
 use Rattle.mx_files.specs.Plans.{planned_task}
 use Rattle.mx_files.specs.declared.closing.Ended.{Ended}
 use Rattle.mx_files.specs.declared.closing.Left.{Left}
@@ -53,7 +57,7 @@ EndsWork (Err e) result before after = (result ≡ Err e) × (after ≡ before)
 -- a task that is work over the books of these files, as it was told behind their close
 pub record PerformsWork {D X : Type 0} {g : Ghosts D} (fails : StoreFault → Type 0) (left : Left D g) (w : World) (work : Work) (result : Result X TaskFault) (before after : Option (List ℕ)) : Type 0 where
   pub answer : Result Done TaskFault
-  pub works : Works fails (AreShut left) (HoldWorld left) (HoldRounds left) w work answer
+  pub works : Works fails (AreShut left) (HoldWorld left) (HoldRounds left w) w work answer
   pub ends : EndsWork (closed_answer left answer) result before after
 
 -- new books were closed, which have the operator's token alone, and that is said; or the task failed
@@ -70,11 +74,19 @@ abbrev pub EndsMigration : {X : Type 0} → Result Migrated TaskFault → Result
 EndsMigration (Ok made) result before after = IfErr result (λ e. e ≡ Write) × OnOk result (Appends before after (migrated_text made))
 EndsMigration (Err e) result before after = (result ≡ Err e) × (after ≡ before)
 
--- a task that is a migration: what was a World in the version before is that in this one
+-- A task that is a migration: what was a World in the version before is that in this one. Where that fails, what was there is there
+-- still, or it is of this version.
 pub record PerformsMigration {D X : Type 0} {g : Ghosts D} (bytes : Image) (left : Left D g) (result : Result X TaskFault) (before after : Option (List ℕ)) : Type 0 where
   pub answer : Result Migrated TaskFault
   pub migrates : IfOk answer (λ made. (w : World) → HoldBooksIn (version_before made) bytes w → HoldWorld left w)
+  pub refused : AreShut left → OnErr answer (((tables : Database) × Keeps bytes left tables) ⊎ ((w : World) → HoldBooksIn One bytes w → HoldWorld left w))
   pub ends : EndsMigration (closed_answer left answer) result before after
+
+-- A check: something is wrong, and the database is in the files still; or they were and are the books of a World.
+abbrev pub Checks : {D : Type 0} {g : Ghosts D} → Image → Left D g → Type 0 → Type 0
+Checks bytes left Wrong =
+    (Wrong × (tables : Database) × Keeps bytes left tables)
+    ⊎ (AreShut left → (w : World) × ((u : World) → HoldTables bytes u → u ≡ w) × HoldWorld left w)
 
 -- a fault before the files of a task are opened leaves none of them
 abbrev pub ended_of : {D X : Type 0} {g : Ghosts D} → Result (Ended X D g) TaskFault → Ended X D g
@@ -104,16 +116,22 @@ PerformsInMemory operator before after result = (ms : List Marked) × (now : Wor
     × PerformsRun NeverFails (λ run. run) (state [] before.input before.output (opening operator)) result after.input after.output ms now
 
 module _ {D X : Type 0} {g : Ghosts D} where
+  -- Nothing was read or written, since there are no files, or the books in them were refused, and are in them still. Or they were those
+  -- of a World, from which this was done.
+  abbrev pub OverBooks : Image → Streams → Streams → Ended X D g → (World → Type 0) → Type 0
+  OverBooks bytes before after ended Does =
+      ((after ≡ before) × (AreHonest ended.left → (tables : Database) × Keeps bytes ended.left tables × IsRefusal (IsUnknown (λ _. 2) tables) ended.answer))
+      ⊎ (AreHonest ended.left → (w : World) × ((u : World) → HoldTables bytes u → u ≡ w) × Does w)
+
   -- what an act does with the books in a file that held these bytes
   abbrev pub PerformsAct : Image → Streams → Streams → Act → Ended X D g → Type 0
-  PerformsAct bytes before after act.Run ended = (w : World) → HoldBooks bytes w → AreHonest ended.left
-      → Leads (PerformsRun MayFail (closed_answer ended.left) (state [] before.input before.output w) ended.answer after.input after.output) (HoldRounds ended.left)
+  PerformsAct bytes before after act.Run ended = OverBooks bytes before after ended
+      (λ w. Leads (PerformsRun MayFail (closed_answer ended.left) (state [] before.input before.output w) ended.answer after.input after.output) (HoldRounds ended.left w))
   PerformsAct bytes before after (act.Make operator) ended = IsOk ended.answer
       → MakesBooks operator ended.left ended.answer before.output after.output
-  PerformsAct bytes before after (act.Work work) ended = (w : World) → HoldBooks bytes w → AreHonest ended.left
-      → PerformsWork MayFail ended.left w work ended.answer before.output after.output
-  PerformsAct bytes before after act.Check ended = (w : World) → HoldBooks bytes w → IsOk ended.answer → AreHonest ended.left
-      → HoldWorld ended.left w
+  PerformsAct bytes before after (act.Work work) ended = OverBooks bytes before after ended
+      (λ w. PerformsWork MayFail ended.left w work ended.answer before.output after.output)
+  PerformsAct bytes before after act.Check ended = AreHonest ended.left → Checks bytes ended.left (IsErr ended.answer)
   PerformsAct bytes before after act.Migrate ended = AreHonest ended.left
       → PerformsMigration bytes ended.left ended.answer before.output after.output
 

@@ -1,10 +1,11 @@
 //! Whether the books in a store are sound, in words.
-ghost use Rattle.std.specs.Prelude.{◌≡◌, ◌≤◌, IfOk, None, Some, false};
+ghost use Rattle.std.specs.Prelude.{◌≡◌, ◌≤◌, ◌⊎◌, IfOk, false};
 ghost use Rattle.sqlite.specs.Held.{state};
 ghost use Rattle.mx_book.specs.Views.{Keeps};
 ghost use Rattle.mx_book.specs.World.{World};
-ghost use Rattle.mx_tables.specs.States.{IsOurs, IsSound, worry};
+ghost use Rattle.mx_tables.specs.States.{IsOurs, IsSound, StaysIdle, worry};
 ghost use Rattle.mx_files.specs.Durable.{Represents};
+ghost use Rattle.mx_files.specs.Opened.{IsWrong};
 
 use crate::stores::unmade;
 use mx_audit::tables::Checked;
@@ -45,7 +46,7 @@ fn sound_line(alloc: Global, checked: &Checked) -> Result<String, AllocError> {
 
 /// A text, with the fault `Store` where it tells of one.
 fn done(text: String, is_well: bool) -> Done
-    ensures { is_well ≡ false → result.fault ≡ Some TaskFault.Store }
+    ensures { is_well ≡ false → IsWrong result }
 {
     Done {
         text: text.into_bytes(),
@@ -73,36 +74,37 @@ fn sums_done<B: Book>(rt: &HostRuntime, book: &mut B, checked: &Checked) -> Resu
     Ok(done(text, is_well))
 }
 
+/// What the check of books in which something was found says of that.
+fn findings_done(alloc: Global, checked: &Checked) -> Result<Done, TaskFault>
+    ensures { IfOk result IsWrong }
+{
+    let text = findings_text(alloc, checked)?;
+    Ok(done(text, false))
+}
+
 /// Tells whether the books in a store are sound, and gives the store back. Where the audit has findings, a line tells each of the
 /// first 1,000, and one how many more there are. Else a line tells how many members, holders, purses and lines there are, and
 /// lines which member's sums, whether the scheme's, and which purse's statement don't add up. `Store` comes with a text that
 /// tells of something wrong.
 ///
-/// # Errors
-///
-/// `NotThisSchema` where the store has no books of this version; `Store` where it has other tables, or refuses a statement;
-/// `Memory`. The store is given up then.
+/// The answer is a fault where `open` has one: `NotThisSchema`, `Store` or `Memory`.
 pub fn check_in_store<S: Ordered + Drop>(
     rt: &HostRuntime,
     store: Connection<S>,
-) -> Result<(Done, Connection<S>), TaskFault>
-    ensures later { IfOk result
-        (λ x. worry (state S.Store store) ≤ worry (state S.Store x.1)) }
-    ensures stays { IfOk result (λ x. x.0.fault ≡ None → IsSound (state S.Store x.1)
-        → (w : World) × Represents (state S.Store store).now w
-        × IsOurs false (state S.Store x.1) × Represents (state S.Store x.1).now w) }
+) -> (Result<Done, TaskFault>, Connection<S>)
+    ensures later { worry (state S.Store store) ≤ worry (state S.Store result.1) }
+    ensures stays { (IfOk result.0 IsWrong × StaysIdle (state S.Store store) (state S.Store result.1))
+        ⊎ (IsSound (state S.Store result.1) → (w : World) × Represents (state S.Store store).now w
+        × IsOurs false (state S.Store result.1) × Represents (state S.Store result.1).now w) }
 {
     match open(rt.alloc(), store, MOST_FINDINGS) {
         Ok((mut book, checked)) => {
-            let answer = sums_done(rt, &mut book, &checked)?;
-            Ok((answer, book.into_inner().into_store()))
+            let answer = sums_done(rt, &mut book, &checked);
+            (answer, book.into_inner().into_store())
         }
         Err(Refused { fault, store }) => match fault {
-            Refusal::Unsound(checked) => {
-                let text = findings_text(rt.alloc(), &checked)?;
-                Ok((done(text, false), store))
-            }
-            other => Err(unmade(other)),
+            Refusal::Unsound(checked) => (findings_done(rt.alloc(), &checked), store),
+            other => (Err(unmade(other)), store),
         },
     }
 }

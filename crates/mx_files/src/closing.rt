@@ -1,23 +1,28 @@
 //! Books in two files of any disk, a database and its log: what is done over them, up to the close.
-ghost use Rattle.std.specs.Prelude.{◌≡◌, ℕ, [], Result, IfErr, IfOk, IfSome, IsErr, IsOk, IsTrue};
+ghost use Rattle.std.specs.Prelude.{◌≡◌, ◌⊎◌, ℕ, [], false, Result, IfErr, IfOk, IfSome, IsErr, IsOk, IsTrue, OnErr};
 ghost use Rattle.sqlite.specs.Effect.{IsDatabase};
-ghost use Rattle.sqlite.specs.Files.{file_state};
-ghost use Rattle.sqlite.specs.State.{HasCleanDisk};
+ghost use Rattle.sqlite_store.specs.declared.store.FileStore.{FileStore};
+ghost use Rattle.sqlite.specs.Files.{file_state, over_files};
+ghost use Rattle.sqlite.specs.Held.{Held};
+ghost use Rattle.sqlite.specs.State.{HasCleanDisk, Opens};
 ghost use Rattle.mx_book.specs.World.{World, opening};
 ghost use Rattle.mx_desk.specs.Rounds.{Leads};
 ghost use Rattle.mx_desk.specs.Steps.{state};
-ghost use Rattle.mx_tables.specs.Schema.{schema_of};
+ghost use Rattle.mx_audit.specs.Audited.{Refuses};
 ghost use Rattle.mx_tasks.specs.Faults.{Untouched};
 ghost use Rattle.mx_tasks.specs.Runs.{IsRunFault, TaskRuns};
 ghost use Rattle.mx_tasks.specs.Works.{Works};
 ghost use Rattle.mx_tasks.specs.declared.fault.TaskFault.{TaskFault};
 ghost use Rattle.mx_tasks.specs.declared.work.Done.{Done};
 ghost use Rattle.mx_tables.specs.declared.migration.Migrated.{Migrated};
-ghost use Rattle.mx_files.specs.Durable.{Represents, RepresentsIn};
-ghost use Rattle.mx_files.specs.InFiles.{AreHonest, AreShut, Closes, IsLeftOf, HoldRounds, HoldWorld, closed_answer, version_before};
+ghost use Rattle.mx_tables.specs.declared.migration.Migrated.TheVariants.{Done as Raised};
+ghost use Rattle.mx_files.specs.Durable.{Represents};
+ghost use Rattle.mx_files.specs.Opened.{IsWrong};
+ghost use Rattle.mx_files.specs.InFiles.{AreHonest, AreShut, Closes, IsLeftOf, IsRefused, HoldRounds, HoldTrees, HoldWorld, Raises, closed_answer};
 
 use crate::check::check_in_store;
-use crate::stores::{make_in_store, migrate_in_store, run_in_store, work_in_store};
+use crate::stores::{make_in_store, migrate_in_store, run_in_store, unmade, work_in_store};
+use mx_audit::Refused;
 use mx_book::Book;
 use mx_desk::{Counted, Outlet};
 use mx_pay::Token;
@@ -36,7 +41,7 @@ pub enum Left<D: Disk> {
     Closed(Files<D>),
     /// They can't be closed: a stop leaves of them what it could leave before.
     Unclosed(FileStore<D>),
-    /// They weren't opened, or have no books of this version; or the task has none.
+    /// They weren't opened, or the task has none.
     Nothing,
 }
 
@@ -76,6 +81,8 @@ impl<T, D: Disk> Ended<T, D> {
 /// Closes the two files of a store.
 fn closed<D: Disk + Drop>(store: Connection<FileStore<D>>) -> Left<D>
     ensures listed { IsTrue (file_state store).is_open → IsDatabase (file_state store).now }
+    ensures settled { store.in_transaction ≡ false → IsTrue (file_state store).is_open
+        → (file_state store).committed.trees ≡ (file_state store).now.trees }
     ensures left { IsLeftOf store result }
 {
     match store.close_files() {
@@ -114,6 +121,16 @@ pub fn close<D: Disk + Drop, T: Drop>(
     }
 }
 
+/// Closes the files of a store whose books were refused. They are as they were.
+fn close_refused<D: Disk + Drop, T: Drop>(refused: Refused<FileStore<D>>) -> Ended<T, D>
+    ensures fault { IsErr result.answer }
+    ensures refused { (store : Held (FileStore D D.Disk))
+        → Refuses over_files store refused.fault refused.store
+        → AreHonest result.left → IsRefused store result }
+{
+    close(Err(unmade(refused.fault)), refused.store)
+}
+
 /// Makes new books in the files of a store, for the operator with this token, and closes the files.
 ///
 /// # Errors
@@ -132,50 +149,50 @@ pub fn make_in_files<D: Disk + Drop>(
     Ok(close(Ok(()), made))
 }
 
-/// Answers the requests of the input over the books in the files of a store, and closes the files.
-///
-/// # Errors
-///
-/// As of `run_in_store`.
+/// Answers the requests of the input over the books in the files of a store, and closes the files. Where the books are refused,
+/// as `run_in_store` does, nothing was read or written, and the files hold what they held.
 pub fn run_in_files<D: Disk + Drop, R: Read, W: Outlet>(
     alloc: Global,
     store: Connection<FileStore<D>>,
     reader: &mut Counted<R>,
     writer: &mut Counted<W>,
-) -> Result<Ended<u64, D>, TaskFault>
-    ensures unopened { IsErr result → Untouched reader.old reader.new writer.old writer.new }
-    ensures shut { IfOk result (λ ended. IsOk ended.answer → AreShut ended.left) }
-    ensures runs { IfOk result (λ ended. AreHonest ended.left → HasCleanDisk (file_state store)
+) -> Ended<u64, D>
+    ensures shut { IsOk result.answer → AreShut result.left }
+    ensures runs { (Untouched reader.old reader.new writer.old writer.new × IsErr result.answer
+        × (AreHonest result.left → IsRefused store result))
+        ⊎ (AreHonest result.left → HasCleanDisk (file_state store)
         × (w : World) × (run : Result ℕ TaskFault) × Represents (file_state store).now w
-        × (ended.answer ≡ closed_answer ended.left run) × IfErr run IsRunFault
+        × (result.answer ≡ closed_answer result.left run) × IfErr run IsRunFault
         × Leads (λ ms now. TaskRuns ⟦<Standing<Tables<FileStore<D>>> as Book>⟧.fails
         (state [] (R.remaining reader.old.device) (W.contents writer.old.device) w) run ms
         (state [] (R.remaining reader.new.device) (W.contents writer.new.device) now))
-        (HoldRounds ended.left)) }
+        (HoldRounds result.left w)) }
 {
-    let (answer, left) = run_in_store(alloc, store, reader, writer)?;
-    Ok(close(answer, left))
+    match run_in_store(alloc, store, reader, writer) {
+        Ok((answer, left)) => close(answer, left),
+        Err(refused) => close_refused(refused),
+    }
 }
 
-/// Does a piece of work over the books in the files of a store, and closes the files.
-///
-/// # Errors
-///
-/// As of `work_in_store`.
+/// Does a piece of work over the books in the files of a store, and closes the files. Where the books are refused, nothing was
+/// done, and the files hold what they held.
 pub fn work_in_files<D: Disk + Drop>(
     rt: &HostRuntime,
     store: Connection<FileStore<D>>,
     work: &Work<'_>,
-) -> Result<Ended<Done, D>, TaskFault>
-    ensures shut { IfOk result (λ ended. IsOk ended.answer → AreShut ended.left) }
-    ensures works { IfOk result (λ ended. AreHonest ended.left → HasCleanDisk (file_state store)
+) -> Ended<Done, D>
+    ensures shut { IsOk result.answer → AreShut result.left }
+    ensures works { (IsErr result.answer × (AreHonest result.left → IsRefused store result))
+        ⊎ (AreHonest result.left → HasCleanDisk (file_state store)
         × (w : World) × (answer : Result Done TaskFault) × Represents (file_state store).now w
-        × (ended.answer ≡ closed_answer ended.left answer)
-        × Works ⟦<Standing<Tables<FileStore<D>>> as Book>⟧.fails (AreShut ended.left)
-        (HoldWorld ended.left) (HoldRounds ended.left) w work.now answer) }
+        × (result.answer ≡ closed_answer result.left answer)
+        × Works ⟦<Standing<Tables<FileStore<D>>> as Book>⟧.fails (AreShut result.left)
+        (HoldWorld result.left) (HoldRounds result.left w) w work.now answer) }
 {
-    let (answer, left) = work_in_store(rt, store, work)?;
-    Ok(close(answer, left))
+    match work_in_store(rt, store, work) {
+        Ok((done, left)) => close(done, left),
+        Err(refused) => close_refused(refused),
+    }
 }
 
 /// Brings the books in the files of a store to the schema of this version, audits them, and closes the files.
@@ -186,10 +203,9 @@ pub fn migrate_in_files<D: Disk + Drop>(
     ensures shut { IsOk result.answer → AreShut result.left }
     ensures migrates { AreHonest result.left → HasCleanDisk (file_state store)
         × (answer : Result Migrated TaskFault) × (result.answer ≡ closed_answer result.left answer)
-        × (AreShut result.left → IfOk answer
-        (λ made. ((file_state store).now.schema ≡ schema_of (version_before made))
-        × ((w : World) → RepresentsIn (version_before made) (file_state store).now w
-        → HoldWorld result.left w))) }
+        × (AreShut result.left → IfOk answer (Raises store result.left))
+        × (AreShut result.left → Opens (file_state store) → OnErr answer
+        (HoldTrees result.left (file_state store).now.trees ⊎ Raises store result.left Raised)) }
 {
     let mut held = store;
     let answer = migrate_in_store(alloc, &mut held);
@@ -197,19 +213,17 @@ pub fn migrate_in_files<D: Disk + Drop>(
 }
 
 /// Tells whether the books in the files of a store are sound, or what is wrong in them, and closes the files.
-///
-/// # Errors
-///
-/// As of `check_in_store`.
 pub fn check_in_files<D: Disk + Drop>(
     rt: &HostRuntime,
     store: Connection<FileStore<D>>,
-) -> Result<Ended<Done, D>, TaskFault>
-    ensures shut { IfOk result (λ ended. IsOk ended.answer → AreShut ended.left) }
-    ensures checks { IfOk result (λ ended. IfOk ended.answer (λ done. done.fault ≡ None
-        → AreHonest ended.left → HasCleanDisk (file_state store)
-        × (w : World) × Represents (file_state store).now w × HoldWorld ended.left w)) }
+) -> Ended<Done, D>
+    ensures shut { IsOk result.answer → AreShut result.left }
+    ensures checks { AreHonest result.left → HasCleanDisk (file_state store)
+        × ((IfOk result.answer IsWrong
+        × (Opens (file_state store) → HoldTrees result.left (file_state store).now.trees))
+        ⊎ (AreShut result.left
+        → (w : World) × Represents (file_state store).now w × HoldWorld result.left w)) }
 {
-    let (done, left) = check_in_store(rt, store)?;
-    Ok(close(Ok(done), left))
+    let (answer, left) = check_in_store(rt, store);
+    close(answer, left)
 }

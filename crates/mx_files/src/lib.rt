@@ -12,6 +12,7 @@ pub mod perform;
 pub mod places;
 pub mod plan;
 pub mod program;
+pub mod series;
 pub mod stored_file;
 pub mod stores;
 mod unopened;

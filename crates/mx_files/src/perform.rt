@@ -7,8 +7,9 @@ ghost use Rattle.mx_desk.specs.Rounds.{Leads};
 ghost use Rattle.mx_desk.specs.Serve.{Marked};
 ghost use Rattle.mx_desk.specs.Steps.{state};
 ghost use Rattle.mx_tasks.specs.Faults.{Untouched};
-ghost use Rattle.mx_files.specs.InFiles.{AreHonest, AreShut, HoldBooks, HoldRounds, HoldWorld, closed_answer};
-ghost use Rattle.mx_files.specs.Performed.{EndsMigration, EndsRun, EndsWork, MakesBooks, Performs, PerformsInMemory, PerformsMigration, PerformsRun, PerformsWork, ended_of, streams};
+ghost use Rattle.mx_files.specs.InFiles.{AreHonest, AreShut, HoldRounds, closed_answer};
+ghost use Rattle.mx_files.specs.Opened.{IsWrong};
+ghost use Rattle.mx_files.specs.Performed.{Checks, EndsMigration, EndsRun, EndsWork, MakesBooks, OverBooks, Performs, PerformsInMemory, PerformsMigration, PerformsRun, PerformsWork, ended_of, streams};
 
 use crate::closing::{Ended, check_in_files, migrate_in_files, run_in_files, work_in_files};
 use crate::files::{make_in_file, open_found, open_told};
@@ -42,7 +43,8 @@ fn say<W: Write>(writer: &mut Counted<W>, text: &[u8]) -> Result<(), TaskFault>
 
 /// Passes on what the writer holds behind a run. A fault of the run stays the fault.
 fn pass_on<W: Write>(run: Result<u64, TaskFault>, writer: &mut Counted<W>) -> Result<(), TaskFault>
-    ensures ends { EndsRun run result (W.contents writer.old.device) (W.contents writer.new.device) }
+    ensures ends { EndsRun run result
+        (W.contents writer.old.device) (W.contents writer.new.device) }
 {
     run?;
     say(writer, b"")
@@ -88,16 +90,17 @@ fn run_in_file<S: Start, R: Read, W: Outlet>(
 ) -> Result<Ended<(), FileFrom<S>>, TaskFault>
     ensures unopened { IsErr result → Untouched reader.old reader.new writer.old writer.new }
     ensures shut { IfOk result (λ ended. IsOk ended.answer → AreShut ended.left) }
-    ensures runs { (w : World) → HoldBooks (image_at S.Start) w
-        → IfOk result (λ ended. AreHonest ended.left
-        → Leads (PerformsRun ⟦<Standing<Tables<FileStore<FileFrom<S>>>> as Book>⟧.fails
+    ensures runs { IfOk result (λ ended. OverBooks (image_at S.Start)
+        (streams (R.remaining reader.old.device) (W.contents writer.old.device))
+        (streams (R.remaining reader.new.device) (W.contents writer.new.device)) ended
+        (λ w. Leads (PerformsRun ⟦<Standing<Tables<FileStore<FileFrom<S>>>> as Book>⟧.fails
         (closed_answer ended.left)
         (state [] (R.remaining reader.old.device) (W.contents writer.old.device) w) ended.answer
         (R.remaining reader.new.device) (W.contents writer.new.device))
-        (HoldRounds ended.left)) }
+        (HoldRounds ended.left w))) }
 {
     let store = open_told(rt, path, start)?;
-    let Ended { answer, left } = run_in_files(rt.alloc(), store, reader, writer)?;
+    let Ended { answer, left } = run_in_files(rt.alloc(), store, reader, writer);
     Ok(Ended {
         answer: pass_on(answer, writer),
         left,
@@ -114,13 +117,14 @@ fn work_in_file<S: Start, W: Write>(
 ) -> Result<Ended<(), FileFrom<S>>, TaskFault>
     ensures unopened { IsErr result → writer.new ≡ writer.old }
     ensures shut { IfOk result (λ ended. IsOk ended.answer → AreShut ended.left) }
-    ensures works { (w : World) → HoldBooks (image_at S.Start) w
-        → IfOk result (λ ended. AreHonest ended.left
-        → PerformsWork ⟦<Standing<Tables<FileStore<FileFrom<S>>>> as Book>⟧.fails ended.left w
-        work.now ended.answer (W.contents writer.old.device) (W.contents writer.new.device)) }
+    ensures works { (input : _) → IfOk result (λ ended. OverBooks (image_at S.Start)
+        (streams input (W.contents writer.old.device))
+        (streams input (W.contents writer.new.device)) ended
+        (λ w. PerformsWork ⟦<Standing<Tables<FileStore<FileFrom<S>>>> as Book>⟧.fails ended.left w
+        work.now ended.answer (W.contents writer.old.device) (W.contents writer.new.device))) }
 {
     let store = open_told(rt, path, start)?;
-    let Ended { answer, left } = work_in_files(rt, store, work)?;
+    let Ended { answer, left } = work_in_files(rt, store, work);
     Ok(Ended {
         answer: say_done(answer, writer),
         left,
@@ -135,12 +139,11 @@ fn check_in_file<S: Start>(
 ) -> Result<Ended<Done, FileFrom<S>>, TaskFault>
     ensures shut { IfOk result (λ ended. IfOk ended.answer
         (λ done. done.fault ≡ None → AreShut ended.left)) }
-    ensures checks { (w : World) → HoldBooks (image_at S.Start) w
-        → IfOk result (λ ended. IfOk ended.answer (λ done. done.fault ≡ None
-        → AreHonest ended.left → HoldWorld ended.left w)) }
+    ensures checks { IfOk result (λ ended. AreHonest ended.left
+        → Checks (image_at S.Start) ended.left (IfOk ended.answer IsWrong)) }
 {
     match open_found(rt, path, start) {
-        Ok(store) => check_in_files(rt, store),
+        Ok(store) => Ok(check_in_files(rt, store)),
         Err(cause) => {
             let line = format!(in rt.alloc(); "{path}: {cause}\n")?;
             let done = Done {
@@ -195,9 +198,8 @@ fn check_file<S: Start, W: Write>(
     writer: &mut Counted<W>,
 ) -> Result<Ended<(), FileFrom<S>>, TaskFault>
     ensures shut { IfOk result (λ ended. IsOk ended.answer → AreShut ended.left) }
-    ensures checks { (w : World) → HoldBooks (image_at S.Start) w
-        → IfOk result (λ ended. IsOk ended.answer → AreHonest ended.left
-        → HoldWorld ended.left w) }
+    ensures checks { IfOk result (λ ended. AreHonest ended.left
+        → Checks (image_at S.Start) ended.left (IsErr ended.answer)) }
 {
     let Ended { answer, left } = check_in_file(rt, path, start)?;
     Ok(Ended {

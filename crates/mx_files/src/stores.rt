@@ -1,11 +1,14 @@
 //! Books in a store, wherever that keeps them.
-ghost use Rattle.std.specs.Prelude.{◌≡◌, ◌≤◌, [], false, IfErr, IfOk, IsErr, OnOk};
+ghost use Rattle.std.specs.Prelude.{◌≡◌, ◌≤◌, ◌⊎◌, [], false, IfErr, IfOk, IsErr, OnErr, OnOk};
 ghost use Rattle.sqlite.specs.Held.{state as state_of};
+ghost use Rattle.sqlite.specs.State.{HasCleanDisk};
 ghost use Rattle.mx_book.specs.World.{World, opening};
 ghost use Rattle.mx_desk.specs.Rounds.{Leads};
 ghost use Rattle.mx_desk.specs.Steps.{state};
+ghost use Rattle.mx_audit.specs.Audited.{Refuses};
 ghost use Rattle.mx_tables.specs.Migration.{Migrates};
 ghost use Rattle.mx_tables.specs.States.{IsOurs, Leaves, worry, IsSound, IsHonest};
+ghost use Rattle.mx_tables.specs.declared.migration.Migrated.TheVariants.{Done as Raised};
 ghost use Rattle.mx_tasks.specs.Faults.{Untouched};
 ghost use Rattle.mx_tasks.specs.Runs.{IsRunFault, TaskRuns};
 ghost use Rattle.mx_tasks.specs.Works.{Works};
@@ -13,7 +16,7 @@ ghost use Rattle.mx_files.specs.Durable.{Endures, Represents};
 ghost use Rattle.mx_files.specs.Opened.{open_fault_of};
 
 use mx_audit::opening::as_refusal;
-use mx_audit::{Ordered, Refusal, migrate, open};
+use mx_audit::{Ordered, Refusal, Refused, migrate, open};
 use mx_book::Book;
 use mx_desk::{Counted, Outlet};
 use mx_pay::Token;
@@ -66,14 +69,13 @@ pub fn make_in_store<S: Alter + Drop>(
 ///
 /// # Errors
 ///
-/// `NotThisSchema` where the store has no books of this version; `Store` where it has other tables, its rows are no books,
-/// or it refuses a statement; `Memory`. Nothing was read or written then, and the store is given up.
+/// Those of `open`. Nothing was read or written then, and the store is given back as it was.
 pub fn run_in_store<S: Ordered + Drop, R: Read, W: Outlet>(
     alloc: Global,
     store: Connection<S>,
     reader: &mut Counted<R>,
     writer: &mut Counted<W>,
-) -> Result<(Result<u64, TaskFault>, Connection<S>), TaskFault>
+) -> Result<(Result<u64, TaskFault>, Connection<S>), Refused<S>>
     ensures later { IfOk result
         (λ x. worry (state_of S.Store store) ≤ worry (state_of S.Store x.1)) }
     ensures fault { IfOk result (λ x. IfErr x.0 IsRunFault) }
@@ -82,18 +84,19 @@ pub fn run_in_store<S: Ordered + Drop, R: Read, W: Outlet>(
         × Leads (λ ms now. TaskRuns ⟦<Standing<Tables<S>> as Book>⟧.fails
         (state [] (R.remaining reader.old.device) (W.contents writer.old.device) w) x.0 ms
         (state [] (R.remaining reader.new.device) (W.contents writer.new.device) now))
-        (Endures (state_of S.Store x.1))) }
+        (Endures (state_of S.Store x.1) w)) }
     ensures ours { IfOk result (λ x. IsOurs false (state_of S.Store x.1)) }
     ensures lasts { IfOk result (λ x. IsSound (state_of S.Store x.1)
         → Leaves (state_of S.Store x.1) (state_of S.Store x.1).now) }
     ensures unopened { IsErr result → Untouched reader.old reader.new writer.old writer.new }
+    ensures refused { IfErr result (λ e. Refuses S.Store store e.fault e.store) }
 {
     match open(alloc, store, 0) {
         Ok((book, _)) => {
             let (answer, left) = run_in_book(alloc, book, reader, writer);
             Ok((answer, left.into_inner().into_store()))
         }
-        Err(refused) => Err(unmade(refused.fault)),
+        Err(refused) => Err(refused),
     }
 }
 
@@ -107,23 +110,24 @@ pub fn work_in_store<S: Ordered + Drop>(
     rt: &HostRuntime,
     store: Connection<S>,
     work: &Work<'_>,
-) -> Result<(Result<Done, TaskFault>, Connection<S>), TaskFault>
+) -> Result<(Result<Done, TaskFault>, Connection<S>), Refused<S>>
     ensures later { IfOk result
         (λ x. worry (state_of S.Store store) ≤ worry (state_of S.Store x.1)) }
     ensures works { IfOk result (λ x. IsHonest (state_of S.Store x.1)
         → (w : World) × Represents (state_of S.Store store).now w
         × Works ⟦<Standing<Tables<S>> as Book>⟧.fails (IsSound (state_of S.Store x.1))
-        (Represents (state_of S.Store x.1).now) (Endures (state_of S.Store x.1)) w work.now x.0) }
+        (Represents (state_of S.Store x.1).now) (Endures (state_of S.Store x.1) w) w work.now x.0) }
     ensures ours { IfOk result (λ x. IsOurs false (state_of S.Store x.1)) }
     ensures lasts { IfOk result (λ x. IsSound (state_of S.Store x.1)
         → Leaves (state_of S.Store x.1) (state_of S.Store x.1).now) }
+    ensures refused { IfErr result (λ e. Refuses S.Store store e.fault e.store) }
 {
     match open(rt.alloc(), store, 0) {
         Ok((book, _)) => {
             let (answer, left) = work_in_book(rt, work, book);
             Ok((answer, left.into_inner().into_store()))
         }
-        Err(refused) => Err(unmade(refused.fault)),
+        Err(refused) => Err(refused),
     }
 }
 
@@ -141,6 +145,12 @@ pub fn migrate_in_store<S: Ordered>(
     ensures ours { OnOk result (IsOurs false (state_of S.Store store.new)) }
     ensures migrates { IsSound (state_of S.Store store.new) → IfOk result
         (λ made. Migrates made (state_of S.Store store.old).now (state_of S.Store store.new).now) }
+    ensures idle { store.old.in_transaction ≡ false
+        → HasCleanDisk (state_of S.Store store.new) → store.new.in_transaction ≡ false }
+    ensures left { IsSound (state_of S.Store store.new) → OnErr result
+        (((state_of S.Store store.new).now ≡ (state_of S.Store store.old).now)
+        ⊎ (IsOurs false (state_of S.Store store.new)
+        × Migrates Raised (state_of S.Store store.old).now (state_of S.Store store.new).now)) }
 {
     match migrate(alloc, store) {
         Ok(migrated) => Ok(migrated),

@@ -41,19 +41,6 @@ pub closed_hold : {D : Type 0} {g : Ghosts D} (left : Left D g) (closed : Option
 closed_hold left None w is held = tt
 closed_hold left (Some files) w is held = rw is at held
 
--- so it is of a run, where the files were closed behind it
-pub closed_run : {D : Type 0} {g : Ghosts D} {Was : Type 0} {Stood : World → Type 0} {Holds : World → Result ℕ TaskFault → List Marked → World → Type 0} (left : Left D g) (files : Files D) (answer : Result ℕ TaskFault) → left ≡ Closed files
-    → (AreHonest left → Was × (w : World) × (run : Result ℕ TaskFault) × Stood w × (answer ≡ closed_answer left run) × IfErr run IsRunFault × Leads (Holds w run) (HoldRounds left))
-    → AreClean g files.log files.db → Was × (w : World) × Stood w × IfErr answer IsRunFault × Leads (Holds w answer) (λ _ now. AreClosed g files now)
-closed_run {g} {Was} {Stood} {Holds} left files answer closed it clean = by (told closed it clean) where
-  told : left ≡ Closed files → (AreHonest left → Was × (w : World) × (run : Result ℕ TaskFault) × Stood w × (answer ≡ closed_answer left run) × IfErr run IsRunFault × Leads (Holds w run) (HoldRounds left))
-      → AreClean g files.log files.db → Was × (w : World) × (run : Result ℕ TaskFault) × Stood w × (answer ≡ run) × IfErr run IsRunFault × Leads (Holds w run) (λ _ now. AreClosed g files now)
-  told closed it = rw closed at it
-
-  by : Was × (w : World) × (run : Result ℕ TaskFault) × Stood w × (answer ≡ run) × IfErr run IsRunFault × Leads (Holds w run) (λ _ now. AreClosed g files now)
-      → Was × (w : World) × Stood w × IfErr answer IsRunFault × Leads (Holds w answer) (λ _ now. AreClosed g files now)
-  by (was, w, run, stood, is, fault, led) = rw is (was, w, stood, fault, led)
-
 -- ---- lives
 
 module _ {fails : StoreFault → Type 0} where
@@ -113,11 +100,11 @@ module _ {fails : StoreFault → Type 0} where
 
   -- and one that was ended by a stop
   pub lived_next : (Before After : World → Type 0) (inputs : List (List ℕ)) (input : List ℕ) (lives : List Life) (life : Life) (w : World) → LivedTo fails true Before inputs lives w
-      → ((v : World) → Before v → Leads (RunsOver fails v input life) (Lasts After)) → LivedTo fails true After (inputs ++ input ∷ []) (lives ++ life ∷ []) w
+      → ((v : World) → Before v → Leads (RunsOver fails v input life) (Lasts After v)) → LivedTo fails true After (inputs ++ input ∷ []) (lives ++ life ∷ []) w
   lived_next Before After inputs input lives life w before next = by (next before.end before.stands) where
-    after : (rs : List Round) (now : World) → RunsOver fails before.end input life (all_of rs) now → Lasts After rs now → LivedTo fails true After (inputs ++ input ∷ []) (lives ++ life ∷ []) w
+    after : (rs : List Round) (now : World) → RunsOver fails before.end input life (all_of rs) now → Lasts After before.end rs now → LivedTo fails true After (inputs ++ input ∷ []) (lives ++ life ∷ []) w
     after rs now run (inl here) = lived_to After _ _ w now _ (lived before.over run) here
     after rs now run (inr more) = lived_to After _ _ w _ _ (lived_more refl before.over run more.0 more.1) more.2
 
-    by : Leads (RunsOver fails before.end input life) (Lasts After) → LivedTo fails true After (inputs ++ input ∷ []) (lives ++ life ∷ []) w
+    by : Leads (RunsOver fails before.end input life) (Lasts After before.end) → LivedTo fails true After (inputs ++ input ∷ []) (lives ++ life ∷ []) w
     by led = after led.rounds led.end led.holds led.moves

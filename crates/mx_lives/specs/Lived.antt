@@ -23,15 +23,15 @@ pub record RunsOver (fails : StoreFault → Type 0) (w : World) (input : List �
   pub runs : TaskRuns fails (state [] (Some input) (Some []) w) life.ended ms (state [] rest (Some life.written.items) now)
 
 -- Lives over these inputs, in order, of which this came, lead from one World to another with these requests. Each begins with the
--- World that the one before left: the World in its end, or, where lives are ended by stops, that with one of its rounds more,
--- which it gave up and which is done after all.
+-- World that the one before left: the World in its end, or, where lives are ended by stops, that with one round more, which it
+-- gave up and behind which nothing was changed.
 pub data LivesOver (fails : StoreFault → Type 0) (have_stops : Bool) : List (List ℕ) → List Life → World → List Marked → World → Type 0 where
   unlived : {w : World} → LivesOver fails have_stops [] [] w [] w
   lived : {inputs : List (List ℕ)} {input : List ℕ} {lives : List Life} {life : Life} {w v now : World} {ms ns : List Marked}
       → LivesOver fails have_stops inputs lives w ms v → RunsOver fails v input life ns now
       → LivesOver fails have_stops (inputs ++ input ∷ []) (lives ++ life ∷ []) w (ms ++ ns) now
   lived_more : {inputs : List (List ℕ)} {input : List ℕ} {lives : List Life} {life : Life} {w v now : World} {ms : List Marked} {rs : List Round}
-      → have_stops ≡ true → LivesOver fails have_stops inputs lives w ms v → RunsOver fails v input life (all_of rs) now → (r : Round) → IsGivenUpOf rs r
+      → have_stops ≡ true → LivesOver fails have_stops inputs lives w ms v → RunsOver fails v input life (all_of rs) now → (r : Round) → IsGivenUpOf v rs r
       → LivesOver fails have_stops (inputs ++ input ∷ []) (lives ++ life ∷ []) w (ms ++ (all_of rs ++ r.held)) (world_after now r.held)
 
 -- lives over these inputs, of which this came, led from the World w to one that the books spell

@@ -13,7 +13,8 @@ use crate::answered::Life;
 use crate::lives::live_on;
 use mx_book::Book;
 use mx_desk::Counted;
-use mx_files::closing::{Ended, close, make_in_files, run_in_files};
+use mx_files::closing::{close, make_in_files};
+use mx_files::stores::run_in_store;
 use mx_pay::Token;
 use mx_standing::Standing;
 use mx_tables::Tables;
@@ -82,14 +83,12 @@ fn closed_life<D: Disk + Drop>(
     let store = opened(alloc, files, options)?;
     let mut reader = Counted::new(input);
     let mut writer = Counted::new(Vec::new(alloc));
-    let Ok(Ended { answer, left }) = run_in_files(alloc, store, &mut reader, &mut writer) else {
+    let Ok((ended, left)) = run_in_store(alloc, store, &mut reader, &mut writer) else {
         return None;
     };
-    let files = left.into_closed()?;
-    let life = Life {
-        ended: answer,
-        written: writer.into_inner(),
-    };
+    let files = close(Ok(()), left).left.into_closed()?;
+    let written = writer.into_inner();
+    let life = Life { ended, written };
     Some((files, life))
 }
 
@@ -124,8 +123,8 @@ pub fn closed_lives<D: Disk + Drop>(
 /// As `closed_lives`, with a stop in place of each close (`live_on`): a call of `crash`, by which each of the files
 /// forgets what its contract lets a stop make it forget. The files are closed in the end.
 ///
-/// All lives together are one list of requests (`lives`): of the rounds that a life gave up, one at most was done after
-/// all.
+/// All lives together are one list of requests (`lives`): of the rounds that a life gave up, one at most was done after all,
+/// behind which nothing was changed.
 pub fn stopped_lives<D: Crash + Drop>(
     alloc: Global,
     files: Files<D>,

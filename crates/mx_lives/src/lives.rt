@@ -58,7 +58,7 @@ fn live<S: Ordered + Reopen + Drop>(
         → Represents (state S.Store book.book.0).now w
         → IfSome result (λ r. IsSound (state S.Store r.0.book.0)
         → Leads (RunsOver ⟦<Standing<Tables<S>> as Book>⟧.fails w input.now r.1)
-        (Lasts (Represents (state S.Store r.0.book.0).now))) }
+        (Lasts (Represents (state S.Store r.0.book.0).now) w)) }
     ensures settled { IfSome result (λ r. IsSettled S.Store r.0.book) }
     ensures awake { IfSome result (λ r. IsAwake (state S.Store r.0.book.0)) }
 {
@@ -70,8 +70,8 @@ fn live<S: Ordered + Reopen + Drop>(
 /// ended by a stop (`crash_and_reopen`), behind which the books are opened again. Gives back the store as it was opened
 /// last, with what came of each life; None where the books couldn't be opened, or there is no memory.
 ///
-/// All lives together are one list of requests (`lives`): of the rounds that a life
-/// gave up, one at most was done after all.
+/// All lives together are one list of requests (`lives`): of the rounds that a life gave up, one at most was done after all,
+/// behind which nothing was changed.
 pub fn live_on<S: Ordered + Reopen + Drop>(
     alloc: Global,
     store: Connection<S>,

@@ -63,6 +63,10 @@ impl RowBook for PlainBook {
 
     ghost fails = { λ _. ⊥ };
 
+    ghost faults = { λ _. 0 };
+
+    ghost limited = { λ _. ⊥ };
+
     fn who(&mut self, _alloc: Global, token: &Token) -> Result<Option<Caller>, StoreFault> {
         Ok(self.shelves.who(token))
     }
@@ -228,6 +232,7 @@ pub fn new_book(alloc: Global, operator: Token) -> Standing<PlainBook>
     ensures world { (⟦<Standing<PlainBook> as Book>⟧.view result).world ≡ opening operator }
     ensures sure { IsSure (⟦<Standing<PlainBook> as Book>⟧.view result) }
     ensures still { (⟦<Standing<PlainBook> as Book>⟧.view result).IsSettled }
+    ensures faultless { (fault : _) → ¬ ⟦<Standing<PlainBook> as Book>⟧.fails fault }
 {
     Standing::of(PlainBook::new(alloc, operator))
 }

@@ -37,6 +37,7 @@ module _ {T : Type 0} {fails : StoreFault → Type 0} {old new : View} {r : Resu
     edits = λ sure. IfOk-weaker r _ _ (λ y so none. idle old.world y so none) (t.value sure);
     fault = IfErr-weaker r _ _ (λ e why. inr why) t.fault;
     memory = λ sure. IfErr-weaker r _ _ (λ e why. inr why) t.fault;
+    cause = t.cause;
   }
 
   -- a command that only reads
@@ -48,6 +49,7 @@ module _ {T : Type 0} {fails : StoreFault → Type 0} {old new : View} {r : Resu
     edits = λ sure. IfOk-weaker r _ _ (λ _ same _. same) none;
     fault = IfErr-weaker r _ _ (λ e why. inr why) t.fault;
     memory = λ sure. IfErr-weaker r _ _ (λ e why. inr why) t.fault;
+    cause = t.cause;
   }
 
   -- a command that reads a list, and makes edits
@@ -61,6 +63,7 @@ module _ {T : Type 0} {fails : StoreFault → Type 0} {old new : View} {r : Resu
     edits = λ sure. on_ok_always r (λ none. absurd (cc (none, makes old.world)));
     fault = IfErr-weaker r _ _ (λ e why. memory_fails fails (reads_list x) e is why) t.fault;
     memory = memory;
+    cause = t.cause;
   }
 
   -- a command that reads a list alone
@@ -74,4 +77,5 @@ module _ {T : Type 0} {fails : StoreFault → Type 0} {old new : View} {r : Resu
     edits = λ sure. IfOk-weaker r _ _ (λ _ same _. same) none;
     fault = IfErr-weaker r _ _ (λ e why. memory_fails fails (reads_list x) e is why) t.fault;
     memory = memory;
+    cause = t.cause;
   }

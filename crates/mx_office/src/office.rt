@@ -2,6 +2,7 @@
 ghost use Rattle.std.specs.Borrow.{sem};
 ghost use Rattle.std.specs.List.{AllByRecursion};
 ghost use Rattle.std.specs.Prelude.{◌≡◌, ◌≤◌, ◌⊎◌, [], false, length, IfOk, IfErr, IsTrue, OnOk, OnErr};
+ghost use Rattle.mx_book.specs.Keeps.{HasCause};
 ghost use Rattle.mx_book.specs.Edits.{Fits, all_edited};
 ghost use Rattle.mx_book.specs.World.{Name as HolderName};
 ghost use Rattle.mx_book.specs.Views.{Attempts, Changes, Gives, Keeps, MovesTo, Settles, IsSure, IsHonest};
@@ -69,7 +70,8 @@ impl<B: Book> Office<B> {
     /// What a command of a caller would do: its reply, and the edits that lead to its World. Nothing changes. A fault
     /// is one of the book's reads, or `Memory` where the command reads a list: a grant, purses, inbox and statement.
     /// Without doubt (`memory`) a grant reads one only where its member is there, and an inbox and a statement only where
-    /// the purse is the holder's. Then a command that is idle has no edits (`edits`).
+    /// the purse is the holder's. Then `Store` comes only where the store failed in this call (`cause`), and a command
+    /// that is idle has no edits (`edits`).
     pub fn decide(
         &mut self,
         alloc: Global,
@@ -86,6 +88,9 @@ impl<B: Book> Office<B> {
         ensures memory { IsSure (B.view self.new.book)
             → IfErr result (FailsFor B.fails
             (lists (B.view self.old.book).world caller command.now)) }
+        ensures cause { IsSure (B.view self.new.book)
+            → IfErr result (HasCause (B.view self.old.book).limited
+            (B.view self.old.book).faults (B.view self.new.book).faults) }
         ensures asked { IsAsked (caller, command.now) }
     {
         let mut decided = Decided::new();
@@ -113,6 +118,9 @@ impl<B: Book> Office<B> {
         ensures memory { IsSure (B.view self.new.book)
             → IfErr result (FailsFor B.fails
             (lists (B.view self.old.book).world caller command.now)) }
+        ensures cause { IsSure (B.view self.new.book)
+            → IfErr result (HasCause (B.view self.old.book).limited
+            (B.view self.old.book).faults (B.view self.new.book).faults) }
         ensures asked { IsAsked (caller, command.now) }
     {
         is_caller(&caller);

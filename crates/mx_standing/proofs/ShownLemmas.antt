@@ -2,12 +2,16 @@
 use Rattle.std.proofs.Common.{◌≡◌, ◌≤◌, ◌⊎◌, refl, sym, subst, ◌∙◌, inl, inr, Result, Ok, Err}
 use Rattle.std.specs.Prelude.{ℕ, IfOk, IfErr, OnOk, OnErr}
 use Rattle.std.specs.Coded.{Coded-set, Unit-prop}
+use Rattle.std.proofs.Props.{props}
+use native.Mathlib.Bridge.{le_prop}
 use mathlib.Core.Logic.{∥∥₁_elim, ∥∥₁_prop, ∥∥₁_map}
 use Rattle.mx_pay.specs.Log.{Entries, coded_entries}
 use Rattle.mx_purse.specs.contracts.message.Message as message
 use Rattle.mx_purse.specs.declared.message.Message.{Message}
 use Rattle.mx_book.specs.World.{World}
-use Rattle.mx_book.specs.Keeps.{Bides as BidesRows, Keeps as KeepsRows, Gives as GivesRows, Settles as SettlesRows}
+use Rattle.mx_book.specs.Keeps.{Bides as BidesRows, Explains, HasCause, Keeps as KeepsRows, Gives as GivesRows, Settles as SettlesRows}
+use Rattle.mx_book.specs.declared.contract.StoreFault.{StoreFault}
+use Rattle.mx_book.specs.declared.contract.StoreFault.TheVariants.{Memory, Store}
 use Rattle.mx_book.specs.declared.rows.RowBook.{Ghosts}
 use Rattle.mx_book.proofs.StandLemmas.{sure_before, low_before, low_sure}
 use Rattle.mx_standing.specs.One.{world_set}
@@ -18,6 +22,11 @@ use Rattle.mx_book.specs.Views.{Answers, Bides, Changes, Keeps, Settles}
 IfOk_prop : {T E : Type 0} (result : Result T E) (P : T → Type 0) → ((x : T) → IsProp (P x)) → IsProp (IfOk result P)
 IfOk_prop (Ok x) P h = h x
 IfOk_prop (Err e) P h = Unit-prop
+
+caused_prop : {T : Type 0} (limited : Type 0) (before after : ℕ) (result : Result T StoreFault) → IsProp (IfErr result (HasCause limited before after))
+caused_prop limited before after (Ok x) = Unit-prop
+caused_prop limited before after (Err Memory) = Unit-prop
+caused_prop limited before after (Err Store) = hlevel (props, le_prop)
 
 pub entries_set : IsSet Entries
 entries_set = Coded-set coded_entries
@@ -105,21 +114,25 @@ module _ {B : Type 0} (g : Ghosts B) where
       stops = λ low w left. (left.0, bides.stops low left.0 left.1, left.2);
     }
 
-    keeps_shown : KeepsRows g.doubt g.rows g.harm g.base g.defers g.settled g.leaves old new → Keeps (shown g old one kept) (shown g new one' kept')
-    keeps_shown keeps = record {
+    keeps_shown : {T : Type 0} {result : Result T StoreFault} → KeepsRows g.doubt g.rows g.harm g.base g.defers g.settled g.leaves old new → Explains g.doubt g.rows g.spells g.faults g.limited old new result
+        → Keeps (shown g old one kept) (shown g new one' kept')
+    keeps_shown keeps why = record {
       later = keeps.later;
       same = λ sure. world_same g.spells (g.rows old) (g.rows new) (g.doubt old) (g.doubt new) one one' (sure_before keeps.later sure) sure (keeps.same sure);
       bides = bides_shown keeps.bides;
       rests = keeps.rests;
+      counts = why.counts;
+      limits = why.limits;
     }
 
-    pub answers : {T E : Type 0} (fails : E → Type 0) (result : Result T E) (said : World → T → Type 0) → ((w : World) (x : T) → IsProp (said w x))
-        → KeepsRows g.doubt g.rows g.harm g.base g.defers g.settled g.leaves old new → GivesRows g.doubt g.rows g.spells old new result said → IfErr result fails
+    pub answers : {T : Type 0} (fails : StoreFault → Type 0) (result : Result T StoreFault) (said : World → T → Type 0) → ((w : World) (x : T) → IsProp (said w x))
+        → KeepsRows g.doubt g.rows g.harm g.base g.defers g.settled g.leaves old new → GivesRows g.doubt g.rows g.spells old new result said → IfErr result fails → Explains g.doubt g.rows g.spells g.faults g.limited old new result
         → Answers fails (shown g old one kept) (shown g new one' kept') result said
-    answers fails result said prop keeps gives fault = record {
-      keeps = keeps_shown keeps;
+    answers fails result said prop keeps gives fault why = record {
+      keeps = keeps_shown keeps why;
       value = λ sure. for_the g.spells (g.rows old) (g.doubt old) one (λ w. IfOk result (said w)) (λ w. IfOk_prop result (said w) (prop w)) (sure_before keeps.later sure) (λ w sp. gives w sure sp);
       fault = fault;
+      cause = λ sure. for_the g.spells (g.rows old) (g.doubt old) one (λ w. IfErr result (HasCause (g.limited old) (g.faults old) (g.faults new))) (λ w. caused_prop _ _ _ result) (sure_before keeps.later sure) (λ w sp. why.cause w sure sp);
     }
 
   -- ---- what a change leaves

@@ -32,6 +32,8 @@ module _ {B : Type 0} (g : Ghosts B) where
     defers = g.defers;
     IsSettled = g.settled b;
     leaves = λ w. (r : g.Rows) × g.leaves b r × ∥ g.spells r w ∥₁;
+    faults = g.faults b;
+    limited = g.limited b;
   }
 
 module _ {R : Type 0} (spells : R → World → Type 0) where

@@ -1,7 +1,7 @@
 //! Offices in which nothing is but the operator's token, over each kind of book, and what is tried in them.
 use crate::faulty::Faulty;
 use mx_audit::open;
-use mx_book::Book;
+use mx_book::{Book, StoreFault};
 use mx_memory::new_book;
 use mx_office::Office;
 use mx_pay::Token;
@@ -86,6 +86,7 @@ fn in_faulty_office(
     let mut office = Office::new(Faulty {
         book,
         left: None,
+        fault: StoreFault::Store,
         lines_asked: (u64::MAX, 0),
     });
     trial.try_in(rt, &mut office)

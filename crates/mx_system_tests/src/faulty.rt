@@ -9,73 +9,66 @@ use mx_pay::{Amount, Log, Name, PayDetails, Token};
 use mx_purse::{Message, Purse};
 use std::alloc::Global;
 
-/// Passes calls on to a book, but for one, which it answers as a fault of the store.
+/// Passes calls on to a book, but for one, which it answers as a fault.
 #[derive(Drop)]
 pub(super) struct Faulty<B> {
     /// The book.
     pub(super) book: B,
     /// How many calls are passed on before the one that isn't. None is left out where there is none.
     pub(super) left: Option<u64>,
+    /// What the one that isn't passed on is answered.
+    pub(super) fault: StoreFault,
     /// The fewest lines that were asked for at once, and the most.
     pub(super) lines_asked: (u64, u64),
 }
 
 impl<B> Faulty<B> {
-    /// Whether this call isn't passed on.
-    fn is_left_out(&mut self) -> bool
+    /// Passes the call on, or answers its fault.
+    fn pass(&mut self) -> Result<(), StoreFault>
         ensures { self.new.book ≡ self.old.book }
     {
         match self.left {
             Some(0) => {
                 self.left = None;
-                true
+                Err(self.fault)
             }
             Some(left) => {
                 self.left = Some(left - 1);
-                false
+                Ok(())
             }
-            None => false,
+            None => Ok(()),
         }
     }
 }
 
 impl<B: Book> Book for Faulty<B> {
-    ghost view = { λ b. B.view b.book };
+    // What is left out has no cause in the store.
+    ghost view = { λ b. record (B.view b.book) { limited = Unit {0} } };
 
     ghost fails = { λ _. Unit {0} };
 
     fn who(&mut self, alloc: Global, token: &Token) -> Result<Option<Caller>, StoreFault> {
-        if self.is_left_out() {
-            return Err(StoreFault::Store);
-        }
+        self.pass()?;
         self.book.who(alloc, token)
     }
 
     fn member(&mut self, alloc: Global, name: Name) -> Result<Option<MemberRow>, StoreFault> {
-        if self.is_left_out() {
-            return Err(StoreFault::Store);
-        }
+        self.pass()?;
         self.book.member(alloc, name)
     }
 
     fn holder(&mut self, alloc: Global, name: Name) -> Result<Option<HolderRow>, StoreFault> {
-        if self.is_left_out() {
-            return Err(StoreFault::Store);
-        }
+        self.pass()?;
         self.book.holder(alloc, name)
     }
 
     fn purse(&mut self, alloc: Global, name: Name) -> Result<Option<Account>, StoreFault> {
-        if self.is_left_out() {
-            return Err(StoreFault::Store);
-        }
+        self.pass()?;
         self.book.purse(alloc, name)
     }
 
     fn has_purse(&mut self, alloc: Global, name: Name) -> Result<bool, StoreFault> {
-        if self.is_left_out() {
-            return Err(StoreFault::Store);
-        }
+        self.pass()?;
         self.book.has_purse(alloc, name)
     }
 
@@ -85,37 +78,27 @@ impl<B: Book> Book for Faulty<B> {
         holder: Name,
         purse: Name,
     ) -> Result<Option<Purse>, StoreFault> {
-        if self.is_left_out() {
-            return Err(StoreFault::Store);
-        }
+        self.pass()?;
         self.book.own_purse(alloc, holder, purse)
     }
 
     fn is_own(&mut self, alloc: Global, holder: Name, purse: Name) -> Result<bool, StoreFault> {
-        if self.is_left_out() {
-            return Err(StoreFault::Store);
-        }
+        self.pass()?;
         self.book.is_own(alloc, holder, purse)
     }
 
     fn finds_place(&mut self, alloc: Global, purse: Name) -> Result<bool, StoreFault> {
-        if self.is_left_out() {
-            return Err(StoreFault::Store);
-        }
+        self.pass()?;
         self.book.finds_place(alloc, purse)
     }
 
     fn purses_of(&mut self, alloc: Global, holder: Name) -> Result<Vec<Name>, StoreFault> {
-        if self.is_left_out() {
-            return Err(StoreFault::Store);
-        }
+        self.pass()?;
         self.book.purses_of(alloc, holder)
     }
 
     fn inbox(&mut self, alloc: Global, purse: Name) -> Result<Vec<(u64, Message)>, StoreFault> {
-        if self.is_left_out() {
-            return Err(StoreFault::Store);
-        }
+        self.pass()?;
         self.book.inbox(alloc, purse)
     }
 
@@ -125,16 +108,12 @@ impl<B: Book> Book for Faulty<B> {
         purse: Name,
         number: u64,
     ) -> Result<Option<Message>, StoreFault> {
-        if self.is_left_out() {
-            return Err(StoreFault::Store);
-        }
+        self.pass()?;
         self.book.message(alloc, purse, number)
     }
 
     fn has_message(&mut self, alloc: Global, purse: Name, number: u64) -> Result<bool, StoreFault> {
-        if self.is_left_out() {
-            return Err(StoreFault::Store);
-        }
+        self.pass()?;
         self.book.has_message(alloc, purse, number)
     }
 
@@ -147,16 +126,12 @@ impl<B: Book> Book for Faulty<B> {
     ) -> Result<Vec<Line>, StoreFault> {
         let (fewest, most_before) = self.lines_asked;
         self.lines_asked = (fewest.min(most), most_before.max(most));
-        if self.is_left_out() {
-            return Err(StoreFault::Store);
-        }
+        self.pass()?;
         self.book.lines(alloc, purse, after, most)
     }
 
     fn members(&mut self, alloc: Global) -> Result<Vec<Name>, StoreFault> {
-        if self.is_left_out() {
-            return Err(StoreFault::Store);
-        }
+        self.pass()?;
         self.book.members(alloc)
     }
 
@@ -166,23 +141,17 @@ impl<B: Book> Book for Faulty<B> {
         purse: Name,
         details: &PayDetails,
     ) -> Result<bool, StoreFault> {
-        if self.is_left_out() {
-            return Err(StoreFault::Store);
-        }
+        self.pass()?;
         self.book.archived(alloc, purse, details)
     }
 
     fn settled(&mut self, alloc: Global, details: &PayDetails) -> Result<bool, StoreFault> {
-        if self.is_left_out() {
-            return Err(StoreFault::Store);
-        }
+        self.pass()?;
         self.book.settled(alloc, details)
     }
 
     fn tray(&mut self, alloc: Global, purse: Name) -> Result<Log, StoreFault> {
-        if self.is_left_out() {
-            return Err(StoreFault::Store);
-        }
+        self.pass()?;
         self.book.tray(alloc, purse)
     }
 
@@ -192,9 +161,7 @@ impl<B: Book> Book for Faulty<B> {
         purse: Name,
         reference: Name,
     ) -> Result<Option<Amount>, StoreFault> {
-        if self.is_left_out() {
-            return Err(StoreFault::Store);
-        }
+        self.pass()?;
         self.book.load_of(alloc, purse, reference)
     }
 
@@ -204,23 +171,17 @@ impl<B: Book> Book for Faulty<B> {
         purse: Name,
         reference: Name,
     ) -> Result<Option<Amount>, StoreFault> {
-        if self.is_left_out() {
-            return Err(StoreFault::Store);
-        }
+        self.pass()?;
         self.book.redemption_of(alloc, purse, reference)
     }
 
     fn uncollected(&mut self, alloc: Global, member: Name) -> Result<u128, StoreFault> {
-        if self.is_left_out() {
-            return Err(StoreFault::Store);
-        }
+        self.pass()?;
         self.book.uncollected(alloc, member)
     }
 
     fn totals(&mut self, alloc: Global) -> Result<Totals, StoreFault> {
-        if self.is_left_out() {
-            return Err(StoreFault::Store);
-        }
+        self.pass()?;
         self.book.totals(alloc)
     }
 
@@ -229,23 +190,17 @@ impl<B: Book> Book for Faulty<B> {
         alloc: Global,
         member: Name,
     ) -> Result<Option<MemberTotals>, StoreFault> {
-        if self.is_left_out() {
-            return Err(StoreFault::Store);
-        }
+        self.pass()?;
         self.book.member_totals(alloc, member)
     }
 
     fn members_totals(&mut self, alloc: Global) -> Result<Vec<(Name, MemberTotals)>, StoreFault> {
-        if self.is_left_out() {
-            return Err(StoreFault::Store);
-        }
+        self.pass()?;
         self.book.members_totals(alloc)
     }
 
     fn apply(&mut self, edits: &[Edit]) -> Result<(), StoreFault> {
-        if self.is_left_out() {
-            return Err(StoreFault::Store);
-        }
+        self.pass()?;
         self.book.apply(edits)
     }
 
@@ -253,7 +208,14 @@ impl<B: Book> Book for Faulty<B> {
         self.book.settle()
     }
 
-    ghost lawful = { λ b. B.lawful b.book };
+    ghost lawful = { λ b. record {
+      sound = (B.lawful b.book).sound;
+      based = (B.lawful b.book).based;
+      left = (B.lawful b.book).left;
+      steady = (B.lawful b.book).steady;
+      rest = (B.lawful b.book).rest;
+      deep = (B.lawful b.book).deep;
+    } };
 
     ghost doubted = { λ _. inr (λ _. tt) };
 }

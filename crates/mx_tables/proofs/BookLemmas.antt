@@ -1,20 +1,22 @@
 -- A book over a connection, in a round or in none: what begins a round, changes in it and ends it give what the trait says.
-use Rattle.mx_tables.proofs.Common.{◌≡◌, ℕ, ◌≤◌, Ok, Option, None, Some, inl, inr, refl, ◌∙◌, true, false, arith, office_schema, Database, Rows, state}
-use Rattle.std.proofs.Common.{Err, Result, Bool, IsTrue, OnOk, OnErr, is_ok, sym, ap, ap₂, subst}
+use Rattle.mx_tables.proofs.Common.{◌≡◌, ℕ, ◌≤◌, Ok, inl, inr, refl, ◌∙◌, true, false, arith, office_schema, Database, Rows, state}
+use Rattle.std.proofs.Common.{Err, Result, Bool, IsTrue, OnOk, OnErr, sym, ap, ap₂, subst}
 use Rattle.std.proofs.lemmas.Bool.{cases_Bool}
-use Rattle.std.specs.Prelude.{is_err}
+use Rattle.std.proofs.lemmas.Result.{IfErr-weaker}
+use Rattle.std.specs.Prelude.{is_err, IsSome}
 use Rattle.std.specs.Result.{IsErr}
 use Rattle.sqlite_trees.specs.Tree.{Trees}
-use Rattle.sqlite_trees.specs.View.{doubt}
 use Rattle.sqlite_trees.proofs.Doubt.{clean_of}
 use Rattle.sqlite_trees.specs.declared.store.Store.{Ghosts}
 use Rattle.sqlite_schema.specs.declared.schema.Schema.{Schema}
 use Rattle.sqlite.specs.Held.{Held}
 use Rattle.sqlite.specs.State.{State, HasCleanDisk}
-use Rattle.mx_book.specs.Keeps.{Bides, Keeps, Settles}
+use Rattle.mx_book.specs.Keeps.{Bides, Explains, HasCause, Keeps, Settles}
 use Rattle.mx_book.specs.declared.contract.StoreFault.{StoreFault}
-use Rattle.mx_tables.specs.States.{worry, unsure, Brings, IsOurs, Leaves, Stays}
-use Rattle.mx_tables.specs.Rounds.{ChangesRound, IsKept, Abides, Begins, ChangesIn, Ends, Lent, LeavesBase, IsSettled, rows_of, base_of, doubt_of, harm_of}
+use Rattle.mx_book.specs.declared.contract.StoreFault.TheVariants.{Memory, Store}
+use Rattle.mx_tables.specs.Holds.{SpellsOne}
+use Rattle.mx_tables.specs.States.{Blames, IsExplained, SpellAny, worry, unsure, Brings, IsOurs, Leaves, Stays}
+use Rattle.mx_tables.specs.Rounds.{ChangesRound, IsKept, Abides, Begins, ChangesIn, Ends, Lent, LeavesBase, IsLimited, IsSettled, faults_of, rows_of, base_of, doubt_of, harm_of}
 use Rattle.mx_tables.proofs.RoundLemmas.{before}
 use Rattle.mx_tables.proofs.StateLemmas.{brings_same, sure, sure_in, no_unsure, no_worry, not_lied, unsure_later, worry_later, sure_before}
 
@@ -238,6 +240,21 @@ clean_worry s clean = let it : IsTrue s.is_clean = clean_of s.is_clean clean in 
 
 low_first : (a b : ℕ) → a ≤ b → b ≤ 1 → a ≤ 1
 low_first a b later low = omega (arith, later, low)
+
+-- what is to blame for a fault is its cause
+blamed : (old new : State) (e : StoreFault) → Blames old new e → HasCause (IsSome old.step_limit) old.faults new.faults e
+blamed old new Memory h = tt
+blamed old new Store (inl more) = λ free counted. omega (arith, more, counted)
+blamed old new Store (inr limited) = λ free counted. absurd (free limited)
+
+-- why a read fails is what the trait says
+pub explains_by : {S : Type 0} (g : Ghosts S) {T : Type 0} {r : Result T StoreFault} (old : Lent S) (new : Held S) → IsOurs old.1 (state g old.0) → Stays old.1 (state g old.0) (state g new)
+    → IsExplained g old.0 new r SpellAny → Explains (doubt_of g) (rows_of g) SpellsOne (faults_of g) (IsLimited g) old (new, old.1) r
+explains_by g {r = r} old new ours stays why = record {
+  counts = stays.counts;
+  limits = subst IsSome stays.limit;
+  cause = λ w sure one. IfErr-weaker r _ _ (blamed (state g old.0) (state g new)) (why old.1 ours sure one.spelled.rows one.spelled.holds (w, one.spelled.spells));
+}
 
 -- what a read leaves keeps what the trait says
 pub keeps_stays : {S : Type 0} (g : Ghosts S) (old : Lent S) (new : Held S) → IsKept old.1 (state g old.0) → Stays old.1 (state g old.0) (state g new)

@@ -1,5 +1,5 @@
 -- What is cached agrees with the rows, after what fills it and after edits.
-use Rattle.mx_tables.proofs.Common.{[], arith, eq_by_cmp, false, inl, inr, is_name, length, List, name_cmp, Name, nat_cmp, None, Option, PurseRow, refl, rewritten, Rows, Some, fold, take, true, ◌+◌, ◌<◌, ◌∙◌, ◌∷◌, ◌≡◌, ◌≤◌, ℕ, option_map}
+use Rattle.mx_tables.proofs.Common.{[], arith, false, inl, inr, is_name, length, List, name_cmp, Name, nat_cmp, None, Option, PurseRow, refl, rewritten, Rows, Some, true, ◌+◌, ◌∙◌, ◌∷◌, ◌≡◌, ◌≤◌, ℕ, option_map}
 use Rattle.std.proofs.Common.{cond, zero, suc, is_some, sym, ap, subst}
 use Rattle.std.proofs.lemmas.Bool.{cases_Bool}
 use Rattle.std.specs.Cmp.{nat_cmp_total}
@@ -22,7 +22,7 @@ use Rattle.mx_book.specs.declared.edits.Edit.{Edit}
 use Rattle.mx_book.specs.declared.edits.Edit.TheVariants.{AddMessage, DropMessage, NewPurse, SetPurse}
 use Rattle.mx_book.proofs.EditLemmas.{edit_spelled}
 use Rattle.mx_book.proofs.HeldLemmas.{held_put, held_set}
-use Rattle.mx_book.proofs.NameLemmas.{name_itself, names_exact, names_total, same_name}
+use Rattle.mx_book.proofs.NameLemmas.{name_itself, names_total, same_name}
 use Rattle.mx_book.proofs.ReadLemmas.{held_is}
 use Rattle.mx_book.proofs.RowLemmas.{not_there}
 use Rattle.mx_book.proofs.UnderLemmas.{under-insert, under-insert_other, under-remove, under-remove_other}

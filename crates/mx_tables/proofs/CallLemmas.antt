@@ -1,14 +1,16 @@
 -- Calls one after another: what each of them is gives what all are.
 use Rattle.mx_tables.proofs.Common.{Bool, ◌+◌, ◌≡◌, ℕ, List, Ok, ◌∙◌, arith, refl, IfOk-weaker, Row, Database, state, Executes, Rows, office_schema, Holds, going}
 use Rattle.std.proofs.Common.{Err, Result, IfOk, sym, ap, subst}
-use Rattle.std.proofs.lemmas.Result.{IfOk-from_err}
+use Rattle.std.proofs.lemmas.Result.{IfErr-weaker, IfOk-from_err}
+use Rattle.std.specs.Prelude.{IfErr, IsErrAnd}
 use Rattle.std.specs.Result.{IsErr}
 use Rattle.sqlite_trees.specs.declared.store.Store.{Ghosts}
 use Rattle.sqlite.specs.declared.savepoint.Savepoint.{Savepoint}
 use Rattle.sqlite.specs.Held.{Held}
 use Rattle.sqlite.specs.State.{HasCleanDisk}
 use Rattle.mx_book.specs.declared.contract.StoreFault.{StoreFault}
-use Rattle.mx_tables.specs.States.{IsAwake, IsOurs, Stays, Brings, Reads, Steps, Runs, Within, Writes, Finds}
+use Rattle.mx_tables.specs.States.{AsksOf, unsure, Blames, IsAwake, IsExplained, IsForMemory, IsOurs, Stays, Brings, Reads, Steps, Runs, Within, Writes, Finds}
+use Rattle.mx_tables.proofs.CauseLemmas.{blames_both, by_memory, handed, is_err}
 use Rattle.mx_tables.proofs.StateLemmas.{on_ok_anyway, on_ok_never, brings_same, brings_none, stays_same, stays_then, sure_first, within_none, within_then}
 use Rattle.mx_tables.proofs.WriteLemmas.{goes_as, goes_then}
 
@@ -54,6 +56,77 @@ module _ {S : Type 0} (g : Ghosts S) where
         IfOk-weaker r _ _ (λ y is. (one.value ours before rows holds, is)) (two.value kept.ours calm rows same);
     live = two.live;
   }
+
+  -- ---- reads that fail only for a cause
+
+  module _ {known : Rows → Type 0} where
+    -- what answers has no fault
+    pub asks_ok : {T : Type 0} {old new : Held S} {x : T} {is : Rows → T → Type 0} → Reads g old new (Ok x) is → AsksOf g old new known (Ok x) is
+    asks_ok h = record { reads = h; cause = λ begun ours calm rows holds it. tt }
+
+    -- what was read is decoded
+    pub asks_by : {T U : Type 0} {old new : Held S} {x : T} {r : Result U StoreFault} {is : Rows → T → Type 0} {other : Rows → U → Type 0}
+        → Reads g old new (Ok x) is → ((rows : Rows) → Holds (state g old).now rows → is rows x → IfOk r (other rows))
+        → ((rows : Rows) → Holds (state g old).now rows → known rows → is rows x → IfErr r IsForMemory) → AsksOf g old new known r other
+    asks_by {old = old} {new = new} {r = r} h f why = record {
+      reads = reads_to h f;
+      cause = λ begun ours calm rows holds it. IfErr-weaker r _ _ (by_memory (state g old) (state g new)) (why rows holds it (h.value ours calm rows holds));
+    }
+
+    -- a fault after a read, which what is known excludes, or which is want of memory
+    pub asks_wrong : {T U : Type 0} {old new : Held S} {x : T} {r : Result U StoreFault} {is : Rows → T → Type 0} {other : Rows → U → Type 0}
+        → Reads g old new (Ok x) is → IsErr r → ((rows : Rows) → Holds (state g old).now rows → known rows → is rows x → ⊥) → AsksOf g old new known r other
+    asks_wrong {r = r} {other = other} h fault never = asks_by h (λ rows holds is. IfOk-from_err r (other rows) fault) (λ rows holds it is. absurd (never rows holds it is))
+
+    pub asks_short : {T U : Type 0} {old new : Held S} {x : T} {r : Result U StoreFault} {is : Rows → T → Type 0} {other : Rows → U → Type 0}
+        → Reads g old new (Ok x) is → IsErrAnd r IsForMemory → AsksOf g old new known r other
+    asks_short {r = r} {other = other} h fault = asks_by h (λ rows holds is. IfOk-from_err r (other rows) (is_err r _ fault)) (λ rows holds it is. handed r _ _ fault (λ e is. is))
+
+    -- a fault before any read, which what is known excludes, or which is want of memory
+    pub asks_never : {T : Type 0} {old : Held S} {r : Result T StoreFault} {is : Rows → T → Type 0} → IsErr r → ((rows : Rows) → Holds (state g old).now rows → known rows → ⊥) → AsksOf g old old known r is
+    asks_never fault never = record { reads = reads_never fault; cause = λ begun ours calm rows holds it. absurd (never rows holds it) }
+
+    pub asks_lacking : {T : Type 0} {old : Held S} {r : Result T StoreFault} {is : Rows → T → Type 0} → IsErrAnd r IsForMemory → AsksOf g old old known r is
+    asks_lacking {old = old} {r = r} fault = record { reads = reads_never (is_err r _ fault); cause = λ begun ours calm rows holds it. handed r _ _ fault (by_memory (state g old) (state g old)) }
+
+    -- a fault of a read is handed on
+    pub asks_fault : {T U : Type 0} {old new : Held S} {f : StoreFault} {r : Result U StoreFault} {is : Rows → T → Type 0} {other : Rows → U → Type 0}
+        → AsksOf g old new known (Err f) is → IsErrAnd r (λ e. e ≡ f) → AsksOf g old new known r other
+    asks_fault {old = old} {new = new} {r = r} h fault = record {
+      reads = reads_fault h.reads (is_err r _ fault);
+      cause = λ begun ours calm rows holds it. handed r _ _ fault (λ e same. subst (Blames (state g old) (state g new)) (sym same) (h.cause begun ours calm rows holds it));
+    }
+
+    -- what follows from what a read gives
+    pub asks_more : {T : Type 0} {old new : Held S} {r : Result T StoreFault} {is other : Rows → T → Type 0}
+        → AsksOf g old new known r is → ((rows : Rows) → Holds (state g old).now rows → (x : T) → is rows x → other rows x) → AsksOf g old new known r other
+    asks_more h f = record { reads = reads_more h.reads f; cause = h.cause }
+
+    -- a read of which less is known
+    pub asks_as : {T : Type 0} {old new : Held S} {less : Rows → Type 0} {r : Result T StoreFault} {is : Rows → T → Type 0}
+        → AsksOf g old new less r is → ((rows : Rows) → Holds (state g old).now rows → known rows → less rows) → AsksOf g old new known r is
+    asks_as h f = record { reads = h.reads; cause = λ begun ours calm rows holds it. h.cause begun ours calm rows holds (f rows holds it) }
+
+    -- a read after a read, by which more is known
+    pub explained_then : {T : Type 0} {more : Rows → Type 0} (a b c : Held S) (r : Result T StoreFault) → ((begun : Bool) → IsOurs begun (state g a) → Stays begun (state g a) (state g b))
+        → ((begun : Bool) → IsOurs begun (state g b) → Stays begun (state g b) (state g c)) → IsExplained g b c r more
+        → ((begun : Bool) → IsOurs begun (state g a) → unsure begun (state g b) ≡ 0 → (rows : Rows) → Holds (state g a).now rows → known rows → more rows) → IsExplained g a c r known
+    explained_then a b c r one two why f begun ours calm rows holds it =
+        let kept = one begun ours in
+        let before = sure_first (two begun kept.ours).later calm in
+        let same : Holds (state g b).now rows = subst (λ (d : Database). Holds d rows) (sym (kept.same before)) holds in
+        IfErr-weaker r _ _ (blames_both (state g a) (state g b) (state g c) kept.counts kept.limit) (why begun kept.ours calm rows same (f begun ours before rows holds it))
+
+    pub asks_next : {T U : Type 0} {a b c : Held S} {x : T} {r : Result U StoreFault} {is : Rows → T → Type 0} {other : Rows → U → Type 0} {more : Rows → Type 0}
+        → Reads g a b (Ok x) is → AsksOf g b c more r other → ((rows : Rows) → Holds (state g a).now rows → known rows → is rows x → more rows) → AsksOf g a c known r (λ rows y. is rows x × other rows y)
+    asks_next {a = a} {b = b} {c = c} {r = r} one two f = record {
+      reads = reads_then one two.reads;
+      cause = explained_then a b c r (λ begun ours. one.stays ours) (λ begun ours. two.reads.stays ours) two.cause (λ begun ours calm rows holds it. f rows holds it (one.value ours calm rows holds));
+    }
+
+    pub asks_then : {T U : Type 0} {a b c : Held S} {x : T} {r : Result U StoreFault} {is : Rows → T → Type 0} {other : Rows → U → Type 0}
+        → Reads g a b (Ok x) is → AsksOf g b c known r other → AsksOf g a c known r (λ rows y. is rows x × other rows y)
+    asks_then one two = asks_next one two (λ rows holds it is. it)
 
   -- ---- steps inside a transaction
 

@@ -1,10 +1,10 @@
 -- Why a read fails.
-use Rattle.mx_tables.proofs.Common.{[], codes, length, ◌≤◌, ◌≡◌, inl, inr, ℕ, List, Ok, Option, Some, None, refl, ◌∙◌, Row, office_schema}
+use Rattle.mx_tables.proofs.Common.{[], arith, codes, length, ◌≤◌, ◌≡◌, inl, inr, ℕ, List, Ok, Option, Some, None, refl, ◌∙◌, Row, office_schema}
 use Rattle.std.proofs.Common.{◌⊎◌, Err, Result, IsTrue, sym, ap, subst, append-nil, le_refl}
-use Rattle.std.specs.Prelude.{IsSome, IfErr, IsErrAnd}
+use Rattle.std.specs.Prelude.{IsSome, IfErr, IsErrAnd, is_ok, true}
+use Rattle.std.specs.Result.{IsErr}
 use Rattle.sqlite_trees.specs.declared.error.StoreError.{StoreError}
 use Rattle.sqlite_trees.specs.declared.error.StoreError.TheVariants.{OutOfMemory, Io, Corrupt, Full, Broken, Unstorable}
-use Rattle.sqlite_trees.specs.Tree.{Trees}
 use Rattle.sqlite_resolve.specs.declared.compiled.Compiled.{Compiled}
 use Rattle.sqlite_resolve.specs.declared.error.CompileError.{CompileError}
 use Rattle.sqlite_tied.specs.Compute.{everything}
@@ -13,10 +13,10 @@ use Rattle.sqlite.specs.Effect.{RefusesToRead}
 use Rattle.sqlite.specs.Clock.{timed}
 use Rattle.sqlite.specs.Given.{IsPlain}
 use Rattle.sqlite.specs.Listing.{understood, reads_listing, IsSourceOf}
-use Rattle.sqlite.specs.State.{State, HasCleanDisk, HasCause, store_error, FailsToShow, FailsToQuery, IsNoStatement, IsNotRun, Survives}
+use Rattle.sqlite.specs.State.{State, HasCause, store_error, FailsToShow, FailsToQuery, IsNoStatement, IsNotRun}
 use Rattle.mx_book.specs.declared.contract.StoreFault.{StoreFault}
 use Rattle.mx_book.specs.declared.contract.StoreFault.TheVariants.{Memory, Store}
-use Rattle.mx_tables.specs.States.{worry, IsText, Accepts, AcceptsText, Blames, Explains, fault_told}
+use Rattle.mx_tables.specs.States.{IsForMemory, IsText, Accepts, AcceptsText, Blames, fault_told}
 
 limited : (old new : State) (f : StoreFault) → IsSome old.step_limit → Blames old new f
 limited old new Memory h = tt
@@ -106,11 +106,30 @@ module _ (old new : State) (e : Error) (has : old.now.schema ≡ office_schema) 
   prepare_told live (inl h) = absurd (commit_stands h.0)
   prepare_told live (inr h) = rw h.1 (caused old new live h.0 h.2)
 
--- what a statement says of faults
-pub explained : {known blamed : Type 0} {Commits : Trees → Type 0} (old new : State) → Survives old new Commits → (HasCleanDisk new → worry old ≡ 0 → known → blamed) → Explains old new known blamed
-explained old new survives cause = record { clean = survives.clean; counts = survives.counts; limit = survives.limit; closes = survives.closes; cause = cause }
+-- want of memory needs no cause
+pub by_memory : (old new : State) (f : StoreFault) → IsForMemory f → Blames old new f
+by_memory old new f is = rw is tt
+
+-- a cause in a later call is one of both
+pub blames_both : (a b c : State) → a.faults ≤ b.faults → b.step_limit ≡ a.step_limit → (f : StoreFault) → Blames b c f → Blames a c f
+blames_both a b c counts limit Memory h = tt
+blames_both a b c counts limit Store (inl failed) = inl (grind (arith, counts, failed))
+blames_both a b c counts limit Store (inr some) = inr (subst IsSome limit some)
 
 -- a fault that `?` hands on
-pub handed : {X : Type 0} (r : Result X StoreFault) (f : StoreFault) (P : StoreFault → Type 0) → IsErrAnd r (λ e. e ≡ f) → P f → IfErr r P
-handed (Ok x) f P h it = tt
-handed (Err e) f P h it = subst P (sym h) it
+pub handed : {X : Type 0} (r : Result X StoreFault) (P Q : StoreFault → Type 0) → IsErrAnd r Q → ((e : StoreFault) → Q e → P e) → IfErr r P
+handed (Ok x) P Q h f = tt
+handed (Err e) P Q h f = f e h
+
+pub is_err : {X : Type 0} (r : Result X StoreFault) (Q : StoreFault → Type 0) → IsErrAnd r Q → IsErr r
+is_err (Ok x) Q h = absurd h
+is_err (Err e) Q h = refl
+
+pub err_weaker : {X : Type 0} (r : Result X StoreFault) (P Q : StoreFault → Type 0) → IsErrAnd r P → ((e : StoreFault) → P e → Q e) → IsErrAnd r Q
+err_weaker (Ok x) P Q h f = absurd h
+err_weaker (Err e) P Q h f = f e h
+
+-- what can't be an error
+pub no_fault : {X : Type 0} (r : Result X StoreFault) (P : StoreFault → Type 0) → is_ok r ≡ true → IfErr r P
+no_fault (Ok x) P h = tt
+no_fault (Err e) P h = absurd (cc)

@@ -17,7 +17,7 @@ use Rattle.mx_book.specs.RowReads.{is_counted}
 use Rattle.mx_book.specs.declared.values.MemberRow.{MemberRow}
 use Rattle.mx_book.proofs.NameLemmas.{names_total, same_name}
 use Rattle.mx_book.specs.declared.values.Scope.{Scope}
-use Rattle.mx_tables.specs.Counted.{number_of, owed_shown, counted_row, amounts_text, amounts_of, text_of, row_sums, sum_at, sums_at, member_listed, totals_with, totals_row, if_some, status_shown, waiting_shown, log_shown, result_shown, left_value, waiting_at, waiting_row, log_row, result_row, adds_text, row_adds, sum_of}
+use Rattle.mx_tables.specs.Counted.{most_of, number_of, owed_shown, counted_row, amounts_text, amounts_of, text_of, row_sums, sum_at, sums_at, member_listed, totals_with, totals_row, if_some, status_shown, waiting_shown, log_shown, result_shown, left_value, waiting_at, waiting_row, log_row, result_row, adds_text, row_adds, sum_of}
 use Rattle.mx_tables.specs.declared.sums.Amounts.{Amounts}
 use Rattle.mx_tables.specs.declared.sums.Amounts.TheVariants.{Uncollected, Issued, Redeemed, Balances}
 use Rattle.mx_tables.specs.Answers.{ArePurses}
@@ -40,7 +40,7 @@ use Rattle.mx_book.specs.declared.values.Scope.TheVariants.{Member}
 use Rattle.mx_tables.specs.declared.member_sums.MemberSums.{MemberSums}
 use Rattle.std.proofs.lemmas.List.{take_all}
 use Rattle.std.proofs.lemmas.Option.{IfSome_then}
-use Rattle.mx_pay.specs.Limits.{most_entries}
+use Rattle.mx_pay.specs.Limits.{most_entries, most_number}
 use Rattle.mx_pay.specs.Details.{Details, IsDetails}
 use Rattle.mx_pay.specs.Log.{Entries, IsLogValue, none_logged, has_logged}
 use Rattle.mx_pay.specs.Codes.{code, entry_text}
@@ -94,7 +94,7 @@ amounts_asked Issued = (18, [], codes "purse" ∷ codes "amount" ∷ [])
 amounts_asked Redeemed = (20, [], codes "purse" ∷ codes "amount" ∷ [])
 amounts_asked Balances = (8, [], codes "name" ∷ codes "balance" ∷ [])
 
-amounts_are : (a : Amounts) → IsSelect (amounts_text a) (amounts_asked a).0 (amounts_asked a).1 (col 1 1 ∷ col 1 3 ∷ []) [] (amounts_asked a).2
+pub amounts_are : (a : Amounts) → IsSelect (amounts_text a) (amounts_asked a).0 (amounts_asked a).1 (col 1 1 ∷ col 1 3 ∷ []) [] (amounts_asked a).2
 unfolding understood everything
 amounts_are Uncollected = record { is = refl; query = record { plain = (refl, refl); silent = λ _ _. refl }; unlisted = refl }
 amounts_are a = record { is = refl; query = record { plain = (refl, refl); silent = λ _ _. refl }; unlisted = refl }
@@ -102,7 +102,7 @@ amounts_are a = record { is = refl; query = record { plain = (refl, refl); silen
 pub amounts_query : (a : Amounts) → IsQuery (amounts_text a)
 amounts_query a = (amounts_are a).query
 
-uncollected_flag : (b : Bool) → eq_by_cmp nat_cmp (if b then 1 else 0) 0 ≡ not b
+pub uncollected_flag : (b : Bool) → eq_by_cmp nat_cmp (if b then 1 else 0) 0 ≡ not b
 uncollected_flag b = grind arith
 
 owed_once : (collected counts : Bool) (n : ℕ) → ◌≡◌ {A = ℕ} (if not collected then (if counts then n else 0) else 0) (if counts then (if collected then 0 else n) else 0)
@@ -157,6 +157,14 @@ module _ (old new : State) (rows : List Row) (shown : Shown select_grants [] old
 sum_added : (sums : fmap.FinMap name_cmp ℕ) (owner m : Name) (more : ℕ) → sum_at (fmap.insert sums owner (sum_at sums owner + more)) m ≡ sum_at sums m + (if is_name m owner then more else 0)
 sum_added sums owner m more = grind (arith, fmap.get-insert names_total sums owner (sum_at sums owner + more) m, same_name m owner)
 
+pub most_added : (sums : fmap.FinMap name_cmp ℕ) (owner m : Name) (more most : ℕ) → sum_at sums m ≤ most → sum_at (fmap.insert sums owner (sum_at sums owner + more)) m ≤ most + more
+most_added sums owner m more most h = grind (arith, h, sum_added sums owner m more)
+
+-- no amount is above 10^15
+pub most_low : (a : Amounts) → most_of a ≤ most_number
+most_low Balances = omega arith
+most_low a = omega arith
+
 -- what a row adds to the sum of a member
 counted_adds : (r : Rows) (row : Row) (purse m : Name) (n : ℕ) (owner : Option Name) → column row 0 ≡ Text purse → column row 1 ≡ number n → owner ≡ member_at r.holders (fmap.get r.purses purse)
     → counted_row r.purses r.holders (Member m) row ≡ (if is_of m owner then n else 0)
@@ -199,15 +207,15 @@ members_summed r sums rows items is listed each =
 
 -- ---- the statements
 
-waiting_is : IsSelect (adds_text Waiting) 8 [] (col 1 5 ∷ col 1 6 ∷ []) [] (codes "status" ∷ codes "details" ∷ [])
+pub waiting_is : IsSelect (adds_text Waiting) 8 [] (col 1 5 ∷ col 1 6 ∷ []) [] (codes "status" ∷ codes "details" ∷ [])
 unfolding understood everything
 waiting_is = record { is = refl; query = record { plain = (refl, refl); silent = λ _ _. refl }; unlisted = refl }
 
-logs_is : IsSelect (adds_text Logged) 8 [] (col 1 1 ∷ col 1 7 ∷ []) [] (codes "name" ∷ codes "log" ∷ [])
+pub logs_is : IsSelect (adds_text Logged) 8 [] (col 1 1 ∷ col 1 7 ∷ []) [] (codes "name" ∷ codes "log" ∷ [])
 unfolding understood everything
 logs_is = record { is = refl; query = record { plain = (refl, refl); silent = λ _ _. refl }; unlisted = refl }
 
-archived_is : IsSelect (adds_text Archived) 16 [] (col 1 1 ∷ col 1 2 ∷ []) [] (codes "purse" ∷ codes "details" ∷ [])
+pub archived_is : IsSelect (adds_text Archived) 16 [] (col 1 1 ∷ col 1 2 ∷ []) [] (codes "purse" ∷ codes "details" ∷ [])
 unfolding understood everything
 archived_is = record { is = refl; query = record { plain = (refl, refl); silent = λ _ _. refl }; unlisted = refl }
 

@@ -1,8 +1,7 @@
 -- Why a read as a whole fails.
-use Rattle.mx_tables.proofs.Common.{◌≡◌, inl, inr, ℕ, ℤ, Int, ◌≤◌, List, [], ◌∷◌, length, true, false, Ok, Option, Some, None, refl, ◌∙◌, arith, is_eq, Row, column, number, Term, Text, IsPermutation, length-map, Ordering, eq_by_cmp, office_schema, state, Rows, Name, Database, Holds}
+use Rattle.mx_tables.proofs.Common.{◌≡◌, inl, inr, ℕ, ℤ, Int, ◌≤◌, List, [], ◌∷◌, length, true, false, Ok, Option, Some, None, refl, ◌∙◌, arith, is_eq, Row, column, number, Term, Text, IsPermutation, length-map, Ordering, eq_by_cmp, office_schema, Rows, Name, Holds}
 use Rattle.std.proofs.Common.{Err, Result, T, Less, map, sym, ap, subst, le_refl}
-use Rattle.std.specs.Prelude.{IsSome, IfErr, IsErrAnd, IfSome, ◌<◌, is_ok, option_map}
-use Rattle.std.proofs.lemmas.Result.{IfErr-weaker}
+use Rattle.std.specs.Prelude.{IfSome, option_map}
 use Rattle.std.proofs.lemmas.Bool.{cases_Bool}
 use Rattle.std.proofs.lemmas.List.Sorted.{length_permutation}
 use Rattle.std.specs.FinMap as fmap
@@ -10,32 +9,25 @@ use Rattle.std.specs.FinMap.{IsAntisymmetric}
 use Rattle.std.specs.FinMap.Entries.{is_sorted, below_all}
 use Rattle.sqlite_value.specs.declared.keys.Key.{Key}
 use Rattle.sqlite_trees.specs.Tree.{Trees}
-use Rattle.sqlite_trees.specs.declared.store.Store.{Ghosts}
 use Rattle.sqlite_schema.specs.declared.command.Command.TheVariants.{Select}
 use Rattle.sqlite_resolve.specs.declared.compiled.Compiled.{Compiled}
 use Rattle.sqlite_resolve.specs.declared.error.CompileError.{CompileError}
 use Rattle.sqlite_tied.specs.Compute.{everything}
 use Rattle.sqlite.specs.Effect.{IsShown}
-use Rattle.sqlite.specs.Held.{Held}
 use Rattle.sqlite.specs.Listing.{understood}
-use Rattle.sqlite.specs.State.{State, HasCleanDisk, Shown}
+use Rattle.sqlite.specs.State.{State, Shown}
 use Rattle.sqlite.proofs.Callers.{command_of}
 use Rattle.mx_pay.proofs.TestLemmas.{first_true, second_true, is_less, is_equal}
 use Rattle.mx_book.specs.World.{World}
-use Rattle.mx_book.specs.declared.contract.StoreFault.{StoreFault}
-use Rattle.mx_book.specs.declared.contract.StoreFault.TheVariants.{Memory, Store}
 use Rattle.mx_book.specs.declared.values.PurseRow.{PurseRow}
 use Rattle.sqlite_sql.specs.Term.{eval_all}
 use Rattle.mx_tables.specs.Answers.{at_key, about_text, text_shown, next_shown}
 use Rattle.mx_purse.specs.State.{IsPurse}
 use Rattle.mx_cells.specs.Cells.{member_shown, purse_columns, purse_shown}
-use Rattle.mx_tables.specs.Holds.{Spells}
 use Rattle.mx_tables.specs.declared.asking.About.{About}
 use Rattle.mx_tables.specs.declared.asking.About.TheVariants.{Member, Holder, Purse, Owner, Next}
-use Rattle.mx_tables.specs.States.{worry, Accepts, HasOneAtMost, AcceptsText, AcceptsCommand, Blames, IsFaulted, Explains, IsExplained, Reads}
+use Rattle.mx_tables.specs.States.{Accepts, HasOneAtMost, AcceptsText, AcceptsCommand}
 use Rattle.mx_tables.proofs.Places.{Place, Belongs}
-use Rattle.mx_tables.proofs.StateLemmas.{idle_sure, sure, no_worry}
-use Rattle.mx_tables.proofs.CauseLemmas.{handed}
 use Rattle.mx_tables.proofs.Statements.{env, passes}
 use Rattle.mx_tables.proofs.StoredLemmas.{and_true, same_text}
 use Rattle.mx_pay.proofs.SameLemmas.{names_turned}
@@ -59,12 +51,16 @@ module _ {K V : Type 0} (R : K → K → Ordering) (exact : IsAntisymmetric R) (
       let apart : eq_by_cmp R q e.0 ≡ false = ap (λ k. is_eq (R k e.0)) same ∙ ap is_eq less in
       rw apart (none_above a es at (second_true _ _ h))
 
-  at_most_one : (es : List (K × V)) → T (is_sorted R es) → length (at_key R q es) ≤ 1
+  pub at_most_one : (es : List (K × V)) → T (is_sorted R es) → length (at_key R q es) ≤ 1
   at_most_one [] h = omega arith
   at_most_one (e ∷ es) h = elim (cases_Bool (eq_by_cmp R q e.0)) [
     | inl t ↦ rw (t, none_above e.0 es t (first_true _ _ h)) (omega arith)
     | inr f ↦ rw f (at_most_one es (second_true _ _ h))
   ]
+
+  pub none_listed : (es : List (K × V)) → fmap.find R q es ≡ None → at_key R q es ≡ []
+  none_listed [] h = refl
+  none_listed (e ∷ es) h = grind (arith, h, none_listed es)
 
   pub few : {A : Type 0} (m : fmap.FinMap R V) (f : K × V → A) (rows : List A) → IsPermutation (map f (at_key R q (fmap.entries m))) rows → length rows ≤ 1
   few m f rows h =
@@ -114,7 +110,7 @@ about_accepted : (a : About) (p : Name) (db : Trees) → Accepts (about_text a) 
 about_accepted a p db = select_accepted (about_text a) _ _ _ [] _ (selects a) (Text p ∷ []) db (about_whole a) (about_typed a p db)
 
 -- a query at a key answers one row at most
-keyed_few : {K V : Type 0} {R : K → K → Ordering} {t : Place R V} (table : Belongs t) (q : K) (sql : List ℕ) (terms project : List Term) (names : List (List ℕ)) → IsSelect sql t.table.tree terms project [] names
+pub keyed_few : {K V : Type 0} {R : K → K → Ordering} {t : Place R V} (table : Belongs t) (q : K) (sql : List ℕ) (terms project : List Term) (names : List (List ℕ)) → IsSelect sql t.table.tree terms project [] names
     → (params : Row) (show : V → Row)
     → ((id : ℤ) (e : K × V) → passes terms params (Int id ∷ t.cells e) ≡ eq_by_cmp R q e.0) → ((id : ℤ) (e : K × V) → eval_all project (env params (Int id ∷ t.cells e)) ≡ show e.1)
     → (old new : State) (rows : List Row) → Shown sql params old new rows → (r : Rows) → Holds old.now r → length rows ≤ 1
@@ -130,59 +126,7 @@ about_few Owner p old new rows r h shown = keyed_few kept.purses p _ _ _ _ (sele
 about_few Next p old new rows r h shown = keyed_few kept.purses p _ _ _ _ (selects Next) (Text p ∷ []) next_shown (λ id e. rw (same_text e.0 p) (and_true _ ∙ names_turned e.0 p)) (λ id e. refl) old new rows shown r h
 
 pub about_one : (a : About) (p : Name) (old new : State) (r : Rows) → Holds old.now r → HasOneAtMost (about_text a) (Text p ∷ []) old new
-about_one a p old new r h = record { schema = h.has.schema; accepts = about_accepted a p old.now.trees; few = λ rows shown. about_few a p old new rows r h shown }
-
--- ---- one read after another
-
--- what a read is to blame for that asks no more, and decodes what it got
-abbrev pub IsForMemory : StoreFault → Type 0
-IsForMemory f = f ≡ Memory
-
-by_memory : (old new : State) (f : StoreFault) → IsForMemory f → Blames old new f
-by_memory old new f is = rw is tt
-
-by_fault : (old new : State) (f : StoreFault) → IsFaulted old new → Blames old new f
-by_fault old new Memory h = tt
-by_fault old new Store h = inl h
-
-pub err_by_fault : {X : Type 0} (r : Result X StoreFault) (old new : State) → IsFaulted old new → IfErr r (Blames old new)
-err_by_fault (Ok x) old new h = tt
-err_by_fault (Err f) old new h = by_fault old new f h
-
-pub explains_as : {k l x y : Type 0} (old new : State) → Explains old new k x → (HasCleanDisk new → worry old ≡ 0 → l → k × (x → y)) → Explains old new l y
-explains_as old new h f = record {
-  clean = h.clean;
-  counts = h.counts;
-  limit = h.limit;
-  closes = h.closes;
-  cause = λ clean calm known. let it = f clean calm known in it.1 (h.cause clean calm it.0);
-}
-
--- what was read is decoded
-pub explains_to : {k l x : Type 0} {U : Type 0} (old new : State) (r : Result U StoreFault) → Explains old new k x → (worry old ≡ 0 → worry new ≡ 0 → l → IfErr r IsForMemory) → Explains old new l (IfErr r (Blames old new))
-explains_to old new r h f = record {
-  clean = h.clean;
-  counts = h.counts;
-  limit = h.limit;
-  closes = h.closes;
-  cause = λ clean calm known. elim (h.closes clean (sure old calm).0) [
-    | inl up ↦ IfErr-weaker r _ _ (by_memory old new) (f calm (no_worry new up clean) known)
-    | inr failed ↦ err_by_fault r old new failed
-  ];
-}
-
-module _ {S : Type 0} (g : Ghosts S) where
-  -- what was read of the rows is decoded
-  pub why_to : {X U : Type 0} {old new : Held S} {x : X} {r : Result U StoreFault} {is : Rows → X → Type 0} → Reads g old new (Ok x) is → IsExplained g old new (Ok x)
-      → ((w : World) (s : Spells (state g old).now w) → is s.rows x → IfErr r IsForMemory) → IsExplained g old new r
-  why_to {old = old} {new = new} {r = r} h one f = record {
-    why = λ ours. explains_to (state g old) (state g new) r (one.why ours) (λ was calm it. f it.0 it.1 (h.value ours (idle_sure (state g new) calm) it.1.rows it.1.holds));
-  }
-
--- a decoding that gives a value has no fault
-pub no_fault : {X : Type 0} (r : Result X StoreFault) (P : StoreFault → Type 0) → is_ok r ≡ true → IfErr r P
-no_fault (Ok x) P h = tt
-no_fault (Err e) P h = absurd (cc)
+about_one a p old new r h = record { accepts = about_accepted a p old.now.trees; few = λ rows shown. about_few a p old new rows r h shown }
 
 -- ---- what the rows of a World show is read
 
@@ -229,42 +173,3 @@ member_read r w h m row is = subst (λ o. IfSome o HasMoney) (sym is) (by (fmap.
     by : (o : Option MemberRow) → fmap.get r.members m ≡ o → IfSome (option_map member_shown o) HasMoney
     by None e = tt
     by (Some x) e = let it = members_valid r w h m x e in (x, it.0, it.1, refl, refl)
-
-module _ {S : Type 0} (g : Ghosts S) where
-  -- no call but for memory
-  pub why_none : {U : Type 0} (a : Held S) {r : Result U StoreFault} → IfErr r IsForMemory → IsExplained g a a r
-  why_none a {r = r} f = record {
-    why = λ ours. record {
-      clean = omega arith;
-      counts = omega arith;
-      limit = refl;
-      closes = λ clean live. inl live;
-      cause = λ clean calm it. IfErr-weaker r _ _ (by_memory (state g a) (state g a)) f;
-    };
-  }
-
-  -- a query of which all is so that it is explained by
-  pub why_asked : {U : Type 0} {old new : Held S} {k x : Type 0} (r : Result U StoreFault) → Explains (state g old) (state g new) k x → ((w : World) → Spells (state g old).now w → k) → (x → IfErr r (Blames (state g old) (state g new)))
-      → IsExplained g old new r
-  why_asked {old = old} {new = new} r one known f = record { why = λ ours. explains_as (state g old) (state g new) one (λ clean calm it. (known it.0 it.1, f)) }
-
-  -- what it showed is decoded
-  pub why_shown : {U : Type 0} {old new : Held S} (rows : List Row) (sql : List ℕ) (params : Row) {k x : Type 0} {r : Result U StoreFault}
-      → Explains (state g old) (state g new) k x → (worry (state g new) ≡ 0 → Shown sql params (state g old) (state g new) rows)
-      → ((w : World) (s : Spells (state g old).now w) → Shown sql params (state g old) (state g new) rows → IfErr r IsForMemory) → IsExplained g old new r
-  why_shown {old = old} {new = new} rows sql params {r = r} one shown f = record {
-    why = λ ours. explains_to (state g old) (state g new) r one (λ was calm it. f it.0 it.1 (shown calm));
-  }
-
--- no row is one too many
-pub no_more : {X : Type 0} (r : Result X StoreFault) (n : ℕ) (P : StoreFault → Type 0) → n ≤ 1 → IfErr r (λ _. 1 < n) → IfErr r P
-no_more r n P low h = IfErr-weaker r _ _ (λ e two. absurd (omega (arith, low, two))) h
-
-module _ {S : Type 0} (g : Ghosts S) where
-  -- what a call that gave a value says of another value
-  pub why_ok : {X U : Type 0} {old new : Held S} {x : X} (y : U) → IsExplained g old new (Ok x) → IsExplained g old new (Ok y)
-  why_ok y h = record { why = h.why }
-
-  -- what a call that failed says of the fault that `?` hands on
-  pub why_handed : {X U : Type 0} {old new : Held S} (r : Result U StoreFault) {f : StoreFault} → IsErrAnd r (λ e. e ≡ f) → IsExplained {T = X} g old new (Err f) → IsExplained g old new r
-  why_handed {old = old} {new = new} r is h = record { why = λ ours. explains_as (state g old) (state g new) (h.why ours) (λ clean calm it. (it, handed r _ _ is)) }

@@ -1,6 +1,6 @@
 -- The statements on inboxes.
-use Rattle.mx_tables.proofs.Common.{false, inl, inr, ◌≡◌, ◌<◌, ℕ, None, length, List, [], ◌∷◌, refl, ℤ, pos, ◌+◌, true, Some, Option, codes, Ok, ◌∙◌, arith, AllByRecursion, length-map, Text, Int, number, office_schema, option_map, IsPermutation, Ordering, nat_cmp, is_eq, eq_by_cmp, Binary, Row, column, col, Database, Executes, name_cmp, is_name, Name, Rows, rewritten, PurseRow, Holds}
-use Rattle.std.proofs.Common.{le_refl, is_some, filter, map, ap, not, Err, Result, IfOk, sym, subst, Less}
+use Rattle.mx_tables.proofs.Common.{◌≡◌, ◌<◌, ℕ, None, length, List, [], ◌∷◌, refl, ℤ, pos, ◌+◌, true, Some, Option, codes, Ok, ◌∙◌, arith, AllByRecursion, length-map, Text, Int, number, office_schema, option_map, IsPermutation, Ordering, nat_cmp, is_eq, eq_by_cmp, Binary, Row, column, col, Executes, name_cmp, is_name, Name, Rows, rewritten, PurseRow, Holds}
+use Rattle.std.proofs.Common.{le_refl, map, ap, not, Err, Result, IfOk, sym, subst, Less}
 use Rattle.std.proofs.lemmas.List.Sorted.{length_permutation}
 use Rattle.mx_purse.specs.declared.message.Message.{Message}
 use Rattle.mx_purse.specs.Messages.{IsMessage}
@@ -26,7 +26,7 @@ use Rattle.mx_book.specs.Under.{pair_cmp}
 use Rattle.mx_book.proofs.NameLemmas.{same_name}
 use Rattle.mx_book.proofs.MapLemmas.{all_entries}
 use Rattle.mx_tables.proofs.Texts.{is_given, select_inbox, select_inbox_is, select_held_numbers, select_held_numbers_is, select_message, select_message_is, select_number, select_number_is, insert_message, insert_message_is, delete_message, delete_message_is}
-use Rattle.mx_tables.proofs.Statements.{passes, Wrote}
+use Rattle.mx_tables.proofs.Statements.{passes}
 use Rattle.mx_tables.proofs.StoredLemmas.{and_true, same_text, same_numbers, numbers_cmp, cast_int, cast_null}
 use Rattle.sqlite.specs.Listing.{understood}
 use Rattle.sqlite_tied.specs.Compute.{everything}
@@ -34,11 +34,7 @@ use Rattle.sqlite_trees.specs.Tree.{Trees}
 use Rattle.mx_tables.specs.States.{Accepts, Brings}
 use Rattle.mx_tables.proofs.FaultLemmas.{IsWhole, select_accepted}
 use Rattle.mx_tables.proofs.ReadLemmas.{answers, answers_in_order, keyed}
-use Rattle.mx_tables.proofs.StateLemmas.{brings_same}
 use Rattle.mx_tables.proofs.WriteLemmas.{adds, drops, goes_as, goes_then}
-use Rattle.sqlite_trees.specs.Tree.{put_row}
-use Rattle.sqlite_rules.specs.Edit.{is_taken, without_all}
-use Rattle.sqlite_rules.specs.Calls.{ids_of}
 use Rattle.mx_tables.proofs.KeptLemmas as kept
 use Rattle.sqlite_trees.proofs.ListLemmas.{all-map, all-filter}
 

@@ -1,6 +1,6 @@
 -- What tables keep true of their connection and their cache, over each call.
-use Rattle.mx_tables.proofs.Common.{◌≡◌, Bool, true, false, List, Ok, inl, inr, refl, ◌∙◌, fold, rewritten, Rows, Database, Holds, state}
-use Rattle.std.proofs.Common.{Err, IsTrue, Result, OnOk, OnErr, IfOk, sym, ap, subst}
+use Rattle.mx_tables.proofs.Common.{◌≡◌, Bool, true, false, List, Ok, refl, fold, rewritten, Rows, Database, Holds, state}
+use Rattle.std.proofs.Common.{Err, IsTrue, Result, OnOk, OnErr, IfOk, sym, subst}
 use Rattle.sqlite_trees.specs.declared.store.Store.{Ghosts}
 use Rattle.sqlite.specs.Held.{Held}
 use Rattle.sqlite.specs.State.{State, HasCleanDisk}

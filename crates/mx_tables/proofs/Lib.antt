@@ -30,4 +30,8 @@ pub mod CacheLemmas
 pub mod InvariantLemmas
 pub mod ToldLemmas
 pub mod FaultLemmas
+pub mod AcceptLemmas
+pub mod ShownLemmas
+pub mod AddedLemmas
+pub mod TrayLemmas
 pub mod MigrationLemmas

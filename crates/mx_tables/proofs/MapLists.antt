@@ -1,7 +1,8 @@
 -- Lists of rows and the maps that they make.
 use Rattle.mx_tables.proofs.Common.{◌≡◌, ◌<◌, ◌+◌, ℕ, length, take, Bool, true, List, [], ◌∷◌, ◌++◌, Some, None, refl, ◌∙◌, filter, arith, IsPermutation, Ordering, is_eq, eq_by_cmp, option_map}
 use Rattle.std.proofs.Common.{cond, ◌||◌, map, sym, ap, ap₂, subst, not, get_or}
-use Rattle.std.specs.List.{list_any}
+use Rattle.std.specs.List.{AllByRecursion, list_any}
+use Rattle.sqlite_trees.proofs.ListLemmas.{all-get_or}
 use Rattle.std.proofs.lemmas.List.{map_more, map-append}
 use Rattle.std.proofs.lemmas.List.Sorted.{IsPermutation-refl, IsPermutation-cons, IsPermutation-middle, IsPermutation-trans}
 use Rattle.std.specs.declared.cmp.Ordering.TheVariants.{Less, Equal, Greater}
@@ -16,6 +17,10 @@ use Rattle.mx_book.specs.Under.{remake}
 abbrev pub AreDistinct : {K V : Type 0} → (K → K → Ordering) → List (K × V) → Type 0
 AreDistinct R [] = Unit {0}
 AreDistinct R (e ∷ es) = (fmap.find R e.0 es ≡ None) × AreDistinct R es
+
+-- what is so of all is so of each
+pub all_at : {X : Type 0} (P : X → Type 0) (xs : List X) (at : ℕ) (x : X) → at < length xs → x ≡ get_or xs at x → AllByRecursion P xs → P x
+all_at P xs at x within is h = subst P (sym is) (all-get_or P xs at x h within)
 
 -- a test of some value of a list that was mapped is one of the list
 pub any_mapped : {X Y : Type 0} (f : Y → Bool) (show : X → Y) (xs : List X) → list_any f (map show xs) ≡ list_any (λ x. f (show x)) xs

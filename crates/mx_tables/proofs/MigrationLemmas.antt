@@ -33,9 +33,9 @@ use Rattle.mx_book.specs.declared.contract.StoreFault.{StoreFault}
 use Rattle.mx_tables.specs.declared.making.Version.{Version}
 use Rattle.mx_tables.specs.declared.making.Version.TheVariants.{One, Two}
 use Rattle.mx_tables.specs.declared.migration.Migrated.TheVariants.{Done}
-use Rattle.mx_tables.specs.Schema.{schema_11, schema_of, number_of, settled, cells_in}
+use Rattle.mx_tables.specs.Schema.{schema_11, schema_of, settled, cells_in}
 use Rattle.mx_tables.specs.Holds.{AllStore, Stores, meta_rows_in, HoldsIn}
-use Rattle.mx_tables.specs.Made.{AddsTable, HasOnly}
+use Rattle.mx_tables.specs.Made.{AddsTable}
 use Rattle.mx_tables.specs.Migration.{IsWhole, Upgrades, UpgradesOpen, SetsVersion, StopsUpgrading, Migrates}
 use Rattle.mx_tables.specs.States.{worry, IsOurs, StaysAt, Commits}
 use Rattle.mx_tables.proofs.Texts.{is_first, set_version, set_version_is}
@@ -192,18 +192,6 @@ upgrades_inside old mark mid at marked later went clean =
     let begun = (marked (omega (arith, later, clean))).1.0 in
     let it = went clean begun.mode in
     record { live = begun.was_open; upgrades = λ has. subst (λ d. Upgrades d mid.now) begun.now_is (it.upgrades (ap (λ (d : Database). d.schema) begun.now_is ∙ has)) }
-
--- ---- which version a store has
-
-same_version : (u v : Version) → schema_of u ≡ schema_of v → u ≡ v
-same_version One One h = refl
-same_version One Two h = absurd (let e : 11 ≡ 12 = ap (λ (s : Schema). length s.tables) h in omega (arith, e))
-same_version Two One h = absurd (let e : 12 ≡ 11 = ap (λ (s : Schema). length s.tables) h in omega (arith, e))
-same_version Two Two h = refl
-
--- where `meta` has the number of another version than that of the schema, it has no version whole
-pub other_version : (v : Version) (n : ℕ) (db : Database) → db.schema ≡ schema_of v → HasOnly n db → n ≢ number_of v → (u : Version) → ¬ IsWhole u db
-other_version v n db has only other u it = only.1 (number_of u) (λ e. other (sym e ∙ ap number_of (same_version u v (sym it.schema ∙ has)))) it.version
 
 -- ---- the whole call
 

@@ -1,6 +1,6 @@
 -- The index of purses by holder, which a pass over the table of purses makes.
-use Rattle.mx_tables.proofs.Common.{[], arith, Bool, column, is_name, length, List, name_cmp, Name, None, Option, PurseRow, refl, Row, Rows, Some, state, take, Text, ◌&&◌, ◌++◌, ◌+◌, ◌<◌, ◌∙◌, ◌∷◌, ◌≡◌, ℕ, Holds, IsPermutation}
-use Rattle.std.proofs.Common.{map, sym, ap, subst, get_or, ◌||◌}
+use Rattle.mx_tables.proofs.Common.{[], arith, Bool, column, is_name, length, List, name_cmp, Name, None, PurseRow, refl, Row, Rows, Some, take, Text, ◌&&◌, ◌++◌, ◌+◌, ◌<◌, ◌∙◌, ◌∷◌, ◌≡◌, ℕ, Holds, IsPermutation}
+use Rattle.std.proofs.Common.{map, sym, ap, subst, get_or}
 use Rattle.std.specs.FinMap as fmap
 use Rattle.std.specs.List.{list_any}
 use Rattle.std.proofs.lemmas.List.{take_more}

@@ -1,46 +1,29 @@
 -- The statements on purses, and what they show.
-use Rattle.mx_tables.proofs.Common.{Binary, ◌≡◌, ℕ, ◌+◌, ℤ, pos, Bool, true, false, inl, inr, is_eq, length, List, [], ◌∷◌, codes, Ok, Option, Some, None, refl, filter, ◌∙◌, arith, ◌&&◌, option_map, length-map, eq_by_cmp, nat_cmp, Null, Int, Text, Row, column, Term, col, Executes, name_cmp, is_name, Name, rewritten, Rows, PurseRow, office_schema, number, Holds, IsPermutation}
-use Rattle.std.proofs.Common.{is_some, map, drop, sym, subst, ap, ap₂, if◌then◌else◌}
+use Rattle.mx_tables.proofs.Common.{◌≡◌, ℕ, ◌+◌, ℤ, pos, Bool, true, length, List, [], ◌∷◌, codes, Ok, Option, Some, None, refl, ◌∙◌, arith, ◌&&◌, option_map, eq_by_cmp, nat_cmp, Null, Int, Text, Row, column, Term, col, Executes, name_cmp, is_name, Name, rewritten, Rows, PurseRow, office_schema, number, Holds}
+use Rattle.std.proofs.Common.{drop, sym, ap, ap₂}
 use Rattle.std.specs.Prelude.{nat_lt}
 use Rattle.mx_pay.specs.Limits.{most_number}
 use Rattle.mx_book.specs.Limits.{most_messages}
 use Rattle.std.specs.FinMap.{nat_cmp-IsAntisymmetric}
 use Rattle.std.specs.FinMap as fmap
-use Rattle.sqlite_trees.specs.Tree.{rowid}
 use Rattle.sqlite_rules.specs.Cast.{cast_row}
 use Rattle.sqlite_sql.specs.Term.{eval_all}
-use Rattle.sqlite_sql.specs.Ops.{binary, is_true}
-use Rattle.sqlite_sql.specs.declared.ops.BinaryOp.TheVariants.{Compare}
-use Rattle.sqlite_sql.specs.declared.ops.CompareOp.TheVariants.{Eq}
 use Rattle.sqlite.specs.State.{State}
 use Rattle.mx_pay.specs.Codes.{code, entry_texts}
 use Rattle.mx_pay.proofs.CodeLemmas.{none_is}
-use Rattle.mx_purse.specs.State.{new_purse, IsPurse, State as Purse}
+use Rattle.mx_purse.specs.State.{new_purse, State as Purse}
 use Rattle.mx_purse.specs.Words.{status_word, status_details}
-use Rattle.mx_book.specs.World.{is_of}
 use Rattle.mx_book.specs.RowEdits.{on_purse, member_at}
 use Rattle.mx_book.specs.declared.edits.Edit.TheVariants.{NewPurse, SetPurse}
-use Rattle.mx_book.specs.RowReads.{row_own_purse, row_finds_place, row_inbox_of, of_name}
-use Rattle.mx_purse.specs.declared.message.Message.{Message}
-use Rattle.mx_cells.specs.Cells.{purse_cells, state_shown, state_columns, purse_shown}
+use Rattle.mx_book.specs.RowReads.{row_finds_place, of_name}
+use Rattle.mx_cells.specs.Cells.{purse_cells}
 use Rattle.mx_tables.specs.States.{Brings}
-use Rattle.mx_book.proofs.NameLemmas.{names_total, same_name, name_itself}
-use Rattle.sqlite_rules.specs.Lists.{Has}
-use Rattle.sqlite_rules.specs.Edit.{is_taken, are_fresh, without_all, put_all}
-use Rattle.sqlite_rules.proofs.ProbeLemmas.{has_mapped}
-use Rattle.std.proofs.lemmas.List.Sorted.{IsPermutation-sym}
-use Rattle.std.proofs.lemmas.Cmp.{tied_itself, nat_cmp_total}
-use Rattle.std.specs.Cmp.{first_so, second_so}
-use Rattle.sqlite_rules.specs.Calls.{ids_of}
-use Rattle.sqlite_rules.proofs.ListLemmas.{all_has, has_filtered}
 use Rattle.mx_tables.specs.Answers.{next_shown}
 use Rattle.mx_tables.proofs.Texts.{is_given, insert_purse, insert_purse_is, update_purse, update_purse_is, raise_next, raise_next_is}
 use Rattle.mx_pay.proofs.TestLemmas.{is_equal}
-use Rattle.mx_tables.proofs.Statements.{env, passes, Wrote}
-use Rattle.mx_tables.proofs.StoredLemmas.{and_true, same_text, same_numbers, cast_int, cast_null, permuted}
+use Rattle.mx_tables.proofs.Statements.{env, passes}
+use Rattle.mx_tables.proofs.StoredLemmas.{and_true, same_text, same_numbers, cast_int, cast_null}
 use Rattle.mx_tables.proofs.WriteLemmas.{adds, alters_one, was_there}
-use Rattle.mx_tables.proofs.ValueLemmas.{same_state}
-use Rattle.mx_cells.proofs.TextLemmas.{same_words}
 use Rattle.mx_tables.proofs.KeptLemmas.{purse_place, purses}
 
 -- ---- writes

@@ -50,7 +50,7 @@ use Rattle.mx_tables.proofs.Statements.{inserted}
 use Rattle.mx_pay.proofs.TextLemmas.{same_entry}
 use Rattle.mx_tables.proofs.KeptLemmas as kept
 
-abbrev Result : Type 0
+abbrev pub Result : Type 0
 Result = (Name × Details) × Unit {0}
 
 -- ---- the texts
@@ -157,7 +157,7 @@ among_step : (named at own found : Bool) (f : Result → Bool) (some : Bool) (e 
 among_step named at own found f some e es one two more is = grind arith
 
 module _ (p : Name) (k : Name × Details) where
-  abbrev of_purse : Result → Bool
+  abbrev pub of_purse : Result → Bool
   of_purse e = eq_by_cmp result_cmp k (p, e.0.1)
 
   among : (es : List Result) → list_any of_purse (of_name p es) ≡ (is_some (fmap.find result_cmp k es) && is_name p k.0)
@@ -190,13 +190,13 @@ shows_more rows at row old new d within is shown valid made h = record {
   has = λ e. ap (λ l. has_logged l e) made ∙ grind (arith, fmap.get-insert details_total old d tt e, h.has e, list_any-append (is_details e) h.details (d ∷ []));
 }
 
-same_shown : (d e : Details) → IsDetails d → IsDetails e → details_shown d ≡ details_shown e → d ≡ e
+pub same_shown : (d e : Details) → IsDetails d → IsDetails e → details_shown d ≡ details_shown e → d ≡ e
 same_shown d e one two h = same_entry d e one two (cc)
 
-abbrev second : Result → Details
+abbrev pub second : Result → Details
 second e = e.0.1
 
-any_second : (p : Name) (d : Details) (zs : List Result) → list_any (is_details d) (map second zs) ≡ list_any (of_purse p (p, d)) zs
+pub any_second : (p : Name) (d : Details) (zs : List Result) → list_any (is_details d) (map second zs) ≡ list_any (of_purse p (p, d)) zs
 any_second p d [] = refl
 any_second p d (z ∷ zs) = ap₂ (λ a b. a || b) (sym (pair_eq p d (p, second z) ∙ ap (λ b. b && is_details d (second z)) (name_itself p))) (any_second p d zs)
 

@@ -145,10 +145,11 @@ idle_sure s h = let it = sure s h in no_unsure false s it.0 it.1 (inl refl)
 pub sure_first : {a b : ℕ} → a ≤ b → b ≡ 0 → a ≡ 0
 sure_first later h = omega (arith, later, h)
 
-pub stays : {begun : Bool} {of : Schema} (old new : State) → IsAt begun of old → (old.in_transaction ≡ false → new.in_transaction ≡ false) → doubt old.is_clean ≤ doubt new.is_clean
+pub stays : {begun : Bool} {of : Schema} {Commits : Trees → Type 0} (old new : State) → IsAt begun of old → (old.in_transaction ≡ false → new.in_transaction ≡ false) → Survives old new Commits
     → (HasCleanDisk new → IsTrue new.is_open → IsTrue old.is_open) → (worry new ≡ 0 → old.now.schema ≡ of → Quits old new)
     → (HasCleanDisk new → (db : Trees) → new.may_leave db → old.may_leave db) → StaysAt begun of old new
-stays {begun} old new ours mode clean opened quits crash =
+stays {begun} old new ours mode survives opened quits crash =
+    let clean = survives.clean in
     let lasts = worry_later old new clean opened in
     let left = λ (h : worry new ≡ 0). quits h (ours.schema (sure_before old new lasts h)) in
     let was : unsure begun new ≡ 0 → unsure begun old ≡ 0 = λ h.
@@ -188,6 +189,8 @@ stays {begun} old new ours mode clean opened quits crash =
       same = same;
       base = base;
       stops = λ h db gone. crash (not_lied new h) db gone;
+      counts = survives.counts;
+      limit = survives.limit;
     }
 
 -- what is idle and steady is so in its schema
@@ -204,11 +207,20 @@ pub stays_found : {of : Schema} (old new : State) → ((s : Schema) → IsAt fal
     → StaysAt false of old new
 stays_found {of} old new stays idle steady has = stays of (is_at of old idle steady has)
 
-pub rests_at : {of : Schema} (old new : State) → old.in_transaction ≡ false → StaysAt false of old new → StaysIdle old new
-rests_at old new idle h = record { autocommit = h.mode idle; later = h.lasts; same = λ sure. h.same (idle_sure new sure); stops = h.stops }
+-- what is read between calls stays idle
+pub rests_at : {of : Schema} (old new : State) → StaysAt false of old new → StaysIdle old new
+rests_at old new h = record { autocommit = h.mode; later = h.lasts; same = λ sure. h.same (idle_sure new sure); stops = h.stops }
+
+pub rests_then : (a b c : State) → StaysIdle a b → StaysIdle b c → StaysIdle a c
+rests_then a b c one two = record {
+  autocommit = λ idle. two.autocommit (one.autocommit idle);
+  later = omega (arith, one.later, two.later);
+  same = λ h. two.same h ∙ one.same (sure_before b c two.later h);
+  stops = λ h db left. one.stops (let e = two.later in omega arith) db (two.stops h db left);
+}
 
 pub stays_same : {begun : Bool} {of : Schema} (a : State) → IsAt begun of a → StaysAt begun of a a
-stays_same a ours = record { ours = ours; lasts = omega arith; later = omega arith; mode = λ outside. outside; same = λ h. refl; base = λ h. refl; stops = λ h db left. left }
+stays_same a ours = record { ours = ours; lasts = omega arith; later = omega arith; mode = λ outside. outside; same = λ h. refl; base = λ h. refl; stops = λ h db left. left; counts = omega arith; limit = refl }
 
 pub stays_then : {begun : Bool} {of : Schema} (a b c : State) → StaysAt begun of a b → StaysAt begun of b c → StaysAt begun of a c
 stays_then a b c one two = record {
@@ -219,6 +231,8 @@ stays_then a b c one two = record {
   same = λ h. two.same h ∙ one.same (sure_first two.later h);
   base = λ h. two.base h ∙ one.base (sure_before b c two.lasts h);
   stops = λ h db left. one.stops (let e = two.lasts in omega arith) db (two.stops h db left);
+  counts = omega (arith, one.counts, two.counts);
+  limit = two.limit ∙ one.limit;
 }
 
 -- ---- what a stop leaves
@@ -274,7 +288,7 @@ begun_live g sql params old new (inr h) = (showed sql params (state g old) (stat
 pub begun_stays : {S : Type 0} {begun : Bool} (g : Ghosts S) (sql : List ℕ) (params : Row) (old new : Held S) → IsText sql → IsSilent sql → IsOurs begun (state g old) → (old.in_transaction ≡ false → new.in_transaction ≡ false)
     → Survives (state g old) (state g new) (CommitsShowing sql params (state g old)) → (HasCleanDisk (state g new) → HasBegun g sql params old new) → Stays begun (state g old) (state g new)
 begun_stays g sql params old new text silent ours mode survives begun =
-    stays (state g old) (state g new) ours mode survives.clean (λ now live. begun_open g sql params old new (begun now))
+    stays (state g old) (state g new) ours mode survives (λ now live. begun_open g sql params old new (begun now))
     (λ h has. inl (begun_plain g sql params old new (subst (λ s. IsPlain (understood s sql)) (sym has) text) (begun (sure (state g new) h).1)).1)
     (leaves_as sql params (state g old) (state g new) silent survives)
 
@@ -284,12 +298,18 @@ pub refused_stays : {S X : Type 0} {begun : Bool} (g : Ghosts S) (sql : List ℕ
 refused_stays g sql params old new (Ok x) e is silent ours h = absurd (cc)
 refused_stays g sql params old new (Err f) e is silent ours h =
     let left : HasCleanDisk (state g new) → Quits (state g old) (state g new) = λ clean. query_quits sql params (state g old) (state g new) f (h.err clean) in
-    stays (state g old) (state g new) ours h.mode h.survives.clean (λ clean. (quits (state g old) (state g new) (left clean)).was_open) (λ h has. left (sure (state g new) h).1)
+    stays (state g old) (state g new) ours h.mode h.survives (λ clean. (quits (state g old) (state g new) (left clean)).was_open) (λ h has. left (sure (state g new) h).1)
     (leaves_as sql params (state g old) (state g new) silent h.survives)
+
+-- and why it doesn't
+pub refused_fails : {S X : Type 0} (g : Ghosts S) (sql : List ℕ) (params : Row) (old new : Held S) (r : Result X Error) (e : Error) → r ≡ Err e
+    → OnErr r (IsRefused g sql params old r new) → HasCleanDisk (state g new) → FailsToQuery sql params (state g old) (state g new) e
+refused_fails g sql params old new (Ok x) e is h clean = absurd (cc)
+refused_fails g sql params old new (Err f) e is h clean = subst (FailsToQuery sql params (state g old) (state g new)) {x = f} (cc) (h.err clean)
 
 -- a step to the next row, or one that fails, leaves the rows
 pub step_stays : {begun : Bool} (old new : State) → IsOurs begun old → (old.in_transaction ≡ false → new.in_transaction ≡ false) → Survives old new (λ _. ⊥) → (HasCleanDisk new → Quits old new) → Stays begun old new
-step_stays old new ours mode survives left = stays old new ours mode survives.clean (λ clean. (quits old new (left clean)).was_open) (λ h has. left (sure new h).1) (leaves_less old new survives)
+step_stays old new ours mode survives left = stays old new ours mode survives (λ clean. (quits old new (left clean)).was_open) (λ h has. left (sure new h).1) (leaves_less old new survives)
 
 pub failed_quits : (old new : State) (e : Error) → Fails old new ⊥ e ⊎ IsUnchanged old new → Quits old new
 failed_quits old new e (inl failed) = inr failed.3

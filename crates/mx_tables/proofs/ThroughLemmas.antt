@@ -1,6 +1,7 @@
 -- Reads by way of the cache, one after another.
 use Rattle.mx_tables.proofs.Common.{◌≡◌, Ok, IfOk-weaker, Database, Rows, Holds, state}
-use Rattle.std.proofs.Common.{Result, IfOk, sym, subst}
+use Rattle.std.proofs.Common.{Err, Result, sym, subst}
+use Rattle.std.specs.Prelude.{IsErrAnd}
 use Rattle.std.proofs.lemmas.Result.{IfOk-from_err}
 use Rattle.std.specs.Result.{IsErr}
 use Rattle.sqlite_trees.specs.declared.store.Store.{Ghosts}
@@ -9,54 +10,81 @@ use Rattle.mx_book.specs.Spells as book
 use Rattle.mx_book.specs.World.{World}
 use Rattle.mx_book.specs.declared.contract.StoreFault.{StoreFault}
 use Rattle.mx_tables.specs.Cached.{Agrees, ReadsThrough}
-use Rattle.mx_tables.specs.States.{Reads}
+use Rattle.mx_tables.specs.States.{Asks, Blames, IsExplained, IsForMemory, Reads, SpellAny}
+use Rattle.mx_tables.proofs.CallLemmas.{asks_fault, asks_wrong, explained_then}
+use Rattle.mx_tables.proofs.CauseLemmas.{by_memory, handed, is_err}
 use Rattle.mx_tables.specs.declared.cache.Cache.{Cache}
 use Rattle.mx_tables.proofs.StateLemmas.{stays_same, stays_then, sure_first}
 
 module _ {S : Type 0} (g : Ghosts S) where
   -- what the cache answers alone
-  pub through_cache : {T : Type 0} {old : Held S} {k l : Cache} {r : Result T StoreFault} {is : Rows → World → T → Type 0}
-      → ((rows : Rows) (w : World) → book.Spells rows w → Agrees rows k → Agrees rows l × IfOk r (is rows w)) → ReadsThrough g old old k l r is
-  through_cache {old = old} f = record { stays = λ ours. stays_same (state g old) ours; agrees = λ ours calm rows w holds spells it. f rows w spells it }
+  pub through_cache : {T : Type 0} {old : Held S} {k l : Cache} {x : T} {is : Rows → World → T → Type 0}
+      → ((rows : Rows) (w : World) → book.Spells rows w → Agrees rows k → Agrees rows l × is rows w x) → ReadsThrough g old old k l (Ok x) is
+  through_cache {old = old} f = record {
+    stays = λ ours. stays_same (state g old) ours;
+    agrees = λ ours calm rows w holds spells it. f rows w spells it;
+    cause = λ begun ours calm rows holds it. tt;
+  }
 
   -- a read that leaves the cache
   pub through_read : {T : Type 0} {old new : Held S} {k : Cache} {r : Result T StoreFault} {is : Rows → T → Type 0} {other : Rows → World → T → Type 0}
-      → Reads g old new r is → ((rows : Rows) (w : World) → book.Spells rows w → (x : T) → is rows x → other rows w x) → ReadsThrough g old new k k r other
-  through_read {r = r} h f = record { stays = λ ours. h.stays ours; agrees = λ ours calm rows w holds spells it. (it, IfOk-weaker r _ _ (f rows w spells) (h.value ours calm rows holds)) }
+      → Asks g old new r is → ((rows : Rows) (w : World) → book.Spells rows w → (x : T) → is rows x → other rows w x) → ReadsThrough g old new k k r other
+  through_read {r = r} h f = record {
+    stays = λ ours. h.reads.stays ours;
+    agrees = λ ours calm rows w holds spells it. (it, IfOk-weaker r _ _ (f rows w spells) (h.reads.value ours calm rows holds));
+    cause = h.cause;
+  }
 
   -- a fault of such a read
-  pub through_stopped : {T U : Type 0} {old new : Held S} {k : Cache} {q : Result T StoreFault} {r : Result U StoreFault} {is : Rows → T → Type 0} {other : Rows → World → U → Type 0}
-      → Reads g old new q is → IsErr r → ReadsThrough g old new k k r other
-  through_stopped {r = r} {other = other} h fault = record { stays = λ ours. h.stays ours; agrees = λ ours calm rows w holds spells it. (it, IfOk-from_err r (other rows w) fault) }
+  pub through_stopped : {T U : Type 0} {old new : Held S} {k : Cache} {f : StoreFault} {r : Result U StoreFault} {is : Rows → T → Type 0} {other : Rows → World → U → Type 0}
+      → Asks g old new (Err f) is → IsErrAnd r (λ e. e ≡ f) → ReadsThrough g old new k k r other
+  through_stopped {U = U} h fault = through_read {is = λ rows (x : U). ⊥} (asks_fault g h fault) (λ rows w spells x never. absurd never)
+
+  -- a fault after such a read, which the World excludes
+  pub through_wrong : {T U : Type 0} {old new : Held S} {k : Cache} {x : T} {r : Result U StoreFault} {is : Rows → T → Type 0} {other : Rows → World → U → Type 0}
+      → Reads g old new (Ok x) is → IsErr r → ((rows : Rows) → Holds (state g old).now rows → SpellAny rows → is rows x → ⊥) → ReadsThrough g old new k k r other
+  through_wrong {U = U} h fault never = through_read {is = λ rows (x : U). ⊥} (asks_wrong g h fault never) (λ rows w spells x never. absurd never)
 
   -- what is cached is less before a read
   pub through_less : {T : Type 0} {old new : Held S} {k l m : Cache} {r : Result T StoreFault} {is : Rows → World → T → Type 0}
       → ((rows : Rows) → Agrees rows k → Agrees rows l) → ReadsThrough g old new l m r is → ReadsThrough g old new k m r is
-  through_less f h = record { stays = λ ours. h.stays ours; agrees = λ ours calm rows w holds spells it. h.agrees ours calm rows w holds spells (f rows it) }
+  through_less f h = record { stays = λ ours. h.stays ours; agrees = λ ours calm rows w holds spells it. h.agrees ours calm rows w holds spells (f rows it); cause = h.cause }
 
   -- what is cached of what was read
-  pub through_filled : {T U : Type 0} {old new : Held S} {k l m : Cache} {x : T} {r : Result U StoreFault} {is : Rows → World → T → Type 0} {other : Rows → World → U → Type 0}
+  pub through_filled : {T U : Type 0} {old new : Held S} {k l m : Cache} {x : T} {y : U} {is : Rows → World → T → Type 0} {other : Rows → World → U → Type 0}
       → ReadsThrough g old new k l (Ok x) is → ((rows : Rows) (w : World) → book.Spells rows w → is rows w x → Agrees rows l → Agrees rows m)
-      → ((rows : Rows) (w : World) → book.Spells rows w → is rows w x → IfOk r (other rows w)) → ReadsThrough g old new k m r other
+      → ((rows : Rows) (w : World) → book.Spells rows w → is rows w x → other rows w y) → ReadsThrough g old new k m (Ok y) other
   through_filled h fills f = record {
     stays = λ ours. h.stays ours;
     agrees = λ ours calm rows w holds spells it.
         let both = h.agrees ours calm rows w holds spells it in
         (fills rows w spells both.1 both.0, f rows w spells both.1);
+    cause = λ begun ours calm rows holds it. tt;
   }
 
   -- what follows from what was read
-  pub through_to : {T U : Type 0} {old new : Held S} {k l : Cache} {x : T} {r : Result U StoreFault} {is : Rows → World → T → Type 0} {other : Rows → World → U → Type 0}
-      → ReadsThrough g old new k l (Ok x) is → ((rows : Rows) (w : World) → book.Spells rows w → is rows w x → IfOk r (other rows w)) → ReadsThrough g old new k l r other
+  pub through_to : {T U : Type 0} {old new : Held S} {k l : Cache} {x : T} {y : U} {is : Rows → World → T → Type 0} {other : Rows → World → U → Type 0}
+      → ReadsThrough g old new k l (Ok x) is → ((rows : Rows) (w : World) → book.Spells rows w → is rows w x → other rows w y) → ReadsThrough g old new k l (Ok y) other
   through_to h = through_filled h (λ rows w spells is it. it)
 
-  -- a fault after a read
-  pub through_fault : {T U : Type 0} {old new : Held S} {k l : Cache} {q : Result T StoreFault} {r : Result U StoreFault} {is : Rows → World → T → Type 0} {other : Rows → World → U → Type 0}
-      → ReadsThrough g old new k l q is → IsErr r → ReadsThrough g old new k l r other
-  through_fault {r = r} {other = other} h fault = record {
+  fault_by : {T U : Type 0} {old new : Held S} {k l : Cache} {q : Result T StoreFault} {r : Result U StoreFault} {is : Rows → World → T → Type 0} {other : Rows → World → U → Type 0}
+      → ReadsThrough g old new k l q is → IsErr r → IsExplained g old new r SpellAny → ReadsThrough g old new k l r other
+  fault_by {r = r} {other = other} h fault why = record {
     stays = λ ours. h.stays ours;
     agrees = λ ours calm rows w holds spells it. ((h.agrees ours calm rows w holds spells it).0, IfOk-from_err r (other rows w) fault);
+    cause = why;
   }
+
+  -- a fault of such a read, and want of memory after it
+  pub through_fault : {T U : Type 0} {old new : Held S} {k l : Cache} {f : StoreFault} {r : Result U StoreFault} {is : Rows → World → T → Type 0} {other : Rows → World → U → Type 0}
+      → ReadsThrough g old new k l (Err f) is → IsErrAnd r (λ e. e ≡ f) → ReadsThrough g old new k l r other
+  through_fault {old = old} {new = new} {r = r} h fault =
+      fault_by h (is_err r _ fault) (λ begun ours calm rows holds it.
+      handed r _ _ fault (λ e same. subst (Blames (state g old) (state g new)) (sym same) (h.cause begun ours calm rows holds it)))
+
+  pub through_short : {T U : Type 0} {old new : Held S} {k l : Cache} {x : T} {r : Result U StoreFault} {is : Rows → World → T → Type 0} {other : Rows → World → U → Type 0}
+      → ReadsThrough g old new k l (Ok x) is → IsErrAnd r IsForMemory → ReadsThrough g old new k l r other
+  through_short {old = old} {new = new} {r = r} h fault = fault_by h (is_err r _ fault) (λ begun ours calm rows holds it. handed r _ _ fault (by_memory (state g old) (state g new)))
 
   -- a read after a read
   pub through_then : {T U : Type 0} {a b c : Held S} {k l m : Cache} {x : T} {r : Result U StoreFault} {is : Rows → World → T → Type 0} {other : Rows → World → U → Type 0}
@@ -69,4 +97,5 @@ module _ {S : Type 0} (g : Ghosts S) where
         let first = one.agrees ours before rows w holds spells it in
         let second = two.agrees kept.ours calm rows w (subst (λ (d : Database). Holds d rows) (sym (kept.same before)) holds) spells first.0 in
         (second.0, IfOk-weaker r _ _ (λ y is. (first.1, is)) second.1);
+    cause = explained_then g a b c r (λ begun ours. one.stays ours) (λ begun ours. two.stays ours) two.cause (λ begun ours calm rows holds it. it);
   }

@@ -1,5 +1,5 @@
 -- What the changes of one table do to the rows of a book.
-use Rattle.mx_tables.proofs.Common.{◌≡◌, ℕ, ℤ, Bool, true, false, List, [], ◌∷◌, ◌++◌, filter, length, Some, Ok, refl, ◌∙◌, arith, ◌&&◌, option_map, AllByRecursion, eq_by_cmp, Ordering, length-map, Null, Int, Row, IsPermutation, Term, Executes, Rows, office_schema, Holds, Brings}
+use Rattle.mx_tables.proofs.Common.{◌≡◌, ℕ, ℤ, Bool, true, List, [], ◌∷◌, ◌++◌, filter, length, Some, Ok, refl, ◌∙◌, arith, ◌&&◌, option_map, AllByRecursion, eq_by_cmp, Ordering, length-map, Null, Int, Row, Term, Executes, Rows, office_schema, Holds, Brings}
 use Rattle.std.proofs.Common.{◌≢◌, zero, suc, ◌/◌, not, cond, if◌then◌else◌, map, drop, set, slice_get, sym, ap, subst}
 use Rattle.std.specs.Prelude.{◌==◌}
 use Rattle.std.specs.List.{list_all}
@@ -8,9 +8,7 @@ use Rattle.std.specs.FinMap as fmap
 use Rattle.std.proofs.lemmas.Bool.Decides.{nat_tests}
 use Rattle.std.proofs.lemmas.List.{map-append}
 use Rattle.std.proofs.lemmas.List.Sorted.{length_permutation}
-use Rattle.sqlite_trees.specs.Tree.{Trees, rowid, put_row}
-use Rattle.sqlite_rules.specs.Edit.{is_taken, are_fresh, without_all, put_all}
-use Rattle.sqlite_rules.specs.Calls.{ids_of}
+use Rattle.sqlite_trees.specs.Tree.{Trees, rowid}
 use Rattle.sqlite_rules.proofs.ListLemmas.{test_has, has_got}
 use Rattle.sqlite_schema.specs.declared.schema.Constraint.TheVariants.{Unique}
 use Rattle.sqlite_schema.specs.declared.schema.Table.{Table}

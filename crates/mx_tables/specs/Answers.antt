@@ -12,16 +12,16 @@ use Rattle.mx_book.specs.World.{Name}
 use Rattle.mx_book.specs.Rows.{Rows}
 use Rattle.mx_pay.specs.Limits.{most_number}
 use Rattle.mx_pay.specs.Names.{is_name}
-use Rattle.mx_purse.specs.State.{State, IsPurse}
+use Rattle.mx_purse.specs.State.{IsPurse}
 use Rattle.mx_book.specs.declared.values.PurseRow.{PurseRow}
 use Rattle.sqlite.specs.State.{State as Connected}
 use Rattle.mx_book.specs.RowEdits.{on_purse}
-use Rattle.mx_book.specs.RowReads.{row_finds_place}
 use Rattle.mx_tables.specs.declared.asking.About.{About}
 use Rattle.mx_tables.specs.declared.asking.About.TheVariants.{Member, Holder, Purse, Owner, Next}
 use Rattle.mx_tables.specs.Holds.{Holds}
 use Rattle.mx_tables.specs.States.{Brings}
-use Rattle.mx_cells.specs.Cells.{member_shown, purse_shown, state_columns, state_shown, number}
+use Rattle.mx_cells.specs.Cells.{member_shown, purse_shown, number}
+use Rattle.mx_cells.specs.Entries.{HasColumns}
 
 -- the entries at a key
 abbrev pub at_key : {K V : Type 0} → (K → K → Ordering) → K → List (K × V) → List (K × V)
@@ -59,6 +59,10 @@ next_shown x = number x.next_message ∷ []
 -- each purse is one, under its name
 abbrev pub ArePurses : Rows → Type 0
 ArePurses r = (p : Name) (x : PurseRow) → fmap.get r.purses p ≡ Some x → (x.purse.name ≡ p) × IsPurse x.purse
+
+-- the row shows one of these in its first columns
+abbrev pub Displays : {E : Type 0} → (E → Type 0) → (E → Row) → Row → Type 0
+Displays {E} IsOne shows row = (e : E) × IsOne e × HasColumns row 0 (shows e)
 
 -- one or none, as a list
 abbrev pub one_or_none : {X : Type 0} → Option X → List X

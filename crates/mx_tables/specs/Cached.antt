@@ -5,7 +5,6 @@ use Rattle.std.specs.FinMap as fmap
 use Rattle.std.specs.FinSet.{FinSet}
 use Rattle.sqlite_trees.specs.declared.store.Store.{Ghosts}
 use Rattle.sqlite.specs.Held.{Held, state}
-use Rattle.sqlite.specs.Effect.{Database}
 use Rattle.sqlite.specs.State.{State}
 use Rattle.mx_pay.specs.Names.{is_name, name_cmp}
 use Rattle.mx_sorted.specs.Slots.{Slots, map_of}
@@ -22,7 +21,7 @@ use Rattle.mx_book.specs.declared.edits.Edit.TheVariants.{NewPurse}
 use Rattle.mx_book.specs.declared.values.PurseRow.{PurseRow}
 use Rattle.mx_tables.specs.Holds.{Holds, Spells}
 use Rattle.mx_tables.specs.Rounds.{IsKept}
-use Rattle.mx_tables.specs.States.{IsOurs, Stays, unsure, worry}
+use Rattle.mx_tables.specs.States.{IsExplained, IsOurs, SpellAny, Stays, unsure, worry}
 use Rattle.mx_tables.specs.declared.cache.Cache.{Cache}
 
 -- an index of purses by holder, as code keeps it
@@ -76,9 +75,10 @@ pub record Invariant (begun : Bool) (s : State) (cache : Cache) (known : Bool) :
 -- ---- reads
 
 -- A read by way of the cache: the connection is as a read leaves it. Without doubt, of rows that spell a World and that the cache
--- agrees with, what is given is so, and the cache agrees with them still.
+-- agrees with, what is given is so, and the cache agrees with them still; it fails only for a cause.
 pub record ReadsThrough {S T : Type 0} (g : Ghosts S) (old new : Held S) (before after : Cache) (result : Result T StoreFault)
     (is : Rows → World → T → Type 0) : Type 0 where
   pub stays : {begun : Bool} → IsOurs begun (state g old) → Stays begun (state g old) (state g new)
   pub agrees : {begun : Bool} → IsOurs begun (state g old) → unsure begun (state g new) ≡ 0 → (r : Rows) (w : World) → Holds (state g old).now r → book.Spells r w → Agrees r before
       → Agrees r after × IfOk result (is r w)
+  pub cause : IsExplained g old new result SpellAny

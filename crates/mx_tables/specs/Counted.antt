@@ -1,17 +1,19 @@
 -- What rows that were read add to sums, which purses they are of, and what the sums are.
-use Rattle.std.specs.Prelude.{◌≡◌, ℕ, pos, negsuc, Bool, ◌&&◌, ◌||◌, List, [], ◌∷◌, codes, if◌then◌else◌, bytes_eq, unwrap_or, Option, Some, None}
+use Rattle.std.specs.Prelude.{◌≡◌, ℕ, pos, negsuc, Bool, true, ◌&&◌, ◌||◌, List, [], ◌∷◌, codes, if◌then◌else◌, bytes_eq, unwrap_or, Option, Some, None, IfSome, IsSome, ◌≤◌, ◌<◌, ◌^◌}
 use Rattle.std.specs.FinMap as fmap
 use Rattle.sqlite_value.specs.declared.value.Value.{Value}
 use Rattle.sqlite_value.specs.declared.value.Value.TheVariants.{Null, Int, Real, Text, Blob}
 use Rattle.sqlite_value.specs.Order.{Row, column}
-use Rattle.mx_pay.specs.Names.{name_cmp, is_name}
+use Rattle.mx_pay.specs.Names.{name_cmp, is_name, is_name_text}
 use Rattle.mx_book.specs.World.{Name, is_of, result_cmp}
 use Rattle.mx_book.specs.Rows.{Rows}
+use Rattle.mx_book.specs.RowEdits.{member_at}
 use Rattle.mx_book.specs.RowReads.{is_counted, row_uncollected_of}
 use Rattle.mx_book.specs.RowTotals.{row_issued_of, row_redeemed_of, row_balances_of, has_left, lost_in_log, lost_in_archive, row_transit_of}
 use Rattle.mx_book.specs.declared.values.PurseRow.{PurseRow}
 use Rattle.mx_book.specs.declared.values.Redemption.{Redemption}
 use Rattle.mx_book.specs.declared.values.Scope.{Scope}
+use Rattle.mx_book.specs.declared.values.Scope.TheVariants.{Scheme}
 use Rattle.mx_tables.specs.declared.sums.Sums.{Sums}
 use Rattle.mx_cells.specs.Cells.{number}
 use Rattle.mx_tables.specs.declared.sums.Amounts.{Amounts}
@@ -21,11 +23,14 @@ use Rattle.mx_book.specs.declared.values.MemberRow.{MemberRow}
 use Rattle.mx_book.specs.declared.values.MemberTotals.{MemberTotals}
 use Rattle.mx_tables.specs.declared.member_sums.MemberSums.{MemberSums}
 use Rattle.std.specs.FinSet.{FinSet}
+use Rattle.mx_tables.specs.Answers.{Displays}
+use Rattle.mx_tables.specs.States.{SpellAny}
 use Rattle.mx_pay.specs.Limits.{most_amount, most_entries, most_number}
-use Rattle.mx_pay.specs.Details.{Details}
-use Rattle.mx_pay.specs.Log.{Entries, none_logged}
+use Rattle.mx_pay.specs.Details.{Details, IsDetails}
+use Rattle.mx_pay.specs.Log.{Entries, IsLogValue, none_logged}
 use Rattle.mx_pay.specs.Codes.{code, entry_text}
 use Rattle.mx_pay.specs.Reading.{entry_of, entries_of}
+use Rattle.mx_purse.specs.State.{details_of}
 use Rattle.mx_purse.specs.Words.{status_details, status_word}
 use Rattle.mx_purse.specs.declared.status.Status.{Status}
 use Rattle.mx_book.specs.Sums.{sum_entries}
@@ -39,6 +44,10 @@ owed_shown p n = Text p ∷ number n ∷ []
 -- a purse and its holder
 abbrev pub owned_shown : Name × PurseRow → Row
 owned_shown e = Text e.0 ∷ Text e.1.holder ∷ []
+
+-- both are names
+abbrev pub HaveNames : Name × PurseRow → Type 0
+HaveNames e = (is_name_text e.0 ≡ true) × (is_name_text e.1.holder ≡ true)
 
 -- the text of a value, and the number of one
 abbrev pub text_of : Value → List ℕ
@@ -120,6 +129,10 @@ pub record HasNoSums (sums : MemberSums) : Type 0 where
 abbrev pub member_listed : Name × MemberRow → Row
 member_listed e = Text e.0 ∷ number e.1.granted ∷ number e.1.float ∷ []
 
+-- a member's name, and numbers within their limits
+abbrev pub IsListed : Name × MemberRow → Type 0
+IsListed e = (is_name_text e.0 ≡ true) × (e.1.granted ≤ most_number) × (e.1.float ≤ most_number)
+
 -- the sums of a member with its grants and its float
 abbrev pub totals_with : Sums → ℕ → ℕ → MemberTotals
 totals_with sums granted float = record {
@@ -184,6 +197,25 @@ adds_text (Counted amounts scope) = amounts_text amounts
 adds_text Waiting = codes "SELECT status, details FROM purse"
 adds_text Logged = codes "SELECT name, log FROM purse"
 adds_text Archived = codes "SELECT purse, details FROM archive"
+
+-- an amount of a purse whose member is there
+abbrev pub IsOwed : Rows → Amounts → Name × ℕ → Type 0
+IsOwed r amounts e = (is_name_text e.0 ≡ true) × (e.1 ≤ most_of amounts) × IsSome (member_at r.holders (fmap.get r.purses e.0))
+
+-- the row shows what is added, within its limits; an archived result is of a purse that is there
+abbrev pub IsAdded : Rows → Adds → Row → Type 0
+IsAdded r (Counted amounts scope) = Displays (IsOwed r amounts) (λ e. owed_shown e.0 e.1)
+IsAdded r Waiting = Displays (λ s. IfSome (details_of s) IsDetails) status_shown
+IsAdded r Logged = Displays (λ (e : Name × PurseRow). (is_name_text e.0 ≡ true) × IsLogValue e.1.purse.log) log_shown
+IsAdded r Archived = Displays (λ (e : (Name × Details) × Unit {0}). (is_name_text e.0.0 ≡ true) × IsDetails e.0.1 × IsSome (fmap.get r.purses e.0.0)) result_shown
+
+-- of rows that spell a World
+abbrev pub MayAdd : Adds → Row → Rows → Type 0
+MayAdd adds row r = SpellAny r × IsAdded r adds row
+
+-- to sums with room for it
+abbrev pub MayOwe : fmap.FinMap name_cmp ℕ → Amounts → Row → Rows → Type 0
+MayOwe sums amounts row r = MayAdd (Counted amounts Scheme) row r × ((m : Name) → sum_at sums m < 2 ^ 127)
 
 -- what a row adds to a sum
 abbrev pub row_adds : Rows → Adds → Row → ℕ

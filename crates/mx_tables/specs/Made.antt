@@ -74,10 +74,9 @@ HasVersion n db = (r : Row) × Has (db.trees 0) r × (has_rowid (pos 1) r ≡ tr
 abbrev pub HasOnly : ℕ → Database → Type 0
 HasOnly n db = HasVersion n db × ((k : ℕ) → k ≢ n → ¬ HasVersion k db)
 
--- a database is no present one of the office: it has no table `meta`, or its tables are those of a version, and `meta` hasn't
--- the version 2
-abbrev pub IsUnknown : Database → Type 0
-IsUnknown db = (table_named db.schema (codes "meta") ≡ None) ⊎ ((version : Version) × (db.schema ≡ schema_of version) × (¬ HasVersion 2 db))
+-- a database has no table `meta`, or its tables are those of a version, and `meta` hasn't the number that is asked for then
+abbrev pub IsUnknown : (Version → ℕ) → Database → Type 0
+IsUnknown number db = (table_named db.schema (codes "meta") ≡ None) ⊎ ((version : Version) × (db.schema ≡ schema_of version) × (¬ HasVersion (number version) db))
 
 abbrev pub version_shown : Row → Row
 version_shown r = column r 2 ∷ []

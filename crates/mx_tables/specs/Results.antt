@@ -1,5 +1,5 @@
 -- What the statements on the tray and the archive answer, and what they add.
-use Rattle.std.specs.Prelude.{◌≡◌, List, [], ◌∷◌, map, Some}
+use Rattle.std.specs.Prelude.{◌≡◌, ◌≤◌, List, [], ◌∷◌, length, map, Some}
 use Rattle.std.specs.List.{AllByRecursion, list_any}
 use Rattle.std.specs.FinMap as fmap
 use Rattle.std.specs.FinSet.{FinSet}
@@ -10,7 +10,8 @@ use Rattle.mx_tables.specs.Schema.{office_schema}
 use Rattle.mx_tables.specs.States.{Brings}
 use Rattle.mx_pay.specs.Details.{Details, IsDetails, is_details}
 use Rattle.mx_pay.specs.Codes.{entry_text}
-use Rattle.mx_pay.specs.Log.{Entries, has_logged}
+use Rattle.mx_pay.specs.Log.{Entries, has_logged, log_len}
+use Rattle.mx_pay.specs.Limits.{most_entries}
 use Rattle.mx_book.specs.World.{Name, result_cmp}
 use Rattle.mx_book.specs.Rows.{Rows}
 use Rattle.mx_book.specs.Conditions.{AreSettled}
@@ -37,6 +38,12 @@ pub record Shows (log : Entries) (rows : List Row) : Type 0 where
   pub shown : map first_one rows ≡ map details_shown details
   pub valid : AllByRecursion IsDetails details
   pub has : (d : Details) → has_logged log d ≡ list_any (is_details d) details
+
+-- the rows show each of the details of a log once, which has at most 16
+pub record ShowsOnce (log : Entries) (rows : List Row) : Type 0 where
+  pub shows : Shows log rows
+  pub once : length rows ≡ log_len log
+  pub room : log_len log ≤ most_entries
 
 -- results with these details of a purse
 abbrev pub and_details : Name → FinSet result_cmp → List Details → FinSet result_cmp

@@ -1,5 +1,5 @@
 -- A round over a connection: changes in one transaction, which is committed at the end of the round.
-use Rattle.std.specs.Prelude.{◌≡◌, ℕ, ◌≤◌, ◌⊎◌, Bool, true, false, Result, OnOk, OnErr, IsTrue}
+use Rattle.std.specs.Prelude.{◌≡◌, ℕ, ◌≤◌, ◌⊎◌, Bool, true, false, Result, OnOk, OnErr, IsTrue, IsSome}
 use Rattle.sqlite_trees.specs.Tree.{Trees}
 use Rattle.sqlite_trees.specs.View.{doubt}
 use Rattle.sqlite_trees.specs.declared.store.Store.{Ghosts}
@@ -70,6 +70,13 @@ module _ {S : Type 0} (g : Ghosts S) where
 
   abbrev pub harm_of : Lent S → ℕ
   harm_of t = worry (state g t.0)
+
+  -- how often the disk has failed or refused, and that steps are limited
+  abbrev pub faults_of : Lent S → ℕ
+  faults_of t = (state g t.0).faults
+
+  abbrev pub IsLimited : Lent S → Type 0
+  IsLimited t = IsSome (state g t.0).step_limit
 
   abbrev pub IsSettled : Lent S → Type 0
   IsSettled t = HasCleanDisk (state g t.0) → (t.1 ≡ false) × (IsTrue (state g t.0).is_open → rows_of t ≡ base_of t)

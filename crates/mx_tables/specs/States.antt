@@ -1,5 +1,5 @@
 -- What the tables keep true of their connection, and what a call does to it.
-use Rattle.std.specs.Prelude.{◌≡◌, ℕ, ◌+◌, ◌≤◌, ◌⊎◌, ◌&&◌, ◌||◌, not, take, Bool, false, if◌then◌else◌, List, [], length, Result, Ok, Err, None, IfOk, IfErr, OnOk, OnErr, IsTrue, IsSome, Option}
+use Rattle.std.specs.Prelude.{◌≡◌, ℕ, ◌+◌, ◌≤◌, ◌⊎◌, ◌&&◌, ◌||◌, not, take, Bool, false, if◌then◌else◌, List, [], length, Result, Ok, Err, None, IfOk, IfErr, OnOk, OnErr, IsTrue, IsSome}
 use Rattle.sqlite_trees.specs.Tree.{Trees}
 use Rattle.sqlite_trees.specs.View.{doubt}
 use Rattle.sqlite_schema.specs.declared.schema.Schema.{Schema}
@@ -25,7 +25,8 @@ use Rattle.mx_tables.specs.Schema.{office_schema}
 use Rattle.mx_book.specs.Rows.{Rows}
 use Rattle.mx_book.specs.declared.contract.StoreFault.{StoreFault}
 use Rattle.mx_book.specs.World.{World}
-use Rattle.mx_tables.specs.Holds.{Holds, Spells, SpellsOne}
+use Rattle.mx_book.specs.Spells as book
+use Rattle.mx_tables.specs.Holds.{Holds, SpellsOne}
 
 -- 0 while the disk has returned what was written and the connection is open, 1 once a fault has shut it, 2 once the disk has lied
 abbrev pub worry_at : Bool → Bool → ℕ
@@ -65,7 +66,7 @@ IsOurs begun = IsAt begun office_schema
 
 -- between calls, whatever the schema is: the connection is as it was but for a fault, and so is what a stop leaves
 pub record StaysIdle (old new : State) : Type 0 where
-  pub autocommit : new.in_transaction ≡ false
+  pub autocommit : old.in_transaction ≡ false → new.in_transaction ≡ false
   pub later : worry old ≤ worry new
   pub same : IsSound new → new.now ≡ old.now
   pub stops : IsHonest new → (db : Trees) → new.may_leave db → old.may_leave db
@@ -81,7 +82,7 @@ abbrev pub Leaves : State → Database → Type 0
 Leaves = LeavesAt office_schema
 
 -- A read, in a round or in none: doubt doesn't fall, and without any in the end the database is as it was. While the disk didn't lie,
--- a stop leaves what it could leave before.
+-- a stop leaves what it could leave before. Faults are counted.
 pub record StaysAt (begun : Bool) (of : Schema) (old new : State) : Type 0 where
   pub ours : IsAt begun of new
   pub lasts : worry old ≤ worry new
@@ -90,6 +91,8 @@ pub record StaysAt (begun : Bool) (of : Schema) (old new : State) : Type 0 where
   pub same : unsure begun new ≡ 0 → new.now ≡ old.now
   pub base : IsSound new → new.committed ≡ old.committed
   pub stops : IsHonest new → (db : Trees) → new.may_leave db → old.may_leave db
+  pub counts : old.faults ≤ new.faults
+  pub limit : new.step_limit ≡ old.step_limit
 
 -- a read of the tables
 abbrev pub Stays : Bool → State → State → Type 0
@@ -141,6 +144,52 @@ pub record Sees (old new : State) (is : Rows → Type 0) : Type 0 where
   pub same : new.now ≡ old.now
   pub value : (r : Rows) → Holds old.now r → is r
 
+-- ---- why a read fails
+
+-- how a fault of a statement is told
+abbrev pub fault_told : Error → StoreFault
+fault_told (SqliteFailure code.OutOfMemory) = Memory
+fault_told _ = Store
+
+-- without a limit on steps the database refuses no such query with these parameters
+abbrev pub AcceptsCommand : Row → Trees → Command → Type 0
+AcceptsCommand params db command = (e : Error) → ¬ (RefusesToRead None command (record { schema = office_schema; trees = db }) params e)
+
+abbrev pub AcceptsText : List ℕ → Row → Trees → Result Compiled CompileError → Type 0
+AcceptsText sql params db (Ok c) = (length sql ≤ c.tail) × (length params ≡ length c.names) × AcceptsCommand params db c.command
+AcceptsText sql params db (Err e) = ⊥
+
+-- the text is one query of the office that the database doesn't refuse with these parameters
+pub record Accepts (sql : List ℕ) (params : Row) (db : Trees) : Type 0 where
+  pub accepts : AcceptsText sql params db (understood office_schema sql)
+  pub unlisted : reads_listing office_schema sql ≡ false
+
+-- the text is such a query, and shows one row at most
+pub record HasOneAtMost (sql : List ℕ) (params : Row) (old new : State) : Type 0 where
+  pub accepts : Accepts sql params old.now.trees
+  pub few : (rows : List Row) → Shown sql params old new rows → length rows ≤ 1
+
+-- the disk failed or refused in this call, and that was counted
+abbrev pub IsFaulted : State → State → Type 0
+IsFaulted old new = HasCause old new ⊥ Io
+
+abbrev pub IsForMemory : StoreFault → Type 0
+IsForMemory f = f ≡ Memory
+
+-- A fault that isn't want of memory: the disk failed or refused in this call, or the connection has a limit on steps.
+abbrev pub Blames : State → State → StoreFault → Type 0
+Blames old new Memory = Unit {0}
+Blames old new Store = IsFaulted old new ⊎ IsSome old.step_limit
+
+-- in a round or in none, what is sure in the end fails only for this cause, of rows of which this is known
+abbrev pub IsExplained : {S T : Type 0} → Ghosts S → Held S → Held S → Result T StoreFault → (Rows → Type 0) → Type 0
+IsExplained g old new result known =
+    (begun : Bool) → IsOurs begun (state g old) → unsure begun (state g new) ≡ 0 → (r : Rows) → Holds (state g old).now r → known r → IfErr result (Blames (state g old) (state g new))
+
+-- the rows spell a World
+abbrev pub SpellAny : Rows → Type 0
+SpellAny r = (w : World) × book.Spells r w
+
 -- ---- what one call is
 
 -- A read: the connection is as it was but for a fault, without doubt what is given is so of the rows, and a connection that a
@@ -150,11 +199,21 @@ pub record Reads {S T : Type 0} (g : Ghosts S) (old new : Held S) (result : Resu
   pub value : {begun : Bool} → IsOurs begun (state g old) → unsure begun (state g new) ≡ 0 → (r : Rows) → Holds (state g old).now r → IfOk result (is r)
   pub live : OnOk result (IsAwake (state g new))
 
+-- A read that fails only for a cause, of rows of which this is known
+pub record AsksOf {S T : Type 0} (g : Ghosts S) (old new : Held S) (known : Rows → Type 0) (result : Result T StoreFault) (is : Rows → T → Type 0) : Type 0 where
+  pub reads : Reads g old new result is
+  pub cause : IsExplained g old new result known
+
+-- and of rows that spell a World
+abbrev pub Asks : {S T : Type 0} → Ghosts S → Held S → Held S → Result T StoreFault → (Rows → T → Type 0) → Type 0
+Asks g old new result is = AsksOf g old new SpellAny result is
+
 -- A read of the World: the same, where what is given is so of the World that the rows spell.
 pub record Tells {S T : Type 0} (g : Ghosts S) (old new : Held S) (result : Result T StoreFault) (is : World → T → Type 0) : Type 0 where
   pub stays : {begun : Bool} → IsOurs begun (state g old) → Stays begun (state g old) (state g new)
   pub value : {begun : Bool} → IsOurs begun (state g old) → (w : World) → unsure begun (state g new) ≡ 0 → SpellsOne (state g old).now w → IfOk result (is w)
   pub live : OnOk result (IsAwake (state g new))
+  pub cause : IsExplained g old new result SpellAny
 
 -- A step inside a savepoint: the same one is lent, and where it answers Ok this is so of what it gives.
 pub record Steps {S T E : Type 0} (g : Ghosts S) (old new : Savepoint S g) (result : Result T E) (does : T → Type 0) : Type 0 where
@@ -190,50 +249,3 @@ pub record Commits {T E : Type 0} (old new : State) (result : Result T E) (done 
   pub ended : HasCleanDisk new → new.in_transaction ≡ false
   pub opens : HasCleanDisk new → IsTrue new.is_open → IsTrue old.is_open
   pub clean : doubt old.is_clean ≤ doubt new.is_clean
-
--- ---- why a read fails
-
--- how a fault of a statement is told
-abbrev pub fault_told : Error → StoreFault
-fault_told (SqliteFailure code.OutOfMemory) = Memory
-fault_told _ = Store
-
--- without a limit on steps the database refuses no such query with these parameters
-abbrev pub AcceptsCommand : Row → Trees → Command → Type 0
-AcceptsCommand params db command = (e : Error) → ¬ (RefusesToRead None command (record { schema = office_schema; trees = db }) params e)
-
-abbrev pub AcceptsText : List ℕ → Row → Trees → Result Compiled CompileError → Type 0
-AcceptsText sql params db (Ok c) = (length sql ≤ c.tail) × (length params ≡ length c.names) × AcceptsCommand params db c.command
-AcceptsText sql params db (Err e) = ⊥
-
--- the text is one query of the office that the database doesn't refuse with these parameters
-pub record Accepts (sql : List ℕ) (params : Row) (db : Trees) : Type 0 where
-  pub accepts : AcceptsText sql params db (understood office_schema sql)
-  pub unlisted : reads_listing office_schema sql ≡ false
-
--- the text is such a query, and shows one row at most
-pub record HasOneAtMost (sql : List ℕ) (params : Row) (old new : State) : Type 0 where
-  pub schema : old.now.schema ≡ office_schema
-  pub accepts : Accepts sql params old.now.trees
-  pub few : (rows : List Row) → Shown sql params old new rows → length rows ≤ 1
-
--- the disk failed or refused in this call, and that was counted
-abbrev pub IsFaulted : State → State → Type 0
-IsFaulted old new = HasCause old new ⊥ Io
-
--- A fault that isn't want of memory: the disk failed or refused in this call, or the connection has a limit on steps.
-abbrev pub Blames : State → State → StoreFault → Type 0
-Blames old new Memory = Unit {0}
-Blames old new Store = IsFaulted old new ⊎ IsSome old.step_limit
-
--- What a read says of faults: they are counted, and only one shuts the connection. Of an open connection whose disk told no lie, this is to blame.
-pub record Explains (old new : State) (known blamed : Type 0) : Type 0 where
-  pub clean : doubt old.is_clean ≤ doubt new.is_clean
-  pub counts : old.faults ≤ new.faults
-  pub limit : new.step_limit ≡ old.step_limit
-  pub closes : HasCleanDisk new → IsTrue old.is_open → IsTrue new.is_open ⊎ IsFaulted old new
-  pub cause : HasCleanDisk new → IsSound old → known → blamed
-
--- a read fails only where the disk does, for want of memory, by a limit on steps, or where the rows spell no World
-pub record IsExplained {S T : Type 0} (g : Ghosts S) (old new : Held S) (result : Result T StoreFault) : Type 0 where
-  pub why : IsOurs false (state g old) → Explains (state g old) (state g new) ((w : World) × Spells (state g old).now w) (IfErr result (Blames (state g old) (state g new)))

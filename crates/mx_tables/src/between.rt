@@ -1,13 +1,15 @@
 //! The value between purses: what is on its way, and what is lost.
-ghost use Rattle.std.specs.Prelude.{◌≡◌};
+ghost use Rattle.std.specs.Prelude.{◌≡◌, ◌≤◌, IfOk};
 ghost use Rattle.sqlite.specs.Held.{state};
+ghost use Rattle.mx_pay.specs.Limits.{most_amount, most_number};
 ghost use Rattle.mx_pay.specs.Log.{has_logged};
 ghost use Rattle.mx_book.specs.RowEdits.{log_at};
 ghost use Rattle.mx_book.specs.RowTotals.{has_sent, lost_by};
 ghost use Rattle.mx_tables.specs.Answers.{ArePurses};
-ghost use Rattle.mx_tables.specs.Counted.{left_value, log_row, result_row, waiting_row};
+ghost use Rattle.mx_tables.specs.Counted.{MayAdd, left_value, log_row, result_row, waiting_row};
 ghost use Rattle.mx_tables.specs.Results.{AreDetails, AreEntries};
-ghost use Rattle.mx_tables.specs.States.{IsAwake, Reads};
+ghost use Rattle.mx_tables.specs.States.{Asks, AsksOf, IsAwake};
+ghost use Rattle.mx_tables.specs.declared.sums.Adds.TheVariants.{Archived, Logged, Waiting};
 
 use crate::purses::find_purse;
 use crate::results::find_archived;
@@ -50,9 +52,10 @@ pub fn value_left<S: Alter>(
     conn: &mut Connection<S>,
     details: &PayDetails,
 ) -> Result<u128, StoreFault>
-    ensures { Reads S.Store conn.old conn.new result
+    ensures asks { Asks S.Store conn.old conn.new result
         (λ r n. ArePurses r → AreDetails r.archive
         → n ≡ left_value r.purses r.archive details.now) }
+    ensures small { IfOk result (λ n. n ≤ most_amount) }
 {
     let value = details.value().get() as u128;
     let payer = details.from();
@@ -71,9 +74,11 @@ pub fn await_row<S: Alter>(
     conn: &mut Connection<S>,
     row: &Row,
 ) -> Result<u128, StoreFault>
-    ensures { IsAwake (state S.Store conn.old) → Reads S.Store conn.old conn.new result
+    ensures asks { IsAwake (state S.Store conn.old)
+        → AsksOf S.Store conn.old conn.new (MayAdd Waiting row.now) result
         (λ r n. ArePurses r → AreDetails r.archive
         → n ≡ waiting_row r.purses r.archive row.now) }
+    ensures small { IfOk result (λ n. n ≤ most_amount) }
 {
     match status_at(row, 0)? {
         Status::Epv(details) => value_left(alloc, conn, &details),
@@ -89,9 +94,10 @@ fn lost_by<S: Alter>(
     purse: &Name,
     details: &PayDetails,
 ) -> Result<u128, StoreFault>
-    ensures { IsAwake (state S.Store conn.old) → Reads S.Store conn.old conn.new result
+    ensures asks { IsAwake (state S.Store conn.old) → Asks S.Store conn.old conn.new result
         (λ r n. ArePurses r → AreEntries r
         → n ≡ lost_by r.purses r.archive r.settled purse.now details.now) }
+    ensures small { IfOk result (λ n. n ≤ most_amount) }
 {
     if !same_name(&details.to(), purse) {
         return Ok(0);
@@ -110,9 +116,11 @@ pub fn lose_row<S: Alter>(
     conn: &mut Connection<S>,
     row: &Row,
 ) -> Result<u128, StoreFault>
-    ensures { IsAwake (state S.Store conn.old) → Reads S.Store conn.old conn.new result
+    ensures asks { IsAwake (state S.Store conn.old)
+        → AsksOf S.Store conn.old conn.new (MayAdd Logged row.now) result
         (λ r n. ArePurses r → AreEntries r
         → n ≡ log_row r.purses r.archive r.settled row.now) }
+    ensures small { IfOk result (λ n. n ≤ most_number) }
 {
     let purse = name_at(row, 0)?;
     let log = log_at(row, 1)?;
@@ -131,9 +139,10 @@ pub fn lose_result<S: Alter>(
     conn: &mut Connection<S>,
     row: &Row,
 ) -> Result<u128, StoreFault>
-    ensures { Reads S.Store conn.old conn.new result
+    ensures asks { AsksOf S.Store conn.old conn.new (MayAdd Archived row.now) result
         (λ r n. ArePurses r → AreEntries r
         → n ≡ result_row r.purses r.archive r.settled row.now) }
+    ensures small { IfOk result (λ n. n ≤ most_amount) }
 {
     let purse = name_at(row, 0)?;
     let details = entry_at(row, 1)?;

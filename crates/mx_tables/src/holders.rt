@@ -3,7 +3,7 @@ ghost use Rattle.std.specs.Prelude.{◌≡◌};
 ghost use Rattle.std.specs.FinMap as fmap;
 ghost use Rattle.mx_book.specs.World.{is_of};
 ghost use Rattle.mx_tables.specs.Cached.{ReadsThrough};
-ghost use Rattle.mx_tables.specs.States.{IsExplained, Reads, Writes};
+ghost use Rattle.mx_tables.specs.States.{Asks, Writes};
 ghost use Rattle.mx_book.specs.Reads.{holder_of};
 
 use crate::asking::{About, ask_about, run};
@@ -39,9 +39,8 @@ pub fn find_holder<S: Alter>(
     conn: &mut Connection<S>,
     name: &Name,
 ) -> Result<Option<Name>, StoreFault>
-    ensures reads { Reads S.Store conn.old conn.new result
+    ensures { Asks S.Store conn.old conn.new result
         (λ r v. v ≡ fmap.get r.holders name.now) }
-    ensures why { IsExplained S.Store conn.old conn.new result }
 {
     name_in(ask_about(conn, About::Holder, name)?)
 }

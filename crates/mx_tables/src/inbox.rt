@@ -1,13 +1,14 @@
 //! The messages in the inboxes of purses.
-ghost use Rattle.std.specs.Prelude.{◌≡◌, ◌≤◌, ◌^◌, IfOk, is_some, length, map, nat_lt};
+ghost use Rattle.std.specs.Prelude.{◌≡◌, ◌≤◌, ◌^◌, IfErr, IfOk, is_some, length, map, nat_lt};
 ghost use Rattle.std.specs.FinMap as fmap;
 ghost use Rattle.std.specs.List.{AllByRecursion};
 ghost use Rattle.mx_purse.specs.Messages.{IsMessage};
 ghost use Rattle.mx_book.specs.Limits.{most_messages};
 ghost use Rattle.mx_book.specs.RowReads.{of_name, row_inbox_of};
 ghost use Rattle.mx_cells.specs.Cells.{first_three, message_row};
+ghost use Rattle.mx_tables.specs.Answers.{Displays};
 ghost use Rattle.mx_tables.specs.Cached.{ReadsThrough};
-ghost use Rattle.mx_tables.specs.States.{IsExplained, Reads, Tells, Writes};
+ghost use Rattle.mx_tables.specs.States.{Asks, IsForMemory, Tells, Writes};
 ghost use Rattle.mx_book.specs.Reads.{inbox_of, message_of};
 
 use crate::asking::{ask, ask_one, run_one};
@@ -27,6 +28,8 @@ use std::alloc::Global;
 fn messages_in(alloc: Global, rows: &[Row]) -> Result<Vec<(u64, Message)>, StoreFault>
     ensures shown { IfOk result (λ ms. map first_three rows.now ≡ map message_row ms.items) }
     ensures valid { IfOk result (λ ms. AllByRecursion (λ m. IsMessage m.1) ms.items) }
+    ensures there { AllByRecursion (Displays (λ m. IsMessage m.1) message_row) rows.now
+        → IfErr result IsForMemory }
 {
     let mut messages = Vec::new(alloc);
     for row in rows {
@@ -54,9 +57,8 @@ pub fn list_inbox<S: Alter>(
 
 /// How many messages lie in the inbox of a purse.
 pub fn count_messages<S: Alter>(conn: &mut Connection<S>, purse: &Name) -> Result<usize, StoreFault>
-    ensures reads { Reads S.Store conn.old conn.new result
+    ensures { Asks S.Store conn.old conn.new result
         (λ r v. v ≡ length (row_inbox_of r purse.now)) }
-    ensures why { IsExplained S.Store conn.old conn.new result }
 {
     let rows = ask(
         conn,

@@ -1,11 +1,11 @@
 //! The lines of the statements of purses.
-ghost use Rattle.std.specs.Prelude.{Bool, ◌≡◌, IfOk, IfSome, OnOk, string_bytes};
+ghost use Rattle.std.specs.Prelude.{Bool, ◌≡◌, IfErr, IfOk, IfSome, OnOk, string_bytes};
 ghost use Rattle.std.specs.FinMap as fmap;
 ghost use Rattle.sqlite.specs.Held.{state};
 ghost use Rattle.mx_book.specs.Conditions.{IsNote};
 ghost use Rattle.mx_book.specs.Rows.{line_row};
 ghost use Rattle.mx_book.specs.Words as words;
-ghost use Rattle.mx_tables.specs.Pages.{GivesLine};
+ghost use Rattle.mx_tables.specs.Pages.{FailsToGive, GivesLine};
 ghost use Rattle.mx_tables.specs.States.{IsAwake, IsOurs, Stays, Writes, Tells, IsSound};
 ghost use Rattle.mx_book.specs.Reads.{lines_of};
 
@@ -68,6 +68,8 @@ fn next_line<S: Alter>(rows: &mut Rows<'_, S>) -> Result<Option<Line>, StoreFaul
     ensures shown { IsSound (state S.Store rows.new.conn.now)
         → IfOk result (GivesLine S.Store rows.old.conn.now rows.new.conn.now) }
     ensures live { OnOk result (IsAwake (state S.Store rows.new.conn.now)) }
+    ensures fails { IsSound (state S.Store rows.new.conn.now)
+        → IfErr result (FailsToGive S.Store rows.old.conn.now rows.new.conn.now) }
     ensures valid { IfOk result (λ line. IfSome line (λ l. IsNote l.note)) }
 {
     if let Err(error) = rows.advance() {

@@ -1,11 +1,14 @@
 //! The sums of each member: one pass over each table.
-ghost use Rattle.std.specs.Prelude.{◌≡◌, ◌+◌, IfOk, List, OnOk, map};
+ghost use Rattle.std.specs.Prelude.{◌≡◌, ◌+◌, ◌<◌, ◌≤◌, ◌^◌, IfErr, IfOk, List, OnOk, is_ok, map, true};
 ghost use Rattle.std.specs.FinMap as fmap;
+ghost use Rattle.std.specs.List.{AllByRecursion};
+ghost use Rattle.mx_pay.specs.Limits.{most_number};
 ghost use Rattle.mx_pay.specs.Names.{name_cmp};
 ghost use Rattle.mx_sorted.specs.Slots.{map_of};
 ghost use Rattle.mx_book.specs.declared.values.Scope.TheVariants.{Member};
-ghost use Rattle.mx_tables.specs.Counted.{HasNoSums, amounts_of, counted_row, row_sums, sum_at, sums_at, totals_row};
-ghost use Rattle.mx_tables.specs.States.{Reads, Tells};
+ghost use Rattle.mx_tables.specs.Answers.{Displays};
+ghost use Rattle.mx_tables.specs.Counted.{HasNoSums, IsListed, MayOwe, amounts_of, counted_row, member_listed, row_sums, sum_at, sums_at, totals_row};
+ghost use Rattle.mx_tables.specs.States.{Asks, AsksOf, IsForMemory, Tells};
 ghost use Rattle.mx_book.specs.Totals.{members_totals_of};
 
 use crate::asking::ask;
@@ -26,9 +29,11 @@ fn sum_at(sums: &Table<Name, u128>, member: Name) -> u128
 
 /// Adds a number to the sum of a member. Store where the sum is too large.
 fn add_to(sums: &mut Table<Name, u128>, member: Name, more: u128) -> Result<(), StoreFault>
-    ensures { let before = map_of name_cmp sums.old in
+    ensures is { let before = map_of name_cmp sums.old in
         OnOk result (map_of name_cmp sums.new ≡ fmap.insert before member
         (sum_at before member + more)) }
+    ensures fits { sum_at (map_of name_cmp sums.old) member + more < 2 ^ 128
+        → IfErr result IsForMemory }
 {
     let sum = plus(sum_at(sums, member), more)?;
     sums.reserve(1)?;
@@ -44,10 +49,14 @@ fn add_row<S: Alter>(
     amounts: Amounts,
     row: &Row,
 ) -> Result<(), StoreFault>
-    ensures { Reads S.Store conn.old conn.new result
+    ensures asks { AsksOf S.Store conn.old conn.new
+        (MayOwe (map_of name_cmp sums.old) amounts row.now) result
         (λ r _. (m : List _)
         → sum_at (map_of name_cmp sums.new) m ≡ sum_at (map_of name_cmp sums.old) m
         + counted_row r.purses r.holders (Member m) row.now) }
+    ensures small { (most : _)
+        → ((m : List _) → sum_at (map_of name_cmp sums.old) m ≤ most)
+        → OnOk result ((m : List _) → sum_at (map_of name_cmp sums.new) m ≤ most + most_number) }
 {
     let purse = name_at(row, 0)?;
     let number = amounts.number_in(row)?;
@@ -64,7 +73,7 @@ fn add_amounts<S: Alter>(
     amounts: Amounts,
 ) -> Result<(), StoreFault>
     requires { map_of name_cmp sums.old ≡ fmap.empty }
-    ensures { Reads S.Store conn.old conn.new result
+    ensures { Asks S.Store conn.old conn.new result
         (λ r _. (m : List _)
         → sum_at (map_of name_cmp sums.new) m ≡ amounts_of r (Member m) amounts) }
 {
@@ -103,7 +112,7 @@ fn no_sums(alloc: Global) -> MemberSums
 /// Adds up all amounts, for each member, where nothing is summed yet.
 fn add_all<S: Alter>(conn: &mut Connection<S>, sums: &mut MemberSums) -> Result<(), StoreFault>
     requires { HasNoSums sums.old }
-    ensures { Reads S.Store conn.old conn.new result
+    ensures { Asks S.Store conn.old conn.new result
         (λ r _. (m : List _) → sums_at sums.new m ≡ row_sums r (Member m)) }
 {
     add_amounts(conn, &mut sums.uncollected, Amounts::Uncollected)?;
@@ -114,7 +123,8 @@ fn add_all<S: Alter>(conn: &mut Connection<S>, sums: &mut MemberSums) -> Result<
 
 /// The member of a row with what the books come to for it.
 fn totals_in(row: &Row, sums: &MemberSums) -> Result<(Name, MemberTotals), StoreFault>
-    ensures { IfOk result (λ total. total ≡ totals_row sums.now row.now) }
+    ensures is { IfOk result (λ total. total ≡ totals_row sums.now row.now) }
+    ensures there { Displays IsListed member_listed row.now → is_ok result ≡ true }
 {
     let name = name_at(row, 0)?;
     let totals = MemberTotals {
@@ -134,7 +144,9 @@ fn totals_in_rows(
     rows: &[Row],
     sums: &MemberSums,
 ) -> Result<Vec<(Name, MemberTotals)>, StoreFault>
-    ensures { IfOk result (λ totals. totals.items ≡ map (totals_row sums.now) rows.now) }
+    ensures is { IfOk result (λ totals. totals.items ≡ map (totals_row sums.now) rows.now) }
+    ensures there { AllByRecursion (Displays IsListed member_listed) rows.now
+        → IfErr result IsForMemory }
 {
     let mut totals = Vec::new(alloc);
     for row in rows {

@@ -1,12 +1,15 @@
 //! Members.
-ghost use Rattle.std.specs.Prelude.{◌≡◌, ◌≤◌, IfOk, IfSome, is_ok, map, option_map, true};
+ghost use Rattle.std.specs.Prelude.{◌≡◌, ◌≤◌, IfErr, IfOk, IfSome, is_ok, map, option_map, true};
 ghost use Rattle.mx_book.specs.declared.values.MemberRow.{MemberRow};
 ghost use Rattle.mx_pay.specs.Limits.{most_number};
+ghost use Rattle.mx_pay.specs.Names.{is_name_text};
+ghost use Rattle.std.specs.List.{AllByRecursion};
+ghost use Rattle.mx_tables.specs.Answers.{Displays, text_shown};
 ghost use Rattle.std.specs.FinMap as fmap;
 ghost use Rattle.sqlite_value.specs.Order.{column};
 ghost use Rattle.sqlite_value.specs.declared.value.Value.TheVariants.{Text};
 ghost use Rattle.mx_cells.specs.Cells.{number, first_two, member_shown};
-ghost use Rattle.mx_tables.specs.States.{IsExplained, Reads, Writes, Tells};
+ghost use Rattle.mx_tables.specs.States.{Asks, IsForMemory, Writes, Tells};
 ghost use Rattle.mx_book.specs.Reads.{members_of};
 
 use crate::asking::{About, ask, ask_about, run, run_one};
@@ -37,9 +40,8 @@ pub fn find_member<S: Alter>(
     conn: &mut Connection<S>,
     name: &Name,
 ) -> Result<Option<MemberRow>, StoreFault>
-    ensures reads { Reads S.Store conn.old conn.new result
+    ensures { Asks S.Store conn.old conn.new result
         (λ r v. v ≡ fmap.get r.members name.now) }
-    ensures why { IsExplained S.Store conn.old conn.new result }
 {
     member_found(ask_about(conn, About::Member, name)?)
 }
@@ -61,7 +63,9 @@ pub fn insert_member<S: Alter>(tx: &mut Savepoint<'_, S>, name: &Name) -> Result
 
 /// The names in the first columns of rows.
 pub fn names_in(alloc: Global, rows: &[Row]) -> Result<Vec<Name>, StoreFault>
-    ensures { IfOk result (λ names. map (λ r. column r 0) rows.now ≡ map Text names.items) }
+    ensures is { IfOk result (λ names. map (λ r. column r 0) rows.now ≡ map Text names.items) }
+    ensures there { AllByRecursion (Displays (λ n. is_name_text n ≡ true) text_shown) rows.now
+        → IfErr result IsForMemory }
 {
     let mut names = Vec::new(alloc);
     for row in rows {

@@ -1,10 +1,10 @@
 //! From tables of version 1 to those of version 2.
-ghost use Rattle.std.specs.Prelude.{◌≡◌, ◌≤◌, ◌⊎◌, IfErr, IfOk, IsTrue, None, OnErr, OnOk, codes, false};
+ghost use Rattle.std.specs.Prelude.{◌≡◌, ◌≤◌, ◌⊎◌, IfErr, IfOk, IsTrue, OnErr, OnOk, false};
 ghost use Rattle.sqlite.specs.Held.{state};
 ghost use Rattle.sqlite.specs.State.{HasCleanDisk};
-ghost use Rattle.sqlite_schema.specs.Names.{table_named};
+ghost use Rattle.mx_tables.specs.Made.{IsUnknown};
 ghost use Rattle.mx_tables.specs.Migration.{IsWhole, Migrates, UpgradesOpen, SetsVersion, StopsUpgrading};
-ghost use Rattle.mx_tables.specs.Schema.{office_schema, schema_of};
+ghost use Rattle.mx_tables.specs.Schema.{number_of, office_schema, schema_of};
 ghost use Rattle.mx_tables.specs.States.{Commits, IsOurs, StaysIdle, StaysAt, Steps, worry, IsSound, IsHonest};
 ghost use Rattle.mx_tables.specs.declared.migration.Migrated.TheVariants.{Done};
 ghost use Rattle.mx_tables.specs.declared.opening.OpenFault.TheVariants.{NotThisSchema};
@@ -79,10 +79,8 @@ fn find_version<S: Alter>(alloc: Global, store: &mut Connection<S>) -> Result<Ve
         StaysAt false (schema_of version) (state S.Store store.old) (state S.Store store.new)) }
     ensures whole { IsSound (state S.Store store.new)
         → IfOk result (λ version. IsWhole version (state S.Store store.old).now) }
-    ensures unknown { IsSound (state S.Store store.new) → IfErr result
-        (λ fault. fault ≡ NotThisSchema
-        → (table_named (state S.Store store.old).now.schema (codes "meta") ≡ None)
-        ⊎ ((version : _) → ¬ IsWhole version (state S.Store store.old).now)) }
+    ensures unknown { IsHonest (state S.Store store.new) → IfErr result
+        (λ fault. fault ≡ NotThisSchema → IsUnknown number_of (state S.Store store.old).now) }
 {
     let version = version_of(alloc, store.schema())?;
     match version_number(store) {
@@ -107,10 +105,8 @@ pub fn migrate<S: Alter>(alloc: Global, store: &mut Connection<S>) -> Result<Mig
         ((state S.Store store.new).now ≡ (state S.Store store.old).now) }
     ensures idle { store.old.in_transaction ≡ false
         → HasCleanDisk (state S.Store store.new) → store.new.in_transaction ≡ false }
-    ensures unknown { IsSound (state S.Store store.new) → IfErr result
-        (λ fault. fault ≡ NotThisSchema
-        → (table_named (state S.Store store.old).now.schema (codes "meta") ≡ None)
-        ⊎ ((version : _) → ¬ IsWhole version (state S.Store store.old).now)) }
+    ensures unknown { IsHonest (state S.Store store.new) → IfErr result
+        (λ fault. fault ≡ NotThisSchema → IsUnknown number_of (state S.Store store.old).now) }
     ensures stops { IsHonest (state S.Store store.new) → (db : _)
         → (state S.Store store.new).may_leave db → (state S.Store store.old).may_leave db
         ⊎ ((IsSound (state S.Store store.old)) × Migrates Done (state S.Store store.old).now

@@ -1,5 +1,5 @@
 //! New tables, and tables that are there.
-ghost use Rattle.std.specs.Prelude.{◌≡◌, ◌≤◌, ◌≢◌, IfErr, IfOk, IsTrue, OnOk, codes, false, filter, map, pos, None};
+ghost use Rattle.std.specs.Prelude.{◌≡◌, ◌≢◌, IfErr, IfOk, IsTrue, OnOk, codes, false, filter, map, pos, None};
 ghost use Rattle.std.specs.List.Sorted.{IsPermutation};
 ghost use Rattle.sqlite.specs.Held.{state};
 ghost use Rattle.sqlite.specs.State.{HasCleanDisk};
@@ -9,7 +9,7 @@ ghost use Rattle.mx_book.specs.Spells.{opening_rows};
 ghost use Rattle.mx_tables.specs.Holds.{Holds};
 ghost use Rattle.mx_tables.specs.Made.{Blank, HasOnly, HasVersion, IsUnknown, version_shown};
 ghost use Rattle.mx_tables.specs.Schema.{no_schema, schema_of};
-ghost use Rattle.mx_tables.specs.States.{Commits, IsAt, IsOurs, StaysAt, Steps, worry, IsSound};
+ghost use Rattle.mx_tables.specs.States.{Commits, IsAt, IsOurs, StaysAt, StaysIdle, Steps, IsHonest, IsSound};
 ghost use Rattle.mx_tables.specs.declared.opening.OpenFault.TheVariants.{NotThisSchema};
 
 use crate::asking::ask;
@@ -200,7 +200,7 @@ pub(crate) fn version_number<S: Alter>(conn: &mut Connection<S>) -> Result<u64, 
     ensures known { (version : _) → IsSound (state S.Store conn.new)
         → (state S.Store conn.old).now.schema ≡ schema_of version
         → IfOk result (λ n. HasOnly n (state S.Store conn.old).now) }
-    ensures unknown { (version : _) → IsSound (state S.Store conn.new)
+    ensures unknown { (version : _) → IsHonest (state S.Store conn.new)
         → (state S.Store conn.old).now.schema ≡ schema_of version → IfErr result
         (λ fault. fault ≡ NotThisSchema → (n : _) → ¬ HasVersion n (state S.Store conn.old).now) }
     ensures live { HasCleanDisk (state S.Store conn.new)
@@ -230,7 +230,7 @@ fn check_version<S: Alter>(conn: &mut Connection<S>, version: Version) -> Result
     ensures known { IsSound (state S.Store conn.new)
         → (state S.Store conn.old).now.schema ≡ schema_of version
         → OnOk result (HasVersion 2 (state S.Store conn.old).now) }
-    ensures unknown { IsSound (state S.Store conn.new)
+    ensures unknown { IsHonest (state S.Store conn.new)
         → (state S.Store conn.old).now.schema ≡ schema_of version → IfErr result
         (λ fault. fault ≡ NotThisSchema → ¬ HasVersion 2 (state S.Store conn.old).now) }
     ensures live { HasCleanDisk (state S.Store conn.new)
@@ -253,14 +253,11 @@ pub(crate) fn check_office<S: Alter>(
     requires steady { IsTrue (state S.Store conn.old).is_open
         → (state S.Store conn.old).now ≡ (state S.Store conn.old).committed }
     ensures ours { OnOk result (IsOurs false (state S.Store conn.new)) }
-    ensures later { worry (state S.Store conn.old) ≤ worry (state S.Store conn.new) }
-    ensures same { IsSound (state S.Store conn.new)
-        → (state S.Store conn.new).now ≡ (state S.Store conn.old).now }
-    ensures idle { conn.new.in_transaction ≡ false }
+    ensures rests { StaysIdle (state S.Store conn.old) (state S.Store conn.new) }
     ensures known { IsSound (state S.Store conn.new)
         → OnOk result (HasVersion 2 (state S.Store conn.old).now) }
-    ensures unknown { IsSound (state S.Store conn.new) → IfErr result
-        (λ fault. fault ≡ NotThisSchema → IsUnknown (state S.Store conn.old).now) }
+    ensures unknown { IsHonest (state S.Store conn.new) → IfErr result
+        (λ fault. fault ≡ NotThisSchema → IsUnknown (λ _. 2) (state S.Store conn.old).now) }
     ensures live { HasCleanDisk (state S.Store conn.new)
         → OnOk result (IsTrue (state S.Store conn.new).is_open) }
 {

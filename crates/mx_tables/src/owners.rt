@@ -1,12 +1,13 @@
 //! The index of purses by holder.
-ghost use Rattle.std.specs.Prelude.{◌≡◌, IfOk};
-ghost use Rattle.std.specs.List.{list_any};
+ghost use Rattle.std.specs.Prelude.{◌≡◌, IfErr, IfOk};
+ghost use Rattle.std.specs.List.{AllByRecursion, list_any};
 ghost use Rattle.mx_book.specs.Index.{IsHeld, IsIndex};
 ghost use Rattle.mx_book.specs.Reads.{purses_of};
 ghost use Rattle.mx_pay.specs.Names.{name_cmp};
-ghost use Rattle.mx_tables.specs.Answers.{is_owned_in};
+ghost use Rattle.mx_tables.specs.Answers.{Displays, is_owned_in};
+ghost use Rattle.mx_tables.specs.Counted.{HaveNames, owned_shown};
 ghost use Rattle.mx_tables.specs.Cached.{ReadsThrough, index_of};
-ghost use Rattle.mx_tables.specs.States.{Reads};
+ghost use Rattle.mx_tables.specs.States.{Asks, IsForMemory};
 
 use crate::asking::ask;
 use crate::cache::Cache;
@@ -19,8 +20,10 @@ use std::alloc::Global;
 
 /// The index of the purses whose names and holders these rows show.
 fn index_rows(alloc: Global, rows: &[Row]) -> Result<Held, StoreFault>
-    ensures { IfOk result
+    ensures is { IfOk result
         (λ held. IsIndex name_cmp (λ h p. list_any (is_owned_in h p) rows.now) (index_of held)) }
+    ensures there { AllByRecursion (Displays HaveNames owned_shown) rows.now
+        → IfErr result IsForMemory }
 {
     let mut held = Held::new(alloc);
     for row in rows {
@@ -32,7 +35,7 @@ fn index_rows(alloc: Global, rows: &[Row]) -> Result<Held, StoreFault>
 
 /// The purses of each holder, by a pass over the table of purses.
 fn list_owners<S: Alter>(alloc: Global, conn: &mut Connection<S>) -> Result<Held, StoreFault>
-    ensures { Reads S.Store conn.old conn.new result
+    ensures { Asks S.Store conn.old conn.new result
         (λ r held. IsHeld r.purses (index_of held)) }
 {
     let rows = ask(conn, "SELECT name, holder FROM purse", &[])?;

@@ -8,7 +8,7 @@ ghost use Rattle.mx_book.specs.declared.edits.Edit.TheVariants.{NewPurse, SetPur
 ghost use Rattle.mx_tables.specs.Answers.{ArePurses, Raises};
 ghost use Rattle.mx_tables.specs.Cached.{ReadsThrough};
 ghost use Rattle.mx_tables.specs.Schema.{office_schema};
-ghost use Rattle.mx_tables.specs.States.{Finds, IsExplained, Reads, Steps, Tells, Writes};
+ghost use Rattle.mx_tables.specs.States.{Finds, Asks, Steps, Tells, Writes};
 ghost use Rattle.mx_book.specs.Reads.{account_of, finds_place, has_purse, own_purse};
 
 use crate::asking::{About, ask_about, ask_about_inside, run, run_one};
@@ -48,9 +48,8 @@ pub fn find_purse<S: Alter>(
     conn: &mut Connection<S>,
     name: &Name,
 ) -> Result<Option<PurseRow>, StoreFault>
-    ensures reads { Reads S.Store conn.old conn.new result
+    ensures { Asks S.Store conn.old conn.new result
         (λ r v. ArePurses r → v ≡ fmap.get r.purses name.now) }
-    ensures why { IsExplained S.Store conn.old conn.new result }
 {
     match ask_about(conn, About::Purse, name)? {
         Some(row) => Ok(Some(purse_in(name, &row)?)),
@@ -86,9 +85,8 @@ pub fn find_owner<S: Alter>(
     conn: &mut Connection<S>,
     name: &Name,
 ) -> Result<Option<Name>, StoreFault>
-    ensures reads { Reads S.Store conn.old conn.new result
+    ensures { Asks S.Store conn.old conn.new result
         (λ r v. v ≡ option_map (λ x. x.holder) (fmap.get r.purses name.now)) }
-    ensures why { IsExplained S.Store conn.old conn.new result }
 {
     name_in(ask_about(conn, About::Owner, name)?)
 }

@@ -1,13 +1,13 @@
 //! The results of read log in the tray and in the archive.
-ghost use Rattle.std.specs.Prelude.{◌≡◌, IfOk};
+ghost use Rattle.std.specs.Prelude.{◌≡◌, IfOk, is_ok, true};
 ghost use Rattle.std.specs.FinMap as fmap;
 ghost use Rattle.sqlite.specs.Held.{state};
 ghost use Rattle.mx_book.specs.RowEdits.{rewritten};
 ghost use Rattle.mx_book.specs.RowReads.{row_is_archived};
 ghost use Rattle.mx_book.specs.declared.edits.Edit.TheVariants.{ArchiveTray};
-ghost use Rattle.mx_tables.specs.Results.{Archives, AreDetails, Shows};
+ghost use Rattle.mx_tables.specs.Results.{Archives, AreDetails, Shows, ShowsOnce};
 ghost use Rattle.mx_tables.specs.Schema.{office_schema};
-ghost use Rattle.mx_tables.specs.States.{IsExplained, Reads, Steps, Tells, Writes};
+ghost use Rattle.mx_tables.specs.States.{Asks, Steps, Tells, Writes};
 ghost use Rattle.mx_book.specs.Reads.{tray_of};
 
 use crate::asking::{ask, ask_inside, ask_one, run};
@@ -44,9 +44,8 @@ pub fn find_archived<S: Alter>(
     purse: &Name,
     details: &PayDetails,
 ) -> Result<bool, StoreFault>
-    ensures reads { Reads S.Store conn.old conn.new result
+    ensures { Asks S.Store conn.old conn.new result
         (λ r b. AreDetails r.archive → b ≡ row_is_archived r purse.now details.now) }
-    ensures why { IsExplained S.Store conn.old conn.new result }
 {
     let text = entry_code(alloc, details)?;
     let row = ask_one(
@@ -59,7 +58,8 @@ pub fn find_archived<S: Alter>(
 
 /// The log of what rows show.
 fn log_in(rows: &[Row]) -> Result<Log, StoreFault>
-    ensures { IfOk result (λ log. Shows log rows.now) }
+    ensures is { IfOk result (λ log. Shows log rows.now) }
+    ensures there { (log : _) → ShowsOnce log rows.now → is_ok result ≡ true }
 {
     let mut log = Log::new();
     for row in rows {

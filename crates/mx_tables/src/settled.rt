@@ -4,7 +4,7 @@ ghost use Rattle.mx_book.specs.Conditions.{AreSettled};
 ghost use Rattle.mx_book.specs.RowEdits.{rewritten};
 ghost use Rattle.mx_book.specs.RowReads.{row_is_settled};
 ghost use Rattle.mx_book.specs.declared.edits.Edit.TheVariants.{AddSettled};
-ghost use Rattle.mx_tables.specs.States.{IsExplained, Reads, Writes};
+ghost use Rattle.mx_tables.specs.States.{Asks, Writes};
 
 use crate::asking::{ask_one, run};
 use crate::given;
@@ -36,9 +36,8 @@ pub fn find_settled<S: Alter>(
     conn: &mut Connection<S>,
     details: &PayDetails,
 ) -> Result<bool, StoreFault>
-    ensures reads { Reads S.Store conn.old conn.new result
+    ensures { Asks S.Store conn.old conn.new result
         (λ r b. AreSettled r.settled → b ≡ row_is_settled r details.now) }
-    ensures why { IsExplained S.Store conn.old conn.new result }
 {
     let text = entry_code(alloc, details)?;
     let row = ask_one(

@@ -1,16 +1,19 @@
 //! What the books come to: sums over rows.
-ghost use Rattle.std.specs.Prelude.{◌≡◌, ◌+◌, ◌≤◌, IfOk, pos, sum_by};
+ghost use Rattle.std.specs.Prelude.{◌≡◌, ◌+◌, ◌<◌, ◌≤◌, ◌^◌, IfOk, is_ok, pos, sum_by, true};
 ghost use Rattle.std.specs.FinMap as fmap;
+ghost use Rattle.std.specs.List.{AllByRecursion};
 ghost use Rattle.sqlite.specs.Held.{state};
 ghost use Rattle.sqlite_value.specs.Order.{column};
 ghost use Rattle.sqlite_value.specs.declared.value.Value.TheVariants.{Int};
+ghost use Rattle.mx_pay.specs.Limits.{most_number};
 ghost use Rattle.mx_book.specs.RowEdits.{member_at};
 ghost use Rattle.mx_book.specs.RowReads.{is_counted};
 ghost use Rattle.mx_book.specs.Sums.{sum_values};
 ghost use Rattle.mx_tables.specs.Answers.{ArePurses};
-ghost use Rattle.mx_tables.specs.Counted.{adds_text, amounts_text, counted_row, most_of, number_of, row_adds, row_sums, sum_of};
+ghost use Rattle.mx_tables.specs.Counted.{MayAdd, adds_text, amounts_text, counted_row, most_of, number_of, row_adds, row_sums, sum_of};
 ghost use Rattle.mx_tables.specs.Results.{AreEntries};
-ghost use Rattle.mx_tables.specs.States.{IsAwake, Reads, Tells};
+ghost use Rattle.mx_tables.specs.States.{Asks, AsksOf, IsAwake, Tells};
+ghost use Rattle.mx_tables.specs.declared.sums.Adds.TheVariants.{Counted};
 ghost use Rattle.mx_book.specs.Totals.{member_totals_of, totals_of};
 
 use crate::asking::ask;
@@ -26,7 +29,8 @@ use std::alloc::Global;
 
 /// The sum with a number more. Store where it is too large.
 pub fn plus(sum: u128, more: u128) -> Result<u128, StoreFault>
-    ensures { IfOk result (λ n. n ≡ sum + more) }
+    ensures is { IfOk result (λ n. n ≡ sum + more) }
+    ensures fits { sum + more < 2 ^ 128 → is_ok result ≡ true }
 {
     sum.checked_add(more).ok_or(StoreFault::Store)
 }
@@ -36,7 +40,7 @@ pub(crate) fn find_member_at<S: Alter>(
     conn: &mut Connection<S>,
     purse: &Name,
 ) -> Result<Option<Name>, StoreFault>
-    ensures { Reads S.Store conn.old conn.new result
+    ensures { Asks S.Store conn.old conn.new result
         (λ r v. v ≡ member_at r.holders (fmap.get r.purses purse.now)) }
 {
     match find_owner(conn, purse)? {
@@ -51,7 +55,7 @@ fn counts<S: Alter>(
     scope: &Scope,
     purse: &Name,
 ) -> Result<bool, StoreFault>
-    ensures { IsAwake (state S.Store conn.old) → Reads S.Store conn.old conn.new result
+    ensures { IsAwake (state S.Store conn.old) → Asks S.Store conn.old conn.new result
         (λ r b. b ≡ is_counted r.holders scope.now (fmap.get r.purses purse.now)) }
 {
     match scope {
@@ -67,8 +71,10 @@ fn count_row<S: Alter>(
     scope: &Scope,
     row: &Row,
 ) -> Result<u128, StoreFault>
-    ensures { IsAwake (state S.Store conn.old) → Reads S.Store conn.old conn.new result
+    ensures asks { IsAwake (state S.Store conn.old)
+        → AsksOf S.Store conn.old conn.new (MayAdd (Counted amounts scope.now) row.now) result
         (λ r n. n ≡ counted_row r.purses r.holders scope.now row.now) }
+    ensures small { IfOk result (λ n. n ≤ most_number) }
 {
     let purse = name_at(row, 0)?;
     let number = amounts.number_in(row)?;
@@ -106,6 +112,8 @@ impl Amounts {
     pub fn number_in(self, row: &Row) -> Result<u64, StoreFault>
         ensures shown { IfOk result (λ n. column row.now 1 ≡ Int (pos n)) }
         ensures valid { IfOk result (λ n. n ≤ most_of self) }
+        ensures there { (n : _) → n ≤ most_of self → column row.now 1 ≡ Int (pos n)
+            → is_ok result ≡ true }
     {
         match self {
             Amounts::Balances => money_at(row, 1),
@@ -148,8 +156,10 @@ fn row_adds<S: Alter>(
     adds: &Adds,
     row: &Row,
 ) -> Result<u128, StoreFault>
-    ensures { IsAwake (state S.Store conn.old) → Reads S.Store conn.old conn.new result
+    ensures asks { IsAwake (state S.Store conn.old)
+        → AsksOf S.Store conn.old conn.new (MayAdd adds.now row.now) result
         (λ r n. ArePurses r → AreEntries r → n ≡ row_adds r adds.now row.now) }
+    ensures small { IfOk result (λ n. n ≤ most_number) }
 {
     match adds {
         Adds::Counted(amounts, scope) => count_row(conn, *amounts, scope, row),
@@ -165,8 +175,9 @@ pub fn sum_of<S: Alter>(
     conn: &mut Connection<S>,
     adds: &Adds,
 ) -> Result<u128, StoreFault>
-    ensures { Reads S.Store conn.old conn.new result
+    ensures asks { Asks S.Store conn.old conn.new result
         (λ r n. ArePurses r → AreEntries r → n ≡ sum_of r adds.now) }
+    ensures small { IfOk result (λ n. n < 2 ^ 114) }
 {
     let rows = ask(conn, adds.text(), &[])?;
     let mut sum = 0;
@@ -182,7 +193,7 @@ pub fn sum_uncollected<S: Alter>(
     conn: &mut Connection<S>,
     scope: &Scope,
 ) -> Result<u128, StoreFault>
-    ensures { Reads S.Store conn.old conn.new result
+    ensures { Asks S.Store conn.old conn.new result
         (λ r n. ArePurses r → AreEntries r → n ≡ (row_sums r scope.now).uncollected) }
 {
     sum_of(alloc, conn, &Adds::Counted(Amounts::Uncollected, *scope))
@@ -207,7 +218,7 @@ fn sum_all<S: Alter>(
     conn: &mut Connection<S>,
     scope: &Scope,
 ) -> Result<Sums, StoreFault>
-    ensures { Reads S.Store conn.old conn.new result
+    ensures { Asks S.Store conn.old conn.new result
         (λ r sums. ArePurses r → AreEntries r → sums ≡ row_sums r scope.now) }
 {
     Ok(Sums {
@@ -242,7 +253,9 @@ pub fn sum_member<S: Alter>(
 
 /// The sum of the money in a column of rows.
 fn sum_column(rows: &[Row], at: usize) -> Result<u128, StoreFault>
-    ensures { IfOk result (λ n. n ≡ sum_by (λ row. number_of (column row at)) rows.now) }
+    ensures is { IfOk result (λ n. n ≡ sum_by (λ row. number_of (column row at)) rows.now) }
+    ensures there { AllByRecursion (λ row. (n : _) × (n ≤ most_number)
+        × (column row at ≡ Int (pos n))) rows.now → is_ok result ≡ true }
 {
     let mut sum = 0;
     for row in rows {
@@ -253,7 +266,7 @@ fn sum_column(rows: &[Row], at: usize) -> Result<u128, StoreFault>
 
 /// The sum of all grants, and that of all floats.
 fn sum_grants<S: Alter>(conn: &mut Connection<S>) -> Result<(u128, u128), StoreFault>
-    ensures { Reads S.Store conn.old conn.new result
+    ensures { Asks S.Store conn.old conn.new result
         (λ r sums. (sums.0 ≡ sum_values (λ m. m.granted) r.members)
         × (sums.1 ≡ sum_values (λ m. m.float) r.members)) }
 {

@@ -6,8 +6,8 @@ ghost use Rattle.mx_book.specs.World.{World, opening};
 ghost use Rattle.mx_tables.specs.Schema.{no_schema};
 ghost use Rattle.mx_tables.specs.declared.opening.OpenFault.TheVariants.{NotThisSchema};
 ghost use Rattle.mx_tables.specs.Made.{HasVersion, IsUnknown};
-ghost use Rattle.mx_tables.specs.States.{worry, IsOurs, Leaves, IsSound, IsHonest};
-ghost use Rattle.mx_tables.specs.Rounds.{IsSettled, LeavesBase, base_of, doubt_of, harm_of, rows_of};
+ghost use Rattle.mx_tables.specs.States.{worry, IsOurs, Leaves, IsSound, IsHonest, StaysIdle};
+ghost use Rattle.mx_tables.specs.Rounds.{IsLimited, IsSettled, LeavesBase, base_of, doubt_of, faults_of, harm_of, rows_of};
 ghost use Rattle.mx_tables.specs.Steady.{deep_at, left_as_base, rest_in};
 ghost use Rattle.sqlite.specs.State.{HasCleanDisk};
 ghost use Rattle.sqlite.specs.Effect.{Database};
@@ -108,26 +108,18 @@ impl<S: Alter> Tables<S> {
     /// with version 2; or as Store, where the store refuses a statement for another cause, its tables are others, or a
     /// transaction is open on it.
     pub fn open(alloc: Global, mut store: Connection<S>) -> Result<Tables<S>, OpenRefused<S>>
-        ensures later { MatchResult result
-            (λ t. worry (state S.Store store) ≤ worry (state S.Store t.0))
-            (λ e. worry (state S.Store store) ≤ worry (state S.Store e.store)) }
-        ensures same { IfOk result
-            (λ t. IsSound (state S.Store t.0)
-            → (state S.Store t.0).now ≡ (state S.Store store).now) }
+        ensures rests { MatchResult result
+            (λ t. StaysIdle (state S.Store store) (state S.Store t.0))
+            (λ e. StaysIdle (state S.Store store) (state S.Store e.store)) }
         ensures settled { IfOk result (IsSettled S.Store) }
         ensures ours { IfOk result (λ t. IsOurs false (state S.Store t.0)) }
         ensures live { IfOk result
             (λ t. IsHonest (state S.Store t.0) → IsSound (state S.Store t.0)) }
         ensures known { IfOk result
             (λ t. IsSound (state S.Store t.0) → HasVersion 2 (state S.Store store).now) }
-        ensures left { IfErr result
-            (λ e. IsSound (state S.Store e.store)
-            → (state S.Store e.store).now ≡ (state S.Store store).now) }
-        ensures idle { store.in_transaction ≡ false → IfErr result
-            (λ e. e.store.in_transaction ≡ false) }
         ensures unknown { IfErr result
-            (λ e. e.fault ≡ NotThisSchema → IsSound (state S.Store e.store)
-            → IsUnknown (state S.Store store).now) }
+            (λ e. e.fault ≡ NotThisSchema → IsHonest (state S.Store e.store)
+            → IsUnknown (λ _. 2) (state S.Store store).now) }
     {
         if !store.is_autocommit() {
             return Err(OpenRefused {
@@ -199,6 +191,10 @@ impl<S: Alter> RowBook for Tables<S> {
     ghost leaves = { LeavesBase S.Store };
 
     ghost fails = { λ _. Unit {0} };
+
+    ghost faults = { faults_of S.Store };
+
+    ghost limited = { IsLimited S.Store };
 
     fn who(&mut self, _alloc: Global, token: &Token) -> Result<Option<Caller>, StoreFault> {
         find_caller(&mut self.conn, token)

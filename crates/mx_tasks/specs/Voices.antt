@@ -1,5 +1,5 @@
--- What is said on standard error.
-use Rattle.std.specs.Prelude.{◌≡◌, ◌⊎◌, ℕ, List, ◌++◌, Option, true, false, codes}
+-- What is said on standard error, and to a terminal in memory.
+use Rattle.std.specs.Prelude.{◌≡◌, ◌⊎◌, ℕ, List, ◌++◌, map, Option, option_map, String, string_bytes, Vec, true, false, codes}
 use Rattle.std.specs.Fmt.{decimal}
 use Rattle.std.specs.Io.KnownBytes.{Appends}
 use Rattle.mx_tasks.specs.Faults.{fault_text}
@@ -21,6 +21,10 @@ cause_line path words = path ++ codes ": " ++ words ++ codes "\n"
 -- how many are done, over what was said so before
 abbrev pub progress_text : ℕ → List ℕ → List ℕ
 progress_text count what = codes "\r" ++ decimal count ++ codes " " ++ what
+
+-- the texts that were said to a terminal in memory, as long as there was memory for them
+abbrev pub heard : {A B : Type 0} → Option (Vec (String A) B) → Option (List (List ℕ))
+heard texts = option_map (λ all. map string_bytes all.items) texts
 
 -- an alarm didn't ring; or it rang for the first time, and said its line
 abbrev pub RingsOnce : {V : Type 0} → (V → Option (List ℕ)) → Alarm V → Alarm V → Type 0

@@ -5,6 +5,7 @@ pub mod cause;
 pub mod exits;
 pub mod fault;
 pub mod import;
+pub mod in_memory;
 pub mod report;
 pub mod runs;
 pub mod serve;

@@ -5,7 +5,7 @@ ghost use Rattle.std.specs.Io.KnownBytes.{Appends};
 use std::fmt::Display;
 use std::io::Stderr;
 
-/// What texts are said to: standard error, or a text in memory.
+/// What texts are said to: standard error, or a terminal in memory.
 pub trait Voice {
     /// All that was said, where it is known.
     ghost said: { Self → Option (List ℕ) } = { λ _. None };

@@ -5,7 +5,7 @@ use super::scripts::Exchange;
 use super::{FIRST_PATH, UNAVAILABLE, given_up};
 use crate::empty::{FaultyTrial, Trial, in_both, in_faulty, in_memory};
 use crate::faulty::Faulty;
-use mx_book::Book;
+use mx_book::{Book, StoreFault};
 use mx_desk::desk::{Served, serve_one};
 use mx_desk::{Counted, DeskFault};
 use mx_office::Office;
@@ -159,7 +159,7 @@ fn assert_learns(
     Ok(())
 }
 
-/// A writer learns of a request that the store fails, and of nothing where it is answered.
+/// A writer learns of a request that the store fails, and of nothing where there is no memory or it is answered.
 #[derive(Drop)]
 struct Learns;
 
@@ -172,6 +172,9 @@ impl FaultyTrial for Learns {
         let routes = Routes::new(rt.alloc())?;
         office.book.left = Some(0);
         assert_learns(rt, &routes, office, UNAVAILABLE, 1)?;
+        office.book.left = Some(0);
+        office.book.fault = StoreFault::Memory;
+        assert_learns(rt, &routes, office, UNAVAILABLE, 0)?;
         assert_learns(rt, &routes, office, ADDED_BYTES, 0)
     }
 }

@@ -5,7 +5,7 @@ use std::fs::File;
 use std::io::Read;
 use std::{fs, io};
 
-/// Where rolls are: the files of the system, or texts in memory.
+/// Where rolls are: the files of the system, or bytes in memory.
 pub trait Rolls {
     /// What reads a roll.
     type Roll: Read + Drop;

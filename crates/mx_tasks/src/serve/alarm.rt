@@ -95,7 +95,8 @@ impl<W: Write, V: Voice> Outlet for Alarmed<'_, W, V> {
         ensures bytes { Keeps (W.contents self.old.writer) (W.contents self.new.writer) }
         ensures rung { self.new.alarm.now.has_rung ≡ true }
         ensures first { self.old.alarm.now.has_rung ≡ false
-            → Appends (V.said self.old.alarm.now.voice) (V.said self.new.alarm.now.voice) alarm_line }
+            → Appends (V.said self.old.alarm.now.voice)
+            (V.said self.new.alarm.now.voice) alarm_line }
         ensures once { self.old.alarm.now.has_rung ≡ true
             → self.new.alarm.now.voice ≡ self.old.alarm.now.voice }
     {

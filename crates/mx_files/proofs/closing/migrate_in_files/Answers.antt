@@ -2,7 +2,7 @@ use Rattle.std.proofs.Common.{false}
 use Rattle.sqlite.specs.Files.{file_state}
 use Rattle.mx_tables.specs.States.{IsOurs}
 use Rattle.mx_files.specs.InFiles.{HoldWorld}
-use Rattle.mx_files.proofs.FileLemmas.{clean_before, migrated_so}
+use Rattle.mx_files.proofs.FileLemmas.{clean_before, migrated_so, raised_so}
 use Rattle.mx_files.proofs.closing.migrate_in_files.Goals as goal
 
 pub returns-clause-migrates : goal.returns-clause-migrates
@@ -15,4 +15,6 @@ returns-clause-migrates g c = λ honest.
       c.close.ensures.answer,
       λ shut. migrated_so (HoldWorld c.close.result.left) (IsOurs false last) first.now last.now c.migrate_in_store-answer.result c.migrate_in_store-answer.ensures.ours (c.migrate_in_store-answer.ensures.migrates (closes.sound honest shut))
           (λ ours w stands. closes.world honest w ours (λ _. stands)),
+      λ shut opens. raised_so c.args.store c.migrate_in_store-answer.new.store c.close.result.left c.migrate_in_store-answer.result closes honest shut opens c.migrate_in_store-answer.ensures.idle
+          (c.migrate_in_store-answer.ensures.left (closes.sound honest shut)),
     )

@@ -1,3 +1,4 @@
+use Rattle.std.proofs.Common.{inl, refl}
 use Rattle.mx_files.proofs.FileLemmas.{ended_so, performs_act, performs_as}
 use Rattle.mx_files.proofs.perform.perform.Goals as goal
 
@@ -6,12 +7,12 @@ returns-in-InMemory g c = performs_as _ _ _ _ _ _ _ c.in-InMemory.is c.plan_of.e
 
 pub returns-in-Run : goal.returns-in-Run
 returns-in-Run g c = performs_act _ _ _ _ c.run_in_file.result _ _ _ _ _ c.in-InFile.is c.in-Run.is c.plan_of.ensures c.ended.ensures c.run_in_file.ensures.shut
-    (λ w books. ended_so _ c.run_in_file.result _ c.ended.ensures (c.run_in_file.ensures.runs w books) (λ fault honest. absurd honest))
+    (ended_so _ c.run_in_file.result _ c.ended.ensures c.run_in_file.ensures.runs (λ fault was. let it = c.run_in_file.ensures.unopened was in inl (rw (it.0, it.1) refl, λ honest. absurd honest)))
 
 pub returns-in-Work : goal.returns-in-Work
 returns-in-Work g c = performs_act _ _ _ _ c.work_in_file.result _ _ _ _ _ c.in-InFile.is c.in-Work.is c.plan_of.ensures c.ended-in-Work.ensures c.work_in_file.ensures.shut
-    (λ w books. ended_so _ c.work_in_file.result _ c.ended-in-Work.ensures (c.work_in_file.ensures.works w books) (λ fault honest. absurd honest))
+    (ended_so _ c.work_in_file.result _ c.ended-in-Work.ensures (c.work_in_file.ensures.works _) (λ fault was. inl (rw (c.work_in_file.ensures.unopened was) refl, λ honest. absurd honest)))
 
 pub returns-in-Check : goal.returns-in-Check
 returns-in-Check g c = performs_act _ _ _ _ c.check_file.result _ _ _ _ _ c.in-InFile.is c.in-Check.is c.plan_of.ensures c.ended-in-Check.ensures c.check_file.ensures.shut
-    (λ w books. ended_so _ c.check_file.result _ c.ended-in-Check.ensures (c.check_file.ensures.checks w books) (λ fault ok honest. absurd honest))
+    (ended_so _ c.check_file.result _ c.ended-in-Check.ensures c.check_file.ensures.checks (λ fault was honest. absurd honest))

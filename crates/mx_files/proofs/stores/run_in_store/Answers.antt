@@ -13,7 +13,7 @@ use Rattle.mx_files.proofs.stores.run_in_store.Goals as goal
 pub returns-in-Ok-clause-later : goal.returns-in-Ok-clause-later
 returns-in-Ok-clause-later g c =
     let still = c.in-Ok.ensures.settled in
-    worry_grows g.S.Store c.args.store c.into_store.result c.in-Ok.book.book c.run_in_book-answer.result.1.book still (c.run_in_book-answer.ensures.still still) (c.run_in_book-answer.ensures.later still) c.in-Ok.ensures.later
+    worry_grows g.S.Store c.args.store c.into_store.result c.in-Ok.book.book c.run_in_book-answer.result.1.book still (c.run_in_book-answer.ensures.still still) (c.run_in_book-answer.ensures.later still) c.in-Ok.ensures.rests.later
     (c.into_store.ensures.same ∙ ap (λ t. t.0) c.into_inner.ensures)
 
 pub returns-in-Ok-clause-runs : goal.returns-in-Ok-clause-runs
@@ -31,8 +31,8 @@ returns-in-Ok-clause-runs g c = λ low_end.
     let small : doubt_of g.S.Store left.book ≤ 1 = omega (arith, last, low) in
     let led = c.run_in_book-answer.ensures.runs old.world small (rests_here still) in (
       old.world,
-      subst (λ db. Represents db old.world) (c.in-Ok.ensures.same sure) spelled,
-      record { end = led.end; rounds = led.rounds; holds = led.holds; moves = subst (λ h. Endures (state_of g.S.Store h) led.rounds led.end) (sym same) (endures_moved g.S.Store book.book left.book book.one book.kept left.one left.kept left.left (g.met.S.Store.settled book.book.0.store) still sure ends old.world led.end led.rounds spelled led.moves) },
+      subst (λ db. Represents db old.world) (c.in-Ok.ensures.rests.same sure) spelled,
+      record { end = led.end; rounds = led.rounds; holds = led.holds; moves = subst (λ h. Endures (state_of g.S.Store h) old.world led.rounds led.end) (sym same) (endures_moved g.S.Store book.book left.book book.one book.kept left.one left.kept left.left (g.met.S.Store.settled book.book.0.store) still sure ends old.world led.end led.rounds spelled led.moves) },
     )
 
 pub returns-in-Ok-clause-lasts : goal.returns-in-Ok-clause-lasts

@@ -16,7 +16,7 @@ use Rattle.mx_files.proofs.stores.work_in_store.Goals as goal
 pub returns-in-Ok-clause-later : goal.returns-in-Ok-clause-later
 returns-in-Ok-clause-later g c =
     let still = c.in-Ok.ensures.settled in
-    worry_grows g.S.Store c.args.store c.into_store.result c.in-Ok.book.book c.work_in_book-answer.result.1.book still (c.work_in_book-answer.ensures.still still) (c.work_in_book-answer.ensures.later still) c.in-Ok.ensures.later
+    worry_grows g.S.Store c.args.store c.into_store.result c.in-Ok.book.book c.work_in_book-answer.result.1.book still (c.work_in_book-answer.ensures.still still) (c.work_in_book-answer.ensures.later still) c.in-Ok.ensures.rests.later
     (c.into_store.ensures.same ∙ ap (λ t. t.0) c.into_inner.ensures)
 
 pub returns-in-Ok-clause-works : goal.returns-in-Ok-clause-works
@@ -34,13 +34,13 @@ returns-in-Ok-clause-works g c = λ low_end.
     let spelled = spelled_shown (tables g.S.Store) book.book book.one book.kept ((rest_of g.S.Store book.book still).0 ∙ sure) in
     let small : doubt_of g.S.Store left.book ≤ 1 = omega (arith, last, low) in
     let so = works_so (λ _. Unit {0}) (doubt_of g.S.Store left.book ≡ 0) (worry (state_of g.S.Store left.book.0) ≡ 0) (λ v. new.world ≡ v) (Represents (state_of g.S.Store left.book.0).now)
-    (Moves old new old.world) (Endures (state_of g.S.Store left.book.0)) (λ none. last ∙ none)
+    (Moves old new old.world) (Endures (state_of g.S.Store left.book.0) old.world) (λ none. last ∙ none)
     (λ none v is. subst (λ (u : World). Represents (state_of g.S.Store left.book.0).now u) is (spelled_shown (tables g.S.Store) left.book left.one left.kept (last ∙ none)))
     (λ rs now moved. endures_moved g.S.Store book.book left.book book.one book.kept left.one left.kept left.left (g.met.S.Store.settled book.book.0.store) still sure ends old.world now rs spelled moved)
     old.world c.args.work.now c.work_in_book-answer.result.0 (c.work_in_book-answer.ensures.works still small) in (
       old.world,
-      subst (λ db. Represents db old.world) (c.in-Ok.ensures.same sure) spelled,
-      subst (λ h. Works (λ _. Unit {0}) (worry (state_of g.S.Store h) ≡ 0) (Represents (state_of g.S.Store h).now) (Endures (state_of g.S.Store h)) old.world c.args.work.now c.work_in_book-answer.result.0) (sym same) so,
+      subst (λ db. Represents db old.world) (c.in-Ok.ensures.rests.same sure) spelled,
+      subst (λ h. Works (λ _. Unit {0}) (worry (state_of g.S.Store h) ≡ 0) (Represents (state_of g.S.Store h).now) (Endures (state_of g.S.Store h) old.world) old.world c.args.work.now c.work_in_book-answer.result.0) (sym same) so,
     )
 
 pub returns-in-Ok-clause-lasts : goal.returns-in-Ok-clause-lasts

@@ -13,10 +13,10 @@ pub inputs-init : goal.inputs-init
 inputs-init g c = record {
   awake = c.in-Ok.ensures.live;
   settled = c.in-Ok.ensures.settled;
-  calm = sure_before (state g.S.Store c.args.store) (state g.S.Store c.in-Ok.opened.book.0) c.in-Ok.ensures.later;
+  calm = sure_before (state g.S.Store c.args.store) (state g.S.Store c.in-Ok.opened.book.0) c.in-Ok.ensures.rests.later;
   led = λ sure.
       let found = c.in-Ok.ensures.sound sure in
-      let stands : Represents (state g.S.Store c.in-Ok.opened.book.0).now found.0 = subst (λ db. Represents db found.0) (sym (c.in-Ok.ensures.same sure)) ∣ found.1 ∣₁ in
+      let stands : Represents (state g.S.Store c.in-Ok.opened.book.0).now found.0 = subst (λ db. Represents db found.0) (sym (c.in-Ok.ensures.rests.same sure)) ∣ found.1 ∣₁ in
       (found.0, ∣ found.1 ∣₁, rw c.new-lives.ensures.items (lived_none _ found.0 stands));
 }
 

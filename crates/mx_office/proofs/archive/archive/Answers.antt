@@ -1,11 +1,11 @@
 use Rattle.std.proofs.Common.{rules, sym, ◌∙◌}
-use Rattle.mx_office.proofs.CallLemmas.{keeps_then, so_far, so_more, tells_so, tells_fault}
+use Rattle.mx_office.proofs.CallLemmas.{so_far, so_more, tells_so, tells_fault, tells_fault_then}
 use Rattle.mx_office.proofs.ArchiveLemmas.{archive_refused, nothing_archived, archive_decides}
 use Rattle.mx_office.proofs.archive.archive.Goals as goal
 
 pub returns-in_err-has_purse : goal.returns-in_err-has_purse
 returns-in_err-has_purse g c =
-    tells_fault _ c.in_err-has_purse.ensures.keeps c.in_err-has_purse.ensures.fault c.from_residual.ensures.1
+    tells_fault c.in_err-has_purse.ensures c.from_residual.ensures.1
 
 pub returns-then-not-branch : goal.returns-then-not-branch
 returns-then-not-branch g c =
@@ -14,7 +14,7 @@ returns-then-not-branch g c =
 
 pub returns-in_err-tray : goal.returns-in_err-tray
 returns-in_err-tray g c =
-    tells_fault _ (keeps_then c.in_ok-has_purse.ensures.keeps c.in_err-tray.ensures.keeps) c.in_err-tray.ensures.fault c.from_residual-in_err-tray.ensures.1
+    tells_fault_then c.in_ok-has_purse.ensures.keeps c.in_err-tray.ensures c.from_residual-in_err-tray.ensures.1
 
 pub returns-then-results-eq0 : goal.returns-then-results-eq0
 returns-then-results-eq0 g c =

@@ -1,11 +1,11 @@
 use Rattle.std.proofs.Common.{rules, sym, ◌∙◌}
-use Rattle.mx_office.proofs.CallLemmas.{keeps_then, so_far, so_more, tells_so, tells_fault}
+use Rattle.mx_office.proofs.CallLemmas.{keeps_then, so_far, so_more, tells_so, tells_fault, tells_fault_then}
 use Rattle.mx_office.proofs.ArchiveLemmas.{no_clear, not_archived, clear_decides}
 use Rattle.mx_office.proofs.archive.clear.Goals as goal
 
 pub returns-in_err-has_purse : goal.returns-in_err-has_purse
 returns-in_err-has_purse g c =
-    tells_fault _ c.in_err-has_purse.ensures.keeps c.in_err-has_purse.ensures.fault c.from_residual.ensures.1
+    tells_fault c.in_err-has_purse.ensures c.from_residual.ensures.1
 
 pub returns-then-not-branch : goal.returns-then-not-branch
 returns-then-not-branch g c =
@@ -14,7 +14,7 @@ returns-then-not-branch g c =
 
 pub returns-in_err-may_clear : goal.returns-in_err-may_clear
 returns-in_err-may_clear g c =
-    tells_fault _ (keeps_then c.in_ok-has_purse.ensures.keeps c.in_err-may_clear.ensures.keeps) c.in_err-may_clear.ensures.fault c.from_residual-in_err-may_clear.ensures.1
+    tells_fault_then c.in_ok-has_purse.ensures.keeps c.in_err-may_clear.ensures c.from_residual-in_err-may_clear.ensures.1
 
 pub returns-then-not-branch-2 : goal.returns-then-not-branch-2
 returns-then-not-branch-2 g c =
@@ -24,7 +24,7 @@ returns-then-not-branch-2 g c =
 
 pub returns-in_err-finds_place : goal.returns-in_err-finds_place
 returns-in_err-finds_place g c =
-    tells_fault _ (keeps_then (keeps_then c.in_ok-has_purse.ensures.keeps c.in_ok-may_clear.ensures.keeps) c.in_err-finds_place.ensures.keeps) c.in_err-finds_place.ensures.fault c.from_residual-in_err-finds_place.ensures.1
+    tells_fault_then (keeps_then c.in_ok-has_purse.ensures.keeps c.in_ok-may_clear.ensures.keeps) c.in_err-finds_place.ensures c.from_residual-in_err-finds_place.ensures.1
 
 pub returns-then-not-branch-3 : goal.returns-then-not-branch-3
 returns-then-not-branch-3 g c =

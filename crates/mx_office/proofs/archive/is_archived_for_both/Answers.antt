@@ -4,7 +4,7 @@ use Rattle.mx_office.proofs.archive.is_archived_for_both.Goals as goal
 
 pub returns-in_err-archived : goal.returns-in_err-archived
 returns-in_err-archived g c =
-    tells_fault _ c.in_err-archived.ensures.keeps c.in_err-archived.ensures.fault c.from_residual.ensures.1
+    tells_fault c.in_err-archived.ensures c.from_residual.ensures.1
 
 pub returns-then-not-branch : goal.returns-then-not-branch
 returns-then-not-branch g c =

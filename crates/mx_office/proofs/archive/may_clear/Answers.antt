@@ -1,7 +1,7 @@
 use Rattle.std.proofs.Common.{◌≡◌, refl, rules}
 use Rattle.mx_pay.proofs.CodeLemmas.{no_gap}
 use Rattle.mx_office.proofs.ArchiveLemmas.{one_lacks, archived_more, all_archived}
-use Rattle.mx_office.proofs.CallLemmas.{keeps_none, keeps_then, so_more, tells_so, tells_fault}
+use Rattle.mx_office.proofs.CallLemmas.{keeps_none, so_more, tells_so, tells_fault_then}
 use Rattle.mx_office.proofs.archive.may_clear.Goals as goal
 use Rattle.mx_office.proofs.archive.may_clear.Goals.{in-Some+in_ok-archived+else-not-branch, in_default}
 
@@ -9,7 +9,7 @@ pub loop-place-init : goal.loop-place-init
 loop-place-init g c = record { far = record { keeps = keeps_none _; value = λ sure. refl } }
 
 pub returns-in_err-archived : goal.returns-in_err-archived
-returns-in_err-archived g c = tells_fault _ (keeps_then c.loop-place.invariant.far.keeps c.in_err-archived.ensures.keeps) c.in_err-archived.ensures.fault c.from_residual.ensures.1
+returns-in_err-archived g c = tells_fault_then c.loop-place.invariant.far.keeps c.in_err-archived.ensures c.from_residual.ensures.1
 
 pub returns-then-not-branch : goal.returns-then-not-branch
 returns-then-not-branch g c =

@@ -1,12 +1,12 @@
 use Rattle.std.proofs.Common.{sym, ◌∙◌, ap}
 use Rattle.mx_book.specs.Reads.{account_of}
 use Rattle.mx_command.specs.declared.values.Reply.TheVariants.{Refused}
-use Rattle.mx_office.proofs.CallLemmas.{keeps_then, so_far, so_more, tells_so, tells_fault}
+use Rattle.mx_office.proofs.CallLemmas.{keeps_then, so_far, so_more, tells_so, tells_fault, tells_fault_then}
 use Rattle.mx_office.proofs.MoneyLemmas.{settled_already, settles_nothing, settles_no_purse, settle_refuses, settle_made}
 use Rattle.mx_office.proofs.archive.settle.Goals as goal
 
 pub returns-in_err-settled : goal.returns-in_err-settled
-returns-in_err-settled g c = tells_fault _ c.in_err-settled.ensures.keeps c.in_err-settled.ensures.fault c.from_residual.ensures.1
+returns-in_err-settled g c = tells_fault c.in_err-settled.ensures c.from_residual.ensures.1
 
 pub returns-then-branch : goal.returns-then-branch
 returns-then-branch g c =
@@ -15,7 +15,7 @@ returns-then-branch g c =
 
 pub returns-in_err-is_archived_for_both : goal.returns-in_err-is_archived_for_both
 returns-in_err-is_archived_for_both g c =
-    tells_fault _ (keeps_then c.in_ok-settled.ensures.keeps c.in_err-is_archived_for_both.ensures.keeps) c.in_err-is_archived_for_both.ensures.fault
+    tells_fault_then c.in_ok-settled.ensures.keeps c.in_err-is_archived_for_both.ensures
     c.from_residual-in_err-is_archived_for_both.ensures.1
 
 pub returns-then-not-branch : goal.returns-then-not-branch
@@ -28,7 +28,7 @@ returns-then-not-branch g c =
 
 pub returns-in_err-account : goal.returns-in_err-account
 returns-in_err-account g c =
-    tells_fault _ (keeps_then (keeps_then c.in_ok-settled.ensures.keeps c.in_ok-is_archived_for_both.ensures.keeps) c.in_err-account.ensures.keeps) c.in_err-account.ensures.fault
+    tells_fault_then (keeps_then c.in_ok-settled.ensures.keeps c.in_ok-is_archived_for_both.ensures.keeps) c.in_err-account.ensures
     c.from_residual-in_err-account.ensures.1
 
 pub returns-in_default : goal.returns-in_default

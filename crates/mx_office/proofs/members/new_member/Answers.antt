@@ -1,12 +1,12 @@
 use Rattle.std.proofs.Common.{rules}
 use Rattle.mx_command.specs.declared.values.Refusal.TheVariants.{NameTaken, TokenTaken}
-use Rattle.mx_office.proofs.CallLemmas.{keeps_then, so_far, so_more, tells_so, tells_fault}
+use Rattle.mx_office.proofs.CallLemmas.{so_far, so_more, tells_so, tells_fault, tells_fault_then}
 use Rattle.mx_office.proofs.OwnLemmas.{first, next}
 use Rattle.mx_office.proofs.DecideLemmas.{refused_decides, new_member_decides}
 use Rattle.mx_office.proofs.members.new_member.Goals as goal
 
 pub returns-in_err-member : goal.returns-in_err-member
-returns-in_err-member g c = tells_fault _ c.in_err-member.ensures.keeps c.in_err-member.ensures.fault c.from_residual.ensures.1
+returns-in_err-member g c = tells_fault c.in_err-member.ensures c.from_residual.ensures.1
 
 pub returns-then-is_some : goal.returns-then-is_some
 returns-then-is_some g c =
@@ -15,7 +15,7 @@ returns-then-is_some g c =
 
 pub returns-in_err-who : goal.returns-in_err-who
 returns-in_err-who g c =
-    tells_fault _ (keeps_then c.in_ok-member.ensures.keeps c.in_err-who.ensures.keeps) c.in_err-who.ensures.fault c.from_residual-in_err-who.ensures.1
+    tells_fault_then c.in_ok-member.ensures.keeps c.in_err-who.ensures c.from_residual-in_err-who.ensures.1
 
 pub returns-then-is_some-2 : goal.returns-then-is_some-2
 returns-then-is_some-2 g c =

@@ -1,12 +1,12 @@
 use Rattle.std.proofs.Common.{rules, sym, ◌∙◌}
 use Rattle.mx_command.specs.declared.values.Refusal.TheVariants.{NoSuchHolder, NameTaken, TooManyPurses}
-use Rattle.mx_office.proofs.CallLemmas.{keeps_then, so_far, so_more, tells_so, tells_fault}
+use Rattle.mx_office.proofs.CallLemmas.{so_far, so_more, tells_so, tells_fault, tells_fault_then}
 use Rattle.mx_office.proofs.OwnLemmas.{first, next}
 use Rattle.mx_office.proofs.DecideLemmas.{refused_decides, no_holder, a_holder, many_held, new_purse_decides}
 use Rattle.mx_office.proofs.members.new_purse.Goals as goal
 
 pub returns-in_err-held : goal.returns-in_err-held
-returns-in_err-held g c = tells_fault _ c.in_err-held.ensures.keeps c.in_err-held.ensures.fault c.from_residual.ensures.1
+returns-in_err-held g c = tells_fault c.in_err-held.ensures c.from_residual.ensures.1
 
 pub returns-in_default : goal.returns-in_default
 returns-in_default g c =
@@ -15,7 +15,7 @@ returns-in_default g c =
 
 pub returns-in_err-has_purse : goal.returns-in_err-has_purse
 returns-in_err-has_purse g c =
-    tells_fault _ (keeps_then c.in_ok-held.ensures.keeps c.in_err-has_purse.ensures.keeps) c.in_err-has_purse.ensures.fault c.from_residual-in_err-has_purse.ensures.1
+    tells_fault_then c.in_ok-held.ensures.keeps c.in_err-has_purse.ensures c.from_residual-in_err-has_purse.ensures.1
 
 pub returns-then-branch : goal.returns-then-branch
 returns-then-branch g c =

@@ -1,15 +1,15 @@
 use Rattle.std.proofs.Common.{inr, refl, rules}
 use Rattle.mx_book.proofs.StandLemmas.{sure_before}
-use Rattle.mx_office.proofs.CallLemmas.{keeps_then, so_far, so_more, tells_so, tells_fault}
+use Rattle.mx_office.proofs.CallLemmas.{so_far, so_more, tells_so, tells_fault, tells_fault_then, for_memory}
 use Rattle.mx_office.proofs.GrantedLemmas.{granted_more, granted_all}
 use Rattle.mx_office.proofs.money.all_granted.Goals as goal
 
 pub returns-in_err-members : goal.returns-in_err-members
-returns-in_err-members g c = tells_fault _ c.in_err-members.ensures.keeps c.in_err-members.ensures.fault c.from_residual.ensures.1
+returns-in_err-members g c = tells_fault c.in_err-members.ensures c.from_residual.ensures.1
 
 pub returns-in_err-granted_of : goal.returns-in_err-granted_of
 returns-in_err-granted_of g c =
-    tells_fault _ (keeps_then c.loop-member.invariant.far.keeps c.in_err-granted_of.ensures.keeps) (inr c.in_err-granted_of.ensures.fault) c.from_residual-in_err-granted_of.ensures.1
+    tells_fault_then c.loop-member.invariant.far.keeps (for_memory c.in_err-granted_of.ensures) c.from_residual-in_err-granted_of.ensures.1
 
 pub loop-member-init : goal.loop-member-init
 loop-member-init g c =

@@ -1,13 +1,13 @@
 use Rattle.std.proofs.Common.{rules, sym, ◌∙◌, ap, is_none}
 use Rattle.mx_command.specs.declared.values.Refusal.TheVariants.{NoSuchMember, FloatFull}
-use Rattle.mx_office.proofs.CallLemmas.{keeps_then, so_far, so_more, tells_so, tells_fault}
+use Rattle.mx_office.proofs.CallLemmas.{so_far, so_more, tells_so, tells_fault, tells_fault_then}
 use Rattle.mx_office.proofs.OwnLemmas.{first}
 use Rattle.mx_office.proofs.DecideLemmas.{refused_decides}
 use Rattle.mx_office.proofs.MoneyLemmas.{full_collect, collect_decides}
 use Rattle.mx_office.proofs.money.collect.Goals as goal
 
 pub returns-in_err-row : goal.returns-in_err-row
-returns-in_err-row g c = tells_fault _ c.in_err-row.ensures.keeps c.in_err-row.ensures.fault c.from_residual.ensures.1
+returns-in_err-row g c = tells_fault c.in_err-row.ensures c.from_residual.ensures.1
 
 pub returns-in_default : goal.returns-in_default
 returns-in_default g c =
@@ -16,7 +16,7 @@ returns-in_default g c =
 
 pub returns-in_err-uncollected : goal.returns-in_err-uncollected
 returns-in_err-uncollected g c =
-    tells_fault _ (keeps_then c.in_ok-row.ensures.keeps c.in_err-uncollected.ensures.keeps) c.in_err-uncollected.ensures.fault c.from_residual-in_err-uncollected.ensures.1
+    tells_fault_then c.in_ok-row.ensures.keeps c.in_err-uncollected.ensures c.from_residual-in_err-uncollected.ensures.1
 
 pub returns-then-float-gt-MOST : goal.returns-then-float-gt-MOST
 returns-then-float-gt-MOST g c =

@@ -1,6 +1,6 @@
 use Rattle.std.proofs.Common.{rules, sym, ◌∙◌, ap, is_none, is_some, inr}
 use Rattle.mx_command.specs.declared.values.Refusal.TheVariants.{NoSuchMember, GrantTooLarge, FloatFull}
-use Rattle.mx_office.proofs.CallLemmas.{keeps_then, so_far, so_more, tells_so, tells_fault, err_so}
+use Rattle.mx_office.proofs.CallLemmas.{so_far, so_more, tells_so, tells_fault, err_so, tells_fault_then, for_memory}
 use Rattle.mx_book.proofs.StandLemmas.{sure_before}
 use Rattle.mx_office.proofs.FaultLemmas.{memory_fails}
 use Rattle.mx_office.proofs.OwnLemmas.{first}
@@ -10,7 +10,7 @@ use Rattle.mx_office.proofs.money.grant.Goals as goal
 
 pub returns-in_err-row : goal.returns-in_err-row
 returns-in_err-row g c =
-    record { tells = tells_fault _ c.in_err-row.ensures.keeps (inr c.in_err-row.ensures.fault) c.from_residual.ensures.1; memory = λ sure. err_so _ _ (inr c.in_err-row.ensures.fault) c.from_residual.ensures.1 }
+    record { tells = tells_fault (for_memory c.in_err-row.ensures) c.from_residual.ensures.1; memory = λ sure. err_so _ _ (inr c.in_err-row.ensures.fault) c.from_residual.ensures.1 }
 
 pub returns-in_default : goal.returns-in_default
 returns-in_default g c =
@@ -19,7 +19,7 @@ returns-in_default g c =
 
 pub returns-in_err-all_granted : goal.returns-in_err-all_granted
 returns-in_err-all_granted g c =
-    record { tells = tells_fault _ (keeps_then c.in_ok-row.ensures.keeps c.in_err-all_granted.ensures.keeps) c.in_err-all_granted.ensures.fault c.from_residual-in_err-all_granted.ensures.1; memory = λ sure. err_so _ _ (memory_fails g.B.Book.fails _ _ (ap is_some (sym (c.in_ok-row.ensures.value (sure_before c.in_err-all_granted.ensures.keeps.later sure)) ∙ c.in-Some.is)) c.in_err-all_granted.ensures.fault) c.from_residual-in_err-all_granted.ensures.1 }
+    record { tells = tells_fault_then c.in_ok-row.ensures.keeps c.in_err-all_granted.ensures c.from_residual-in_err-all_granted.ensures.1; memory = λ sure. err_so _ _ (memory_fails g.B.Book.fails _ _ (ap is_some (sym (c.in_ok-row.ensures.value (sure_before c.in_err-all_granted.ensures.keeps.later sure)) ∙ c.in-Some.is)) c.in_err-all_granted.ensures.fault) c.from_residual-in_err-all_granted.ensures.1 }
 
 pub returns-then-saturating_add-gt-MOST : goal.returns-then-saturating_add-gt-MOST
 returns-then-saturating_add-gt-MOST g c =

@@ -1,11 +1,11 @@
 use Rattle.std.proofs.Common.{rules, sym, ◌∙◌}
-use Rattle.mx_office.proofs.CallLemmas.{keeps_then, so_far, so_more, tells_so, tells_fault}
+use Rattle.mx_office.proofs.CallLemmas.{keeps_then, so_far, so_more, tells_so, tells_fault, tells_fault_then}
 use Rattle.mx_office.proofs.OwnLemmas.{never_some}
 use Rattle.mx_office.proofs.MoneyLemmas.{load_told, foreign_load, memberless_load, load_repeated, load_small_float, load_refuses, load_made}
 use Rattle.mx_office.proofs.money.load.Goals as goal
 
 pub returns-in_err-after : goal.returns-in_err-after
-returns-in_err-after g c = tells_fault _ c.in_err-after.ensures.keeps c.in_err-after.ensures.fault c.from_residual.ensures.1
+returns-in_err-after g c = tells_fault c.in_err-after.ensures c.from_residual.ensures.1
 
 pub returns-in_default : goal.returns-in_default
 returns-in_default g c =
@@ -14,7 +14,7 @@ returns-in_default g c =
 
 pub returns-in_err-row : goal.returns-in_err-row
 returns-in_err-row g c =
-    tells_fault _ (keeps_then c.in_ok-after.ensures.keeps c.in_err-row.ensures.keeps) c.in_err-row.ensures.fault c.from_residual-in_err-row.ensures.1
+    tells_fault_then c.in_ok-after.ensures.keeps c.in_err-row.ensures c.from_residual-in_err-row.ensures.1
 
 pub returns-in_default-2 : goal.returns-in_default-2
 returns-in_default-2 g c =
@@ -24,7 +24,7 @@ returns-in_default-2 g c =
 
 pub returns-in_err-before : goal.returns-in_err-before
 returns-in_err-before g c =
-    tells_fault _ (keeps_then (keeps_then c.in_ok-after.ensures.keeps c.in_ok-row.ensures.keeps) c.in_err-before.ensures.keeps) c.in_err-before.ensures.fault c.from_residual-in_err-before.ensures.1
+    tells_fault_then (keeps_then c.in_ok-after.ensures.keeps c.in_ok-row.ensures.keeps) c.in_err-before.ensures c.from_residual-in_err-before.ensures.1
 
 pub returns-in-Some-3 : goal.returns-in-Some-3
 returns-in-Some-3 g c =

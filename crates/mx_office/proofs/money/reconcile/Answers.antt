@@ -5,7 +5,7 @@ use Rattle.mx_office.proofs.money.reconcile.Goals as goal
 
 pub returns-in_err-totals : goal.returns-in_err-totals
 returns-in_err-totals g c =
-    record { tells = tells_fault _ c.in_err-totals.ensures.keeps c.in_err-totals.ensures.fault c.from_residual.ensures.1; edits = err_never _ _ _ c.from_residual.ensures.1 }
+    record { tells = tells_fault c.in_err-totals.ensures c.from_residual.ensures.1; edits = err_never _ _ _ c.from_residual.ensures.1 }
 
 pub returns : goal.returns
 returns g c =

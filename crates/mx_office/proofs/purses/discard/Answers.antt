@@ -1,11 +1,11 @@
 use Rattle.std.proofs.Common.{rules, sym, ◌∙◌}
-use Rattle.mx_office.proofs.CallLemmas.{keeps_then, so_far, so_more, tells_so, tells_fault}
+use Rattle.mx_office.proofs.CallLemmas.{so_far, so_more, tells_so, tells_fault, tells_fault_then}
 use Rattle.mx_office.proofs.CommandLemmas.{foreign_decides, no_message_decides, discard_decides}
 use Rattle.mx_office.proofs.OwnLemmas.{absent}
 use Rattle.mx_office.proofs.purses.discard.Goals as goal
 
 pub returns-in_err-is_own : goal.returns-in_err-is_own
-returns-in_err-is_own g c = tells_fault _ c.in_err-is_own.ensures.keeps c.in_err-is_own.ensures.fault c.from_residual.ensures.1
+returns-in_err-is_own g c = tells_fault c.in_err-is_own.ensures c.from_residual.ensures.1
 
 pub returns-then-not-branch : goal.returns-then-not-branch
 returns-then-not-branch g c =
@@ -14,7 +14,7 @@ returns-then-not-branch g c =
 
 pub returns-in_err-has_message : goal.returns-in_err-has_message
 returns-in_err-has_message g c =
-    tells_fault _ (keeps_then c.in_ok-is_own.ensures.keeps c.in_err-has_message.ensures.keeps) c.in_err-has_message.ensures.fault c.from_residual-in_err-has_message.ensures.1
+    tells_fault_then c.in_ok-is_own.ensures.keeps c.in_err-has_message.ensures c.from_residual-in_err-has_message.ensures.1
 
 pub returns-then-not-branch-2 : goal.returns-then-not-branch-2
 returns-then-not-branch-2 g c =

@@ -1,10 +1,10 @@
 use Rattle.std.proofs.Common.{rules, sym, ◌∙◌}
-use Rattle.mx_office.proofs.CallLemmas.{keeps_then, so_far, so_more, tells_so, tells_fault}
+use Rattle.mx_office.proofs.CallLemmas.{keeps_then, so_far, so_more, tells_so, tells_fault, tells_fault_then}
 use Rattle.mx_office.proofs.CommandLemmas.{foreign_decides, nothing_handled_decides, handle_decides}
 use Rattle.mx_office.proofs.purses.handle.Goals as goal
 
 pub returns-in_err-own : goal.returns-in_err-own
-returns-in_err-own g c = tells_fault _ c.in_err-own.ensures.keeps c.in_err-own.ensures.fault c.from_residual.ensures.1
+returns-in_err-own g c = tells_fault c.in_err-own.ensures c.from_residual.ensures.1
 
 pub returns-in_default : goal.returns-in_default
 returns-in_default g c =
@@ -13,7 +13,7 @@ returns-in_default g c =
 
 pub returns-in_err-message : goal.returns-in_err-message
 returns-in_err-message g c =
-    tells_fault _ (keeps_then c.in_ok-own.ensures.keeps c.in_err-message.ensures.keeps) c.in_err-message.ensures.fault c.from_residual-in_err-message.ensures.1
+    tells_fault_then c.in_ok-own.ensures.keeps c.in_err-message.ensures c.from_residual-in_err-message.ensures.1
 
 pub returns-in_default-2 : goal.returns-in_default-2
 returns-in_default-2 g c =
@@ -23,7 +23,7 @@ returns-in_default-2 g c =
 
 pub returns-in_err-answer : goal.returns-in_err-answer
 returns-in_err-answer g c =
-    tells_fault _ (keeps_then (keeps_then c.in_ok-own.ensures.keeps c.in_ok-message.ensures.keeps) c.in_err-answer.ensures.keeps) c.in_err-answer.ensures.fault c.from_residual-in_err-answer.ensures.1
+    tells_fault_then (keeps_then c.in_ok-own.ensures.keeps c.in_ok-message.ensures.keeps) c.in_err-answer.ensures c.from_residual-in_err-answer.ensures.1
 
 pub returns : goal.returns
 returns g c =

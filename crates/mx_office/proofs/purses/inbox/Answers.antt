@@ -1,5 +1,5 @@
 use Rattle.std.proofs.Common.{rules, sym, ◌∙◌, inr}
-use Rattle.mx_office.proofs.CallLemmas.{keeps_then, so_far, so_more, tells_so, tells_fault, err_never, err_so}
+use Rattle.mx_office.proofs.CallLemmas.{so_far, so_more, tells_so, tells_fault, err_never, err_so, tells_fault_then, for_memory}
 use Rattle.mx_book.proofs.StandLemmas.{sure_before}
 use Rattle.mx_office.proofs.OwnLemmas.{absent}
 use Rattle.mx_office.proofs.FaultLemmas.{memory_fails}
@@ -8,7 +8,7 @@ use Rattle.mx_office.proofs.purses.inbox.Goals as goal
 
 pub returns-in_err-is_own : goal.returns-in_err-is_own
 returns-in_err-is_own g c =
-    record { tells = tells_fault _ c.in_err-is_own.ensures.keeps (inr c.in_err-is_own.ensures.fault) c.from_residual.ensures.1; edits = err_never _ _ _ c.from_residual.ensures.1; memory = λ sure. err_so _ _ (inr c.in_err-is_own.ensures.fault) c.from_residual.ensures.1 }
+    record { tells = tells_fault (for_memory c.in_err-is_own.ensures) c.from_residual.ensures.1; edits = err_never _ _ _ c.from_residual.ensures.1; memory = λ sure. err_so _ _ (inr c.in_err-is_own.ensures.fault) c.from_residual.ensures.1 }
 
 pub returns-then-not-branch : goal.returns-then-not-branch
 returns-then-not-branch g c =
@@ -17,7 +17,7 @@ returns-then-not-branch g c =
 
 pub returns-in_err-messages : goal.returns-in_err-messages
 returns-in_err-messages g c =
-    record { tells = tells_fault _ (keeps_then c.in_ok-is_own.ensures.keeps c.in_err-messages.ensures.keeps) c.in_err-messages.ensures.fault c.from_residual-in_err-messages.ensures.1; edits = err_never _ _ _ c.from_residual-in_err-messages.ensures.1; memory = λ sure. err_so _ _ (memory_fails g.B.Book.fails _ _ (sym (c.in_ok-is_own.ensures.value (sure_before c.in_err-messages.ensures.keeps.later sure)) ∙ c.if-not-branch.false) c.in_err-messages.ensures.fault) c.from_residual-in_err-messages.ensures.1 }
+    record { tells = tells_fault_then c.in_ok-is_own.ensures.keeps c.in_err-messages.ensures c.from_residual-in_err-messages.ensures.1; edits = err_never _ _ _ c.from_residual-in_err-messages.ensures.1; memory = λ sure. err_so _ _ (memory_fails g.B.Book.fails _ _ (sym (c.in_ok-is_own.ensures.value (sure_before c.in_err-messages.ensures.keeps.later sure)) ∙ c.if-not-branch.false) c.in_err-messages.ensures.fault) c.from_residual-in_err-messages.ensures.1 }
 
 pub returns : goal.returns
 returns g c =

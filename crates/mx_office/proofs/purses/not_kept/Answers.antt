@@ -1,7 +1,7 @@
 use Rattle.std.proofs.Common.{rules, sym, ◌∙◌, ap}
 use Rattle.std.specs.Prelude.{option_map}
 use Rattle.mx_office.specs.Decides.{not_kept}
-use Rattle.mx_office.proofs.CallLemmas.{keeps_then, so_far, so_more, tells_none, tells_so, tells_fault}
+use Rattle.mx_office.proofs.CallLemmas.{so_far, so_more, tells_none, tells_so, tells_fault, tells_fault_then}
 use Rattle.mx_office.proofs.ArchiveLemmas.{laid_kept, archived_kept, new_result}
 use Rattle.mx_office.proofs.purses.not_kept.Goals as goal
 
@@ -10,7 +10,7 @@ returns-in_default g c = tells_none (g.met.B.Book.lawful _) (λ w world. search 
 
 pub returns-in_err-laid : goal.returns-in_err-laid
 returns-in_err-laid g c =
-    tells_fault _ c.in_err-laid.ensures.keeps c.in_err-laid.ensures.fault c.from_residual.ensures.1
+    tells_fault c.in_err-laid.ensures c.from_residual.ensures.1
 
 pub returns-then-has : goal.returns-then-has
 returns-then-has g c =
@@ -19,7 +19,7 @@ returns-then-has g c =
 
 pub returns-in_err-archived : goal.returns-in_err-archived
 returns-in_err-archived g c =
-    tells_fault _ (keeps_then c.in_ok-laid.ensures.keeps c.in_err-archived.ensures.keeps) c.in_err-archived.ensures.fault c.from_residual-in_err-archived.ensures.1
+    tells_fault_then c.in_ok-laid.ensures.keeps c.in_err-archived.ensures c.from_residual-in_err-archived.ensures.1
 
 pub returns-then-branch : goal.returns-then-branch
 returns-then-branch g c =

@@ -5,7 +5,7 @@ use Rattle.mx_office.proofs.purses.purses.Goals as goal
 
 pub returns-in_err-names : goal.returns-in_err-names
 returns-in_err-names g c =
-    record { tells = tells_fault _ c.in_err-names.ensures.keeps c.in_err-names.ensures.fault c.from_residual.ensures.1; edits = err_never _ _ _ c.from_residual.ensures.1 }
+    record { tells = tells_fault c.in_err-names.ensures c.from_residual.ensures.1; edits = err_never _ _ _ c.from_residual.ensures.1 }
 
 pub returns : goal.returns
 returns g c =

@@ -1,11 +1,11 @@
 use Rattle.std.proofs.Common.{rules, sym, ◌∙◌}
-use Rattle.mx_office.proofs.CallLemmas.{keeps_then, so_far, so_more, tells_so, tells_fault}
+use Rattle.mx_office.proofs.CallLemmas.{so_far, so_more, tells_so, tells_fault, tells_fault_then}
 use Rattle.mx_office.proofs.CommandLemmas.{foreign_decides}
 use Rattle.mx_office.proofs.ArchiveLemmas.{read_decides}
 use Rattle.mx_office.proofs.purses.read_log.Goals as goal
 
 pub returns-in_err-own : goal.returns-in_err-own
-returns-in_err-own g c = tells_fault _ c.in_err-own.ensures.keeps c.in_err-own.ensures.fault c.from_residual.ensures.1
+returns-in_err-own g c = tells_fault c.in_err-own.ensures c.from_residual.ensures.1
 
 pub returns-in_default : goal.returns-in_default
 returns-in_default g c =
@@ -14,7 +14,7 @@ returns-in_default g c =
 
 pub returns-in_err-new : goal.returns-in_err-new
 returns-in_err-new g c =
-    tells_fault _ (keeps_then c.in_ok-own.ensures.keeps c.in_err-new.ensures.keeps) c.in_err-new.ensures.fault c.from_residual-in_err-new.ensures.1
+    tells_fault_then c.in_ok-own.ensures.keeps c.in_err-new.ensures c.from_residual-in_err-new.ensures.1
 
 pub returns : goal.returns
 returns g c =

@@ -2,13 +2,13 @@ use Rattle.std.proofs.Common.{sym, ◌∙◌, ap}
 use Rattle.mx_office.specs.Decides.{redeem_edits}
 use Rattle.mx_office.specs.Step.{abort_line}
 use Rattle.mx_command.specs.declared.values.Reply.TheVariants.{Refused}
-use Rattle.mx_office.proofs.CallLemmas.{keeps_then, so_far, so_more, tells_so, tells_fault}
+use Rattle.mx_office.proofs.CallLemmas.{so_far, so_more, tells_so, tells_fault, tells_fault_then}
 use Rattle.mx_office.proofs.CommandLemmas.{foreign_decides, redeem_repeated, redeem_refuses, redeem_made}
 use Rattle.mx_office.proofs.OwnLemmas.{never_some}
 use Rattle.mx_office.proofs.purses.redeem.Goals as goal
 
 pub returns-in_err-own : goal.returns-in_err-own
-returns-in_err-own g c = tells_fault _ c.in_err-own.ensures.keeps c.in_err-own.ensures.fault c.from_residual.ensures.1
+returns-in_err-own g c = tells_fault c.in_err-own.ensures c.from_residual.ensures.1
 
 pub returns-in_default : goal.returns-in_default
 returns-in_default g c =
@@ -17,7 +17,7 @@ returns-in_default g c =
 
 pub returns-in_err-before : goal.returns-in_err-before
 returns-in_err-before g c =
-    tells_fault _ (keeps_then c.in_ok-own.ensures.keeps c.in_err-before.ensures.keeps) c.in_err-before.ensures.fault c.from_residual-in_err-before.ensures.1
+    tells_fault_then c.in_ok-own.ensures.keeps c.in_err-before.ensures c.from_residual-in_err-before.ensures.1
 
 pub returns-in-Some-2 : goal.returns-in-Some-2
 returns-in-Some-2 g c =

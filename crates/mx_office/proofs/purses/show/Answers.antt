@@ -7,7 +7,7 @@ use Rattle.mx_office.proofs.purses.show.Goals as goal
 
 pub returns-in_err-purse : goal.returns-in_err-purse
 returns-in_err-purse g c =
-    record { tells = tells_fault _ c.in_err-purse.ensures.keeps c.in_err-purse.ensures.fault c.from_residual.ensures.1; edits = err_never _ _ _ c.from_residual.ensures.1 }
+    record { tells = tells_fault c.in_err-purse.ensures c.from_residual.ensures.1; edits = err_never _ _ _ c.from_residual.ensures.1 }
 
 pub returns-in-Some : goal.returns-in-Some
 unfolding show

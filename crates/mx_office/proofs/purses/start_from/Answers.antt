@@ -9,7 +9,7 @@ use Rattle.mx_office.proofs.CommandLemmas.{foreign_decides, start_refused, start
 use Rattle.mx_office.proofs.purses.start_from.Goals as goal
 
 pub returns-in_err-own : goal.returns-in_err-own
-returns-in_err-own g c = tells_fault _ c.in_err-own.ensures.keeps c.in_err-own.ensures.fault c.from_residual.ensures.1
+returns-in_err-own g c = tells_fault c.in_err-own.ensures c.from_residual.ensures.1
 
 pub returns-in_default : goal.returns-in_default
 returns-in_default g c =

@@ -4,12 +4,12 @@ use Rattle.mx_purse.specs.declared.status.Status.TheVariants.{Epv}
 use Rattle.mx_purse.specs.Operations.{start_to_refusal, to_details}
 use Rattle.mx_office.specs.Step.{start_to}
 use Rattle.mx_command.specs.declared.values.Reply.TheVariants.{Refused}
-use Rattle.mx_office.proofs.CallLemmas.{keeps_then, so_far, so_more, tells_so, tells_fault}
+use Rattle.mx_office.proofs.CallLemmas.{so_far, so_more, tells_so, tells_fault, tells_fault_then}
 use Rattle.mx_office.proofs.CommandLemmas.{foreign_decides, start_refused, start_decides}
 use Rattle.mx_office.proofs.purses.start_to.Goals as goal
 
 pub returns-in_err-own : goal.returns-in_err-own
-returns-in_err-own g c = tells_fault _ c.in_err-own.ensures.keeps c.in_err-own.ensures.fault c.from_residual.ensures.1
+returns-in_err-own g c = tells_fault c.in_err-own.ensures c.from_residual.ensures.1
 
 pub returns-in_default : goal.returns-in_default
 returns-in_default g c =
@@ -27,7 +27,7 @@ returns-in-Err g c =
 
 pub returns-in_err-request-in-Ok : goal.returns-in_err-request-in-Ok
 returns-in_err-request-in-Ok g c =
-    tells_fault _ (keeps_then c.in_ok-own.ensures.keeps c.in_err-request-in-Ok.ensures.keeps) c.in_err-request-in-Ok.ensures.fault c.from_residual-in_err-request-in-Ok.ensures.1
+    tells_fault_then c.in_ok-own.ensures.keeps c.in_err-request-in-Ok.ensures c.from_residual-in_err-request-in-Ok.ensures.1
 
 pub returns-in_ok-request-in-Ok : goal.returns-in_ok-request-in-Ok
 unfolding start_to

@@ -1,4 +1,4 @@
-use Rattle.mx_tables.proofs.Common.{Option, PurseRow, Some, arith, refl, ◌+◌, ◌∙◌, ◌≡◌}
+use Rattle.mx_tables.proofs.Common.{Option, Some, arith, refl, ◌+◌, ◌∙◌, ◌≡◌}
 use Rattle.std.proofs.Common.{sym}
 use Rattle.mx_tables.proofs.CacheLemmas.{changes_by, changes_none, copied_is}
 use Rattle.mx_tables.proofs.cache.raise_next.Goals.{in-Some-checked_add, in-None}

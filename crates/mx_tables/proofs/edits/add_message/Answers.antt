@@ -1,4 +1,3 @@
-use Rattle.mx_tables.proofs.Common.{refl}
 use Rattle.mx_tables.proofs.CallLemmas.{steps_then, steps_to}
 use Rattle.mx_tables.proofs.InboxLemmas.{delivers}
 use Rattle.mx_tables.proofs.edits.add_message.Goals as goal

@@ -1,7 +1,8 @@
-use Rattle.mx_tables.proofs.Common.{◌≡◌, inl, None, Some, refl, state}
+use Rattle.mx_tables.proofs.Common.{◌≡◌, column, inl, inr, None, Some, refl, state}
 use Rattle.std.proofs.Common.{ap, sym}
 use Rattle.sqlite.specs.Given.{row_if}
 use Rattle.mx_tables.proofs.StateLemmas.{awake, sure, step_stays, failed_quits}
+use Rattle.mx_tables.proofs.CauseLemmas.{handed}
 use Rattle.mx_tables.proofs.lines.next_line.Goals as goal
 
 pub returns-in-Err-clause-stays : goal.returns-in-Err-clause-stays
@@ -42,3 +43,26 @@ returns-clause-shown g c sound =
     let made = c.in_default.ensures.ok (sure (state g.S.Store c.advance.new.self.conn.now) sound).1 in
     let row : Some c.in-Some.row.now ≡ row_if c.advance.new.self.has_row c.advance.new.self.conn.now = rw c.in-Some.is at c.get.ensures in
     (Some c.in-Some.row.now, rw (sym row) at made, ap Some c.in_ok-line_in.ensures.shown)
+
+pub returns-in-Err-clause-fails : goal.returns-in-Err-clause-fails
+returns-in-Err-clause-fails g c sound = inl (c.in-Err.error, c.in-Err.ensures.err (sure (state g.S.Store c.advance.new.self.conn.now) sound).1, c.fault_of.ensures)
+
+pub returns-in_err-note_at-clause-fails : goal.returns-in_err-note_at-clause-fails
+returns-in_err-note_at-clause-fails g c sound =
+    let made = c.in_default.ensures.ok (sure (state g.S.Store c.advance.new.self.conn.now) sound).1 in
+    let row : Some c.in-Some.row.now ≡ row_if c.advance.new.self.has_row c.advance.new.self.conn.now = rw c.in-Some.is at c.get.ensures in
+    handed c.from_residual.result _ _ c.from_residual.ensures.1 (λ f is. inr (
+      c.in-Some.row.now,
+      rw (sym row) at made,
+      λ line. let it = c.in_err-note_at.ensures.there line.0.note line.2 (ap (λ r. column r 4) line.3) in absurd (cc),
+    ))
+
+pub returns-in_err-line_in-clause-fails : goal.returns-in_err-line_in-clause-fails
+returns-in_err-line_in-clause-fails g c sound =
+    let made = c.in_default.ensures.ok (sure (state g.S.Store c.advance.new.self.conn.now) sound).1 in
+    let row : Some c.in-Some.row.now ≡ row_if c.advance.new.self.has_row c.advance.new.self.conn.now = rw c.in-Some.is at c.get.ensures in
+    handed c.from_residual-in_err-line_in.result _ _ c.from_residual-in_err-line_in.ensures.1 (λ f is. inr (
+      c.in-Some.row.now,
+      rw (sym row) at made,
+      λ line. let it = c.in_err-line_in.ensures.there line.0 line.1 line.3 in absurd (cc),
+    ))

@@ -10,7 +10,7 @@ loop-row-preserved c =
     let pushed : c.push.new.self.items ≡ c.loop-row.names.items ++ c.in_ok-name.name ∷ [] = search rules in
     rw pushed (grown_alike (λ r. column r 0) c.args.rows.now c.loop-row.row-index c.row-item.result within c.row-item.is Text c.loop-row.names.items c.in_ok-name.name c.loop-row.invariant c.in_ok-name.ensures.is)
 
-pub returns : goal.returns
-returns c =
+pub returns-clause-is : goal.returns-clause-is
+returns-clause-is c =
     let past : length c.args.rows.now ≤ c.loop-row.row-index = search rules in
     sym (ap (map (λ r. column r 0)) (take_all c.loop-row.row-index c.args.rows.now past)) ∙ c.loop-row.invariant

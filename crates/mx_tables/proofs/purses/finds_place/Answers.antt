@@ -6,13 +6,13 @@ use Rattle.mx_tables.proofs.ThroughLemmas.{through_fault, through_then, through_
 use Rattle.mx_tables.proofs.purses.finds_place.Goals as goal
 
 pub returns-in_err-row : goal.returns-in_err-row
-returns-in_err-row g c = through_fault g.S.Store c.in_err-row.ensures c.from_residual.ensures.0
+returns-in_err-row g c = through_fault g.S.Store c.in_err-row.ensures c.from_residual.ensures.1
 
 pub returns-in_default : goal.returns-in_default
 returns-in_default g c = through_to g.S.Store c.in_ok-row.ensures (λ rows w s is. (let none = sym is ∙ c.in_default.is in grind (arith, none)) ∙ place_at rows w c.args.purse.now s)
 
 pub returns-in_err-has_room : goal.returns-in_err-has_room
-returns-in_err-has_room g c = through_fault g.S.Store (through_then g.S.Store c.in_ok-row.ensures c.in_err-has_room.ensures) c.from_residual-in_err-has_room.ensures.0
+returns-in_err-has_room g c = through_fault g.S.Store (through_then g.S.Store c.in_ok-row.ensures c.in_err-has_room.ensures) c.from_residual-in_err-has_room.ensures.1
 
 pub returns-then-has_room : goal.returns-then-has_room
 returns-then-has_room g c = through_to g.S.Store (through_then g.S.Store c.in_ok-row.ensures c.in_ok-has_room.ensures) (λ rows w s both.

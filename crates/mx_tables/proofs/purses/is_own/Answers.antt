@@ -4,7 +4,7 @@ use Rattle.mx_tables.proofs.ThroughLemmas.{through_fault, through_to}
 use Rattle.mx_tables.proofs.purses.is_own.Goals as goal
 
 pub returns-in_err-own_purse : goal.returns-in_err-own_purse
-returns-in_err-own_purse g c = through_fault g.S.Store c.in_err-own_purse.ensures c.from_residual.ensures.0
+returns-in_err-own_purse g c = through_fault g.S.Store c.in_err-own_purse.ensures c.from_residual.ensures.1
 
 pub returns : goal.returns
 returns g c = through_to g.S.Store c.in_ok-own_purse.ensures (λ rows w s is. c.is_some.ensures ∙ ap is_some is)

@@ -1,9 +1,9 @@
-use Rattle.mx_tables.proofs.Common.{[], ◌∷◌, arith, number, refl}
+use Rattle.mx_tables.proofs.Common.{[], ◌∷◌, ◌∙◌, arith, number, refl}
 use Rattle.mx_pay.specs.Details.{details_cmp}
-use Rattle.mx_tables.proofs.CallLemmas.{reads_to, reads_fault, reads_never}
+use Rattle.mx_tables.proofs.CallLemmas.{asks_as, asks_fault, asks_lacking, asks_ok, reads_to}
 use Rattle.mx_tables.proofs.ReadLemmas.{got}
-use Rattle.mx_tables.proofs.CauseLemmas.{handed}
-use Rattle.mx_tables.proofs.FaultLemmas.{IsForMemory, why_none, why_asked, why_shown, few}
+use Rattle.mx_tables.proofs.CauseLemmas.{err_weaker}
+use Rattle.mx_tables.proofs.FaultLemmas.{few}
 use Rattle.mx_tables.proofs.KeptLemmas.{details_key}
 use Rattle.mx_tables.proofs.SoundLemmas.{entries_valid}
 use Rattle.mx_tables.proofs.SettledLemmas.{finds_settled, settled_accepted, select_settled_is}
@@ -12,31 +12,21 @@ use Rattle.mx_tables.proofs.settled.find_settled.Goals as goal
 pub ask_one-requires : goal.ask_one-requires
 ask_one-requires g c = select_settled_is.query
 
-pub returns-clause-reads : goal.returns-clause-reads
-returns-clause-reads g c = reads_to g.S.Store c.in_ok-row.ensures.reads (λ r holds shown each.
+pub returns : goal.returns
+returns g c = asks_ok g.S.Store (reads_to g.S.Store c.in_ok-row.ensures.reads (λ r holds shown each.
     let found = finds_settled c.args.details.now c.in_ok-text.ensures.valid _ _ _ (rw (c.text.ensures, c.deref.ensures, c.in_ok-text.ensures.text) at shown) r holds each in
     let it = got details_cmp (λ _. number 1 ∷ []) c.args.details.now r.settled _ c.in_ok-row.row found refl in
-    grind (arith, it, c.is_some.ensures))
+    grind (arith, it, c.is_some.ensures)))
 
-pub returns-in_err-text-clause-why : goal.returns-in_err-text-clause-why
-returns-in_err-text-clause-why g c = why_none g.S.Store c.args.conn.now (handed c.from_residual.result c.in_err-text.field-0.0 IsForMemory c.from_residual.ensures.1 c.in_err-text.ensures.fault)
+pub returns-in_err-text : goal.returns-in_err-text
+returns-in_err-text g c = asks_lacking g.S.Store (err_weaker c.from_residual.result _ _ c.from_residual.ensures.1 (λ e is. is ∙ c.in_err-text.ensures.fault))
 
-pub returns-clause-why : goal.returns-clause-why
-returns-clause-why g c = why_shown g.S.Store _ _ _ c.in_ok-row.ensures.why c.in_ok-row.ensures.shown (λ w s shown. tt)
-
-pub returns-in_err-text-clause-reads : goal.returns-in_err-text-clause-reads
-returns-in_err-text-clause-reads g c = reads_never g.S.Store c.from_residual.ensures.0
-
-pub returns-in_err-row-clause-reads : goal.returns-in_err-row-clause-reads
-returns-in_err-row-clause-reads g c = reads_fault g.S.Store c.in_err-row.ensures.reads c.from_residual-in_err-row.ensures.0
-
-pub returns-in_err-row-clause-why : goal.returns-in_err-row-clause-why
-returns-in_err-row-clause-why g c = why_asked g.S.Store c.from_residual-in_err-row.result c.in_err-row.ensures.why
-    (λ w s. record {
-      schema = s.holds.has.schema;
+pub returns-in_err-row : goal.returns-in_err-row
+returns-in_err-row g c = asks_fault g.S.Store (asks_as g.S.Store c.in_err-row.ensures
+    (λ r holds it. record {
       accepts = rw (c.text.ensures, c.deref.ensures) (settled_accepted _ _);
       few = λ rows shown.
-          let found = finds_settled c.args.details.now c.in_ok-text.ensures.valid _ _ _ (rw (c.text.ensures, c.deref.ensures, c.in_ok-text.ensures.text) at shown) s.rows s.holds (entries_valid s.rows w s.spells).settled in
-          few details_cmp details_key.exact c.args.details.now s.rows.settled _ _ found;
-    })
-    (handed c.from_residual-in_err-row.result c.in_err-row.field-0.0 _ c.from_residual-in_err-row.ensures.1)
+          let found = finds_settled c.args.details.now c.in_ok-text.ensures.valid _ _ _ (rw (c.text.ensures, c.deref.ensures, c.in_ok-text.ensures.text) at shown) r holds (entries_valid r it.0 it.1).settled in
+          few details_cmp details_key.exact c.args.details.now r.settled _ _ found;
+    }))
+    c.from_residual-in_err-row.ensures.1

@@ -1,19 +1,19 @@
 use Rattle.mx_tables.proofs.Common.{refl}
 use Rattle.std.proofs.Common.{sym}
-use Rattle.mx_tables.proofs.CallLemmas.{reads_to, reads_fault, reads_never}
+use Rattle.mx_tables.proofs.CallLemmas.{asks_as, asks_fault, asks_never, asks_ok, reads_to}
 use Rattle.mx_tables.proofs.sums.count_row.Goals as goal
 
-pub returns-then-counted : goal.returns-then-counted
-returns-then-counted g c live = reads_to g.S.Store (c.in_ok-counted.ensures live) (λ r holds is. rw (c.in_ok-purse.ensures.is, c.in_ok-number.ensures.shown, sym is, c.if-counted.true) refl)
+pub returns-then-counted-clause-asks : goal.returns-then-counted-clause-asks
+returns-then-counted-clause-asks g c live = asks_ok g.S.Store (reads_to g.S.Store (c.in_ok-counted.ensures live).reads (λ r holds is. rw (c.in_ok-purse.ensures.is, c.in_ok-number.ensures.shown, sym is, c.if-counted.true) refl))
 
-pub returns-else-counted : goal.returns-else-counted
-returns-else-counted g c live = reads_to g.S.Store (c.in_ok-counted.ensures live) (λ r holds is. rw (c.in_ok-purse.ensures.is, sym is, c.if-counted.false) refl)
+pub returns-else-counted-clause-asks : goal.returns-else-counted-clause-asks
+returns-else-counted-clause-asks g c live = asks_ok g.S.Store (reads_to g.S.Store (c.in_ok-counted.ensures live).reads (λ r holds is. rw (c.in_ok-purse.ensures.is, sym is, c.if-counted.false) refl))
 
-pub returns-in_err-purse : goal.returns-in_err-purse
-returns-in_err-purse g c live = reads_never g.S.Store c.from_residual.ensures.0
+pub returns-in_err-purse-clause-asks : goal.returns-in_err-purse-clause-asks
+returns-in_err-purse-clause-asks g c live = asks_never g.S.Store c.from_residual.ensures.0 (λ r holds it. absurd (let ok = c.in_err-purse.ensures.there it.1.0.0 it.1.1.0 it.1.2.0 in cc))
 
-pub returns-in_err-number : goal.returns-in_err-number
-returns-in_err-number g c live = reads_never g.S.Store c.from_residual-in_err-number.ensures.0
+pub returns-in_err-number-clause-asks : goal.returns-in_err-number-clause-asks
+returns-in_err-number-clause-asks g c live = asks_never g.S.Store c.from_residual-in_err-number.ensures.0 (λ r holds it. absurd (let ok = c.in_err-number.ensures.there it.1.0.1 it.1.1.1 it.1.2.1.0 in cc))
 
-pub returns-in_err-counted : goal.returns-in_err-counted
-returns-in_err-counted g c live = reads_fault g.S.Store (c.in_err-counted.ensures live) c.from_residual-in_err-counted.ensures.0
+pub returns-in_err-counted-clause-asks : goal.returns-in_err-counted-clause-asks
+returns-in_err-counted-clause-asks g c live = asks_fault g.S.Store (asks_as g.S.Store (c.in_err-counted.ensures live) (λ r holds it. it.0)) c.from_residual-in_err-counted.ensures.1

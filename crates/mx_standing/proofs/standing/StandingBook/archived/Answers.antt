@@ -12,4 +12,4 @@ invariant_of-self g c =
     }
 
 pub returns : goal.returns
-returns g c = answers g.B.RowBook _ _ _ _ _ _ _ _ _ (λ w x. hlevel props) c.archived.ensures.keeps c.archived.ensures.value c.archived.ensures.fault
+returns g c = answers g.B.RowBook _ _ _ _ _ _ _ _ _ (λ w x. hlevel props) c.archived.ensures.keeps c.archived.ensures.value c.archived.ensures.fault c.archived.ensures.cause

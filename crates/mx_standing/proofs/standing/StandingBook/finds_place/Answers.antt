@@ -12,4 +12,4 @@ invariant_of-self g c =
     }
 
 pub returns : goal.returns
-returns g c = answers g.B.RowBook _ _ _ _ _ _ _ _ _ (λ w x. hlevel props) c.finds_place.ensures.keeps c.finds_place.ensures.value c.finds_place.ensures.fault
+returns g c = answers g.B.RowBook _ _ _ _ _ _ _ _ _ (λ w x. hlevel props) c.finds_place.ensures.keeps c.finds_place.ensures.value c.finds_place.ensures.fault c.finds_place.ensures.cause

@@ -12,4 +12,4 @@ invariant_of-self g c =
     }
 
 pub returns : goal.returns
-returns g c = answers g.B.RowBook _ _ _ _ _ _ _ _ _ (λ w x. hlevel props) c.has_message.ensures.keeps c.has_message.ensures.value c.has_message.ensures.fault
+returns g c = answers g.B.RowBook _ _ _ _ _ _ _ _ _ (λ w x. hlevel props) c.has_message.ensures.keeps c.has_message.ensures.value c.has_message.ensures.fault c.has_message.ensures.cause

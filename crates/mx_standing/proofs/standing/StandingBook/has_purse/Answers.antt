@@ -12,4 +12,4 @@ invariant_of-self g c =
     }
 
 pub returns : goal.returns
-returns g c = answers g.B.RowBook _ _ _ _ _ _ _ _ _ (λ w x. hlevel props) c.has_purse.ensures.keeps c.has_purse.ensures.value c.has_purse.ensures.fault
+returns g c = answers g.B.RowBook _ _ _ _ _ _ _ _ _ (λ w x. hlevel props) c.has_purse.ensures.keeps c.has_purse.ensures.value c.has_purse.ensures.fault c.has_purse.ensures.cause

@@ -12,4 +12,4 @@ invariant_of-self g c =
     }
 
 pub returns : goal.returns
-returns g c = answers g.B.RowBook _ _ _ _ _ _ _ _ _ (λ w x. hlevel props) c.holder.ensures.keeps c.holder.ensures.value c.holder.ensures.fault
+returns g c = answers g.B.RowBook _ _ _ _ _ _ _ _ _ (λ w x. hlevel props) c.holder.ensures.keeps c.holder.ensures.value c.holder.ensures.fault c.holder.ensures.cause

@@ -12,4 +12,4 @@ invariant_of-self g c =
     }
 
 pub returns : goal.returns
-returns g c = answers g.B.RowBook _ _ _ _ _ _ _ _ _ (λ w x. hlevel (props, message_set)) c.inbox.ensures.keeps c.inbox.ensures.value c.inbox.ensures.fault
+returns g c = answers g.B.RowBook _ _ _ _ _ _ _ _ _ (λ w x. hlevel (props, message_set)) c.inbox.ensures.keeps c.inbox.ensures.value c.inbox.ensures.fault c.inbox.ensures.cause

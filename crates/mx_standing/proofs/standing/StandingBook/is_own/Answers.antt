@@ -12,4 +12,4 @@ invariant_of-self g c =
     }
 
 pub returns : goal.returns
-returns g c = answers g.B.RowBook _ _ _ _ _ _ _ _ _ (λ w x. hlevel props) c.is_own.ensures.keeps c.is_own.ensures.value c.is_own.ensures.fault
+returns g c = answers g.B.RowBook _ _ _ _ _ _ _ _ _ (λ w x. hlevel props) c.is_own.ensures.keeps c.is_own.ensures.value c.is_own.ensures.fault c.is_own.ensures.cause

@@ -12,4 +12,4 @@ invariant_of-self g c =
     }
 
 pub returns : goal.returns
-returns g c = answers g.B.RowBook _ _ _ _ _ _ _ _ _ (λ w x. hlevel props) c.lines.ensures.keeps c.lines.ensures.value c.lines.ensures.fault
+returns g c = answers g.B.RowBook _ _ _ _ _ _ _ _ _ (λ w x. hlevel props) c.lines.ensures.keeps c.lines.ensures.value c.lines.ensures.fault c.lines.ensures.cause

@@ -12,4 +12,4 @@ invariant_of-self g c =
     }
 
 pub returns : goal.returns
-returns g c = answers g.B.RowBook _ _ _ _ _ _ _ _ _ (λ w x. hlevel props) c.load_of.ensures.keeps c.load_of.ensures.value c.load_of.ensures.fault
+returns g c = answers g.B.RowBook _ _ _ _ _ _ _ _ _ (λ w x. hlevel props) c.load_of.ensures.keeps c.load_of.ensures.value c.load_of.ensures.fault c.load_of.ensures.cause

@@ -12,4 +12,4 @@ invariant_of-self g c =
     }
 
 pub returns : goal.returns
-returns g c = answers g.B.RowBook _ _ _ _ _ _ _ _ _ (λ w x. hlevel props) c.member_totals.ensures.keeps c.member_totals.ensures.value c.member_totals.ensures.fault
+returns g c = answers g.B.RowBook _ _ _ _ _ _ _ _ _ (λ w x. hlevel props) c.member_totals.ensures.keeps c.member_totals.ensures.value c.member_totals.ensures.fault c.member_totals.ensures.cause

@@ -12,4 +12,4 @@ invariant_of-self g c =
     }
 
 pub returns : goal.returns
-returns g c = answers g.B.RowBook _ _ _ _ _ _ _ _ _ (λ w x. hlevel props) c.members_totals.ensures.keeps c.members_totals.ensures.value c.members_totals.ensures.fault
+returns g c = answers g.B.RowBook _ _ _ _ _ _ _ _ _ (λ w x. hlevel props) c.members_totals.ensures.keeps c.members_totals.ensures.value c.members_totals.ensures.fault c.members_totals.ensures.cause

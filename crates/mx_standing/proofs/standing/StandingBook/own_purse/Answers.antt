@@ -12,4 +12,4 @@ invariant_of-self g c =
     }
 
 pub returns : goal.returns
-returns g c = answers g.B.RowBook _ _ _ _ _ _ _ _ _ (λ w x. hlevel (props, entries_set)) c.own_purse.ensures.keeps c.own_purse.ensures.value c.own_purse.ensures.fault
+returns g c = answers g.B.RowBook _ _ _ _ _ _ _ _ _ (λ w x. hlevel (props, entries_set)) c.own_purse.ensures.keeps c.own_purse.ensures.value c.own_purse.ensures.fault c.own_purse.ensures.cause

@@ -12,4 +12,4 @@ invariant_of-self g c =
     }
 
 pub returns : goal.returns
-returns g c = answers g.B.RowBook _ _ _ _ _ _ _ _ _ (λ w x. hlevel (props, entries_set)) c.purse.ensures.keeps c.purse.ensures.value c.purse.ensures.fault
+returns g c = answers g.B.RowBook _ _ _ _ _ _ _ _ _ (λ w x. hlevel (props, entries_set)) c.purse.ensures.keeps c.purse.ensures.value c.purse.ensures.fault c.purse.ensures.cause

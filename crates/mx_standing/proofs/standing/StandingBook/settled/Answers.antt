@@ -12,4 +12,4 @@ invariant_of-self g c =
     }
 
 pub returns : goal.returns
-returns g c = answers g.B.RowBook _ _ _ _ _ _ _ _ _ (λ w x. hlevel props) c.settled.ensures.keeps c.settled.ensures.value c.settled.ensures.fault
+returns g c = answers g.B.RowBook _ _ _ _ _ _ _ _ _ (λ w x. hlevel props) c.settled.ensures.keeps c.settled.ensures.value c.settled.ensures.fault c.settled.ensures.cause

@@ -12,4 +12,4 @@ invariant_of-self g c =
     }
 
 pub returns : goal.returns
-returns g c = answers g.B.RowBook _ _ _ _ _ _ _ _ _ (λ w x. hlevel props) c.totals.ensures.keeps c.totals.ensures.value c.totals.ensures.fault
+returns g c = answers g.B.RowBook _ _ _ _ _ _ _ _ _ (λ w x. hlevel props) c.totals.ensures.keeps c.totals.ensures.value c.totals.ensures.fault c.totals.ensures.cause

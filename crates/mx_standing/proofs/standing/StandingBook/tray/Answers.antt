@@ -13,4 +13,4 @@ invariant_of-self g c =
     }
 
 pub returns : goal.returns
-returns g c = answers g.B.RowBook _ _ _ _ _ _ _ _ _ (λ w x. Coded-set (log.the_row).coded _ _) c.tray.ensures.keeps c.tray.ensures.value c.tray.ensures.fault
+returns g c = answers g.B.RowBook _ _ _ _ _ _ _ _ _ (λ w x. Coded-set (log.the_row).coded _ _) c.tray.ensures.keeps c.tray.ensures.value c.tray.ensures.fault c.tray.ensures.cause

@@ -12,4 +12,4 @@ invariant_of-self g c =
     }
 
 pub returns : goal.returns
-returns g c = answers g.B.RowBook _ _ _ _ _ _ _ _ _ (λ w x. hlevel props) c.uncollected.ensures.keeps c.uncollected.ensures.value c.uncollected.ensures.fault
+returns g c = answers g.B.RowBook _ _ _ _ _ _ _ _ _ (λ w x. hlevel props) c.uncollected.ensures.keeps c.uncollected.ensures.value c.uncollected.ensures.fault c.uncollected.ensures.cause

@@ -12,4 +12,4 @@ invariant_of-self g c =
     }
 
 pub returns : goal.returns
-returns g c = answers g.B.RowBook _ _ _ _ _ _ _ _ _ (λ w x. hlevel props) c.who.ensures.keeps c.who.ensures.value c.who.ensures.fault
+returns g c = answers g.B.RowBook _ _ _ _ _ _ _ _ _ (λ w x. hlevel props) c.who.ensures.keeps c.who.ensures.value c.who.ensures.fault c.who.ensures.cause

@@ -1,6 +1,5 @@
-use Rattle.mx_tables.proofs.Common.{◌≡◌, ◌∙◌, Some}
+use Rattle.mx_tables.proofs.Common.{◌∙◌}
 use Rattle.std.proofs.Common.{sym}
-use Rattle.std.specs.FinMap as fmap
 use Rattle.mx_tables.proofs.CacheLemmas.{copied_is, found_so}
 use Rattle.mx_tables.proofs.cache.Cache.purse.Goals as goal
 

@@ -1,10 +1,10 @@
-use Rattle.mx_tables.proofs.Common.{◌∙◌, IfOk-weaker, state}
+use Rattle.mx_tables.proofs.Common.{◌∙◌, IfOk-weaker}
 use Rattle.mx_book.proofs.SpellLemmas.{archived_at}
 use Rattle.mx_tables.proofs.SoundLemmas.{archive_valid}
 use Rattle.std.proofs.Common.{sym, subst}
 use Rattle.mx_tables.specs.Holds.{SpellsOne}
 use Rattle.mx_tables.specs.Rounds.{rows_of}
-use Rattle.mx_tables.proofs.BookLemmas.{keeps_stays}
+use Rattle.mx_tables.proofs.BookLemmas.{explains_by, keeps_stays}
 use Rattle.mx_tables.proofs.InvariantLemmas.{ours_in, stays_invariant}
 use Rattle.mx_tables.proofs.tables.TablesRowBook.archived.Goals as goal
 
@@ -21,3 +21,7 @@ returns-clause-value g c w sure h =
     let ours = ours_in c.self.invariant in
     let one = subst (λ t. SpellsOne (rows_of g.S.Store t) w) (sym c.self.view_is) h in
     IfOk-weaker c.find_archived.result _ _ (λ r is. is (archive_valid one.spelled.rows w one.spelled.spells) ∙ archived_at one.spelled.rows w c.args.purse c.args.details.now one.spelled.spells) (c.find_archived.ensures.reads.value ours sure one.spelled.rows one.spelled.holds)
+
+pub returns-clause-cause : goal.returns-clause-cause
+returns-clause-cause g c =
+    rw (← c.self.view_is) (explains_by g.S.Store (c.self.inside.conn, c.self.inside.begun) c.find_archived.new.conn (ours_in c.self.invariant) (c.find_archived.ensures.reads.stays (ours_in c.self.invariant)) c.find_archived.ensures.cause)

@@ -1,9 +1,9 @@
-use Rattle.mx_tables.proofs.Common.{◌∙◌, IfOk-weaker, state}
+use Rattle.mx_tables.proofs.Common.{◌∙◌, IfOk-weaker}
 use Rattle.mx_book.proofs.SpellLemmas.{member_at}
 use Rattle.std.proofs.Common.{sym, subst}
 use Rattle.mx_tables.specs.Holds.{SpellsOne}
 use Rattle.mx_tables.specs.Rounds.{rows_of}
-use Rattle.mx_tables.proofs.BookLemmas.{keeps_stays}
+use Rattle.mx_tables.proofs.BookLemmas.{explains_by, keeps_stays}
 use Rattle.mx_tables.proofs.InvariantLemmas.{ours_in, stays_invariant}
 use Rattle.mx_tables.proofs.tables.TablesRowBook.member.Goals as goal
 
@@ -20,3 +20,7 @@ returns-clause-value g c w sure h =
     let ours = ours_in c.self.invariant in
     let one = subst (λ t. SpellsOne (rows_of g.S.Store t) w) (sym c.self.view_is) h in
     IfOk-weaker c.find_member.result _ _ (λ r is. is ∙ member_at one.spelled.rows w c.args.name one.spelled.spells) (c.find_member.ensures.reads.value ours sure one.spelled.rows one.spelled.holds)
+
+pub returns-clause-cause : goal.returns-clause-cause
+returns-clause-cause g c =
+    rw (← c.self.view_is) (explains_by g.S.Store (c.self.inside.conn, c.self.inside.begun) c.find_member.new.conn (ours_in c.self.invariant) (c.find_member.ensures.reads.stays (ours_in c.self.invariant)) c.find_member.ensures.cause)

@@ -1,8 +1,7 @@
-use Rattle.mx_tables.proofs.Common.{state}
 use Rattle.std.proofs.Common.{sym, subst}
 use Rattle.mx_tables.specs.Holds.{SpellsOne}
 use Rattle.mx_tables.specs.Rounds.{rows_of}
-use Rattle.mx_tables.proofs.BookLemmas.{keeps_stays}
+use Rattle.mx_tables.proofs.BookLemmas.{explains_by, keeps_stays}
 use Rattle.mx_tables.proofs.InvariantLemmas.{ours_in, stays_invariant}
 use Rattle.mx_tables.proofs.tables.TablesRowBook.members_totals.Goals as goal
 
@@ -18,3 +17,7 @@ pub returns-clause-value : goal.returns-clause-value
 returns-clause-value g c w sure h =
     let ours = ours_in c.self.invariant in
     c.sum_members.ensures.value ours w sure (subst (λ t. SpellsOne (rows_of g.S.Store t) w) (sym c.self.view_is) h)
+
+pub returns-clause-cause : goal.returns-clause-cause
+returns-clause-cause g c =
+    rw (← c.self.view_is) (explains_by g.S.Store (c.self.inside.conn, c.self.inside.begun) c.sum_members.new.conn (ours_in c.self.invariant) (c.sum_members.ensures.stays (ours_in c.self.invariant)) c.sum_members.ensures.cause)

@@ -1,4 +1,3 @@
-use Rattle.mx_tables.proofs.Common.{state}
 use Rattle.mx_tables.proofs.BookLemmas.{err_said, ok_said, settles_by}
 use Rattle.mx_tables.proofs.InvariantLemmas.{settled_afresh, settled_invariant}
 use Rattle.mx_tables.proofs.tables.TablesRowBook.settle.Goals as goal
