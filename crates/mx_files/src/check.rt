@@ -93,8 +93,10 @@ pub fn check_in_store<S: Ordered + Drop>(
     store: Connection<S>,
 ) -> (Result<Done, TaskFault>, Connection<S>)
     ensures later { worry (state S.Store store) ≤ worry (state S.Store result.1) }
-    ensures stays { (IfOk result.0 IsWrong × StaysIdle (state S.Store store) (state S.Store result.1))
-        ⊎ (IsSound (state S.Store result.1) → (w : World) × Represents (state S.Store store).now w
+    ensures stays { (IfOk result.0 IsWrong
+        × StaysIdle (state S.Store store) (state S.Store result.1))
+        ⊎ (IsSound (state S.Store result.1)
+        → (w : World) × Represents (state S.Store store).now w
         × IsOurs false (state S.Store result.1) × Represents (state S.Store result.1).now w) }
 {
     match open(rt.alloc(), store, MOST_FINDINGS) {

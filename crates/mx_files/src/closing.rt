@@ -202,7 +202,8 @@ pub fn migrate_in_files<D: Disk + Drop>(
 ) -> Ended<Migrated, D>
     ensures shut { IsOk result.answer → AreShut result.left }
     ensures migrates { AreHonest result.left → HasCleanDisk (file_state store)
-        × (answer : Result Migrated TaskFault) × (result.answer ≡ closed_answer result.left answer)
+        × (answer : Result Migrated TaskFault)
+        × (result.answer ≡ closed_answer result.left answer)
         × (AreShut result.left → IfOk answer (Raises store result.left))
         × (AreShut result.left → Opens (file_state store) → OnErr answer
         (HoldTrees result.left (file_state store).now.trees ⊎ Raises store result.left Raised)) }

@@ -120,7 +120,8 @@ fn work_in_file<S: Start, W: Write>(
     ensures works { (input : _) → IfOk result (λ ended. OverBooks (image_at S.Start)
         (streams input (W.contents writer.old.device))
         (streams input (W.contents writer.new.device)) ended
-        (λ w. PerformsWork ⟦<Standing<Tables<FileStore<FileFrom<S>>>> as Book>⟧.fails ended.left w
+        (λ w. PerformsWork
+        ⟦<Standing<Tables<FileStore<FileFrom<S>>>> as Book>⟧.fails ended.left w
         work.now ended.answer (W.contents writer.old.device) (W.contents writer.new.device))) }
 {
     let store = open_told(rt, path, start)?;

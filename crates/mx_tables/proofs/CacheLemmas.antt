@@ -95,14 +95,14 @@ counted : (r : Rows) (inbox : Inbox) (p : Name) → count inbox p ≡ fmap.len (
 counted r inbox p = sym (held_is (record r { inbox = inbox }) p)
 
 -- a message more
-one_more : (r : Rows) (inbox : Inbox) (p : Name) (n : ℕ) (m : Message) → count (fmap.insert inbox (p, n) m) p ≤ count inbox p + 1
-one_more r inbox p n m =
+count_of_its_own : (r : Rows) (inbox : Inbox) (p : Name) (n : ℕ) (m : Message) → count (fmap.insert inbox (p, n) m) p ≤ count inbox p + 1
+count_of_its_own r inbox p n m =
     let put = ap fmap.len (under-insert names_total nat_cmp_total fmap.nat_cmp-IsAntisymmetric p inbox n m) in
     grind (arith, counted r (fmap.insert inbox (p, n) m) p, counted r inbox p, put, fmap.len-insert nat_cmp_total (under name_cmp nat_cmp p inbox) n m)
 
 -- and one for another purse
-none_more : (r : Rows) (inbox : Inbox) (p q : Name) (n : ℕ) (m : Message) → is_name q p ≡ false → count (fmap.insert inbox (p, n) m) q ≡ count inbox q
-none_more r inbox p q n m other = counted r _ q ∙ ap fmap.len (under-insert_other names_total nat_cmp_total fmap.nat_cmp-IsAntisymmetric p q inbox n m other) ∙ sym (counted r inbox q)
+count_of_others : (r : Rows) (inbox : Inbox) (p q : Name) (n : ℕ) (m : Message) → is_name q p ≡ false → count (fmap.insert inbox (p, n) m) q ≡ count inbox q
+count_of_others r inbox p q n m other = counted r _ q ∙ ap fmap.len (under-insert_other names_total nat_cmp_total fmap.nat_cmp-IsAntisymmetric p q inbox n m other) ∙ sym (counted r inbox q)
 
 -- one fewer
 one_less : (r : Rows) (inbox : Inbox) (p q : Name) (n : ℕ) → count (fmap.remove inbox (p, n)) q ≤ count inbox q
@@ -177,7 +177,7 @@ module _ (r : Rows) (k : Cache) (it : Agrees r k) where
   agrees_sent p n m t changes = record {
     owners = it.owners;
     purses = it.purses;
-    inboxes = agrees_more p t changes (fmap.insert r.inbox (p, n) m) (one_more r r.inbox p n m) (λ q other. let same = none_more r r.inbox p q n m other in omega (arith, same));
+    inboxes = agrees_more p t changes (fmap.insert r.inbox (p, n) m) (count_of_its_own r r.inbox p n m) (λ q other. let same = count_of_others r r.inbox p q n m other in omega (arith, same));
     messages = λ q at. grind (arith, fmap.get-insert pairs_key.total r.inbox (p, n) m q, it.messages q at);
   }
 

@@ -121,9 +121,9 @@ module _ (p : Name) (after : ℕ) where
 -- ---- one line more
 
 module _ {S : Type 0} (g : store.Ghosts S) (sql : List ℕ) (params : Row) (old new : Held S) (rows : List Row) (has : HasGiven g sql params old rows) where
-  pub one_more : (ls : List Line) → map first_five rows ≡ map line_shown ls → (l : Line) → GivesLine g old new (Some l) → (all : List Row) × HasGiven g sql params new all × (map first_five all ≡ map line_shown (ls ++ l ∷ []))
-  one_more ls read l (None, gives, is) = absurd (cc)
-  one_more ls read l (Some row, gives, is) =
+  pub gives_one : (ls : List Line) → map first_five rows ≡ map line_shown ls → (l : Line) → GivesLine g old new (Some l) → (all : List Row) × HasGiven g sql params new all × (map first_five all ≡ map line_shown (ls ++ l ∷ []))
+  gives_one ls read l (None, gives, is) = absurd (cc)
+  gives_one ls read l (Some row, gives, is) =
       let here : first_five row ≡ line_shown l = cc in
       (rows ++ row ∷ [], gives sql params rows has, map-append first_five rows (row ∷ []) ∙ ap₂ (λ a b. a ++ b ∷ []) read here ∙ sym (map-append line_shown ls (l ∷ [])))
 

@@ -125,10 +125,10 @@ kept_store old new [] [] kept all = tt
 kept_store old new (t ∷ ts) (c ∷ cs) kept all = (subst (λ rows. Stores rows c) (sym kept.0) all.0, kept_store old new ts cs kept.1 all.1)
 kept_store old new ts cs kept all = absurd all
 
-one_more : (db : Trees) (t : Table) (c : List Row) → Stores (db t.tree) c → (ts : List Table) (cs : List (List Row)) → AllStore db ts cs → AllStore db (ts ++ t ∷ []) (cs ++ c ∷ [])
-one_more db t c it [] [] all = (it, tt)
-one_more db t c it (u ∷ ts) (d ∷ cs) all = (all.0, one_more db t c it ts cs all.1)
-one_more db t c it ts cs all = absurd all
+all_store_with : (db : Trees) (t : Table) (c : List Row) → Stores (db t.tree) c → (ts : List Table) (cs : List (List Row)) → AllStore db ts cs → AllStore db (ts ++ t ∷ []) (cs ++ c ∷ [])
+all_store_with db t c it [] [] all = (it, tt)
+all_store_with db t c it (u ∷ ts) (d ∷ cs) all = (all.0, all_store_with db t c it ts cs all.1)
+all_store_with db t c it ts cs all = absurd all
 
 -- ---- both
 
@@ -145,7 +145,7 @@ module _ (old mid new : State) (made : AddsTable schema_11 settled old mid) (set
   holds_on r h =
       let c = h.contents in
       let cells = (Null ∷ number 2 ∷ []) ∷ [] in
-      let beside = one_more mid.now.trees (record settled { tree = 22 }) [] (subst (λ rows. Stores rows []) (sym made.empty) (record { rise = tt; have = tt })) schema_11.tables (cells_in One c)
+      let beside = all_store_with mid.now.trees (record settled { tree = 22 }) [] (subst (λ rows. Stores rows []) (sym made.empty) (record { rise = tt; have = tt })) schema_11.tables (cells_in One c)
       (kept_store old.now.trees mid.now.trees schema_11.tables (cells_in One c) made.others h.has.tables) in
       let meta = sets.meta (made.others.0 ∙ h.has.meta) in
       record {

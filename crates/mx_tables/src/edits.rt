@@ -35,7 +35,8 @@ fn add_member<S: Alter>(
     member: Name,
     clerk: Token,
 ) -> Result<(), StoreFault>
-    ensures { Writes S.Store tx.old tx.new result (λ r. rewritten r (Edit.NewMember member clerk)) }
+    ensures { Writes S.Store tx.old tx.new result
+        (λ r. rewritten r (Edit.NewMember member clerk)) }
 {
     insert_member(tx, &member)?;
     insert_token(tx, &clerk, &Caller::Clerk(member))

@@ -18,7 +18,8 @@ fn make<S: Alter>(tx: &mut Savepoint<'_, S>, sql: &str) -> Result<(), Error>
     ensures { Steps S.Store tx.old tx.new result
         (λ _. (schema : _) (table : _) → IsCreate schema sql.now table
         → (state S.Store tx.old.conn.now).now.schema ≡ schema
-        → AddsTable schema table (state S.Store tx.old.conn.now) (state S.Store tx.new.conn.now)) }
+        → AddsTable schema table
+        (state S.Store tx.old.conn.now) (state S.Store tx.new.conn.now)) }
 {
     match tx.execute(sql, &[]) {
         Ok(_) => Ok(()),

@@ -11,7 +11,7 @@ use Rattle.mx_tables.proofs.StateLemmas.{sound as is_sound, awake, begun_live, s
 use Rattle.mx_tables.proofs.AcceptLemmas.{lines_accepted}
 use Rattle.mx_tables.proofs.CallLemmas.{asks_ok, reads_to}
 use Rattle.mx_tables.proofs.CauseLemmas.{blames_both, handed, query_told}
-use Rattle.mx_tables.proofs.LineLemmas.{no_page, Noted, select_lines, select_lines_is, one_more, no_more, begins, ended, full_page, last_page}
+use Rattle.mx_tables.proofs.LineLemmas.{no_page, Noted, select_lines, select_lines_is, gives_one, no_more, begins, ended, full_page, last_page}
 use Rattle.mx_tables.proofs.ShownLemmas.{line_blamed}
 use Rattle.mx_tables.proofs.ToldLemmas.{tell_lines, tells_fault}
 use Rattle.mx_tables.proofs.lines.list_lines.Goals as goal
@@ -83,7 +83,7 @@ rows-preserved g c =
       λ begun ours calm.
           let step = made.stays begun (before.3 begun ours).ours in
           let was = before.5 begun ours (sure_first step.later calm) in
-          rw pushed (one_more g.S.Store select_lines _ c.rows.rows.conn.now c.next_line.new.rows.conn.now was.0 was.1 c.rows.lines.items was.2 c.in-Some.line (rw c.in-Some.is at made.shown (is_sound begun new calm))),
+          rw pushed (gives_one g.S.Store select_lines _ c.rows.rows.conn.now c.next_line.new.rows.conn.now was.0 was.1 c.rows.lines.items was.2 c.in-Some.line (rw c.in-Some.is at made.shown (is_sound begun new calm))),
     )
 
 pub returns-in_err-line : goal.returns-in_err-line
