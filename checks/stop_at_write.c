@@ -1,7 +1,8 @@
 /* Ends a program with one thread at one of its calls that change what is outside it, as if it were killed there: the
-   Nth call, counted from 1, of write, pwrite, ftruncate, fsync, fdatasync, fchmod, rename, unlink, or open with O_CREAT,
-   N being the number in the environment variable STOP_AT; none where it is 0 or isn't there. By STOP_HOW it ends
-   `before` that call, `after` it, or behind the first `half` of its bytes, where it has bytes, and else after it. Each
+   Nth call, counted from 1, of write, pwrite, ftruncate, fsync, fdatasync, fchmod, flock, link, rename, unlink, or open
+   with O_CREAT, N being the number in the environment variable STOP_AT; none where it is 0 or isn't there. By STOP_HOW it
+   ends `before` that call, `after` it, or behind the first `half` of its bytes, where it has bytes, and else after it; by
+   `hold` it is stopped before that call by SIGSTOP, and goes on once it gets SIGCONT. Each
    other call is the C library's. Where the program ends by itself it says on standard error how many such calls there
    were. Preloaded by the checks here; no part of the program. */
 #define _GNU_SOURCE
@@ -16,13 +17,14 @@
 #include <unistd.h>
 
 static unsigned long calls, stop_at;
-static int is_half, is_after;
+static int is_half, is_after, is_held;
 
 __attribute__((constructor)) static void begin(void) {
     const char *at = getenv("STOP_AT"), *how = getenv("STOP_HOW");
     stop_at = at ? strtoul(at, NULL, 10) : 0;
     is_half = how && !strcmp(how, "half");
     is_after = is_half || (how && !strcmp(how, "after"));
+    is_held = how && !strcmp(how, "hold");
     calls = 0;
 }
 
@@ -31,6 +33,7 @@ __attribute__((destructor)) static void end(void) { fprintf(stderr, "%lu calls\n
 /* Whether this call is the one, where it isn't to be made. */
 static int is_stop(void) {
     if (++calls != stop_at) return 0;
+    if (is_held) return raise(SIGSTOP);
     if (!is_after) raise(SIGKILL);
     return 1;
 }
@@ -61,6 +64,10 @@ int fsync(int fd) { MADE(int, NEXT("fsync", int (*)(int))(fd)); }
 int fdatasync(int fd) { MADE(int, NEXT("fdatasync", int (*)(int))(fd)); }
 
 int fchmod(int fd, mode_t mode) { MADE(int, NEXT("fchmod", int (*)(int, mode_t))(fd, mode)); }
+
+int flock(int fd, int how) { MADE(int, NEXT("flock", int (*)(int, int))(fd, how)); }
+
+int link(const char *from, const char *to) { MADE(int, NEXT("link", int (*)(const char *, const char *))(from, to)); }
 
 int rename(const char *from, const char *to) { MADE(int, NEXT("rename", int (*)(const char *, const char *))(from, to)); }
 

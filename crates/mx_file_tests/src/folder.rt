@@ -79,12 +79,12 @@ const REFUSED: [(&str, &[u8], &str); 5] = [
     (
         "a.db-init",
         b"text\n",
-        "the file beside it that ends in -init is no database, or can't be removed",
+        "the file beside it that ends in -init isn't what an init has left, or can't be removed",
     ),
     (
         "a.db-init-wal",
         b"text\n",
-        "the file beside it that ends in -init is no database, or can't be removed",
+        "the file beside it that ends in -init isn't what an init has left, or can't be removed",
     ),
 ];
 

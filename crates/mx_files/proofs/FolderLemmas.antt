@@ -2,9 +2,9 @@
 use Rattle.std.proofs.Common.{◌≡◌, ℕ, ◌+◌, ◌<◌, ◌↔◌, ◌∙◌, true, List, length, take, nat_lt, arith, refl, rules, subst, IsTrue, ◌≢◌, ◌⊎◌, ap, false, codes, length-append, inl, inr, string_bytes, Result, Ok, Err}
 use Rattle.std.specs.Prelude.{OnErr}
 use Rattle.std.proofs.lemmas.Grind.{common_steps}
-use Rattle.mx_files.specs.Makings.{Begins, ChangesBeside, IsGivenUp, IsOwned, IsPut, KeepsBehind, KeepsFile}
+use Rattle.mx_files.specs.Makings.{Begins, ChangesBeside, Installs, IsGivenUp, IsOwned, IsPut, KeepsBehind, KeepsFile}
 use Rattle.mx_files.specs.declared.making.Making.{Making}
-use Rattle.mx_files.specs.Folders.{ChangesAt, IsPlaceBehind, IsPlaceFor, Makes, named, removed, init_of, Paths, Spot, log_of, log_spot, spot_behind, unseen, vacant, taken, IsHead, IsLog, may_begin_log}
+use Rattle.mx_files.specs.Folders.{ChangesAt, IsMissing, IsPlaceBehind, IsPlaceFor, IsPrivate, Makes, named, removed, init_of, Paths, Spot, log_of, log_spot, spot_behind, unseen, vacant, taken, IsHead, IsLog, may_begin_log}
 
 -- one byte more than so many, of so many and one
 longer : (most : ℕ) (bytes : List ℕ) → IsTrue (nat_lt most (length (take (most + 1) bytes))) ↔ (most < length bytes)
@@ -42,6 +42,30 @@ owned : (old mid new : Spot) (number : ℕ) → Makes (removed old) mid number 0
 owned unseen mid new number made put = rw (put, made) tt
 owned vacant mid new number made put = rw (put, made) (refl, refl)
 owned (taken inode) mid new number made put = rw (put, made) (refl, refl)
+
+-- and where the disk knows its name, it is so for good
+private : (old mid new : Spot) (number : ℕ) → Makes (removed old) mid number 0o600 → new ≡ named true mid → IsPrivate new
+private unseen mid new number made put = rw (put, made) tt
+private vacant mid new number made put = rw (put, made) (refl, refl, refl)
+private (taken inode) mid new number made put = rw (put, made) (refl, refl, refl)
+
+-- nothing is where it was removed
+missing : (old new : Spot) → new ≡ removed old → IsMissing new
+missing unseen new gone = rw gone tt
+missing vacant new gone = rw gone tt
+missing (taken inode) new gone = rw gone tt
+
+-- new books that are put in their place are made there
+pub installs : (path : List ℕ) (old mid new : Paths) (making : Making) → Begins path old mid making → IsPut true mid new making → Installs path old new
+installs path old mid new making begins put =
+    let gone = missing _ _ put.gone in
+    record {
+      place = string_bytes making.place;
+      right = begins.place;
+      put = private _ _ _ _ begins.made put.put;
+      gone = subst (λ q. IsMissing (new.spot q)) making.made_beside gone;
+      log = subst (λ q. IsMissing (new.spot q)) (making.log_beside ∙ ap log_of making.made_beside) (missing _ _ put.log);
+    }
 
 -- what was kept twice
 both : (old mid new : Spot) → (mid ≡ old) ⊎ IsOwned mid → (new ≡ mid) ⊎ IsOwned new → (new ≡ old) ⊎ IsOwned new

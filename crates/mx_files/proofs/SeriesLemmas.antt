@@ -1,6 +1,6 @@
 -- A run over files is a life, and lives over the same files are a series.
-use Rattle.std.proofs.Common.{◌≡◌, ◌⊎◌, ℕ, inl, inr, List, [], ◌∷◌, ◌++◌, append-nil, Result, refl, sym, subst, ◌∙◌, ap}
-use mathlib.Core.Logic.{∥∥₁_elim, ∥∥₁_map}
+use Rattle.std.proofs.Common.{◌≡◌, ℕ, inl, inr, List, [], ◌++◌, append-nil, Result, refl, sym, subst, ap}
+use mathlib.Core.Logic.{∥∥₁_elim}
 use Rattle.sqlite_disk.specs.declared.Disk.{Ghosts}
 use Rattle.sqlite_trees.specs.Props.{Trees-set}
 use Rattle.sqlite_trees.specs.Tree.{Trees}
@@ -13,7 +13,7 @@ use Rattle.mx_desk.specs.Durable.{Lasts, Lives, ended as lived, stopped, unborn}
 use Rattle.mx_desk.specs.Leaves.{Lawful}
 use Rattle.mx_desk.specs.Rounds.{Round, all_of}
 use Rattle.mx_desk.specs.Serve.{Marked, world_after}
-use Rattle.mx_desk.specs.Steps.{State, state}
+use Rattle.mx_desk.specs.Steps.{State}
 use Rattle.mx_desk.proofs.LawfulLemmas.{lawful_requests}
 use Rattle.mx_tables.specs.Schema.{office_schema}
 use Rattle.mx_tasks.specs.Runs.{TaskRuns}
@@ -21,10 +21,9 @@ use Rattle.mx_tasks.specs.declared.fault.TaskFault.{TaskFault}
 use Rattle.mx_tasks.specs.declared.work.Work.TheVariants as work
 use Rattle.mx_files.specs.Durable.{Represents}
 use Rattle.mx_files.specs.InFiles.{AreHonest, HoldRounds, HoldTables, HoldTrees, Keeps, closed_answer}
-use Rattle.mx_files.specs.Opened.{IsRefusal}
-use Rattle.mx_files.specs.Performed.{MayFail, OverBooks, Performs, PerformsPlan, PerformsRun, Streams}
+use Rattle.mx_files.specs.Performed.{MayFail, OverBooks, Performs, PerformsPlan, Streams}
 use Rattle.mx_files.specs.Plans.{planned_task}
-use Rattle.mx_files.specs.Series.{Answers, IsAnswering, Life, MayHold, Series, first, more_of, requests_in, then}
+use Rattle.mx_files.specs.Series.{Answers, IsAnswering, Life, MayHold, Series, first, more_of, then}
 use Rattle.mx_files.specs.declared.closing.Ended.{Ended}
 use Rattle.mx_files.specs.declared.closing.Left.{Left}
 use Rattle.mx_files.specs.declared.closing.Left.TheVariants.{Closed, Unclosed, Nothing}

@@ -146,6 +146,11 @@ log_spot paths path = spot_behind paths (log_of path)
 abbrev pub IsEmptyFile : Entry → Type 0
 IsEmptyFile entry = (entry.kind ≡ Regular) × (entry.length ≡ 0)
 
+-- new books may take the place of what is there: nothing, or an empty file
+abbrev pub MayBeReplaced : Spot → Type 0
+MayBeReplaced (taken inode) = IsEmptyFile (entry_of inode)
+MayBeReplaced _ = ⊤
+
 -- new books of a path go there: to the path, where it leads to nothing, and else to where it leads, which is an empty file
 abbrev pub IsPlaceBehind : Spot → List ℕ → List ℕ → List ℕ → Type 0
 IsPlaceBehind unseen target path place = ⊤

@@ -8,3 +8,4 @@ pub mod Makings
 pub mod InMemory
 pub mod Plans
 pub mod Answered
+pub mod Watched

@@ -1,6 +1,6 @@
 -- How new books are made in a file beside their place, and put there.
 use Rattle.std.specs.Prelude.{◌≡◌, ◌≢◌, ◌⊎◌, ℕ, Bool, List, string_bytes, ⊤}
-use Rattle.mx_files.specs.Folders.{HadNumber, HasNumber, IsMissing, IsPlaceFor, IsPrivate, Makes, MayBeLeftOver, Paths, Spot, init_of, log_of, named, removed, spot_behind, taken, unseen, vacant}
+use Rattle.mx_files.specs.Folders.{HadNumber, HasNumber, IsMissing, IsPlaceFor, IsPrivate, Makes, MayBeLeftOver, MayBeReplaced, Paths, Spot, init_of, log_of, named, removed, spot_behind, taken, unseen, vacant}
 use Rattle.mx_files.specs.declared.folder.FileKind.TheVariants.{Regular}
 use Rattle.mx_files.specs.declared.making.Making.{Making}
 
@@ -19,9 +19,10 @@ pub record Begins (path : List ℕ) (old new : Paths) (making : Making) : Type 0
 abbrev pub ChangesIn : Making → Paths → Paths → Type 0
 ChangesIn making old new = (q : List ℕ) → q ≢ string_bytes making.place → q ≢ string_bytes making.made → q ≢ string_bytes making.log → new.spot q ≡ old.spot q
 
--- The file that was made is in its place, which the disk knows or not, and its log is gone.
+-- The file that was made is in its place, which the disk knows or not, where nothing was or an empty file, and its log is gone.
 pub record IsPut (is_synced : Bool) (old new : Paths) (making : Making) : Type 0 where
   pub ours : HasNumber (old.spot (string_bytes making.made)) making.number
+  pub free : MayBeReplaced (old.spot (string_bytes making.place))
   pub put : new.spot (string_bytes making.place) ≡ named is_synced (old.spot (string_bytes making.made))
   pub gone : new.spot (string_bytes making.made) ≡ removed (old.spot (string_bytes making.made))
   pub log : new.spot (string_bytes making.log) ≡ removed (old.spot (string_bytes making.log))

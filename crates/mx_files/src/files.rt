@@ -5,32 +5,32 @@ ghost use Rattle.mx_files.specs.InFiles.{HasSumsIfNew, IsNewOf, IsOpenedOver};
 ghost use Rattle.mx_files.specs.Makings.{Installs, KeepsFile};
 
 use crate::closing::{Ended, Left, make_in_files};
-use crate::folder::DatabaseFolder;
+use crate::database::open_at;
+use crate::folder::{DatabaseFolder, end_stopped_init};
 use crate::init::{begin, end};
 use crate::places::look_for_books;
-use crate::unopened::unopened;
+use crate::watched::Watched;
 use mx_pay::Token;
 use mx_tasks::{Cause, TaskFault};
 use sqlite::{Connection, FileFrom, FileStore, Start, Unknown};
 
-/// The books in a file, with its log in a file beside it, which held what the start says as they were opened.
-pub(crate) type Opened<S> = Connection<FileStore<FileFrom<S>>>;
+/// A file of books, or of their log, which held what the start says as it was opened.
+pub type BookFile<'a, S> = Watched<'a, FileFrom<S>>;
 
-/// Opens the database in a file, which makes one where there is none. A file that another process has open is refused at
-/// once.
-fn open<S: Start>(rt: &HostRuntime, path: &str, start: S) -> Result<Opened<S>, Cause>
-    ensures over { IfOk result (IsOpenedOver (image_at S.Start)) }
+/// The books in a file, with its log in a file beside it, which held what the start says as they were opened.
+pub(crate) type Opened<'a, S> = Connection<FileStore<BookFile<'a, S>>>;
+
+/// No files of books are left.
+pub(crate) fn no_files<'a, S: Start>(_rt: &'a HostRuntime) -> Left<BookFile<'a, S>>
+    ensures { result ≡ Left.Nothing }
 {
-    match Connection::open_from(rt, path, false, start) {
-        Ok(store) => Ok(store),
-        Err((error, _)) => unopened(&rt, rt.alloc(), path, error),
-    }
+    Left::Nothing
 }
 
 /// The file system of the machine, in which the kit opens databases.
 impl DatabaseFolder for &HostRuntime {
     fn try_database(&self, path: &str) -> Result<(), Cause> {
-        let _ = open(self, path, Unknown)?.close();
+        let _ = open_at(self, path, false, Unknown)?.close();
         Ok(())
     }
 }
@@ -41,15 +41,16 @@ impl DatabaseFolder for &HostRuntime {
 /// # Errors
 ///
 /// `Empty`; `OtherLog` where another file stands where its log belongs; those of `unopened`.
-pub(crate) fn open_found<S: Start>(
-    rt: &HostRuntime,
+pub(crate) fn open_found<'a, S: Start>(
+    rt: &'a HostRuntime,
     path: &str,
     start: S,
-) -> Result<Opened<S>, Cause>
+) -> Result<Opened<'a, S>, Cause>
     ensures over { IfOk result (IsOpenedOver (image_at S.Start)) }
 {
+    let _ = end_stopped_init(rt, path);
     look_for_books(&rt, rt.alloc(), path)?;
-    open(rt, path, start)
+    open_at(rt, path, false, start)
 }
 
 /// Opens the database in a file that is there. Where it isn't opened, a terminal is told why.
@@ -58,11 +59,11 @@ pub(crate) fn open_found<S: Start>(
 ///
 /// `File` where the file isn't there, isn't a database, can't be opened, another process has it open, or another file stands
 /// where its log belongs; `NotThisSchema` where it is empty; `Memory`.
-pub(crate) fn open_told<S: Start>(
-    rt: &HostRuntime,
+pub(crate) fn open_told<'a, S: Start>(
+    rt: &'a HostRuntime,
     path: &str,
     start: S,
-) -> Result<Opened<S>, TaskFault>
+) -> Result<Opened<'a, S>, TaskFault>
     ensures over { IfOk result (IsOpenedOver (image_at S.Start)) }
 {
     match open_found(rt, path, start) {
@@ -73,13 +74,10 @@ pub(crate) fn open_told<S: Start>(
 
 /// Opens an empty file as a new database. Each of its pages ends in SQLite's page checksum, by which an opening finds most of
 /// what changed in the file since it was closed.
-fn open_new<S: Start>(rt: &HostRuntime, path: &str, start: S) -> Result<Opened<S>, Cause>
+fn open_new<'a, S: Start>(rt: &'a HostRuntime, path: &str, start: S) -> Result<Opened<'a, S>, Cause>
     ensures sums { IfOk result (HasSumsIfNew (image_at S.Start)) }
 {
-    match Connection::open_from(rt, path, true, start) {
-        Ok(store) => Ok(store),
-        Err((error, _)) => unopened(&rt, rt.alloc(), path, error),
-    }
+    open_at(rt, path, true, start)
 }
 
 /// A value, where what was answered is no fault.
@@ -91,12 +89,12 @@ fn where_ok<T: Drop>(answer: Result<(), TaskFault>, value: T) -> Result<T, TaskF
 }
 
 /// Makes new books in an empty file, and closes it.
-fn new_books<S: Start>(
-    rt: &HostRuntime,
+fn new_books<'a, S: Start>(
+    rt: &'a HostRuntime,
     made: &str,
     start: S,
     operator: Token,
-) -> Result<Left<FileFrom<S>>, Cause>
+) -> Result<Left<BookFile<'a, S>>, Cause>
     ensures made { IfOk result (IsNewOf operator) }
 {
     let store = open_new(rt, made, start)?;
@@ -106,13 +104,13 @@ fn new_books<S: Start>(
 }
 
 /// Makes new books in a file beside that of this path, and puts it in its place.
-fn make<F: DatabaseFolder, S: Start>(
-    rt: &HostRuntime,
+fn make<'a, F: DatabaseFolder, S: Start>(
+    rt: &'a HostRuntime,
     folder: &mut F,
     path: &str,
     start: S,
     operator: Token,
-) -> Result<Left<FileFrom<S>>, Cause>
+) -> Result<Left<BookFile<'a, S>>, Cause>
     ensures made { IfOk result (IsNewOf operator) }
     ensures placed { OnOk result (Installs path.now (F.paths folder.old) (F.paths folder.new)) }
     ensures kept { OnErr result (KeepsFile path.now (F.paths folder.old) (F.paths folder.new)) }
@@ -130,14 +128,15 @@ fn make<F: DatabaseFolder, S: Start>(
 ///
 /// `FileExists` where it isn't empty; `File` where it can't be made, its folder can't be synced, or another process or file is in
 /// the way; `Memory` or `Store` where the database fails. Then nothing is left, unless the sync failed. A terminal is told why.
-pub fn make_in_file<S: Start>(
-    rt: &HostRuntime,
+pub fn make_in_file<'a, S: Start>(
+    rt: &'a HostRuntime,
     path: &str,
     start: S,
     operator: Token,
-) -> Result<Left<FileFrom<S>>, TaskFault>
+) -> Result<Left<BookFile<'a, S>>, TaskFault>
     ensures made { IfOk result (IsNewOf operator) }
 {
+    let _ = end_stopped_init(rt, path);
     let mut folder = rt;
     match make(rt, &mut folder, path, start, operator) {
         Ok(left) => Ok(left),

@@ -1,12 +1,12 @@
 //! The calls of the file system by which the files of books are looked at, made and put in their place.
 ghost use Rattle.std.specs.Prelude.{◌≡◌, ◌≢◌, ℕ, List, IfOk, IsErr, IsOk, OnOk, false, true, string_bytes};
-ghost use Rattle.mx_files.specs.Folders.{ChangesAt, ChangesAtBoth, ChangesNothing, HoldsDatabase, IsHead, IsTaken, LeadsTo, Makes, Paths, Tells, named, removed, spot_behind, unseen_paths};
+ghost use Rattle.mx_files.specs.Folders.{ChangesAt, ChangesAtBoth, ChangesNothing, HoldsDatabase, IsHead, IsMissing, IsTaken, LeadsTo, Makes, Paths, Tells, named, removed, spot_behind, unseen_paths};
 
 use mx_tasks::Cause;
 use std::alloc::Global;
-use std::fs::{Metadata, OpenFile, OpenOptions};
+use std::fs::{File, Metadata, OpenFile, OpenOptions, Permissions, TryLockError};
 use std::io::{ErrorKind, Read};
-use std::os::unix::fs::{MetadataExt, OpenOptionsExt};
+use std::os::unix::fs::{MetadataExt, OpenOptionsExt, PermissionsExt};
 use std::{fs, io};
 
 /// What kind of file stands at a path.
@@ -31,6 +31,42 @@ pub struct Entry {
     pub number: u64,
     /// How many names it has.
     pub names: u64,
+}
+
+/// The mark of a file in which new books are made: the sticky bit, which means nothing of a file, and which no other file has.
+const MARK: u32 = 0o1000;
+
+/// A file that this process holds: no other gets its lock.
+#[derive(Drop)]
+pub struct Held {
+    /// Its number in the file system.
+    pub number: u64,
+    file: Option<File>,
+}
+
+impl Held {
+    /// A file of a file system that has no other process.
+    pub fn alone(number: u64) -> Held
+        ensures { result.number ≡ number }
+    {
+        Held { number, file: None }
+    }
+
+    /// Whether new books were to be made in the file: it has their mark.
+    pub fn is_marked(&self) -> io::Result<bool> {
+        match &self.file {
+            Some(file) => Ok(file.metadata()?.mode() & MARK != 0),
+            None => Ok(true),
+        }
+    }
+
+    /// Takes the mark from the file. Its owner alone may read and write it.
+    pub fn unmark(&self) -> io::Result<()> {
+        match &self.file {
+            Some(file) => file.set_permissions(Permissions::from_mode(0o600)),
+            None => Ok(()),
+        }
+    }
 }
 
 /// The file system, as far as books need it.
@@ -59,10 +95,14 @@ pub trait Folder {
     /// Opens the file to which a path leads, to read and write it.
     fn try_writing(&self, path: &str) -> io::Result<()>;
 
-    /// Makes an empty file of this mode where nothing is, also no link. Gives its number.
-    fn make_file(&mut self, path: &str, mode: u32) -> io::Result<u64>
-        ensures ok { IfOk result (λ number. Makes ((paths self.old).spot path.now)
-            ((paths self.new).spot path.now) number mode) }
+    /// Holds the file at a path. It fails with `WouldBlock` where another process holds it, or has put another file there.
+    fn hold(&self, path: &str) -> io::Result<Held>;
+
+    /// Makes an empty file of this mode where nothing is, also no link, with the mark of new books, and holds it. It fails as
+    /// `hold` does where another process has taken it at once.
+    fn make_file(&mut self, path: &str, mode: u32) -> io::Result<Held>
+        ensures ok { IfOk result (λ held. Makes ((paths self.old).spot path.now)
+            ((paths self.new).spot path.now) held.number mode) }
         ensures err { IsErr result → ChangesNothing (paths self.old) (paths self.new) }
         ensures others { ChangesAt path.now (paths self.old) (paths self.new) };
 
@@ -72,6 +112,16 @@ pub trait Folder {
             × ((paths self.new).spot to.now ≡ named false ((paths self.old).spot from.now))) }
         ensures gone { OnOk result (from.now ≢ to.now
             → (paths self.new).spot from.now ≡ removed ((paths self.old).spot from.now)) }
+        ensures err { IsErr result → ChangesNothing (paths self.old) (paths self.new) }
+        ensures others { ChangesAtBoth from.now to.now (paths self.old) (paths self.new) };
+
+    /// Gives the file at a path another, where nothing is, also no link.
+    fn rename_new(&mut self, from: &str, to: &str) -> io::Result<()>
+        ensures ok { OnOk result (IsTaken ((paths self.old).spot from.now)
+            × ((paths self.new).spot to.now ≡ named false ((paths self.old).spot from.now))) }
+        ensures free { OnOk result (IsMissing ((paths self.old).spot to.now)) }
+        ensures gone { OnOk result ((paths self.new).spot from.now
+            ≡ removed ((paths self.old).spot from.now)) }
         ensures err { IsErr result → ChangesNothing (paths self.old) (paths self.new) }
         ensures others { ChangesAtBoth from.now to.now (paths self.old) (paths self.new) };
 
@@ -143,6 +193,38 @@ fn folder_of(path: &str) -> &str {
     }
 }
 
+/// A file that was opened at a path, once this process has its lock and it is still there.
+fn locked(rt: &HostRuntime, path: &str, file: File) -> io::Result<Held> {
+    match file.try_lock() {
+        Ok(()) => {}
+        Err(TryLockError::WouldBlock) => return Err(io::Error::from(ErrorKind::WouldBlock)),
+        Err(TryLockError::Error(error)) => return Err(error),
+    }
+    let number = file.metadata()?.ino();
+    if fs::symlink_metadata(rt, path)?.ino() != number {
+        return Err(io::Error::from(ErrorKind::WouldBlock));
+    }
+    Ok(Held {
+        number,
+        file: Some(file),
+    })
+}
+
+/// Ends what an `init` that was stopped once the file had its path has left of it: the other path, FILE-init, and the mark.
+pub(crate) fn end_stopped_init(rt: &HostRuntime, path: &str) -> io::Result<()> {
+    if fs::metadata(rt, path)?.mode() & MARK == 0 {
+        return Ok(());
+    }
+    let place = fs::canonicalize(rt, path)?.into_string();
+    let made = format!(in rt.alloc(); "{}-init", place.as_str())?;
+    let held = rt.hold(place.as_str())?;
+    match fs::symlink_metadata(rt, made.as_str()) {
+        Ok(found) if found.ino() == held.number => fs::remove_file(rt, made.as_str())?,
+        _ => {}
+    }
+    held.unmark()
+}
+
 /// The file system of the machine.
 impl Folder for &HostRuntime {
     fn entry_at(&self, path: &str) -> io::Result<Option<Entry>> {
@@ -167,14 +249,27 @@ impl Folder for &HostRuntime {
         Ok(())
     }
 
-    fn make_file(&mut self, path: &str, mode: u32) -> io::Result<u64> {
+    fn hold(&self, path: &str) -> io::Result<Held> {
         let mut options = OpenOptions::new();
-        options.write(true).create_new(true).mode(mode);
-        Ok(options.open(*self, path)?.metadata()?.ino())
+        let file = options.read(true).write(true).open(*self, path)?;
+        locked(*self, path, file)
+    }
+
+    fn make_file(&mut self, path: &str, mode: u32) -> io::Result<Held> {
+        let mut options = OpenOptions::new();
+        options.write(true).create_new(true).mode(mode | MARK);
+        let file = options.open(*self, path)?;
+        locked(*self, path, file)
     }
 
     fn rename(&mut self, from: &str, to: &str) -> io::Result<()> {
         fs::rename(*self, from, to)
+    }
+
+    fn rename_new(&mut self, from: &str, to: &str) -> io::Result<()> {
+        fs::hard_link(*self, from, to)?;
+        let _ = fs::remove_file(*self, from);
+        Ok(())
     }
 
     fn remove(&mut self, path: &str) -> io::Result<()> {

@@ -3,7 +3,7 @@ ghost use Rattle.mx_files.specs.InMemory.{inode_of, paths_of};
 ghost use Rattle.mx_files.specs.Folders.{entry_of, vacant};
 ghost use Rattle.std.specs.Prelude.{◌≡◌, ℕ, List};
 
-use crate::folder::{DatabaseFolder, Entry, FileKind, Folder};
+use crate::folder::{DatabaseFolder, Entry, FileKind, Folder, Held};
 use crate::places::MAGIC;
 use crate::stored_file::StoredFile;
 use mx_tasks::Cause;
@@ -84,8 +84,15 @@ impl Folder for FolderInMemory {
         }
     }
 
+    fn hold(&self, path: &str) -> io::Result<Held> {
+        match self.files.get(path) {
+            Some(file) => Ok(Held::alone(file.number)),
+            None => Err(io::Error::from(ErrorKind::NotFound)),
+        }
+    }
+
     #[tactic(auto, using(std::proofs::lemmas::Map::Text::text_keys))]
-    fn make_file(&mut self, path: &str, mode: u32) -> io::Result<u64> {
+    fn make_file(&mut self, path: &str, mode: u32) -> io::Result<Held> {
         if self.files.contains_key(path) {
             return Err(io::Error::from(ErrorKind::AlreadyExists));
         }
@@ -100,7 +107,7 @@ impl Folder for FolderInMemory {
         self.files
             .insert(String::from_str(self.alloc, path)?, file)?;
         self.made = number.wrapping_add(1);
-        Ok(number)
+        Ok(Held::alone(number))
     }
 
     #[tactic(auto, using(std::proofs::lemmas::Map::Text::text_keys))]
@@ -118,6 +125,14 @@ impl Folder for FolderInMemory {
             self.files.remove(from);
         }
         Ok(())
+    }
+
+    #[tactic(auto, using(std::proofs::lemmas::Map::Text::text_keys))]
+    fn rename_new(&mut self, from: &str, to: &str) -> io::Result<()> {
+        if self.files.contains_key(to) {
+            return Err(io::Error::from(ErrorKind::AlreadyExists));
+        }
+        self.rename(from, to)
     }
 
     #[tactic(auto, using(std::proofs::lemmas::Map::Text::text_keys))]

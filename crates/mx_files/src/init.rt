@@ -1,19 +1,34 @@
 //! How new books are made in a file beside their place, and put there.
 ghost use Rattle.std.specs.Prelude.{◌≡◌, ◌≢◌, Bool, IfOk, IsErr, Ok, OnErr, OnOk, false, true, string_bytes, ◌⊎◌};
 ghost use Rattle.mx_tasks.specs.Causes.{cause_fault};
-ghost use Rattle.mx_files.specs.Folders.{ChangesAt, ChangesAtBoth, ChangesNothing, HadNumber, HasNumber, IsLog, Makes, MayBeLeftOver, TellsNumber, log_spot, named, removed, vacant};
+ghost use Rattle.mx_files.specs.Folders.{ChangesAt, ChangesAtBoth, ChangesNothing, HadNumber, HasNumber, IsLog, Makes, MayBeLeftOver, MayBeReplaced, TellsNumber, log_spot, named, removed, vacant};
 ghost use Rattle.mx_files.specs.Makings.{Begins, ChangesBeside, ChangesIn, IsGivenUp, IsPut};
 
-use crate::folder::{DatabaseFolder, Entry, FileKind, Folder};
+use crate::folder::{DatabaseFolder, Entry, FileKind, Folder, Held};
 use crate::making::Making;
-use crate::places::{has_log, place_for, with_ending};
+use crate::places::{has_log, is_empty, place_for, with_ending};
 use mx_tasks::{Cause, TaskFault};
 use std::alloc::Global;
 use std::io;
 use std::io::ErrorKind;
 
-/// Removes what an `init` that was broken off has left, where it left something. What is no database, or no log of one, isn't
-/// that, and stays; and so does a link.
+/// Holds the file in which an `init` that was broken off has made books.
+///
+/// # Errors
+///
+/// `Rival` where another process holds it; `Irregular` where it isn't marked, so that it is another file; `System` where that
+/// can't be told.
+fn hold_left<F: Folder>(folder: &F, path: &str) -> Result<Held, Cause> {
+    match folder.hold(path) {
+        Ok(held) if held.is_marked()? => Ok(held),
+        Ok(_) => Err(Cause::Irregular),
+        Err(error) if error.kind() == ErrorKind::WouldBlock => Err(Cause::Rival),
+        Err(error) => Err(Cause::System(error)),
+    }
+}
+
+/// Removes what an `init` that was broken off has left, where it left something. What hasn't the mark of new books, or is no
+/// database, or no log of one, isn't that, and stays; and so does a link.
 fn clear<F: DatabaseFolder>(folder: &mut F, alloc: Global, path: &str) -> Result<(), Cause>
     ensures left { OnOk result (MayBeLeftOver ((F.paths folder.old).spot path.now)) }
     ensures log { OnOk result ((has_change : Bool)
@@ -34,20 +49,30 @@ fn clear<F: DatabaseFolder>(folder: &mut F, alloc: Global, path: &str) -> Result
         ) => {}
         Some(_) => return Err(Cause::Irregular),
     }
+    let held = hold_left(&*folder, path)?;
     folder.try_database(path)?;
     folder.remove(path)?;
+    drop(held);
     Ok(())
 }
 
-/// Makes an empty file that only its owner may read and write, where none is. Gives its number in the file system.
-fn make_private<F: Folder>(folder: &mut F, path: &str) -> Result<u64, Cause>
-    ensures ok { IfOk result (λ number. Makes ((F.paths folder.old).spot path.now)
-        ((F.paths folder.new).spot path.now) number 0o600) }
+/// Whether a file wasn't made since another process has made it, or has taken it.
+fn is_taken(error: &io::Error) -> bool {
+    matches!(
+        error.kind(),
+        ErrorKind::AlreadyExists | ErrorKind::WouldBlock
+    )
+}
+
+/// Makes an empty file that only its owner may read and write, where none is, and holds it.
+fn make_private<F: Folder>(folder: &mut F, path: &str) -> Result<Held, Cause>
+    ensures ok { IfOk result (λ held. Makes ((F.paths folder.old).spot path.now)
+        ((F.paths folder.new).spot path.now) held.number 0o600) }
     ensures others { ChangesAt path.now (F.paths folder.old) (F.paths folder.new) }
 {
     match folder.make_file(path, 0o600) {
-        Ok(number) => Ok(number),
-        Err(error) if error.kind() == ErrorKind::AlreadyExists => Err(Cause::Rival),
+        Ok(held) => Ok(held),
+        Err(error) if is_taken(&error) => Err(Cause::Rival),
         Err(error) => Err(Cause::System(error)),
     }
 }
@@ -80,12 +105,13 @@ pub fn begin<F: DatabaseFolder>(folder: &mut F, alloc: Global, path: &str) -> Re
     if let Err(cause) = clear(folder, alloc, made.as_str()) {
         return Err(left_over(&cause));
     }
-    let number = make_private(folder, made.as_str())?;
+    let held = make_private(folder, made.as_str())?;
     Ok(Making {
         place,
         made,
         log,
-        number,
+        number: held.number,
+        held,
     })
 }
 
@@ -99,10 +125,38 @@ fn is_there<F: Folder>(folder: &F, path: &str, number: u64) -> bool
     }
 }
 
+/// Gives a file another path, where nothing is or an empty file.
+///
+/// # Errors
+///
+/// `NotEmpty` where something else is there; `System` where that can't be told, or the file can't be moved.
+fn give_path<F: Folder>(folder: &mut F, from: &str, to: &str) -> Result<(), Cause>
+    ensures free { OnOk result (MayBeReplaced ((F.paths folder.old).spot to.now)) }
+    ensures put { OnOk result ((F.paths folder.new).spot to.now
+        ≡ named false ((F.paths folder.old).spot from.now)) }
+    ensures gone { OnOk result (from.now ≢ to.now
+        → (F.paths folder.new).spot from.now ≡ removed ((F.paths folder.old).spot from.now)) }
+    ensures err { IsErr result → ChangesNothing (F.paths folder.old) (F.paths folder.new) }
+    ensures others { ChangesAtBoth from.now to.now (F.paths folder.old) (F.paths folder.new) }
+{
+    let moved = match folder.entry_at(to)? {
+        None => folder.rename_new(from, to),
+        Some(entry) if is_empty(&entry) => folder.rename(from, to),
+        Some(_) => return Err(Cause::NotEmpty),
+    };
+    match moved {
+        Ok(()) => Ok(()),
+        Err(error) if error.kind() == ErrorKind::AlreadyExists => Err(Cause::NotEmpty),
+        Err(error) => Err(Cause::System(error)),
+    }
+}
+
 /// Gives the file that was made its place.
 fn put<F: Folder>(folder: &mut F, making: &Making) -> Result<(), Cause>
     ensures ours { OnOk result (HasNumber ((F.paths folder.old).spot (string_bytes making.now.made))
         making.now.number) }
+    ensures free { OnOk result
+        (MayBeReplaced ((F.paths folder.old).spot (string_bytes making.now.place))) }
     ensures put { OnOk result ((F.paths folder.new).spot (string_bytes making.now.place)
         ≡ named false ((F.paths folder.old).spot (string_bytes making.now.made))) }
     ensures gone { OnOk result ((F.paths folder.new).spot (string_bytes making.now.made)
@@ -114,8 +168,7 @@ fn put<F: Folder>(folder: &mut F, making: &Making) -> Result<(), Cause>
     if !is_there(&*folder, making.made.as_str(), making.number) {
         return Err(Cause::Rival);
     }
-    folder.rename(making.made.as_str(), making.place.as_str())?;
-    Ok(())
+    give_path(folder, making.made.as_str(), making.place.as_str())
 }
 
 /// Gives the file its place, where books were made in it.
@@ -127,6 +180,8 @@ fn put_made<F: Folder, T: Drop>(
     ensures same { IfOk result (λ put. books ≡ Ok put) }
     ensures ours { OnOk result (HasNumber ((F.paths folder.old).spot (string_bytes making.now.made))
         making.now.number) }
+    ensures free { OnOk result
+        (MayBeReplaced ((F.paths folder.old).spot (string_bytes making.now.place))) }
     ensures put { OnOk result ((F.paths folder.new).spot (string_bytes making.now.place)
         ≡ named false ((F.paths folder.old).spot (string_bytes making.now.made))) }
     ensures gone { OnOk result ((F.paths folder.new).spot (string_bytes making.now.made)
@@ -152,6 +207,7 @@ fn settle<F: Folder>(folder: &mut F, making: &Making) -> io::Result<()>
         (F.paths folder.old) (F.paths folder.new) }
 {
     let _ = folder.remove(making.log.as_str());
+    making.held.unmark()?;
     folder.sync_name(making.place.as_str())
 }
 

@@ -3,10 +3,12 @@
 
 pub mod check;
 pub mod closing;
+mod database;
 pub mod files;
 pub mod folder;
 pub mod in_memory;
 pub mod init;
+mod log;
 pub mod making;
 pub mod perform;
 pub mod places;
@@ -16,3 +18,4 @@ pub mod series;
 pub mod stored_file;
 pub mod stores;
 mod unopened;
+pub mod watched;

@@ -2,6 +2,8 @@
 ghost use Rattle.std.specs.Prelude.{◌≡◌, string_bytes};
 ghost use Rattle.mx_files.specs.Folders.{init_of, log_of};
 
+use crate::folder::Held;
+
 /// New books that are made.
 #[derive(Drop)]
 pub struct Making {
@@ -13,6 +15,8 @@ pub struct Making {
     pub log: String,
     /// The number of the file in which they are made.
     pub number: u64,
+    /// That file, which this process holds.
+    pub held: Held,
     ghost made_beside: { string_bytes made ≡ init_of (string_bytes place) },
     ghost log_beside: { string_bytes log ≡ log_of (string_bytes made) },
 }

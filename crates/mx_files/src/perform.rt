@@ -12,7 +12,7 @@ ghost use Rattle.mx_files.specs.Opened.{IsWrong};
 ghost use Rattle.mx_files.specs.Performed.{Checks, EndsMigration, EndsRun, EndsWork, MakesBooks, OverBooks, Performs, PerformsInMemory, PerformsMigration, PerformsRun, PerformsWork, ended_of, streams};
 
 use crate::closing::{Ended, check_in_files, migrate_in_files, run_in_files, work_in_files};
-use crate::files::{make_in_file, open_found, open_told};
+use crate::files::{BookFile, make_in_file, no_files, open_found, open_told};
 use crate::plan::{Act, Plan, plan_of};
 use mx_args::Task;
 use mx_book::Book;
@@ -24,7 +24,7 @@ use mx_standing::Standing;
 use mx_tables::{Migrated, Tables};
 use mx_tasks::runs::run_memory;
 use mx_tasks::{Done, TaskFault, Work};
-use sqlite::{FileFrom, FileStore, Start};
+use sqlite::{FileStore, Start};
 use sqlite_disk::Disk;
 use std::alloc::Global;
 use std::io::{Read, Write};
@@ -81,19 +81,19 @@ fn say_migrated<W: Write>(
 }
 
 /// Answers the requests of the input over the books in a file, and passes on what the writer holds once that is closed.
-fn run_in_file<S: Start, R: Read, W: Outlet>(
-    rt: &HostRuntime,
+fn run_in_file<'a, S: Start, R: Read, W: Outlet>(
+    rt: &'a HostRuntime,
     path: &str,
     start: S,
     reader: &mut Counted<R>,
     writer: &mut Counted<W>,
-) -> Result<Ended<(), FileFrom<S>>, TaskFault>
+) -> Result<Ended<(), BookFile<'a, S>>, TaskFault>
     ensures unopened { IsErr result → Untouched reader.old reader.new writer.old writer.new }
     ensures shut { IfOk result (λ ended. IsOk ended.answer → AreShut ended.left) }
     ensures runs { IfOk result (λ ended. OverBooks (image_at S.Start)
         (streams (R.remaining reader.old.device) (W.contents writer.old.device))
         (streams (R.remaining reader.new.device) (W.contents writer.new.device)) ended
-        (λ w. Leads (PerformsRun ⟦<Standing<Tables<FileStore<FileFrom<S>>>> as Book>⟧.fails
+        (λ w. Leads (PerformsRun ⟦<Standing<Tables<FileStore<BookFile<'a, S>>>> as Book>⟧.fails
         (closed_answer ended.left)
         (state [] (R.remaining reader.old.device) (W.contents writer.old.device) w) ended.answer
         (R.remaining reader.new.device) (W.contents writer.new.device))
@@ -108,20 +108,20 @@ fn run_in_file<S: Start, R: Read, W: Outlet>(
 }
 
 /// Does a piece of work over the books in a file, and writes its text once that is closed.
-fn work_in_file<S: Start, W: Write>(
-    rt: &HostRuntime,
+fn work_in_file<'a, S: Start, W: Write>(
+    rt: &'a HostRuntime,
     path: &str,
     start: S,
     work: &Work<'_>,
     writer: &mut Counted<W>,
-) -> Result<Ended<(), FileFrom<S>>, TaskFault>
+) -> Result<Ended<(), BookFile<'a, S>>, TaskFault>
     ensures unopened { IsErr result → writer.new ≡ writer.old }
     ensures shut { IfOk result (λ ended. IsOk ended.answer → AreShut ended.left) }
     ensures works { (input : _) → IfOk result (λ ended. OverBooks (image_at S.Start)
         (streams input (W.contents writer.old.device))
         (streams input (W.contents writer.new.device)) ended
         (λ w. PerformsWork
-        ⟦<Standing<Tables<FileStore<FileFrom<S>>>> as Book>⟧.fails ended.left w
+        ⟦<Standing<Tables<FileStore<BookFile<'a, S>>>> as Book>⟧.fails ended.left w
         work.now ended.answer (W.contents writer.old.device) (W.contents writer.new.device))) }
 {
     let store = open_told(rt, path, start)?;
@@ -133,11 +133,11 @@ fn work_in_file<S: Start, W: Write>(
 }
 
 /// Tells whether the books in a file are sound, or what is wrong in them. Where the file isn't opened, a line says why.
-fn check_in_file<S: Start>(
-    rt: &HostRuntime,
+fn check_in_file<'a, S: Start>(
+    rt: &'a HostRuntime,
     path: &str,
     start: S,
-) -> Result<Ended<Done, FileFrom<S>>, TaskFault>
+) -> Result<Ended<Done, BookFile<'a, S>>, TaskFault>
     ensures shut { IfOk result (λ ended. IfOk ended.answer
         (λ done. done.fault ≡ None → AreShut ended.left)) }
     ensures checks { IfOk result (λ ended. AreHonest ended.left
@@ -173,13 +173,13 @@ fn perform_memory<R: Read, W: Outlet>(
 }
 
 /// Makes new books in a file, and says so.
-fn init_file<S: Start, W: Write>(
-    rt: &HostRuntime,
+fn init_file<'a, S: Start, W: Write>(
+    rt: &'a HostRuntime,
     path: &str,
     start: S,
     operator: Token,
     writer: &mut Counted<W>,
-) -> Result<Ended<(), FileFrom<S>>, TaskFault>
+) -> Result<Ended<(), BookFile<'a, S>>, TaskFault>
     ensures shut { IfOk result (λ ended. IsOk ended.answer → AreShut ended.left) }
     ensures makes { IfOk result (λ ended. MakesBooks operator ended.left ended.answer
         (W.contents writer.old.device) (W.contents writer.new.device)) }
@@ -192,12 +192,12 @@ fn init_file<S: Start, W: Write>(
 }
 
 /// Checks the books in a file, and says what was found.
-fn check_file<S: Start, W: Write>(
-    rt: &HostRuntime,
+fn check_file<'a, S: Start, W: Write>(
+    rt: &'a HostRuntime,
     path: &str,
     start: S,
     writer: &mut Counted<W>,
-) -> Result<Ended<(), FileFrom<S>>, TaskFault>
+) -> Result<Ended<(), BookFile<'a, S>>, TaskFault>
     ensures shut { IfOk result (λ ended. IsOk ended.answer → AreShut ended.left) }
     ensures checks { IfOk result (λ ended. AreHonest ended.left
         → Checks (image_at S.Start) ended.left (IsErr ended.answer)) }
@@ -211,12 +211,12 @@ fn check_file<S: Start, W: Write>(
 
 /// Brings the books in a file to the schema of this version, audits them, and says what came of it. Where the audit has a
 /// finding, the file is of this schema then, with its rows as they were.
-fn migrate_file<S: Start, W: Write>(
-    rt: &HostRuntime,
+fn migrate_file<'a, S: Start, W: Write>(
+    rt: &'a HostRuntime,
     path: &str,
     start: S,
     writer: &mut Counted<W>,
-) -> Result<Ended<(), FileFrom<S>>, TaskFault>
+) -> Result<Ended<(), BookFile<'a, S>>, TaskFault>
     ensures shut { IfOk result (λ ended. IsOk ended.answer → AreShut ended.left) }
     ensures migrates { IfOk result (λ ended. AreHonest ended.left
         → PerformsMigration (image_at S.Start) ended.left ended.answer
@@ -249,22 +249,23 @@ fn ended<T, D: Disk>(performed: Result<Ended<T, D>, TaskFault>) -> Ended<T, D>
 /// The first in this order: of the file (`File`, `FileExists`), of its books (`NotThisSchema`), of the roll (`File`,
 /// `RollTooLarge`) or the port (`Net`), of the work (`Read`, `Write`, `Turns`, `Roll`, `NoSuchPurse`). `Memory` and `Store` come
 /// at any step; `Write` too where what is printed can't be written or flushed.
-pub fn perform<S: Start, R: Read, W: Outlet>(
-    rt: &HostRuntime,
+pub fn perform<'a, S: Start, R: Read, W: Outlet>(
+    rt: &'a HostRuntime,
     start: S,
     task: &Task<'_>,
     reader: &mut Counted<R>,
     writer: &mut Counted<W>,
-) -> Ended<(), FileFrom<S>>
+) -> Ended<(), BookFile<'a, S>>
     ensures { Performs (image_at S.Start)
         (streams (R.remaining reader.old.device) (W.contents writer.old.device))
         (streams (R.remaining reader.new.device) (W.contents writer.new.device))
         task.now result }
 {
     match &plan_of(task) {
-        Plan::InMemory(operator) => {
-            Ended::of(perform_memory(rt.alloc(), *operator, reader, writer))
-        }
+        Plan::InMemory(operator) => Ended {
+            answer: perform_memory(rt.alloc(), *operator, reader, writer),
+            left: no_files(rt),
+        },
         Plan::InFile(path, act) => match act {
             Act::Run => ended(run_in_file(rt, path, start, reader, writer)),
             Act::Make(operator) => ended(init_file(rt, path, start, *operator, writer)),

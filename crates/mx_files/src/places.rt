@@ -14,7 +14,7 @@ pub(crate) const MAGIC: &[u8] = b"SQLite format 3\0";
 const MOST_OF_AN_EMPTY_LOG: u64 = 56;
 
 /// Whether a file is a regular one that has no byte.
-fn is_empty(entry: &Entry) -> bool
+pub(crate) fn is_empty(entry: &Entry) -> bool
     ensures { IsTrue result ↔ IsEmptyFile entry.now }
 {
     match entry.kind {

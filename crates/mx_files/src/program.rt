@@ -6,13 +6,14 @@ ghost use Rattle.mx_files.specs.Answered.{Answers, AnswersArgs, AnswersLine, End
 ghost use Rattle.mx_files.specs.Performed.{Performs};
 
 use crate::closing::{Ended, Left};
+use crate::files::{BookFile, no_files};
 use crate::perform::perform;
 use mx_args::{LineFault, Task, read_line};
 use mx_desk::Counted;
 use mx_tasks::exits::{fail_to, refuse_to, show_to};
 use mx_tasks::voice::Voice;
 use mx_tasks::{Alarmed, TaskFault};
-use sqlite::{FileFrom, Start};
+use sqlite::Start;
 use sqlite_disk::Disk;
 use std::alloc::{AllocError, Global};
 use std::io;
@@ -45,18 +46,6 @@ pub struct Exit<D: Disk> {
     pub left: Left<D>,
 }
 
-impl<D: Disk> Exit<D> {
-    /// The end of a program that leaves no files of books.
-    fn of(status: ExitCode) -> Exit<D>
-        ensures { result ≡ record { status = status; left = Left.Nothing } }
-    {
-        Exit {
-            status,
-            left: Left::Nothing,
-        }
-    }
-}
-
 /// Whether a task writes at once, and not to a buffer.
 fn is_direct(task: &Task<'_>) -> bool
     ensures { result ≡ is_direct task.now }
@@ -65,12 +54,12 @@ fn is_direct(task: &Task<'_>) -> bool
 }
 
 /// Does a task over the output that is its own.
-fn perform_over<S: Start, R: Read, W: Write + Drop, V: Voice>(
-    rt: &HostRuntime,
+fn perform_over<'a, S: Start, R: Read, W: Write + Drop, V: Voice>(
+    rt: &'a HostRuntime,
     start: S,
     task: &Task<'_>,
     devices: &mut Devices<'_, R, W, V>,
-) -> Ended<(), FileFrom<S>>
+) -> Ended<(), BookFile<'a, S>>
     ensures performs { let before = seen R.remaining W.contents V.said devices.old in
         let after = seen R.remaining W.contents V.said devices.new in
         Performs (image_at S.Start) (streams_of (is_direct task.now) before)
@@ -128,12 +117,12 @@ fn end_unread<R: Read, W: Write + Drop, V: Voice>(
 }
 
 /// Does what a line asks that was read so.
-fn answer_line<S: Start, R: Read, W: Write + Drop, V: Voice>(
-    rt: &HostRuntime,
+fn answer_line<'a, S: Start, R: Read, W: Write + Drop, V: Voice>(
+    rt: &'a HostRuntime,
     start: S,
     read: Result<Task<'_>, LineFault>,
     devices: &mut Devices<'_, R, W, V>,
-) -> Exit<FileFrom<S>>
+) -> Exit<BookFile<'a, S>>
     ensures { Answers (image_at S.Start) read.entry
         (seen R.remaining W.contents V.said devices.old)
         (seen R.remaining W.contents V.said devices.new) result }
@@ -146,7 +135,10 @@ fn answer_line<S: Start, R: Read, W: Write + Drop, V: Voice>(
                 left,
             }
         }
-        Err(fault) => Exit::of(end_line(devices, &fault)),
+        Err(fault) => Exit {
+            status: end_line(devices, &fault),
+            left: no_files(rt),
+        },
     }
 }
 
@@ -166,13 +158,13 @@ fn words_after_name(alloc: Global, args: &[String]) -> Result<Vec<&str>, AllocEr
 }
 
 /// Answers the words of a command line of the program of this version, those behind its name.
-fn run_line<S: Start, R: Read, W: Write + Drop, V: Voice>(
-    rt: &HostRuntime,
+fn run_line<'a, S: Start, R: Read, W: Write + Drop, V: Voice>(
+    rt: &'a HostRuntime,
     start: S,
     version: &str,
     words: &[&str],
     devices: &mut Devices<'_, R, W, V>,
-) -> Exit<FileFrom<S>>
+) -> Exit<BookFile<'a, S>>
     ensures { AnswersLine (image_at S.Start) (map (λ w. w.now) words.entry.now)
         (seen R.remaining W.contents V.said devices.old)
         (seen R.remaining W.contents V.said devices.new) result }
@@ -184,23 +176,31 @@ fn run_line<S: Start, R: Read, W: Write + Drop, V: Voice>(
 /// Runs the program of this version: does the task that the words of its command line name, the program's name first. The status
 /// is 0 where the task is done. Where it isn't, its fault is said, and the status is 1. Where the words name no task, what is wrong
 /// is said, and the status is 2; or the version is written. The files of the books are closed, and given back.
-pub fn run_program<S: Start, R: Read, W: Write + Drop, V: Voice>(
-    rt: &HostRuntime,
+pub fn run_program<'a, S: Start, R: Read, W: Write + Drop, V: Voice>(
+    rt: &'a HostRuntime,
     start: S,
     version: &str,
     args: io::Result<Vec<String>>,
     devices: &mut Devices<'_, R, W, V>,
-) -> Exit<FileFrom<S>>
+) -> Exit<BookFile<'a, S>>
     ensures { AnswersArgs (image_at S.Start) args
         (seen R.remaining W.contents V.said devices.old)
         (seen R.remaining W.contents V.said devices.new) result }
 {
     let args = match args {
         Ok(args) => args,
-        Err(error) => return Exit::of(end_unread(devices, error.kind())),
+        Err(error) => {
+            return Exit {
+                status: end_unread(devices, error.kind()),
+                left: no_files(rt),
+            };
+        }
     };
     match words_after_name(rt.alloc(), args.as_slice()) {
         Ok(words) => run_line(rt, start, version, words.as_slice(), devices),
-        Err(_) => Exit::of(end_line(devices, &LineFault::Memory)),
+        Err(_) => Exit {
+            status: end_line(devices, &LineFault::Memory),
+            left: no_files(rt),
+        },
     }
 }

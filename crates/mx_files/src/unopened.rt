@@ -1,5 +1,5 @@
 //! Why a database isn't opened, as far as a look at its files tells.
-ghost use Rattle.std.specs.Prelude.{◌≡◌, IfErr, IsErr, OnOk};
+ghost use Rattle.std.specs.Prelude.{◌≡◌, OnOk};
 ghost use Rattle.mx_files.specs.Folders.{IsPlain, spot_behind};
 ghost use Rattle.mx_files.specs.Opened.{cause_of, IsExplained};
 
@@ -53,21 +53,18 @@ fn cause_of(error: &Error) -> Cause
     }
 }
 
-/// Fails with why the database at a path isn't opened, where this is the error.
-pub(crate) fn unopened<F: Folder, T>(
-    folder: &F,
-    alloc: Global,
-    path: &str,
-    error: Error,
-) -> Result<T, Cause>
-    ensures fails { IsErr result }
-    ensures cause { IfErr result (IsExplained (cause_of error)) }
+/// Why the database at a path isn't opened, where this is the error.
+pub(crate) fn unopened<F: Folder>(folder: &F, alloc: Global, path: &str, error: Error) -> Cause
+    ensures { IsExplained (cause_of error) result }
 {
     let cause = cause_of(&error);
-    match &cause {
-        Cause::Damaged | Cause::OtherTables => look_at_head(folder, alloc, path)?,
-        Cause::NoLog => look(folder, alloc, path)?,
-        _ => {}
+    let looked = match &cause {
+        Cause::Damaged | Cause::OtherTables => look_at_head(folder, alloc, path),
+        Cause::NoLog => look(folder, alloc, path),
+        _ => Ok(()),
+    };
+    match looked {
+        Ok(()) => cause,
+        Err(other) => other,
     }
-    Err(cause)
 }

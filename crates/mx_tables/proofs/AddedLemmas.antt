@@ -65,7 +65,7 @@ member_rows_accepted db = select_accepted _ _ _ _ _ _ select_member_rows_is [] d
 -- ---- what they show
 
 -- what is so of what each row of a table shows is so of the rows of a query
-rows_all : {K V : Type 0} {R : K → K → _} {t : Place R V} (table : Belongs t) (Q : Row → Type 0)
+pub rows_all : {K V : Type 0} {R : K → K → _} {t : Place R V} (table : Belongs t) (Q : Row → Type 0)
     → (sql : List ℕ) (terms project : List Term) (names : List (List ℕ)) → IsSelect sql t.table.tree terms project [] names → (p : K × V → Bool) (show : K × V → Row)
     → ((id : ℤ) (e : K × V) → passes terms [] (Int id ∷ t.cells e) ≡ p e) → ((id : ℤ) (e : K × V) → eval_all project (env [] (Int id ∷ t.cells e)) ≡ show e)
     → (old new : State) (rows : List Row) → Shown sql [] old new rows → (r : Rows) → Holds old.now r

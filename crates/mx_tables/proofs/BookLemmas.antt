@@ -15,10 +15,13 @@ use Rattle.mx_book.specs.Keeps.{Bides, Explains, HasCause, Keeps, Settles}
 use Rattle.mx_book.specs.declared.contract.StoreFault.{StoreFault}
 use Rattle.mx_book.specs.declared.contract.StoreFault.TheVariants.{Memory, Store}
 use Rattle.mx_tables.specs.Holds.{SpellsOne}
-use Rattle.mx_tables.specs.States.{Blames, IsExplained, SpellAny, worry, unsure, Brings, IsOurs, Leaves, Stays}
+use Rattle.mx_tables.specs.Cached.{BringsThrough}
+use Rattle.mx_tables.specs.States.{Blames, IsExplained, SpellAny, worry, unsure, IsOurs, Leaves, Stays}
 use Rattle.mx_tables.specs.Rounds.{ChangesRound, IsKept, Abides, Begins, ChangesIn, Ends, Lent, LeavesBase, IsLimited, IsSettled, faults_of, rows_of, base_of, doubt_of, harm_of}
+use Rattle.mx_tables.specs.declared.cache.Cache.{Cache}
 use Rattle.mx_tables.proofs.RoundLemmas.{before}
-use Rattle.mx_tables.proofs.StateLemmas.{brings_same, sure, sure_in, no_unsure, no_worry, not_lied, unsure_later, worry_later, sure_before}
+use Rattle.mx_tables.proofs.ThroughLemmas.{through_same}
+use Rattle.mx_tables.proofs.StateLemmas.{sure, sure_in, no_unsure, no_worry, not_lied, unsure_later, worry_later, sure_before}
 
 -- ---- steps
 
@@ -174,39 +177,38 @@ pub err_then : {A T E : Type 0} (x y z : A) (r : Result T E) → OnErr r (x ≡ 
 err_then x y z (Ok v) h same = tt
 err_then x y z (Err e) h same = h ∙ same
 
-module _ (change : Rows → Rows) where
-  -- the change that a round makes, where its begin failed
-  pub round_stopped : (b after : Bool) (old new : State) (r q : Result (Unit {0}) StoreFault) → IsErr q → Begins b old after new r → ChangesRound change b old after new q
-  round_stopped b after old new r (Ok x) err begins = absurd (cc)
-  round_stopped b after old new r (Err e) err begins = record {
-    later = λ kept. unsure_later b after old new begins.clean (began_was b after old new r kept begins);
-    abides = begins.abides;
-    kept = begins.kept;
-    ok = λ kept h. tt;
-    err = λ kept h. let it = sure_in after new h in begins.same kept it.1 it.2 it.0;
-  }
+-- the change that a round makes, where its begin failed
+pub round_stopped : (b after : Bool) (old new : State) (r q : Result (Unit {0}) StoreFault) (Done : Type 0) → IsErr q → Begins b old after new r → ChangesRound b old after new q Done
+round_stopped b after old new r (Ok x) Done err begins = absurd (cc)
+round_stopped b after old new r (Err e) Done err begins = record {
+  later = λ kept. unsure_later b after old new begins.clean (began_was b after old new r kept begins);
+  abides = begins.abides;
+  kept = begins.kept;
+  ok = λ kept h. tt;
+  err = λ kept h. let it = sure_in after new h in begins.same kept it.1 it.2 it.0;
+}
 
-  -- and where it began
-  pub round_changed : (b after : Bool) (old mid new : State) (r : Result (Unit {0}) StoreFault) → Begins b old after mid (Ok tt) → ChangesIn mid new r (mid.now.schema ≡ office_schema → Brings change mid new)
-      → ChangesRound change b old after new r
-  round_changed b after old mid new r begins changes =
-      let went = λ (kept : IsKept b old). begins.ok kept in
-      let abides = λ (kept : IsKept b old). abides_then old mid new (begins.abides kept) (changed_abides after mid new _ (went kept) r changes) in
-      let same = λ (kept : IsKept b old) (h : unsure after new ≡ 0).
-      let here = sure_in after mid (changed_was after mid new _ (went kept) r changes h) in
-      begins.same kept here.1 here.2 here.0 in
-      record {
-        later = λ kept. unsure_later b after old new (abides kept).clean (λ h. began_was b after old mid (Ok tt) kept begins (changed_was after mid new _ (went kept) r changes h));
-        abides = abides;
-        kept = λ kept. changed_kept after mid new _ (went kept) r changes (begins.kept kept) (λ done has. (done has).schema);
-        ok = λ kept h. ok_by r (let it = sure_in after new h in changes.ok it.1 (went kept (before mid new changes.clean it.1)).1) (same kept h) (let here = sure_in after mid (changed_was after mid new _ (went kept) r changes h) in (begins.kept kept).schema here.1 here.0);
-        err = λ kept h. err_then _ _ _ r (changed_err after mid new _ (went kept) r changes h) (same kept h);
-      }
-    where
-      ok_by : (q : Result (Unit {0}) StoreFault) → OnOk q (IsTrue mid.is_open × IsTrue new.is_open × IsTrue new.in_transaction × (mid.now.schema ≡ office_schema → Brings change mid new)) → mid.now ≡ old.now → mid.now.schema ≡ office_schema
-          → OnOk q (Brings change old new)
-      ok_by (Ok x) it is has = brings_same change old mid new new is refl (it.3 has)
-      ok_by (Err e) it is has = tt
+-- and where it began
+pub round_changed : {fits : Rows → Type 0} {change : Rows → Rows} {k l : Cache} (b after : Bool) (old mid new : State) (r : Result (Unit {0}) StoreFault) → Begins b old after mid (Ok tt)
+    → ChangesIn mid new r (mid.now.schema ≡ office_schema → BringsThrough fits change mid new k l) → ChangesRound b old after new r (BringsThrough fits change old new k l)
+round_changed {fits} {change} {k} {l} b after old mid new r begins changes =
+    let went = λ (kept : IsKept b old). begins.ok kept in
+    let abides = λ (kept : IsKept b old). abides_then old mid new (begins.abides kept) (changed_abides after mid new _ (went kept) r changes) in
+    let same = λ (kept : IsKept b old) (h : unsure after new ≡ 0).
+    let here = sure_in after mid (changed_was after mid new _ (went kept) r changes h) in
+    begins.same kept here.1 here.2 here.0 in
+    record {
+      later = λ kept. unsure_later b after old new (abides kept).clean (λ h. began_was b after old mid (Ok tt) kept begins (changed_was after mid new _ (went kept) r changes h));
+      abides = abides;
+      kept = λ kept. changed_kept after mid new _ (went kept) r changes (begins.kept kept) (λ done has. (done has).schema);
+      ok = λ kept h. ok_by r (let it = sure_in after new h in changes.ok it.1 (went kept (before mid new changes.clean it.1)).1) (same kept h) (let here = sure_in after mid (changed_was after mid new _ (went kept) r changes h) in (begins.kept kept).schema here.1 here.0);
+      err = λ kept h. err_then _ _ _ r (changed_err after mid new _ (went kept) r changes h) (same kept h);
+    }
+  where
+    ok_by : (q : Result (Unit {0}) StoreFault) → OnOk q (IsTrue mid.is_open × IsTrue new.is_open × IsTrue new.in_transaction × (mid.now.schema ≡ office_schema → BringsThrough fits change mid new k l)) → mid.now ≡ old.now → mid.now.schema ≡ office_schema
+        → OnOk q (BringsThrough fits change old new k l)
+    ok_by (Ok x) it is has = through_same old mid new new is refl (it.3 has)
+    ok_by (Err e) it is has = tt
 
 -- what is said of an answer that is no fault, and of one that is
 pub ok_said : {T E P : Type 0} (r : Result T E) (b : Bool) → b ≡ is_err r → b ≡ false → OnOk r P → P

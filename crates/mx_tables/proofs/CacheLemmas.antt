@@ -5,7 +5,7 @@ use Rattle.std.proofs.lemmas.Bool.{cases_Bool}
 use Rattle.std.specs.Cmp.{nat_cmp_total}
 use Rattle.std.specs.FinMap as fmap
 use Rattle.std.specs.FinSet.{FinSet}
-use Rattle.std.specs.Prelude.{IfSome}
+use Rattle.std.specs.Prelude.{IfSome, IsSome, IsTrue}
 use Rattle.std.specs.Option.{option_copied}
 use denote.Bor.{Bor}
 use Rattle.mx_sorted.specs.Slots.{Slots, map_of}
@@ -13,20 +13,23 @@ use Rattle.mx_purse.specs.State.{new_purse, State as Purse}
 use Rattle.mx_purse.specs.declared.message.Message.{Message}
 use Rattle.mx_book.specs.Edits.{AllSuit, Suits, edited}
 use Rattle.mx_book.specs.Index.{index_cmp, IsHeld, released}
-use Rattle.mx_book.specs.RowEdits.{on_purse}
+use Rattle.mx_book.specs.RowEdits.{member_at, on_purse}
 use Rattle.mx_book.specs.RowReads.{of_name}
 use Rattle.mx_book.specs.Rows.{Spelled}
 use Rattle.mx_book.specs.Under.{pair_cmp, under}
 use Rattle.mx_book.specs.World.{World}
+use Rattle.mx_book.specs.declared.values.Redemption.{Redemption}
 use Rattle.mx_book.specs.declared.edits.Edit.{Edit}
-use Rattle.mx_book.specs.declared.edits.Edit.TheVariants.{AddMessage, DropMessage, NewPurse, SetPurse}
+use Rattle.mx_book.specs.declared.edits.Edit.TheVariants.{AddMessage, AddRedemption, Collect, DropMessage, NewHolder, NewPurse, SetPurse}
 use Rattle.mx_book.proofs.EditLemmas.{edit_spelled}
 use Rattle.mx_book.proofs.HeldLemmas.{held_put, held_set}
 use Rattle.mx_book.proofs.NameLemmas.{name_itself, names_total, same_name}
 use Rattle.mx_book.proofs.ReadLemmas.{held_is}
-use Rattle.mx_book.proofs.RowLemmas.{not_there}
 use Rattle.mx_book.proofs.UnderLemmas.{under-insert, under-insert_other, under-remove, under-remove_other}
-use Rattle.mx_tables.specs.Cached.{Agrees, AreFresh, Changes, IsFresh, Replaces, index_of}
+use Rattle.mx_memory.specs.Due.{due_cmp, is_fit, owed}
+use Rattle.mx_memory.proofs.DueLemmas.{not_but, tied_holder, tied_purse, tied_redemption, tied_set}
+use Rattle.mx_memory.proofs.FitLemmas.{all_fit_there}
+use Rattle.mx_tables.specs.Cached.{Agrees, AreFit, Changes, IsDue, Replaces, due_of, index_of}
 use Rattle.mx_tables.specs.declared.cache.Cache.{Cache}
 use Rattle.mx_tables.proofs.KeptLemmas.{pairs_key}
 
@@ -67,10 +70,11 @@ pub copied_is : {V : Type 0} (o : Option (Bor V)) (m : Option V) → option_map 
 copied_is None m is = sym is
 copied_is (Some b) m is = sym is
 
--- where nothing is cached but the purses of each holder
-pub agrees_none : (r : Rows) (k : Cache) → IfSome k.owners (λ held. IsHeld r.purses (index_of held)) → map_of name_cmp k.purses ≡ fmap.empty → map_of name_cmp k.inboxes ≡ fmap.empty → map_of (pair_cmp name_cmp nat_cmp) k.messages ≡ fmap.empty → Agrees r k
-agrees_none r k owners purses inboxes messages = record {
+-- where nothing is cached but indexes
+pub agrees_none : (r : Rows) (k : Cache) → IfSome k.owners (λ held. IsHeld r.purses (index_of held)) → IfSome k.due (λ due. IsDue r (due_of due)) → map_of name_cmp k.purses ≡ fmap.empty → map_of name_cmp k.inboxes ≡ fmap.empty → map_of (pair_cmp name_cmp nat_cmp) k.messages ≡ fmap.empty → Agrees r k
+agrees_none r k owners due purses inboxes messages = record {
   owners = owners;
+  due = due;
   purses = λ p x at. absurd (let none = sym at ∙ ap (λ m. fmap.get m p) purses ∙ fmap.get-empty name_cmp p in cc);
   inboxes = λ p n at. absurd (let none = sym at ∙ ap (λ m. fmap.get m p) inboxes ∙ fmap.get-empty name_cmp p in cc);
   messages = λ q at. absurd (let none = sym at ∙ ap (λ m. fmap.contains_key m q) messages ∙ ap (λ (o : Option (Unit {0})). is_some o) (fmap.get-empty (pair_cmp name_cmp nat_cmp) q) in cc);
@@ -126,9 +130,10 @@ new_row p h = record { holder = h; purse = new_purse p; next_message = 0 }
 abbrev raised : PurseRow → PurseRow
 raised x = record x { next_message = x.next_message + 1 }
 
--- rows with the same purses and messages
-agrees_as : (r s : Rows) (k : Cache) → r.purses ≡ s.purses → r.inbox ≡ s.inbox → Agrees r k → Agrees s k
-agrees_as r s k purses inbox it = record {
+-- rows with the same purses and messages, of which the index is so
+pub agrees_as : (r s : Rows) (k : Cache) → r.purses ≡ s.purses → r.inbox ≡ s.inbox → IfSome k.due (λ due. IsDue s (due_of due)) → Agrees r k → Agrees s k
+agrees_as r s k purses inbox due it = record {
+  due = due;
   owners = subst (λ m. IfSome k.owners (λ held. IsHeld m (index_of held))) purses it.owners;
   purses = λ p x at. subst (λ m. fmap.get m p ≡ Some x) purses (it.purses p x at);
   inboxes = λ p n at. subst (λ m. count m p ≤ n) inbox (it.inboxes p n at);
@@ -139,12 +144,26 @@ some_weaker : {A : Type 0} (o : Option A) (P Q : A → Type 0) → ((x : A) → 
 some_weaker None P Q f h = tt
 some_weaker (Some x) P Q f h = f x h
 
+-- what a test of a new purse says
+fit_purse : (r : Rows) (p h : Name) → IsTrue (is_fit r (NewPurse p h)) → (fmap.get r.purses p ≡ None) × IsSome (fmap.get r.holders h)
+fit_purse r p h fit =
+    let both = not_but (fmap.contains_key r.purses p) (fmap.contains_key r.holders h) fit in
+    (none_of (fmap.get r.purses p) both.0, both.1)
+  where
+    none_of : (o : Option PurseRow) → is_some o ≡ false → o ≡ None
+    none_of None none = refl
+    none_of (Some x) none = absurd (cc)
+
 module _ (r : Rows) (k : Cache) (it : Agrees r k) where
+  due_to : (s : Rows) → ((due : FinSet due_cmp) → IsDue r due → IsDue s due) → IfSome k.due (λ due. IsDue s (due_of due))
+  due_to s f = some_weaker k.due _ _ (λ due is. f (due_of due) is) it.due
+
   -- a purse that is set, or the number of whose next message rises
   pub agrees_set : (p : Name) (f : PurseRow → PurseRow) → ((x : PurseRow) → (f x).holder ≡ x.holder) → (t : Slots Name PurseRow) → Changes (map_of name_cmp k.purses) (map_of name_cmp t) p f
       → (o : Option PurseRow) → fmap.get r.purses p ≡ o → Agrees (on_purse o r (λ x. record r { purses = fmap.insert r.purses p (f x) })) (record k { purses = t })
   agrees_set p f holder t changes None none = record {
     owners = it.owners;
+    due = it.due;
     purses = λ q x there. elim (changes q x there) [
       | inl mine ↦ absurd (let no : Some mine.0 ≡ None = sym (it.purses p mine.0 mine.2) ∙ none in cc)
       | inr other ↦ it.purses q x other.1
@@ -154,6 +173,7 @@ module _ (r : Rows) (k : Cache) (it : Agrees r k) where
   }
   agrees_set p f holder t changes (Some y) at = record {
     owners = some_weaker k.owners _ _ (λ held is. held_set r.purses (index_of held) p (f y) is (ap (option_map (λ (x : PurseRow). x.holder)) at ∙ ap Some (sym (holder y)))) it.owners;
+    due = due_to (record r { purses = fmap.insert r.purses p (f y) }) (λ due is. tied_set r.purses r.holders r.redemptions due is p (f y) y at (holder y));
     purses = λ q x there. elim (changes q x there) [
       | inl mine ↦
           let same : y ≡ mine.0 = (let e = sym at ∙ it.purses p mine.0 mine.2 in cc) in
@@ -176,6 +196,7 @@ module _ (r : Rows) (k : Cache) (it : Agrees r k) where
   pub agrees_sent : (p : Name) (n : ℕ) (m : Message) (t : Slots Name ℕ) → Changes (map_of name_cmp k.inboxes) (map_of name_cmp t) p (λ n. n + 1) → Agrees (record r { inbox = fmap.insert r.inbox (p, n) m }) (record k { inboxes = t })
   agrees_sent p n m t changes = record {
     owners = it.owners;
+    due = it.due;
     purses = it.purses;
     inboxes = agrees_more p t changes (fmap.insert r.inbox (p, n) m) (count_of_its_own r r.inbox p n m) (λ q other. let same = count_of_others r r.inbox p q n m other in omega (arith, same));
     messages = λ q at. grind (arith, fmap.get-insert pairs_key.total r.inbox (p, n) m q, it.messages q at);
@@ -185,6 +206,7 @@ module _ (r : Rows) (k : Cache) (it : Agrees r k) where
   pub agrees_lost : (p : Name) (t : Slots Name ℕ) → Changes (map_of name_cmp k.inboxes) (map_of name_cmp t) p (λ n. n + 1) → Agrees r (record k { inboxes = t })
   agrees_lost p t changes = record {
     owners = it.owners;
+    due = it.due;
     purses = it.purses;
     inboxes = agrees_more p t changes r.inbox (omega arith) (λ q other. omega arith);
     messages = it.messages;
@@ -194,6 +216,7 @@ module _ (r : Rows) (k : Cache) (it : Agrees r k) where
   pub agrees_with : (q : Name × ℕ) (t : Slots (Name × ℕ) (Unit {0})) → is_some (fmap.get r.inbox q) ≡ true → map_of (pair_cmp name_cmp nat_cmp) t ≡ fmap.insert (map_of (pair_cmp name_cmp nat_cmp) k.messages) q tt → Agrees r (record k { messages = t })
   agrees_with q t there is = record {
     owners = it.owners;
+    due = it.due;
     purses = it.purses;
     inboxes = it.inboxes;
     messages = λ p at.
@@ -206,6 +229,7 @@ module _ (r : Rows) (k : Cache) (it : Agrees r k) where
       → Agrees (record r { inbox = fmap.remove r.inbox (p, n) }) (record k { messages = t })
   agrees_dropped p n t is = record {
     owners = it.owners;
+    due = it.due;
     purses = it.purses;
     inboxes = λ q most at. let was = it.inboxes q most at in let less = one_less r r.inbox p q n in omega (arith, was, less);
     messages = λ q at.
@@ -214,14 +238,15 @@ module _ (r : Rows) (k : Cache) (it : Agrees r k) where
   }
 
   -- a purse that is new
-  pub agrees_new : (p h : Name) → fmap.get r.purses p ≡ None → (o : Option _) → IfSome o (λ held. IsHeld (fmap.insert r.purses p (new_row p h)) (index_of held))
+  pub agrees_new : (p h : Name) → IsTrue (is_fit r (NewPurse p h)) → (o : Option _) → IfSome o (λ held. IsHeld (fmap.insert r.purses p (new_row p h)) (index_of held))
       → Agrees (rewritten r (NewPurse p h)) (record k { owners = o })
-  agrees_new p h fresh o owners = record {
+  agrees_new p h fit o owners = record {
     owners = owners;
+    due = let both = fit_purse r p h fit in due_to (rewritten r (NewPurse p h)) (λ due is. tied_purse r.purses r.holders r.redemptions due is p (new_row p h) both.0 both.1);
     purses = λ q x at.
         let was = it.purses q x at in
         elim (cases_Bool (is_name q p)) [
-          | inl t ↦ absurd (let no : Some x ≡ None = sym was ∙ ap (fmap.get r.purses) (same_name q p t) ∙ fresh in cc)
+          | inl t ↦ absurd (let no : Some x ≡ None = sym was ∙ ap (fmap.get r.purses) (same_name q p t) ∙ (fit_purse r p h fit).0 in cc)
           | inr f ↦ fmap.get-insert names_total r.purses p (new_row p h) q ∙ ap (λ b. cond b (Some (new_row p h)) (fmap.get r.purses q)) f ∙ was
         ];
     inboxes = it.inboxes;
@@ -236,27 +261,46 @@ agrees_message r k it p m t u one two (Some x) at =
     agrees_sent (record r { purses = fmap.insert r.purses p (raised x) }) (record k { purses = t }) (agrees_set r k it p raised (λ x. refl) t one (Some x) at) p x.next_message m u two
 
 -- the index with a purse that is new
-pub held_new_purse : (r : Rows) (held old : FinSet (index_cmp name_cmp)) (p h : Name) → fmap.get r.purses p ≡ None → IsHeld r.purses old → held ≡ fmap.insert old (h, Some p) tt
+pub held_new_purse : (r : Rows) (held old : FinSet (index_cmp name_cmp)) (p h : Name) → IsTrue (is_fit r (NewPurse p h)) → IsHeld r.purses old → held ≡ fmap.insert old (h, Some p) tt
     → IsHeld (fmap.insert r.purses p (new_row p h)) held
-held_new_purse r held old p h fresh is same =
-    subst (IsHeld (fmap.insert r.purses p (new_row p h))) (ap (λ o. fmap.insert (released old (option_map (λ (x : PurseRow). x.holder) o) p) (h, Some p) tt) fresh ∙ sym same) (held_put r.purses old p (new_row p h) is)
+held_new_purse r held old p h fit is same =
+    subst (IsHeld (fmap.insert r.purses p (new_row p h))) (ap (λ o. fmap.insert (released old (option_map (λ (x : PurseRow). x.holder) o) p) (h, Some p) tt) (fit_purse r p h fit).0 ∙ sym same) (held_put r.purses old p (new_row p h) is)
 
--- an edit of neither purses nor messages
-pub agrees_rest : (r : Rows) (k : Cache) (e : Edit) → ((p h : Name) → e ≡ NewPurse p h → ⊥) → ((q : Purse) → e ≡ SetPurse q → ⊥) → ((p : Name) (m : Message) → e ≡ AddMessage p m → ⊥) → ((p : Name) (n : ℕ) → e ≡ DropMessage p n → ⊥) → Agrees r k → Agrees (rewritten r e) k
-agrees_rest r k (NewPurse p h) new set add drop it = absurd (new p h refl)
-agrees_rest r k (SetPurse q) new set add drop it = absurd (set q refl)
-agrees_rest r k (AddMessage p m) new set add drop it = absurd (add p m refl)
-agrees_rest r k (DropMessage p n) new set add drop it = absurd (drop p n refl)
-agrees_rest r k e new set add drop it = agrees_as r _ k refl refl it
+-- where no index of redemptions is cached, these may be any
+pub agrees_undue : (r : Rows) (k : Cache) → Agrees r k → (o : Option (Slots (Name × Option (Name × Name)) (Unit {0}))) → o ≡ None → (redemptions : fmap.FinMap (pair_cmp name_cmp name_cmp) Redemption)
+    → Agrees (record r { redemptions = redemptions }) (record k { due = o })
+agrees_undue r k it o none redemptions = record { owners = it.owners; due = rw none tt; purses = it.purses; inboxes = it.inboxes; messages = it.messages }
 
--- ---- purses that edits add
+-- an edit of neither purses, messages nor redemptions
+pub agrees_rest : (r : Rows) (k : Cache) (e : Edit) → IsTrue (is_fit r e) → ((p h : Name) → e ≡ NewPurse p h → ⊥) → ((q : Purse) → e ≡ SetPurse q → ⊥) → ((p : Name) (m : Message) → e ≡ AddMessage p m → ⊥) → ((p : Name) (n : ℕ) → e ≡ DropMessage p n → ⊥)
+    → ((p reference : Name) (amount : ℕ) → e ≡ AddRedemption p reference amount → ⊥) → ((m : Name) → e ≡ Collect m → ⊥) → Agrees r k → Agrees (rewritten r e) k
+agrees_rest r k (NewPurse p h) fit new set add drop redeem collect it = absurd (new p h refl)
+agrees_rest r k (SetPurse q) fit new set add drop redeem collect it = absurd (set q refl)
+agrees_rest r k (AddMessage p m) fit new set add drop redeem collect it = absurd (add p m refl)
+agrees_rest r k (DropMessage p n) fit new set add drop redeem collect it = absurd (drop p n refl)
+agrees_rest r k (AddRedemption p reference amount) fit new set add drop redeem collect it = absurd (redeem p reference amount refl)
+agrees_rest r k (Collect m) fit new set add drop redeem collect it = absurd (collect m refl)
+agrees_rest r k (NewHolder h m t) fit new set add drop redeem collect it =
+    let fresh : fmap.contains_key r.holders h ≡ false = grind (arith, fit) in
+    agrees_as r _ k refl refl (due_to r k it (record r { holders = fmap.insert r.holders h m }) (λ due is. tied_holder r.purses r.holders r.redemptions due is h m fresh)) it
+agrees_rest r k e fit new set add drop redeem collect it = agrees_as r _ k refl refl it.due it
 
-pub fresh_one : (r : Rows) (w : World) (e : Edit) → Spelled r w → Suits w e → IsFresh r e
-fresh_one r w (NewPurse p h) it suits = not_there r p (sym (ap (λ (z : World). fmap.get z.rows p) it.world) ∙ suits.0)
-fresh_one r w e it suits = tt
+-- a redemption more, under the member of its purse
+pub due_redeemed : (r : Rows) (due : FinSet due_cmp) (p reference : Name) (amount : ℕ) → IsTrue (is_fit r (AddRedemption p reference amount)) → IsDue r due
+    → IsDue (rewritten r (AddRedemption p reference amount)) (owed due (member_at r.holders (fmap.get r.purses p)) (p, reference))
+due_redeemed r due p reference amount fit is = by (fmap.get r.purses p) refl
+  where
+    by : (o : Option PurseRow) → fmap.get r.purses p ≡ o → IsDue (rewritten r (AddRedemption p reference amount)) (owed due (member_at r.holders (fmap.get r.purses p)) (p, reference))
+    by None none = absurd (let no : is_some (fmap.get r.purses p) ≡ false = ap (λ (o : Option PurseRow). is_some o) none in let yes = fit in cc)
+    by (Some x) at = tied_redemption r.purses r.holders r.redemptions due is (p, reference) (record { amount = amount; collected = false }) refl x at
 
--- edits that suit a World add purses that are new
-pub fresh_all : (r : Rows) (w : World) (es : List Edit) → Spelled r w → AllSuit w es → AreFresh r es
-fresh_all r w [] it suits i e within is = absurd (omega (arith, within))
-fresh_all r w (x ∷ es) it suits zero e within is = subst (IsFresh r) (sym is) (fresh_one r w x it suits.0)
-fresh_all r w (x ∷ es) it suits (suc i) e within is = fresh_all (rewritten r x) (edited w x) es (edit_spelled r w x it suits.0) suits.1 i e (omega (arith, within)) is
+-- ---- edits that suit a World
+
+-- what they add is new, and what it stands under is there
+fit_one : (r : Rows) (w : World) (e : Edit) → Spelled r w → Suits w e → IsTrue (is_fit r e)
+fit_one r w e it suits = let all = all_fit_there r w (e ∷ []) it (suits, tt) in grind (arith, all)
+
+pub fit_all : (r : Rows) (w : World) (es : List Edit) → Spelled r w → AllSuit w es → AreFit r es
+fit_all r w [] it suits i e within is = absurd (omega (arith, within))
+fit_all r w (x ∷ es) it suits zero e within is = subst (λ y. IsTrue (is_fit r y)) (sym is) (fit_one r w x it suits.0)
+fit_all r w (x ∷ es) it suits (suc i) e within is = fit_all (rewritten r x) (edited w x) es (edit_spelled r w x it suits.0) suits.1 i e (omega (arith, within)) is

@@ -194,6 +194,14 @@ module _ {S : Type 0} (g : Ghosts S) where
   finds_to (Ok y) h f = steps_as (Ok y) h (λ seen has. record { same = (seen has).same; value = λ rows holds. f rows holds ((seen has).value rows holds) })
   finds_to (Err e) h f = steps_fault h
 
+  -- a look after a look
+  pub finds_next : {T U : Type 0} {a b c : Savepoint S g} {x : T} {r : Result U StoreFault} {is : Rows → T → Type 0} {other : Rows → U → Type 0}
+      → Finds g a b (Ok x) is → Finds g b c r other → Finds g a c r (λ rows y. is rows x × other rows y)
+  finds_next one two = steps_to (steps_then one two) (λ y both has.
+      let seen = both.0 has in
+      let last = both.1 (ap (λ (d : Database). d.schema) seen.same ∙ has) in
+      record { same = last.same ∙ seen.same; value = λ rows holds. (seen.value rows holds, last.value rows (subst (λ (d : Database). Holds d rows) (sym seen.same) holds)) })
+
   -- a change as another that gives the same
   pub writes_as : {T : Type 0} {old new : Savepoint S g} {r : Result T StoreFault} {one two : Rows → Rows}
       → Writes g old new r one → ((rows : Rows) → Holds (state g old.conn.now).now rows → one rows ≡ two rows) → Writes g old new r two

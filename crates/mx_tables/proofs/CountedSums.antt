@@ -58,7 +58,7 @@ use Rattle.mx_tables.specs.declared.sums.Adds.{Adds}
 use Rattle.mx_tables.specs.declared.sums.Adds.TheVariants.{Counted, Waiting, Logged, Archived}
 
 -- one more row
-pub sum_more : (f : Row → ℕ) (rows : List Row) (at : ℕ) (row : Row) (so_far more next : ℕ) → at < length rows → row ≡ get_or rows at row → so_far ≡ sum_by f (take at rows) → more ≡ f row → next ≡ so_far + more
+pub sum_more : {X : Type 0} (f : X → ℕ) (rows : List X) (at : ℕ) (row : X) (so_far more next : ℕ) → at < length rows → row ≡ get_or rows at row → so_far ≡ sum_by f (take at rows) → more ≡ f row → next ≡ so_far + more
     → next ≡ sum_by f (take (at + 1) rows)
 sum_more f rows at row so_far more next within is before its sum =
     sum ∙ ap₂ (λ a b. a + b) before (its ∙ ap f is) ∙ sym (sum_by_more f rows at row within)
@@ -84,7 +84,7 @@ summed {t = t} table f sql terms project names text p show g tests shows old new
 -- ---- amounts
 
 -- the redemption isn't collected
-abbrev is_uncollected : Term
+abbrev pub is_uncollected : Term
 is_uncollected = op2 (Compare Eq Binary) (col 1 4) (lit (Int (pos 0)))
 
 -- the tree of a query of amounts, its tests, and the names of its columns
@@ -298,5 +298,5 @@ module _ (r : Rows) where
       (λ k x at. sym (result_is r (result_shown (k, x)) k.0 k.1 refl refl (entries.archive k x at)))
 
 -- after all rows
-pub sum_all_rows : (f : Row → ℕ) (at : ℕ) (rows items : List Row) (sum : ℕ) → length rows ≤ at → rows ≡ items → sum ≡ sum_by f (take at rows) → sum ≡ sum_by f items
+pub sum_all_rows : {X : Type 0} (f : X → ℕ) (at : ℕ) (rows items : List X) (sum : ℕ) → length rows ≤ at → rows ≡ items → sum ≡ sum_by f (take at rows) → sum ≡ sum_by f items
 sum_all_rows f at rows items sum past is so_far = so_far ∙ ap (sum_by f) (take_all at rows past ∙ is)

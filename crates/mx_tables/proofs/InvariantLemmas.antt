@@ -9,14 +9,14 @@ use Rattle.mx_book.specs.Spells as book
 use Rattle.mx_book.specs.World.{World}
 use Rattle.mx_book.specs.declared.contract.StoreFault.{StoreFault}
 use Rattle.mx_book.specs.declared.edits.Edit.{Edit}
-use Rattle.mx_tables.specs.Cached.{Agrees, AreFresh, Invariant, ReadsThrough}
+use Rattle.mx_tables.specs.Cached.{Agrees, EditsThrough, Invariant, ReadsThrough}
 use Rattle.mx_tables.specs.Holds.{Spells, SpellsOne}
 use Rattle.mx_tables.specs.Rounds.{ChangesRound, Ends}
 use Rattle.mx_tables.specs.States.{IsOurs, Stays, unsure, worry}
 use Rattle.mx_tables.specs.declared.cache.Cache.{Cache}
 use Rattle.mx_tables.proofs.BookLemmas.{kept_of, kept_settled, ours_of}
 use Rattle.mx_tables.proofs.RoundLemmas.{before}
-use Rattle.mx_tables.proofs.CacheLemmas.{fresh_all}
+use Rattle.mx_tables.proofs.CacheLemmas.{fit_all}
 use Rattle.mx_tables.proofs.KeptLemmas.{one_held, spelled_after, spelled_one, spells_after}
 use Rattle.mx_tables.proofs.StateLemmas.{no_worry, sound, sure, sure_before, sure_first, sure_in}
 
@@ -70,25 +70,30 @@ module _ {S : Type 0} (g : Ghosts S) {b known : Bool} {old new : Held S} {k l : 
 
 -- after a change of the World, which fits it
 module _ (es : List Edit) (b after : Bool) (old new : State) {k : Cache} {known : Bool} (it : Invariant b old k known) (fits : (w : World) → unsure b old ≡ 0 → SpellsOne old.now w → Fits w es) where
-  abbrev Changed : Result (Unit {0}) StoreFault → Type 0
-  Changed r = ChangesRound (λ rows. fold rewritten rows es) b old after new r
+  abbrev Changed : Cache → Result (Unit {0}) StoreFault → Type 0
+  Changed l r = ChangesRound b old after new r (EditsThrough es old new k l)
+
+  -- rows of a World have these edits, and the cache agrees with that
+  pub edits_made : (l : Cache) → EditsThrough es old new k l → unsure b old ≡ 0 → (w : World) (was : Spells old.now w) → Holds new.now (fold rewritten was.rows es) × Agrees (fold rewritten was.rows es) l
+  edits_made l went early w was =
+      went.rows was.rows was.holds (fit_all was.rows w es was.spells.spelled (fits w early (spelled_one was)).each) (it.caches early was.rows w was.holds was.spells)
 
   -- the World is another, or the same
-  changed_world : (r : Result (Unit {0}) StoreFault) → Changed r → known ≡ true → unsure after new ≡ 0 → IsWorldly new.now
-  changed_world (Ok x) changes is calm =
+  changed_world : (l : Cache) (r : Result (Unit {0}) StoreFault) → Changed l r → known ≡ true → unsure after new ≡ 0 → IsWorldly new.now
+  changed_world l (Ok x) changes is calm =
       let early = sure_first (changes.later it.kept) calm in
       let was = (it.represents is).now early in
-      (_, spelled_after es was.0 old.now new.now was.1 (fits was.0 early (spelled_one was.1)) ((changes.ok it.kept calm).rows was.1.rows was.1.holds))
-  changed_world (Err e) changes is calm = moved old.now new.now (changes.err it.kept calm) ((it.represents is).now (sure_first (changes.later it.kept) calm))
+      (_, spelled_after es was.0 old.now new.now was.1 (fits was.0 early (spelled_one was.1)) (edits_made l (changes.ok it.kept calm) early was.0 was.1).0)
+  changed_world l (Err e) changes is calm = moved old.now new.now (changes.err it.kept calm) ((it.represents is).now (sure_first (changes.later it.kept) calm))
 
-  changed_by : (l : Cache) (r : Result (Unit {0}) StoreFault) → Changed r → ((calm : unsure after new ≡ 0) (rows : Rows) (w : World) → Holds new.now rows → book.Spells rows w → Agrees rows l) → Invariant after new l known
-  changed_by l r changes agrees =
+  changed_by : (l m : Cache) (r : Result (Unit {0}) StoreFault) → Changed l r → ((calm : unsure after new ≡ 0) (rows : Rows) (w : World) → Holds new.now rows → book.Spells rows w → Agrees rows m) → Invariant after new m known
+  changed_by l m r changes agrees =
       let abides = changes.abides it.kept in
       record {
         kept = changes.kept it.kept;
         caches = agrees;
         represents = λ is. record {
-          now = changed_world r changes is;
+          now = changed_world l r changes is;
           base = λ none.
               let here = sure new none in
               moved old.committed new.committed (abides.committed here.1 here.0) ((it.represents is).base (no_worry old (abides.opens here.1 here.0) (before old new abides.clean here.1)));
@@ -96,21 +101,20 @@ module _ (es : List Edit) (b after : Bool) (old new : State) {k : Cache} {known 
       }
 
   -- with nothing cached
-  pub changed_afresh : (l : Cache) (r : Result (Unit {0}) StoreFault) → Changed r → ((rows : Rows) → Agrees rows l) → Invariant after new l known
-  changed_afresh l r changes all = changed_by l r changes (λ calm rows w holds spells. all rows)
+  pub changed_afresh : (l m : Cache) (r : Result (Unit {0}) StoreFault) → Changed l r → ((rows : Rows) → Agrees rows m) → Invariant after new m known
+  changed_afresh l m r changes all = changed_by l m r changes (λ calm rows w holds spells. all rows)
 
   -- with a cache that followed
-  pub changed_followed : (l : Cache) (r : Result (Unit {0}) StoreFault) → Changed r → known ≡ true → ((rows : Rows) → AreFresh rows es → Agrees rows k → OnOk r (Agrees (fold rewritten rows es) l)) → OnOk r (Invariant after new l known)
-  changed_followed l (Err e) changes is follows = tt
-  changed_followed l (Ok x) changes is follows = changed_by l (Ok x) changes (λ calm rows w holds spells.
+  pub changed_followed : (l : Cache) (r : Result (Unit {0}) StoreFault) → Changed l r → known ≡ true → OnOk r (Invariant after new l known)
+  changed_followed l (Err e) changes is = tt
+  changed_followed l (Ok x) changes is = changed_by l l (Ok x) changes (λ calm rows w holds spells.
       let early = sure_first (changes.later it.kept) calm in
       let was = (it.represents is).now early in
       let s = was.1 in
-      let one = fits was.0 early (spelled_one s) in
-      let then : Spells new.now _ = record { rows = fold rewritten s.rows es; holds = (changes.ok it.kept calm).rows s.rows s.holds; spells = spells_after es was.0 s.rows s.spells one } in
+      let made = edits_made l (changes.ok it.kept calm) early was.0 s in
+      let then : Spells new.now _ = record { rows = fold rewritten s.rows es; holds = made.0; spells = spells_after es was.0 s.rows s.spells (fits was.0 early (spelled_one s)) } in
       let now : Spells new.now w = record { rows = rows; holds = holds; spells = spells } in
-      subst (λ (x : Rows). Agrees x l) (one_held new.now _ w then now)
-      (follows s.rows (fresh_all s.rows was.0 es s.spells.spelled one.each) (it.caches early s.rows was.0 s.holds s.spells)))
+      subst (λ (x : Rows). Agrees x l) (one_held new.now _ w then now) made.1)
 
 -- ---- the end of a round
 

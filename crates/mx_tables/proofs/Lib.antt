@@ -33,5 +33,6 @@ pub mod FaultLemmas
 pub mod AcceptLemmas
 pub mod ShownLemmas
 pub mod AddedLemmas
+pub mod CollectLemmas
 pub mod TrayLemmas
 pub mod MigrationLemmas

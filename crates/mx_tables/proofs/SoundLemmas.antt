@@ -127,11 +127,14 @@ module _ (r : Rows) (w : World) (h : Spells r w) where
       let x = purse_of name_cmp r.loads h.spelled.proper.loads k n at in
       ((own.payments.each k.0 (row_of r k.0 x.0) (there r k.0 x.0 x.1)).loads k.1 n (get-under name_cmp name_cmp names_total k.0 r.loads k.1 ∙ at)).1
 
-  pub redemptions_valid : (k : Name × Name) (x : Redemption) → fmap.get r.redemptions k ≡ Some x → x.amount ≤ most_amount
-  redemptions_valid k e at =
+  pub redemption_sound : (k : Name × Name) (x : Redemption) → fmap.get r.redemptions k ≡ Some x → (is_name_text k.1 ≡ true) × (x.amount ≤ most_amount)
+  redemption_sound k e at =
       let x = purse_of name_cmp r.redemptions h.spelled.proper.redemptions k e at in
       let is = get-pick names_total amount_of (under name_cmp name_cmp k.0 r.redemptions) k.1 ∙ ap (option_and_then amount_of) (get-under name_cmp name_cmp names_total k.0 r.redemptions k.1 ∙ at) in
-      ((own.payments.each k.0 (row_of r k.0 x.0) (there r k.0 x.0 x.1)).redemptions k.1 e.amount is).1
+      (own.payments.each k.0 (row_of r k.0 x.0) (there r k.0 x.0 x.1)).redemptions k.1 e.amount is
+
+  pub redemptions_valid : (k : Name × Name) (x : Redemption) → fmap.get r.redemptions k ≡ Some x → x.amount ≤ most_amount
+  redemptions_valid k x at = (redemption_sound k x at).1
 
   -- a purse has a name, and so has a member
   pub purses_named : (p : Name) (x : PurseRow) → fmap.get r.purses p ≡ Some x → is_name_text p ≡ true

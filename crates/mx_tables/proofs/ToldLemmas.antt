@@ -9,8 +9,8 @@ use Rattle.mx_pay.specs.Log.{Entries}
 use Rattle.mx_purse.specs.declared.message.Message.{Message}
 use Rattle.mx_book.specs.World.{World, Token}
 use Rattle.mx_book.specs.Spells as book
-use Rattle.mx_book.specs.Reads.{who_of, members_of, account_of, inbox_of, lines_of, tray_of, load_of, redemption_of}
-use Rattle.mx_book.specs.RowReads.{row_who_of, row_members_of, row_account_of, row_inbox_of, row_lines_of, row_load_of, row_redemption_of}
+use Rattle.mx_book.specs.Reads.{who_of, members_of, account_of, inbox_of, lines_of, tray_of, load_of}
+use Rattle.mx_book.specs.RowReads.{row_who_of, row_members_of, row_account_of, row_inbox_of, row_lines_of, row_load_of}
 use Rattle.mx_book.specs.Totals.{totals_of, member_totals_of, members_totals_of}
 use Rattle.mx_book.specs.RowEdits.{row_tray_of}
 use Rattle.mx_book.specs.RowTotals.{row_totals_of, row_member_totals_of, row_members_totals_of}
@@ -57,10 +57,6 @@ module _ {S : Type 0} (g : Ghosts S) {old new : Held S} where
   pub tell_load : {r : Result (Option ℕ) StoreFault} (p ref : Name)
       → Asks g old new r (λ rows v. v ≡ row_load_of rows p ref) → Tells g old new r (λ w v. v ≡ load_of w p ref)
   tell_load p ref = tell (λ rows w s v is. is ∙ spell.load_at rows w p ref s)
-
-  pub tell_redemption : {r : Result (Option ℕ) StoreFault} (p ref : Name)
-      → Asks g old new r (λ rows v. v ≡ row_redemption_of rows p ref) → Tells g old new r (λ w v. v ≡ redemption_of w p ref)
-  tell_redemption p ref = tell (λ rows w s v is. is ∙ spell.redemption_at rows w p ref s)
 
   pub tell_tray : {r : Result Entries StoreFault} (p : Name)
       → Asks g old new r (λ rows log. AreDetails rows.tray → log ≡ row_tray_of rows p) → Tells g old new r (λ w log. log ≡ tray_of w p)

@@ -1,6 +1,9 @@
 -- What rows that were read add to sums, which purses they are of, and what the sums are.
 use Rattle.std.specs.Prelude.{◌≡◌, ℕ, pos, negsuc, Bool, true, ◌&&◌, ◌||◌, List, [], ◌∷◌, codes, if◌then◌else◌, bytes_eq, unwrap_or, Option, Some, None, IfSome, IsSome, ◌≤◌, ◌<◌, ◌^◌}
 use Rattle.std.specs.FinMap as fmap
+use Rattle.std.specs.List.{list_any}
+use Rattle.std.specs.Ordering.{eq_by_cmp}
+use Rattle.mx_book.specs.Under.{pair_cmp}
 use Rattle.sqlite_value.specs.declared.value.Value.{Value}
 use Rattle.sqlite_value.specs.declared.value.Value.TheVariants.{Null, Int, Real, Text, Blob}
 use Rattle.sqlite_value.specs.Order.{Row, column}
@@ -73,9 +76,25 @@ counted_row purses holders scope row = if is_counted holders scope (fmap.get pur
 abbrev pub is_owned : fmap.FinMap name_cmp Name → Name → Row → Name → Bool
 is_owned holders m row p = is_name p (text_of (column row 0)) && is_of m (fmap.get holders (text_of (column row 1)))
 
--- a redemption, collected where its purse passes
-abbrev pub collected_where : (Name → Bool) → Name × Name → Redemption → Redemption
-collected_where passes key x = record x { collected = x.collected || passes key.0 }
+-- a redemption, collected where its purse and reference pass
+abbrev pub collected_where : (Name × Name → Bool) → Name × Name → Redemption → Redemption
+collected_where passes key x = record x { collected = x.collected || passes key }
+
+-- whether it is one of these keys
+abbrev pub is_among : List (Name × Name) → Name × Name → Bool
+is_among keys k = list_any (eq_by_cmp (pair_cmp name_cmp name_cmp) k) keys
+
+-- the purse and the reference of a redemption
+abbrev pub key_shown : Name × Name → Row
+key_shown k = Text k.0 ∷ Text k.1 ∷ []
+
+-- both are names
+abbrev pub AreNames : Name × Name → Type 0
+AreNames k = (is_name_text k.0 ≡ true) × (is_name_text k.1 ≡ true)
+
+-- the purse and the reference that a row shows
+abbrev pub key_in : Row → Name × Name
+key_in row = (text_of (column row 0), text_of (column row 1))
 
 -- the query of amounts
 abbrev pub amounts_text : Amounts → List ℕ

@@ -8,8 +8,7 @@ use Rattle.sqlite.specs.Effect.{Database}
 use Rattle.sqlite.specs.State.{State, HasCleanDisk}
 use Rattle.mx_book.specs.declared.contract.StoreFault.{StoreFault}
 use Rattle.mx_tables.specs.Schema.{office_schema}
-use Rattle.mx_book.specs.Rows.{Rows}
-use Rattle.mx_tables.specs.States.{Brings, Leaves, unsure, worry}
+use Rattle.mx_tables.specs.States.{Leaves, unsure, worry}
 
 -- between calls, in a round or in none
 pub record IsKept (begun : Bool) (s : State) : Type 0 where
@@ -86,9 +85,9 @@ module _ {S : Type 0} (g : Ghosts S) where
   LeavesBase t = Leaves (state g t.0)
 
 -- A change in a round or in none, which begins one: it is made, or the rows are as they were, unless a fault undid the round.
-pub record ChangesRound (change : Rows → Rows) (before : Bool) (old : State) (after : Bool) (new : State) (result : Result (Unit {0}) StoreFault) : Type 0 where
+pub record ChangesRound (before : Bool) (old : State) (after : Bool) (new : State) (result : Result (Unit {0}) StoreFault) (done : Type 0) : Type 0 where
   pub later : IsKept before old → unsure before old ≤ unsure after new
   pub abides : IsKept before old → Abides old new
   pub kept : IsKept before old → IsKept after new
-  pub ok : IsKept before old → unsure after new ≡ 0 → OnOk result (Brings change old new)
+  pub ok : IsKept before old → unsure after new ≡ 0 → OnOk result done
   pub err : IsKept before old → unsure after new ≡ 0 → OnErr result (new.now ≡ old.now)

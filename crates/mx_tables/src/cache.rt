@@ -9,8 +9,10 @@ ghost use Rattle.mx_book.specs.RowEdits.{rewritten};
 ghost use Rattle.mx_book.specs.RowReads.{of_name};
 ghost use Rattle.mx_book.specs.Rows.{Rows};
 ghost use Rattle.mx_book.specs.declared.edits.Edit.TheVariants.{NewPurse};
-ghost use Rattle.mx_tables.specs.Cached.{Agrees, Changes, IsFresh, Replaces, index_of};
+ghost use Rattle.mx_memory.specs.Due.{is_fit};
+ghost use Rattle.mx_tables.specs.Cached.{Agrees, Changes, IsDue, Replaces, due_of, index_of};
 
+use crate::due::Due;
 use mx_book::held::Held;
 use mx_book::{Edit, MOST_MESSAGES, PurseRow};
 use mx_pay::Name;
@@ -27,6 +29,8 @@ pub struct Cache {
     alloc: Global,
     // The purses of each holder, once they were asked for.
     owners: Option<Held>,
+    // The redemptions that aren't collected, once they were asked for.
+    due: Option<Due>,
     // Purses, each with its holder and the number of its next message.
     purses: Table<Name, PurseRow>,
     // How many messages lie in an inbox at most.
@@ -101,6 +105,7 @@ impl Cache {
         Cache {
             alloc,
             owners: None,
+            due: None,
             purses: Table::new(alloc),
             inboxes: Table::new(alloc),
             messages: Table::new(alloc),
@@ -120,7 +125,7 @@ impl Cache {
         *self = Cache::new(self.alloc);
     }
 
-    /// Makes room for one more: where there is none, all but the purses of each holder are forgotten.
+    /// Makes room for one more: where there is none, purses, inboxes and messages are forgotten.
     fn make_room(&mut self)
         ensures { (r : Rows) → Agrees r self.old → Agrees r self.new }
     {
@@ -148,6 +153,22 @@ impl Cache {
             → Agrees r self.new }
     {
         self.owners = Some(owners);
+    }
+
+    /// The redemptions that aren't collected, which are cached no more.
+    pub fn take_due(&mut self) -> Option<Due>
+        ensures { (r : Rows) → Agrees r self.old
+            → ((redemptions : _) → Agrees (record r { redemptions = redemptions }) self.new)
+            × IfSome result (λ due. IsDue r (due_of due)) }
+    {
+        self.due.take()
+    }
+
+    /// Caches the redemptions that aren't collected.
+    pub fn fill_due(&mut self, due: Due)
+        ensures { (r : Rows) → IsDue r (due_of due) → Agrees r self.old → Agrees r self.new }
+    {
+        self.due = Some(due);
     }
 
     /// A purse, with its holder and the number of its next message.
@@ -216,7 +237,7 @@ impl Cache {
 
     /// A purse that is new comes under its holder, or the purses of each holder are forgotten.
     fn add_owner(&mut self, purse: Name, holder: Name)
-        ensures { (r : Rows) → IsFresh r (NewPurse purse holder) → Agrees r self.old
+        ensures { (r : Rows) → IsTrue (is_fit r (NewPurse purse holder)) → Agrees r self.old
             → Agrees (rewritten r (NewPurse purse holder)) self.new }
     {
         let Some(mut owners) = self.owners.take() else {
@@ -230,7 +251,7 @@ impl Cache {
 
     /// Follows an edit of the rows. What there is no memory for is forgotten.
     pub fn follow(&mut self, edit: &Edit)
-        ensures { (r : Rows) → IsFresh r edit.now → Agrees r self.old
+        ensures { (r : Rows) → IsTrue (is_fit r edit.now) → Agrees r self.old
             → Agrees (rewritten r edit.now) self.new }
     {
         match edit {
@@ -241,6 +262,8 @@ impl Cache {
                 count_more(&mut self.inboxes, *purse);
             }
             Edit::DropMessage { purse, number } => self.messages.remove((*purse, *number)),
+            Edit::AddRedemption { .. } => self.due = None,
+            Edit::Collect { .. } => self.due = None,
             _ => {}
         }
     }

@@ -1,17 +1,17 @@
 //! The edits, each a few statements of a transaction.
-ghost use Rattle.std.specs.Prelude.{◌≡◌, OnOk, fold};
+ghost use Rattle.std.specs.Prelude.{◌≡◌, IsTrue, fold};
 ghost use Rattle.sqlite.specs.Held.{state};
 ghost use Rattle.sqlite.specs.State.{IsUnchanged};
 ghost use Rattle.mx_book.specs.RowEdits.{rewritten};
-ghost use Rattle.mx_book.specs.Rows.{Rows};
-ghost use Rattle.mx_tables.specs.Cached.{Agrees, AreFresh};
+ghost use Rattle.mx_memory.specs.Due.{is_fit};
+ghost use Rattle.mx_tables.specs.Cached.{AreFit, EditsThrough, WritesThrough};
 ghost use Rattle.mx_tables.specs.Schema.{office_schema};
-ghost use Rattle.mx_tables.specs.States.{Brings, Finds, Steps, Writes};
+ghost use Rattle.mx_tables.specs.States.{Finds, Steps, Writes};
 ghost use Rattle.mx_tables.specs.Rounds.{ChangesIn, ChangesRound};
 
 use crate::asking::fault_of;
 use crate::cache::Cache;
-use crate::collecting::collect;
+use crate::collecting::{collect, collect_all, redeem};
 use crate::holders::insert_holder;
 use crate::inbox::{drop_message, insert_message};
 use crate::lines::insert_line;
@@ -129,25 +129,47 @@ fn edit_one<S: Alter>(
             reference,
             amount,
         } => insert_redemption(tx, purse, reference, *amount),
-        Edit::Collect { member } => collect(tx, member),
+        Edit::Collect { member } => collect_all(tx, member),
         Edit::AddSettled { details } => insert_settled(alloc, tx, details),
     }
 }
 
-/// Makes these edits in order, and follows them in the cache.
+/// Makes one edit by way of the cache, and follows it there.
+fn edit_next<S: Alter>(
+    tx: &mut Savepoint<'_, S>,
+    cache: &mut Cache,
+    edit: &Edit,
+) -> Result<(), StoreFault>
+    ensures { WritesThrough S.Store tx.old tx.new cache.old cache.new result
+        (λ r. IsTrue (is_fit r edit.now)) (λ r. rewritten r edit.now) }
+{
+    match edit {
+        Edit::AddRedemption {
+            purse,
+            reference,
+            amount,
+        } => redeem(tx, cache, (*purse, *reference), *amount),
+        Edit::Collect { member } => collect(tx, cache, *member),
+        _ => {
+            let cached = cache.number_for(edit);
+            edit_one(tx, cache.alloc(), cached, edit)?;
+            cache.follow(edit);
+            Ok(())
+        }
+    }
+}
+
+/// Makes these edits in order, by way of the cache, and follows them there.
 fn edit_each<S: Alter>(
     tx: &mut Savepoint<'_, S>,
     cache: &mut Cache,
     edits: &[Edit],
 ) -> Result<(), StoreFault>
-    ensures writes { Writes S.Store tx.old tx.new result (λ r. fold rewritten r edits.now) }
-    ensures follows { (r : Rows) → AreFresh r edits.now → Agrees r cache.old
-        → OnOk result (Agrees (fold rewritten r edits.now) cache.new) }
+    ensures { WritesThrough S.Store tx.old tx.new cache.old cache.new result
+        (λ r. AreFit r edits.now) (λ r. fold rewritten r edits.now) }
 {
     for edit in edits {
-        let cached = cache.number_for(edit);
-        edit_one(tx, cache.alloc(), cached, edit)?;
-        cache.follow(edit);
+        edit_next(tx, cache, edit)?;
     }
     Ok(())
 }
@@ -170,12 +192,9 @@ fn edit_marked<S: Alter>(
     cache: &mut Cache,
     edits: &[Edit],
 ) -> Result<(), StoreFault>
-    ensures changes { ChangesIn (state S.Store conn.old) (state S.Store conn.new) result
-        ((state S.Store conn.old).now.schema ≡ office_schema
-        → Brings (λ r. fold rewritten r edits.now)
-        (state S.Store conn.old) (state S.Store conn.new)) }
-    ensures follows { (r : Rows) → AreFresh r edits.now → Agrees r cache.old
-        → OnOk result (Agrees (fold rewritten r edits.now) cache.new) }
+    ensures { ChangesIn (state S.Store conn.old) (state S.Store conn.new) result
+        ((state S.Store conn.old).now.schema ≡ office_schema → EditsThrough edits.now
+        (state S.Store conn.old) (state S.Store conn.new) cache.old cache.new) }
 {
     let mut mark = match conn.savepoint() {
         Ok(mark) => mark,
@@ -196,10 +215,9 @@ pub fn change_in<S: Alter>(
     cache: &mut Cache,
     edits: &[Edit],
 ) -> Result<(), StoreFault>
-    ensures changes { ChangesRound (λ r. fold rewritten r edits.now) begun.old
-        (state S.Store conn.old) begun.new (state S.Store conn.new) result }
-    ensures follows { (r : Rows) → AreFresh r edits.now → Agrees r cache.old
-        → OnOk result (Agrees (fold rewritten r edits.now) cache.new) }
+    ensures { ChangesRound begun.old (state S.Store conn.old) begun.new (state S.Store conn.new)
+        result (EditsThrough edits.now
+        (state S.Store conn.old) (state S.Store conn.new) cache.old cache.new) }
 {
     begin(conn, begun)?;
     edit_marked(conn, cache, edits)

@@ -1,8 +1,8 @@
 //! The redemptions of purses.
 ghost use Rattle.std.specs.Prelude.{◌≡◌, false};
 ghost use Rattle.std.specs.FinMap as fmap;
-ghost use Rattle.mx_tables.specs.States.{Writes, Tells};
-ghost use Rattle.mx_book.specs.Reads.{redemption_of};
+ghost use Rattle.mx_book.specs.RowReads.{row_redemption_of};
+ghost use Rattle.mx_tables.specs.States.{Asks, Writes};
 
 use crate::asking::{ask_one, run_one};
 use crate::given;
@@ -41,8 +41,8 @@ pub fn find_redemption<S: Alter>(
     purse: &Name,
     reference: &Name,
 ) -> Result<Option<Amount>, StoreFault>
-    ensures { Tells S.Store conn.old conn.new result
-        (λ w v. v ≡ redemption_of w purse.now reference.now) }
+    ensures { Asks S.Store conn.old conn.new result
+        (λ r v. v ≡ row_redemption_of r purse.now reference.now) }
 {
     let row = ask_one(
         conn,

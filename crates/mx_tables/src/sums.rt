@@ -187,18 +187,6 @@ pub fn sum_of<S: Alter>(
     Ok(sum)
 }
 
-/// What the redemptions of the purses that count come to that aren't collected.
-pub fn sum_uncollected<S: Alter>(
-    alloc: Global,
-    conn: &mut Connection<S>,
-    scope: &Scope,
-) -> Result<u128, StoreFault>
-    ensures { Asks S.Store conn.old conn.new result
-        (λ r n. ArePurses r → AreEntries r → n ≡ (row_sums r scope.now).uncollected) }
-{
-    sum_of(alloc, conn, &Adds::Counted(Amounts::Uncollected, *scope))
-}
-
 /// The sums of the purses that count.
 #[derive(Clone, Copy)]
 pub struct Sums {

@@ -14,6 +14,7 @@ ghost use Rattle.sqlite.specs.Effect.{Database};
 ghost use Rattle.mx_tables.specs.Holds.{SpellsOne};
 
 use crate::cache::Cache;
+use crate::due::sum_due;
 use crate::edits::change_in;
 use crate::holders::read_holder;
 use crate::inbox::{find_message, has_message, list_inbox};
@@ -28,11 +29,10 @@ use crate::redemptions::find_redemption;
 use crate::results::{find_archived, list_tray};
 use crate::rounds::end;
 use crate::settled::find_settled;
-use crate::sums::{sum_member, sum_scheme, sum_uncollected};
+use crate::sums::{sum_member, sum_scheme};
 use crate::tokens::find_caller;
 use mx_book::{
-    Account, Caller, Edit, HolderRow, Line, MemberRow, MemberTotals, RowBook, Scope, StoreFault,
-    Totals,
+    Account, Caller, Edit, HolderRow, Line, MemberRow, MemberTotals, RowBook, StoreFault, Totals,
 };
 use mx_pay::{Amount, Log, Name, PayDetails, Token};
 use mx_purse::{Message, Purse};
@@ -326,7 +326,7 @@ impl<S: Alter> RowBook for Tables<S> {
     }
 
     fn uncollected(&mut self, alloc: Global, member: Name) -> Result<u128, StoreFault> {
-        sum_uncollected(alloc, &mut self.conn, &Scope::Member(member))
+        sum_due(alloc, &mut self.conn, &mut self.cache, member)
     }
 
     fn member_totals(

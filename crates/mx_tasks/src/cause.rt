@@ -45,6 +45,9 @@ pub enum Cause {
     /// What is at `FILE-wal` is no log.
     #[error("the file beside it that ends in -wal isn't a log of SQLite")]
     OtherLog,
+    /// Its log lost its header, or a commit that others follow.
+    #[error("its log, the file beside it that ends in -wal, is damaged")]
+    DamagedLog,
     /// New books are to be made, and what is at `FILE-wal` would go into them.
     #[error("the log beside it, which ends in -wal, has changes of other books")]
     FullLog,
@@ -54,8 +57,8 @@ pub enum Cause {
     /// SQLite has left a rollback journal.
     #[error("a rollback journal of SQLite is beside it, which ends in -journal")]
     Journal,
-    /// What is at `FILE-init` can't be removed.
-    #[error("the file beside it that ends in -init is no database, or can't be removed")]
+    /// What is at `FILE-init` isn't what an `init` has left, or can't be removed.
+    #[error("the file beside it that ends in -init isn't what an init has left, or can't be removed")]
     Leftover,
     /// Another `init` makes the same books.
     #[error("another init makes it at the same time")]
@@ -123,7 +126,7 @@ impl Cause {
     {
         match self {
             Cause::System(error) if error.kind() == ErrorKind::OutOfMemory => TaskFault::Memory,
-            Cause::NotEmpty => TaskFault::FileExists,
+            Cause::NotEmpty | Cause::Rival => TaskFault::FileExists,
             Cause::Empty => TaskFault::NotThisSchema,
             Cause::TooLarge => TaskFault::RollTooLarge,
             Cause::NoRoll | Cause::BadRow { .. } => TaskFault::Roll,

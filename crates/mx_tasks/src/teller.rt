@@ -25,13 +25,13 @@ pub struct Teller<'a, R, T> {
 }
 
 /// A second from now, or None where no clock tells.
-fn in_a_second(rt: &impl Clock) -> Option<Instant> {
+pub fn in_a_second(rt: &impl Clock) -> Option<Instant> {
     let now = Instant::now(rt).ok()?;
     now.checked_add(Duration::from_secs(1))
 }
 
 /// Whether that time has come.
-fn has_come(rt: &impl Clock, due: Option<Instant>) -> bool
+pub fn has_come(rt: &impl Clock, due: Option<Instant>) -> bool
     ensures { due ≡ None → result ≡ false }
 {
     match (due, Instant::now(rt)) {

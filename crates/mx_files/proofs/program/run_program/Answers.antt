@@ -7,5 +7,5 @@ use Rattle.mx_files.proofs.program.run_program.Goals as goal
 read_so : (words : List (List ℕ)) → IsReadAs words (Err Memory)
 read_so words = record { named = tt; answered = λ task named. inr refl; misfit = λ _. tt; fault = λ _. tt }
 
-pub returns-in-Err-words_after_name : goal.returns-in-Err-words_after_name
-returns-in-Err-words_after_name g c = rw c.in-Ok.is (Err Memory, read_so _, rw c.of-in-Err-words_after_name.ensures c.end_line.ensures)
+pub returns : goal.returns
+returns g c = rw c.in-Ok.is (Err Memory, read_so _, c.end_line.ensures)

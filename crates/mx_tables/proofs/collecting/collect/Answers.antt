@@ -1,20 +1,25 @@
-use Rattle.mx_tables.proofs.Common.{◌<◌, ◌≤◌, rules, length}
-use Rattle.mx_tables.proofs.CallLemmas.{finds_then, writes_as, writes_none, writes_then}
-use Rattle.mx_tables.proofs.LoadLemmas.{all_so_far, none_so_far, one_row_so_far, finds_owned, select_owned_is}
+use Rattle.mx_tables.proofs.Common.{◌≡◌, ◌∙◌}
+use Rattle.std.proofs.Common.{ap, subst}
+use Rattle.mx_tables.specs.Cached.{IsDue, due_of, keys_due}
+use Rattle.mx_tables.specs.Counted.{collected_where, is_among}
+use Rattle.mx_book.specs.Under.{remake}
+use Rattle.mx_tables.proofs.CollectLemmas.{IsWithout, collects_due, due_collected}
+use Rattle.mx_tables.proofs.ThroughLemmas.{edits_as, edits_follow}
 use Rattle.mx_tables.proofs.collecting.collect.Goals as goal
 
-pub ask_inside-requires : goal.ask_inside-requires
-ask_inside-requires g c = select_owned_is.query
-
-pub loop-row-init : goal.loop-row-init
-loop-row-init g c = writes_as g.S.Store (writes_none g.S.Store _) (λ r holds. none_so_far c.args.member.now r)
-
-pub loop-row-preserved : goal.loop-row-preserved
-loop-row-preserved g c =
-    let within : c.loop-row.row-index < length c.deref-row-items.result.now = search rules in
-    writes_as g.S.Store (writes_then g.S.Store c.loop-row.invariant c.in_ok-collect_row.ensures) (λ r holds. one_row_so_far c.args.member.now c.deref-row-items.result.now c.loop-row.row-index c.row-item.result within c.row-item.is r)
+pub returns-in_default : goal.returns-in_default
+returns-in_default g c = edits_follow g.S.Store c.collect_all.ensures (λ r fit it. (c.take_due.ensures r it).0 _)
 
 pub returns : goal.returns
 returns g c =
-    let past : length c.deref-row-items.result.now ≤ c.loop-row.row-index = search rules in
-    finds_then g.S.Store c.in_ok-rows.ensures c.loop-row.invariant (λ r holds shown. all_so_far c.args.member.now c.deref-row-items.result.now _ c.loop-row.row-index past c.deref-row-items.ensures.value r (finds_owned _ _ _ shown r holds))
+    let due = due_of c.in-Some.due in
+    let left = due_of c.drop_keys.new.due in
+    let m = c.args.member in
+    let keys : c.deref.result.now ≡ keys_due due m = c.deref.ensures.value ∙ c.in_ok-keys.ensures in
+    let dropped : IsWithout due left m (keys_due due m) = subst (IsWithout due left m) (c.deref-2.ensures.value ∙ c.in_ok-keys.ensures) c.drop_keys.ensures in
+    edits_as g.S.Store c.in_ok-collect_keys.ensures (λ r fit it.
+    let both = c.take_due.ensures r it in
+    let is : IsDue r due = rw c.in-Some.is at both.1 in (
+      λ i. record r { redemptions = (ap (λ ks. remake (collected_where (is_among ks)) r.redemptions) keys ∙ collects_due r due is m left dropped) i },
+      c.fill_due.ensures _ (due_collected r due is m left dropped) (both.0 _),
+    ))

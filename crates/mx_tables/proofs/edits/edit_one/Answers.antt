@@ -39,7 +39,7 @@ pub returns-in-AddRedemption : goal.returns-in-AddRedemption
 returns-in-AddRedemption g c = rw c.in-AddRedemption.is c.insert_redemption.ensures
 
 pub returns-in-Collect : goal.returns-in-Collect
-returns-in-Collect g c = rw c.in-Collect.is c.collect.ensures
+returns-in-Collect g c = rw c.in-Collect.is c.collect_all.ensures
 
 pub returns-in-AddSettled : goal.returns-in-AddSettled
 returns-in-AddSettled g c = rw c.in-AddSettled.is c.insert_settled.ensures

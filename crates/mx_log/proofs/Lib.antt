@@ -1,0 +1,3 @@
+pub mod DamageLemmas
+pub mod FileLemmas
+pub mod FrameLemmas
