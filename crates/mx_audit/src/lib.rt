@@ -3,6 +3,7 @@
 
 mod audit;
 mod columns;
+pub mod copying;
 mod findings;
 mod look;
 mod misfits;
