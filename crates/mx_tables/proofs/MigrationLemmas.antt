@@ -120,7 +120,7 @@ module _ (old new : State) (has : old.now.schema ≡ office_schema) (ran : Execu
 
 -- ---- the table of settled details
 
-kept_store : (old new : Trees) (ts : List Table) (cs : List (List Row)) → KeepsRows ts old new → AllStore old ts cs → AllStore new ts cs
+pub kept_store : (old new : Trees) (ts : List Table) (cs : List (List Row)) → KeepsRows ts old new → AllStore old ts cs → AllStore new ts cs
 kept_store old new [] [] kept all = tt
 kept_store old new (t ∷ ts) (c ∷ cs) kept all = (subst (λ rows. Stores rows c) (sym kept.0) all.0, kept_store old new ts cs kept.1 all.1)
 kept_store old new ts cs kept all = absurd all

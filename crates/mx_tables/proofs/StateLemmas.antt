@@ -285,16 +285,16 @@ begun_live g sql params old new (inl h) = h.1.0.is_open
 begun_live g sql params old new (inr h) = (showed sql params (state g old) (state g new) _ h.1).2.is_open
 
 -- and the rows
-pub begun_stays : {S : Type 0} {begun : Bool} (g : Ghosts S) (sql : List ℕ) (params : Row) (old new : Held S) → IsText sql → IsSilent sql → IsOurs begun (state g old) → (old.in_transaction ≡ false → new.in_transaction ≡ false)
-    → Survives (state g old) (state g new) (CommitsShowing sql params (state g old)) → (HasCleanDisk (state g new) → HasBegun g sql params old new) → Stays begun (state g old) (state g new)
+pub begun_stays : {S : Type 0} {begun : Bool} {of : Schema} (g : Ghosts S) (sql : List ℕ) (params : Row) (old new : Held S) → IsPlain (understood of sql) → IsSilent sql → IsAt begun of (state g old) → (old.in_transaction ≡ false → new.in_transaction ≡ false)
+    → Survives (state g old) (state g new) (CommitsShowing sql params (state g old)) → (HasCleanDisk (state g new) → HasBegun g sql params old new) → StaysAt begun of (state g old) (state g new)
 begun_stays g sql params old new text silent ours mode survives begun =
     stays (state g old) (state g new) ours mode survives (λ now live. begun_open g sql params old new (begun now))
     (λ h has. inl (begun_plain g sql params old new (subst (λ s. IsPlain (understood s sql)) (sym has) text) (begun (sure (state g new) h).1)).1)
     (leaves_as sql params (state g old) (state g new) silent survives)
 
 -- and so does one that doesn't
-pub refused_stays : {S X : Type 0} {begun : Bool} (g : Ghosts S) (sql : List ℕ) (params : Row) (old new : Held S) (r : Result X Error) (e : Error) → r ≡ Err e → IsSilent sql → IsOurs begun (state g old)
-    → OnErr r (IsRefused g sql params old r new) → Stays begun (state g old) (state g new)
+pub refused_stays : {S X : Type 0} {begun : Bool} {of : Schema} (g : Ghosts S) (sql : List ℕ) (params : Row) (old new : Held S) (r : Result X Error) (e : Error) → r ≡ Err e → IsSilent sql → IsAt begun of (state g old)
+    → OnErr r (IsRefused g sql params old r new) → StaysAt begun of (state g old) (state g new)
 refused_stays g sql params old new (Ok x) e is silent ours h = absurd (cc)
 refused_stays g sql params old new (Err f) e is silent ours h =
     let left : HasCleanDisk (state g new) → Quits (state g old) (state g new) = λ clean. query_quits sql params (state g old) (state g new) f (h.err clean) in
@@ -308,7 +308,7 @@ refused_fails g sql params old new (Ok x) e is h clean = absurd (cc)
 refused_fails g sql params old new (Err f) e is h clean = subst (FailsToQuery sql params (state g old) (state g new)) {x = f} (cc) (h.err clean)
 
 -- a step to the next row, or one that fails, leaves the rows
-pub step_stays : {begun : Bool} (old new : State) → IsOurs begun old → (old.in_transaction ≡ false → new.in_transaction ≡ false) → Survives old new (λ _. ⊥) → (HasCleanDisk new → Quits old new) → Stays begun old new
+pub step_stays : {begun : Bool} {of : Schema} (old new : State) → IsAt begun of old → (old.in_transaction ≡ false → new.in_transaction ≡ false) → Survives old new (λ _. ⊥) → (HasCleanDisk new → Quits old new) → StaysAt begun of old new
 step_stays old new ours mode survives left = stays old new ours mode survives (λ clean. (quits old new (left clean)).was_open) (λ h has. left (sure new h).1) (leaves_less old new survives)
 
 pub failed_quits : (old new : State) (e : Error) → Fails old new ⊥ e ⊎ IsUnchanged old new → Quits old new

@@ -27,9 +27,10 @@ mod sums;
 pub mod tables;
 mod tokens;
 
-pub use asking::fault_of;
-pub use migration::{Migrated, migrate};
-pub use opening::{OpenFault, OpenRefused};
+pub use asking::{fault_of, run};
+pub use making::{Version, make_tables};
+pub use migration::{Migrated, find_version, migrate};
+pub use opening::{OpenFault, OpenRefused, is_blank, open_fault};
 pub use purses::find_purse;
 pub use results::find_archived;
 pub use tables::Tables;

@@ -67,8 +67,13 @@ fn upgrade_all<S: Alter>(conn: &mut Connection<S>) -> Result<(), StoreFault>
     }
 }
 
-/// The version of a store, whose schema is that of the version, and whose `meta` has its number.
-fn find_version<S: Alter>(alloc: Global, store: &mut Connection<S>) -> Result<Version, OpenFault>
+/// The version of a store, whose schema is that of the version, and whose `meta` has its number. A store with none is refused: for
+/// want of memory; as NotThisSchema, only where it has no table `meta`, or its schema and the version in `meta` aren't those of
+/// one version; or as Store, where it refuses the query, or its tables are others.
+pub fn find_version<S: Alter>(
+    alloc: Global,
+    store: &mut Connection<S>,
+) -> Result<Version, OpenFault>
     requires idle { store.old.in_transaction ≡ false }
     requires steady { IsTrue (state S.Store store.old).is_open
         → (state S.Store store.old).now ≡ (state S.Store store.old).committed }

@@ -44,7 +44,7 @@ pub struct OpenRefused<S: Alter> {
 }
 
 /// The same cause, of a call that opens.
-pub(crate) fn open_fault(fault: StoreFault) -> OpenFault
+pub fn open_fault(fault: StoreFault) -> OpenFault
     ensures { result ≢ NotThisSchema }
 {
     match fault {
@@ -72,7 +72,7 @@ fn refused_create(blank: bool, error: Error) -> OpenFault
 }
 
 /// Whether there is nothing in a schema.
-fn is_blank(schema: &Schema) -> bool
+pub fn is_blank(schema: &Schema) -> bool
     ensures blank { IsTrue result → schema.now ≡ no_schema }
     ensures other { result ≡ false → schema.now ≢ no_schema }
 {
