@@ -22,24 +22,26 @@ use Rattle.sqlite_schema.specs.Rules.{are_typed, are_present, clashes, guards, p
 use Rattle.sqlite_rules.specs.Action.{works}
 use Rattle.sqlite_sql.specs.Ops.{is_null}
 use Rattle.sqlite.specs.Effect.{IsDatabase}
-use Rattle.sqlite.specs.State.{State, Shown}
+use Rattle.sqlite.specs.Held.{Held}
+use Rattle.sqlite.specs.State.{IsLive, State, Shown}
 use Rattle.sqlite.specs.Values.{bound, bound_value}
 use Rattle.sqlite_value.specs.declared.value.ValueRef.{ValueRef}
 use Rattle.sqlite_value.specs.Value.{owned}
 use Rattle.mx_tables.specs.Made.{Blank}
 use Rattle.mx_book.specs.World.{World}
-use Rattle.mx_tables.specs.Holds.{SpellsIn}
+use Rattle.mx_tables.specs.Holds.{SpellsIn, SpellsOneIn}
 use Rattle.mx_tables.specs.Schema.{cells_in, schema_of}
-use Rattle.mx_tables.specs.States.{Steps}
+use Rattle.mx_tables.specs.States.{IsAt, Steps, worry}
 use Rattle.mx_tables.specs.declared.making.Version.{Version}
 use Rattle.mx_tables.specs.declared.making.Version.TheVariants.{One, Two}
 use Rattle.mx_tables.proofs.CallLemmas.{steps_none, steps_then, steps_to}
 use Rattle.mx_tables.proofs.MigrationLemmas.{kept_store}
+use Rattle.mx_tables.proofs.StateLemmas.{idle_sure, sure, sure_before}
 use Rattle.mx_tables.proofs.Statements.{puts}
 use Rattle.mx_audit.specs.Audited.{tree_of}
 use Rattle.mx_audit.specs.Copies.{Copies, Fills, FillsTables, IsAmong, row_text, rows_text, sources_in, whole_of}
 use Rattle.mx_audit.specs.Raw.{AreInOrder, AreNumbered}
-use Rattle.mx_audit.specs.Scans.{TakesAll}
+use Rattle.mx_audit.specs.Scans.{ScansAt, TakesAll}
 use Rattle.mx_audit.specs.declared.copying.Filler.{Filler}
 use Rattle.mx_audit.specs.declared.typed.Source.{Source}
 use Rattle.mx_audit.proofs.CopyTexts.{known, place_of, table_at, terms_of, uncounted}
@@ -275,6 +277,40 @@ copy_spells v old new w copy s =
       };
       spells = s.spells;
     }
+
+turned_rows : (old new : Trees) (ts : List Table) → KeepsRows ts old new → KeepsRows ts new old
+turned_rows old new [] kept = tt
+turned_rows old new (t ∷ ts) kept = (sym kept.0, turned_rows old new ts kept.1)
+
+turned : (v : Version) (old new : Database) → Copies v old new → Copies v new old
+turned v old new copy = record { from = copy.to; to = copy.from; rows = turned_rows old.trees new.trees (schema_of v).tables copy.rows }
+
+same_version : (v w : Version) → schema_of v ≡ schema_of w → v ≡ w
+same_version One One e = refl
+same_version One Two e = absurd (let many : ◌≡◌ {A = ℕ} 11 12 = ap (λ (s : Schema). length s.tables) e in omega arith)
+same_version Two One e = absurd (let many : ◌≡◌ {A = ℕ} 12 11 = ap (λ (s : Schema). length s.tables) e in omega arith)
+same_version Two Two e = refl
+
+-- and no other
+pub copy_spells_one : (v version : Version) (old new : Database) (w : World) → Copies version old new → SpellsOneIn v old w → SpellsOneIn v new w
+copy_spells_one v version old new w copy s =
+    let same = same_version version v (sym copy.from ∙ s.spelled.holds.has.schema) in
+    let it = subst (λ x. Copies x old new) same copy in
+    record { spelled = copy_spells v old new w it s.spelled; only = λ u other. s.only u (copy_spells v new old u (turned v old new it) other) }
+
+-- ---- the tables of a store
+
+pub copies_all : {S T : Type 0} (g : Ghosts S) (h : Ghosts T) (v : Version) (a b : Held S) (from to : Filler T h) → IsLive (state g a)
+    → (IsTrue (state g a).is_open → (state g a).now ≡ (state g a).committed → IsDatabase (state g a).now → AreInOrder (state g a).now)
+    → ScansAt {T = Unit {0}} (schema_of v) g a b (Ok tt) (FillsTables h (state g a).now.trees (sources_in v) from to) → IsAt false (schema_of v) (state g a) → worry (state g b) ≡ 0
+    → Steps h from.tx to.tx going (λ _. Blank (schema_of v) (seen h from) → Copies v (state g a).now (seen h to).now)
+copies_all g h v a b from to live ordered scans ours calm =
+    let kept = scans.stays ours in
+    let before = sure_before (state g a) (state g b) kept.lasts calm in
+    let first = sure (state g a) before in
+    let database = (live first.0).0 in
+    let steady = ours.steady before (ours.idle first.1 refl) in
+    fills_all h v (state g a).now (ours.schema before) database (ordered first.0 (sym steady) database) from to (scans.value ours (idle_sure (state g b) calm))
 
 -- ---- the parameters of a row
 

@@ -4,6 +4,9 @@ ghost use Rattle.std.specs.List.{AllByRecursion};
 ghost use Rattle.sqlite.specs.Held.{state};
 ghost use Rattle.sqlite.specs.State.{HasCleanDisk};
 ghost use Rattle.sqlite.specs.Values.{bound, bound_value};
+ghost use Rattle.mx_book.specs.World.{World};
+ghost use Rattle.mx_tables.specs.Holds.{SpellsOneIn};
+ghost use Rattle.mx_tables.specs.declared.making.Version.{Version};
 ghost use Rattle.mx_tables.specs.Migration.{IsWhole};
 ghost use Rattle.mx_tables.specs.Made.{IsUnknown};
 ghost use Rattle.mx_tables.specs.Schema.{no_schema, number_of, schema_of};
@@ -175,9 +178,9 @@ fn copy_as<S: Ordered, T: Alter>(
     ensures stays { IsAt false (schema_of version) (state S.Store conn.old)
         → StaysAt false (schema_of version) (state S.Store conn.old) (state S.Store conn.new) }
     ensures copies { IsAt false (schema_of version) (state S.Store conn.old)
-        → to.old.schema ≡ no_schema → OnOk result (Commits (state T.Store to.old)
-        (state T.Store to.new) result (IsSound (state S.Store conn.new)
-        → Copies version (state S.Store conn.old).now (state T.Store to.new).now)) }
+        → IsSound (state S.Store conn.new) → to.old.schema ≡ no_schema
+        → OnOk result (Commits (state T.Store to.old) (state T.Store to.new) result
+        (Copies version (state S.Store conn.old).now (state T.Store to.new).now)) }
     ensures live { OnOk result (IsAwake (state S.Store conn.new)) }
 {
     // The reader says that the tables obey their schema.
@@ -212,11 +215,14 @@ pub fn copy<S: Ordered, T: Alter>(
 ) -> Result<Version, OpenFault>
     ensures rests { StaysIdle (state S.Store conn.old) (state S.Store conn.new) }
     ensures live { OnOk result (IsAwake (state S.Store conn.new)) }
-    ensures ours { IfOk result (λ version.
+    ensures ours { IsSound (state S.Store conn.new) → IfOk result (λ version.
         IsAt false (schema_of version) (state T.Store to.new)) }
-    ensures copies { IsSound (state S.Store conn.new) → HasCleanDisk (state T.Store to.new)
-        → IfOk result (λ version. IsWhole version (state S.Store conn.old).now
-        × Copies version (state S.Store conn.old).now (state T.Store to.new).now) }
+    ensures copies { IsSound (state S.Store conn.new) → IfOk result (λ version.
+        IsWhole version (state S.Store conn.old).now × (HasCleanDisk (state T.Store to.new)
+        → Copies version (state S.Store conn.old).now (state T.Store to.new).now)) }
+    ensures spells { IsSound (state S.Store conn.new) → HasCleanDisk (state T.Store to.new)
+        → OnOk result ((v : Version) (w : World) → SpellsOneIn v (state S.Store conn.old).now w
+        → SpellsOneIn v (state T.Store to.new).now w) }
     ensures unknown { IsHonest (state S.Store conn.new) → IfErr result
         (λ fault. fault ≡ NotThisSchema → IsUnknown number_of (state S.Store conn.old).now) }
 {

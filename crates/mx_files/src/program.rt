@@ -12,7 +12,7 @@ use mx_desk::Counted;
 use mx_tasks::exits::{fail_to, refuse_to, show_to};
 use mx_tasks::voice::Voice;
 use mx_tasks::{Alarmed, TaskFault};
-use sqlite::{FileFrom, Start};
+use sqlite::{FileFrom, Start, Unknown};
 use sqlite_disk::Disk;
 use std::alloc::{AllocError, Global};
 use std::io;
@@ -43,16 +43,19 @@ pub struct Exit<D: Disk> {
     pub status: ExitCode,
     /// The files.
     pub left: Left<D>,
+    /// Those of a copy, where the task made one.
+    pub copy: Left<FileFrom<Unknown>>,
 }
 
 impl<D: Disk> Exit<D> {
     /// The end of a program that leaves no files of books.
     fn of(status: ExitCode) -> Exit<D>
-        ensures { result ≡ record { status = status; left = Left.Nothing } }
+        ensures { result ≡ record { status = status; left = Left.Nothing; copy = Left.Nothing } }
     {
         Exit {
             status,
             left: Left::Nothing,
+            copy: Left::Nothing,
         }
     }
 }
@@ -140,10 +143,11 @@ fn answer_line<S: Start, R: Read, W: Write + Drop, V: Voice>(
 {
     match read {
         Ok(task) => {
-            let Ended { answer, left } = perform_over(rt, start, &task, devices);
+            let Ended { answer, left, copy } = perform_over(rt, start, &task, devices);
             Exit {
                 status: end_task(&mut devices.voice, answer),
                 left,
+                copy,
             }
         }
         Err(fault) => Exit::of(end_line(devices, &fault)),
