@@ -1,6 +1,6 @@
 -- What the rows of tables are that were copied one after another.
 use Rattle.mx_tables.proofs.Common.{◌≡◌, ℕ, ◌&&◌, Bool, true, false, List, [], ◌∷◌, ◌++◌, Some, Ok, refl, ◌∙◌, inl, inr, arith, length, take, ◌+◌, ◌<◌, column, Null, Row, Database, Executes, state, going, AllByRecursion}
-use Rattle.std.proofs.Common.{◌≢◌, ◌==◌, ◌||◌, if◌then◌else◌, Less, append_assoc, drop, get_or, map, not, slice_get, sym, ap, subst, suc, zero}
+use Rattle.std.proofs.Common.{Err, Result, OnOk, ◌≢◌, ◌==◌, ◌||◌, if◌then◌else◌, Less, append_assoc, drop, get_or, map, not, slice_get, sym, ap, subst, suc, zero}
 use Rattle.std.specs.Prelude.{IsTrue}
 use Rattle.std.specs.List.{list_all, list_any}
 use Rattle.std.specs.Cmp.{first_so}
@@ -23,7 +23,7 @@ use Rattle.sqlite_rules.specs.Action.{works}
 use Rattle.sqlite_sql.specs.Ops.{is_null}
 use Rattle.sqlite.specs.Effect.{IsDatabase}
 use Rattle.sqlite.specs.Held.{Held}
-use Rattle.sqlite.specs.State.{IsLive, State, Shown}
+use Rattle.sqlite.specs.State.{HasCleanDisk, IsLive, State, Shown}
 use Rattle.sqlite.specs.Values.{bound, bound_value}
 use Rattle.sqlite_value.specs.declared.value.ValueRef.{ValueRef}
 use Rattle.sqlite_value.specs.Value.{owned}
@@ -31,12 +31,14 @@ use Rattle.mx_tables.specs.Made.{Blank}
 use Rattle.mx_book.specs.World.{World}
 use Rattle.mx_tables.specs.Holds.{SpellsIn, SpellsOneIn}
 use Rattle.mx_tables.specs.Schema.{cells_in, schema_of}
-use Rattle.mx_tables.specs.States.{IsAt, Steps, worry}
+use Rattle.mx_tables.specs.Migration.{IsWhole}
+use Rattle.mx_book.specs.declared.contract.StoreFault.{StoreFault}
+use Rattle.mx_tables.specs.States.{Commits, IsAt, Runs, StaysAt, StaysIdle, Steps, worry}
 use Rattle.mx_tables.specs.declared.making.Version.{Version}
 use Rattle.mx_tables.specs.declared.making.Version.TheVariants.{One, Two}
 use Rattle.mx_tables.proofs.CallLemmas.{steps_none, steps_then, steps_to}
 use Rattle.mx_tables.proofs.MigrationLemmas.{kept_store}
-use Rattle.mx_tables.proofs.StateLemmas.{idle_sure, sure, sure_before}
+use Rattle.mx_tables.proofs.StateLemmas.{idle_sure, rests_at, rests_then, sure, sure_before}
 use Rattle.mx_tables.proofs.Statements.{puts}
 use Rattle.mx_audit.specs.Audited.{tree_of}
 use Rattle.mx_audit.specs.Copies.{Copies, Fills, FillsTables, IsAmong, row_text, rows_text, sources_in, whole_of}
@@ -311,6 +313,41 @@ copies_all g h v a b from to live ordered scans ours calm =
     let database = (live first.0).0 in
     let steady = ours.steady before (ours.idle first.1 refl) in
     fills_all h v (state g a).now (ours.schema before) database (ordered first.0 (sym steady) database) from to (scans.value ours (idle_sure (state g b) calm))
+
+-- a store was found to be of a version, and was copied as one
+module _ {S T E : Type 0} (g : Ghosts S) (h : Ghosts T) (version : Version) (old mid new : Held S) (before after : Held T) (found : StaysAt false (schema_of version) (state g old) (state g mid))
+    (whole : worry (state g mid) ≡ 0 → IsWhole version (state g old).now) (went : StaysAt false (schema_of version) (state g mid) (state g new)) where
+  pub rests_copied : StaysIdle (state g old) (state g new)
+  rests_copied = rests_then (state g old) (state g mid) (state g new) (rests_at (state g old) (state g mid) found) (rests_at (state g mid) (state g new) went)
+
+  module _ (commits : worry (state g new) ≡ 0 → Commits {T = Unit {0}} {E = E} (state h before) (state h after) (Ok tt) (Copies version (state g mid).now (state h after).now)) (calm : worry (state g new) ≡ 0) where
+    was_calm : worry (state g mid) ≡ 0
+    was_calm = sure_before (state g mid) (state g new) went.lasts calm
+
+    pub whole_copied : IsWhole version (state g old).now
+    whole_copied = whole was_calm
+
+    pub rows_copied : HasCleanDisk (state h after) → Copies version (state g old).now (state h after).now
+    rows_copied clean = subst (λ d. Copies version d (state h after).now) (found.same (idle_sure (state g mid) was_calm)) ((commits calm).all clean).0
+
+    pub ours_copied : (v : Version) → (state g old).now.schema ≡ schema_of v → IsAt false (schema_of v) (state h after)
+    ours_copied v has =
+        let done = commits calm in
+        let to = λ (sound : worry (state h after) ≡ 0). (rows_copied (sure (state h after) sound).1).to ∙ sym whole_copied.schema ∙ has in
+        let settled = λ (sound : worry (state h after) ≡ 0). (done.all (sure (state h after) sound).1).1 in
+        record {
+          idle = λ clean none. done.ended clean;
+          steady = λ sound outside. settled sound;
+          schema = to;
+          base = λ sound. ap (λ (d : Database). d.schema) (settled sound) ∙ to sound;
+        }
+
+-- ---- one row
+
+pub fills_so : {S : Type 0} (g : Ghosts S) (r : Result (Unit {0}) StoreFault) (old new : Filler S g) (row : Row) → new.source ≡ old.source → Runs g (row_text old.source) (map bound_value row) old.tx new.tx r (λ _. Unit {0})
+    → OnOk r (Fills g old row new)
+fills_so g (Ok x) old new row same h = record { source = same; runs = h }
+fills_so g (Err e) old new row same h = tt
 
 -- ---- the parameters of a row
 

@@ -215,8 +215,9 @@ pub fn copy<S: Ordered, T: Alter>(
 ) -> Result<Version, OpenFault>
     ensures rests { StaysIdle (state S.Store conn.old) (state S.Store conn.new) }
     ensures live { OnOk result (IsAwake (state S.Store conn.new)) }
-    ensures ours { IsSound (state S.Store conn.new) → IfOk result (λ version.
-        IsAt false (schema_of version) (state T.Store to.new)) }
+    ensures ours { IsSound (state S.Store conn.new) → OnOk result ((v : Version)
+        → (state S.Store conn.old).now.schema ≡ schema_of v
+        → IsAt false (schema_of v) (state T.Store to.new)) }
     ensures copies { IsSound (state S.Store conn.new) → IfOk result (λ version.
         IsWhole version (state S.Store conn.old).now × (HasCleanDisk (state T.Store to.new)
         → Copies version (state S.Store conn.old).now (state T.Store to.new).now)) }
