@@ -5,6 +5,7 @@ use Rattle.std.specs.Prelude.{IsTrue}
 use Rattle.std.specs.List.{list_all, list_any}
 use Rattle.std.specs.Cmp.{first_so}
 use Rattle.std.proofs.lemmas.Bool.{cases_Bool}
+use Rattle.std.proofs.lemmas.Bool.Decides.{nat_tests}
 use Rattle.sqlite_value.specs.Order.{value_cmp}
 use Rattle.sqlite_trees.specs.Tree.{Trees, IsTable, put_row, rowid}
 use Rattle.sqlite_trees.specs.declared.store.Store.{Ghosts}
@@ -171,16 +172,22 @@ if_first b c x y e = rw e refl
 if_later : {X : Type 0} (b c : Bool) (x y : X) → b ≡ false → (if (b || c) then x else y) ≡ (if c then x else y)
 if_later b c x y e = rw e refl
 
+same_tree : (m n : ℕ) → (m == n) ≡ true → m ≡ n
+same_tree m n h = grind (arith, nat_tests, h)
+
+other_tree : (m n : ℕ) → (m == n) ≡ false → m ≡ n → ⊥
+other_tree m n h e = grind (arith, nat_tests, h, e)
+
 left_one : (db : Trees) (from : Source) (left : List Source) (a b : State) (tree : ℕ) → IsTable (db (tree_of from)) → is_left left (tree_of from) ≡ false
     → b.now.trees (tree_of from) ≡ put_all (a.now.trees (tree_of from)) (db (tree_of from)) → (tree ≢ tree_of from → b.now.trees tree ≡ a.now.trees tree)
     → a.now.trees tree ≡ (if is_left (from ∷ left) tree then [] else db tree) → b.now.trees tree ≡ (if is_left left tree then [] else db tree)
 left_one db from left a b tree rise apart there other was = elim (cases_Bool (tree_of from == tree)) [
   | inl same ↦ (
-      let e : tree_of from ≡ tree = omega (arith, same) in
+      let e = same_tree (tree_of from) tree same in
       let empty : a.now.trees (tree_of from) ≡ [] = subst (λ n. a.now.trees n ≡ []) (sym e) (was ∙ if_first _ _ [] (db tree) same) in
       subst (λ n. b.now.trees n ≡ (if is_left left n then [] else db n)) e
       (there ∙ ap (λ rows. put_all rows (db (tree_of from))) empty ∙ put_anew (db (tree_of from)) rise ∙ sym (if_false _ [] (db (tree_of from)) apart)))
-  | inr differs ↦ other (λ e. absurd (omega (arith, differs, e))) ∙ was ∙ if_later _ _ [] (db tree) differs
+  | inr differs ↦ other (λ e. other_tree (tree_of from) tree differs (sym e)) ∙ was ∙ if_later _ _ [] (db tree) differs
 ]
 
 left_all : (v : Version) (db : Trees) (from : Source) (left : List Source) (a b : State) → IsTable (db (tree_of from)) → is_left left (tree_of from) ≡ false → Puts v from (db (tree_of from)) a b
@@ -315,12 +322,12 @@ copies_all g h v a b from to live ordered scans ours calm =
     fills_all h v (state g a).now (ours.schema before) database (ordered first.0 (sym steady) database) from to (scans.value ours (idle_sure (state g b) calm))
 
 -- a store was found to be of a version, and was copied as one
-module _ {S T E : Type 0} (g : Ghosts S) (h : Ghosts T) (version : Version) (old mid new : Held S) (before after : Held T) (found : StaysAt false (schema_of version) (state g old) (state g mid))
+module _ {S T : Type 0} (g : Ghosts S) (h : Ghosts T) (version : Version) (old mid new : Held S) (before after : Held T) (found : StaysAt false (schema_of version) (state g old) (state g mid))
     (whole : worry (state g mid) ≡ 0 → IsWhole version (state g old).now) (went : StaysAt false (schema_of version) (state g mid) (state g new)) where
   pub rests_copied : StaysIdle (state g old) (state g new)
   rests_copied = rests_then (state g old) (state g mid) (state g new) (rests_at (state g old) (state g mid) found) (rests_at (state g mid) (state g new) went)
 
-  module _ (commits : worry (state g new) ≡ 0 → Commits {T = Unit {0}} {E = E} (state h before) (state h after) (Ok tt) (Copies version (state g mid).now (state h after).now)) (calm : worry (state g new) ≡ 0) where
+  module _ {E : Type 0} (commits : worry (state g new) ≡ 0 → Commits {T = Unit {0}} {E = E} (state h before) (state h after) (Ok tt) (Copies version (state g mid).now (state h after).now)) (calm : worry (state g new) ≡ 0) where
     was_calm : worry (state g mid) ≡ 0
     was_calm = sure_before (state g mid) (state g new) went.lasts calm
 

@@ -193,6 +193,14 @@ nothing_said : {T E : Type 0} (r : Result T E) → IfOk r (λ _. Unit {0})
 nothing_said (Ok x) = tt
 nothing_said (Err e) = tt
 
+module _ {S : Type 0} (g : Ghosts S) where
+  -- a scan as a read that says nothing of the rows
+  pub scans_read : {T U : Type 0} {old new : Held S} {x : T} {r : Result U StoreFault} {did : Type 0} → Scans g old new (Ok x) did → Reads g old new r (λ _ _. Unit {0})
+  scans_read {r = r} h = record { stays = h.stays; value = λ ours calm rows holds. nothing_said r; live = on_ok_anyway r h.live }
+
+  pub scan_fails : {T U : Type 0} {old new : Held S} {q : Result T StoreFault} {r : Result U StoreFault} {did : Type 0} → Scans g old new q did → IsErr r → Reads g old new r (λ _ _. Unit {0})
+  scan_fails {r = r} h fault = record { stays = h.stays; value = λ ours calm rows holds. nothing_said r; live = on_ok_never r _ fault }
+
 module _ {S : Type 0} (g : Ghosts S) {of : Schema} where
   -- without doubt the schema was this one
   was_of : {begun : Bool} (old new : Held S) → IsAt begun of (state g old) → StaysAt begun of (state g old) (state g new) → unsure begun (state g new) ≡ 0 → (state g old).now.schema ≡ of
@@ -212,13 +220,6 @@ module _ {S : Type 0} (g : Ghosts S) {of : Schema} where
   pub scans_fault : {T U : Type 0} {old new : Held S} {q : Result T StoreFault} {r : Result U StoreFault} {did other : Type 0}
       → ScansAt of g old new q did → IsErr r → ScansAt of g old new r other
   scans_fault {r = r} {other = other} h fault = record { stays = h.stays; value = λ ours calm. on_ok_never r other fault; live = on_ok_never r _ fault }
-
-  -- a scan as a read that says nothing of the rows
-  pub scans_read : {T U : Type 0} {old new : Held S} {x : T} {r : Result U StoreFault} {did : Type 0} → Scans g old new (Ok x) did → Reads g old new r (λ _ _. Unit {0})
-  scans_read {r = r} h = record { stays = h.stays; value = λ ours calm rows holds. nothing_said r; live = on_ok_anyway r h.live }
-
-  pub scan_fails : {T U : Type 0} {old new : Held S} {q : Result T StoreFault} {r : Result U StoreFault} {did : Type 0} → Scans g old new q did → IsErr r → Reads g old new r (λ _ _. Unit {0})
-  scan_fails {r = r} h fault = record { stays = h.stays; value = λ ours calm rows holds. nothing_said r; live = on_ok_never r _ fault }
 
   -- a scan after a scan: both are of the same database
   pub scans_then : {T U : Type 0} {a b c : Held S} {x : T} {r : Result U StoreFault} {one two : Type 0}

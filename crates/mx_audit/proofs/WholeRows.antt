@@ -100,7 +100,7 @@ row_kept t (Text b ∷ vs) none plain numbered typed present = absurd (cc)
 row_kept t (Blob b ∷ vs) none plain numbered typed present = absurd (cc)
 
 -- so many columns from a place on
-columns_from : ℕ → ℕ → Row → Row
+abbrev columns_from : ℕ → ℕ → Row → Row
 columns_from at zero r = []
 columns_from at (suc n) r = column r at ∷ columns_from (suc at) n r
 
@@ -148,10 +148,13 @@ plain_row from p r raw present =
 null_is : (v : Value) → is_null v ≡ true → v ≡ Null
 null_is v h = grind arith
 
+never : ◌≡◌ {A = Bool} false true → ⊥
+never h = cc
+
 meta_row : (r : Row) → IsRaw Meta r → are_present (table_of Meta).key 0 (table_of Meta).columns r ≡ true → IsWholeRow Meta r
 meta_row [] raw present = absurd (let h = raw.numbered in cc)
-meta_row (x ∷ []) raw present = absurd (let h = second_so _ _ (first_so _ _ present) in cc)
-meta_row (x ∷ y ∷ []) raw present = absurd (let h = second_so _ _ (first_so _ _ present) in cc)
+meta_row (x ∷ []) raw present = absurd (never present)
+meta_row (x ∷ y ∷ []) raw present = absurd (never present)
 meta_row (Int id ∷ y ∷ z ∷ []) raw present =
     let none = null_is y (first_so _ _ raw.typed) in
     let it = number_kept z (first_so _ _ (second_so _ _ raw.typed)) in
@@ -160,7 +163,7 @@ meta_row (Null ∷ y ∷ z ∷ []) raw present = absurd (let h = raw.numbered in
 meta_row (Real x ∷ y ∷ z ∷ []) raw present = absurd (let h = raw.numbered in cc)
 meta_row (Text t ∷ y ∷ z ∷ []) raw present = absurd (let h = raw.numbered in cc)
 meta_row (Blob b ∷ y ∷ z ∷ []) raw present = absurd (let h = raw.numbered in cc)
-meta_row (x ∷ y ∷ z ∷ w ∷ row) raw present = absurd (let h = second_so _ _ (second_so _ _ raw.typed) in cc)
+meta_row (x ∷ y ∷ z ∷ w ∷ row) raw present = absurd (never (second_so _ _ (second_so _ _ raw.typed)))
 
 plain_table : (from : Source) → (from ≡ Meta → ⊥) → IsPlainTable from
 plain_table Meta other = absurd (other refl)

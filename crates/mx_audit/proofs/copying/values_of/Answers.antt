@@ -6,8 +6,8 @@ use Rattle.mx_audit.proofs.copying.values_of.Goals as goal
 
 pub loop-at-preserved : goal.loop-at-preserved
 loop-at-preserved c =
-    let it = c.in-Ok.ensures in
-    ap bound c.in_ok-push.ensures ∙ bound_more c.args.row.now c.loop-at.at c.in-Ok.value c.loop-at.values.items it.0 it.1 c.loop-at.invariant
+    let it = c.in-Ok.ensures.ok in
+    ap bound c.in_ok-push-in-Ok.ensures.items ∙ bound_more c.args.row.now c.loop-at.at c.in-Ok.value c.loop-at.values.items it.0 it.1 c.loop-at.invariant
 
 pub returns : goal.returns
-returns c = c.loop-at.invariant ∙ ap (map bound_value) (take_all c.args.row.now (search rules))
+returns c = c.loop-at.invariant ∙ ap (map bound_value) (take_all c.loop-at.at c.args.row.now (search rules))
