@@ -93,7 +93,7 @@ module _ {S : Type 0} {of : Schema} (g : Ghosts S) where
   module _ {X A : Type 0} (does : Trees → X → A → A → Type 0) where
     -- one more
     pub over_more : (a b c : Held S) (all : List X) (at : ℕ) (x : X) (old mid new : A) → at < length all → x ≡ get_or all at x
-        → IsOver of g a b (Each (does (state g a).now.trees) (take at all) old mid) → ScansAt of {T = Unit {0}} g b c (Ok tt) (does (state g b).now.trees x mid new)
+        → IsOver of g a b (Each (does (state g a).now.trees) (take at all) old mid) → ScansAt {T = Unit {0}} of g b c (Ok tt) (does (state g b).now.trees x mid new)
         → IsOver of g a c (Each (does (state g a).now.trees) (take (at + 1) all) old new)
     over_more a b c all at x old mid new within is was step = record {
       stays = λ ours. let kept = was.stays ours in stays_then (state g a) (state g b) (state g c) kept (step.stays kept.ours);
@@ -106,9 +106,9 @@ module _ {S : Type 0} {of : Schema} (g : Ghosts S) where
 
     -- all of them
     pub over_all : (a b : Held S) (all : List X) (at : ℕ) (old new : A) → length all ≤ at → IsAwake (state g b)
-        → IsOver of g a b (Each (does (state g a).now.trees) (take at all) old new) → ScansAt of {T = Unit {0}} g a b (Ok tt) (Each (does (state g a).now.trees) all old new)
+        → IsOver of g a b (Each (does (state g a).now.trees) (take at all) old new) → ScansAt {T = Unit {0}} of g a b (Ok tt) (Each (does (state g a).now.trees) all old new)
     over_all a b all at old new past live was = record {
       stays = was.stays;
-      value = λ ours calm. subst (λ (l : List X). Each (does (state g a).now.trees) l old new) (take_all all past) (was.value ours calm);
+      value = λ ours calm. subst (λ (l : List X). Each (does (state g a).now.trees) l old new) (take_all at all past) (was.value ours calm);
       live = live;
     }
