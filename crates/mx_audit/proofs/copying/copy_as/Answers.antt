@@ -32,9 +32,9 @@ returns-in-Ok-commit-clause-copies g c ours calm blank =
     let old = state g.T.Store c.args.to.now in
     let mid = state g.T.Store c.fill_all.new.filler.tx.conn.now in
     let new = state g.T.Store c.commit.new.self.0 in
-    let same : c.commit.new.self.0 ≡ c.to-2-1.given.0 = search rules in
-    let filled = copies_all g.S.Store g.T.Store c.args.version c.args.conn.now c.fill_all.new.conn _ c.fill_all.new.filler c.schema-_schema.ensures.live (g.met.S.Ordered.in_order c.args.conn.now) c.in_ok-fill_all.ensures ours calm in
+    let filled = copies_all g.S.Store g.T.Store c.args.version c.args.conn.now c.fill_all.new.conn _ c.fill_all.new.filler c.schema-schema.ensures.live (g.met.S.Ordered.in_order c.args.conn.now) c.in_ok-fill_all.ensures ours calm in
     let step = steps_then g.T.Store c.in_default.ensures filled in
+    let same : c.commit.new.self.0 ≡ c.to-2-1.given = search (rules, step.same_reference, filled.same_reference) in
     commits_as g.T.Store old _ _ (Ok tt) (λ h. Copies c.args.version from (state g.T.Store h).now) same
     (committed_all old (state g.T.Store c.in-Ok.tx.conn.now) mid new c.in-Ok.tx.at c.requires c.in-Ok.ensures.survives c.in-Ok.ensures.ok c.in-Ok-commit.ensures.survives.clean step.within
     (λ clean. subst (λ n. ReleasesAt mid new n) step.place (c.in-Ok-commit.ensures.ok clean)) _
