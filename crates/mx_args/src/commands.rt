@@ -58,7 +58,7 @@ const TOKEN: Argument = Argument {
 };
 
 // The commands in the order of help.
-static FORMS: [Form; 7] = [
+static FORMS: [Form; 8] = [
     Form {
         name: "run",
         full_name: "purse-office run",
@@ -127,7 +127,7 @@ static FORMS: [Form; 7] = [
     Form {
         name: "report",
         full_name: "purse-office report",
-        about: "Prints the reconciliation of the books, or the statement of a purse",
+        about: "Prints the reconciliation of the books, or the statements of purses",
         arguments: &[
             FILE,
             Argument {
@@ -136,6 +136,12 @@ static FORMS: [Form; 7] = [
                 required: false,
                 help: "The purse whose statement is printed",
             },
+            Argument {
+                id: "statements",
+                kind: Kind::Flag,
+                required: false,
+                help: "Prints the statements of all purses; not with --purse",
+            },
         ],
     },
     Form {
@@ -143,6 +149,20 @@ static FORMS: [Form; 7] = [
         full_name: "purse-office check",
         about: "Tells whether a file of books is sound, and what is wrong in it",
         arguments: &[FILE],
+    },
+    Form {
+        name: "copy",
+        full_name: "purse-office copy",
+        about: "Copies the books to a new file",
+        arguments: &[
+            FILE,
+            Argument {
+                id: "TO",
+                kind: Kind::Word,
+                required: true,
+                help: "The new file, which isn't there yet",
+            },
+        ],
     },
     Form {
         name: "migrate",

@@ -1,6 +1,6 @@
 -- What the bytes of files hold, and what a close leaves of them.
 use Rattle.std.proofs.Common.{◌≡◌, ◌≤◌, ◌⊎◌, Bor, Bool, true, false, ℕ, inl, inr, List, Ok, Err, None, Option, Some, Result, IsTrue, ap, ap₂, arith, refl, rules, sym, subst, ◌∙◌}
-use Rattle.std.proofs.lemmas.Result.{on_err_weaker}
+use Rattle.std.proofs.lemmas.Result.{IfOk-weaker, on_err_weaker}
 use Rattle.std.specs.Prelude.{IfOk, IsErr, IsOk, OnErr, OnOk}
 use mathlib.Core.Logic.{∥∥₁_elim, ∥∥₁_map}
 use Rattle.sqlite_disk.specs.declared.Disk.{Ghosts}
@@ -41,13 +41,14 @@ use Rattle.mx_tasks.specs.declared.work.Done.{Done as Work}
 use Rattle.mx_files.specs.declared.closing.Ended.{Ended}
 use Rattle.mx_args.specs.declared.task.Task.{Task as Planned}
 use Rattle.mx_files.specs.Opened.{IsRefusal, IsWrong, open_fault_of}
-use Rattle.mx_files.specs.Performed.{Checks, EndsRun, EndsWith, EndsWork, Performs, PerformsAct, PerformsPlan, Streams, ended_of}
+use Rattle.mx_files.specs.Performed.{Checks, EndsRun, EndsWith, EndsWork, Performs, PerformsAct, PerformsPlan, Streams, ended_of, CopiesBooks, HoldTaken, MigratesBooks, PerformsCopy, EndsSaying}
 use Rattle.mx_files.specs.Plans.{planned_task}
 use Rattle.mx_files.specs.declared.plan.Plan.{Plan}
 use Rattle.mx_files.specs.declared.plan.Plan.TheVariants.{InFile}
 use Rattle.mx_files.specs.declared.plan.Act.{Act}
-use Rattle.mx_files.specs.InFiles.{AreClosed, AreHonest, AreShut, Closes, HoldBooksAlone, HoldBooksIn, HoldTables, HoldTablesIn, HoldTrees, HoldWorld, IsLeftOf, IsOpenedOver, IsRefused, Keeps, Raises, closed_answer, version_before}
+use Rattle.mx_files.specs.InFiles.{AreClosed, AreHonest, AreShut, Closes, HoldBooksAlone, HoldBooksIn, HoldTables, HoldTablesIn, HoldTrees, HoldWorld, IsLeftOf, IsOpenedOver, IsRefused, Keeps, Raises, closed_answer, version_before, HoldCopy, HoldRaised, IsKept}
 use Rattle.mx_files.specs.declared.closing.Left.{Left}
+use Rattle.mx_files.proofs.FolderLemmas.{on_any}
 use Rattle.mx_files.specs.declared.closing.Left.TheVariants.{Closed, Unclosed, Nothing}
 
 -- tables that represent a World have the schema of the office, and represent no other
@@ -73,6 +74,10 @@ low_if_clean s clean = rw (clean_of s.is_clean clean) (low_at s.is_open)
 -- a disk that told no lie had told none before
 pub clean_before : (old new : State) → worry old ≤ worry new → worry new ≤ 1 → HasCleanDisk old
 clean_before old new later low = not_lied old (omega (arith, later, low))
+
+-- a store to which nothing happens rests
+pub rests_none : (s : State) → StaysIdle s s
+rests_none s = record { autocommit = λ idle. idle; later = omega arith; same = λ sound. refl; stops = λ honest db left. left }
 
 module _ {D : Type 0} {g : Ghosts D} where
   -- a close of the books of a World leaves their bytes
@@ -159,8 +164,13 @@ module _ {D : Type 0} {g : Ghosts D} where
       closes.trees honest (file_state c).now.trees (rests.autocommit opens.autocommit) (λ sound. ap (λ (db : Database). db.trees) (rests.same sound))
       (inr (λ found may. law found opens.is_open (rests.stops (closes.honest honest) found may) ∙ sym (ap (λ (db : Database). db.trees) opens.clean)))
 
+  pub kept_so : (c last : Held (FileStore D g)) (left : Left D g) → ((db : Trees) → IsTrue (file_state c).is_open → (file_state c).may_leave db → db ≡ (file_state c).committed.trees) → StaysIdle (file_state c) (file_state last) → Closes last left
+      → AreHonest left → IsKept c left
+  kept_so c last left law rests closes honest =
+      record { clean = clean_before (file_state c) (file_state last) rests.later (closes.honest honest); held = refused_held c last left law rests closes honest }
+
   -- which is the database of the bytes over which it was opened
-  keeps_so : (c : Held (FileStore D g)) (bytes : Image) (left : Left D g) → HasCleanDisk (file_state c) → IsOpenedOver bytes c → (Opens (file_state c) → HoldTrees left (file_state c).now.trees) → Keeps bytes left (file_state c).now
+  pub keeps_so : (c : Held (FileStore D g)) (bytes : Image) (left : Left D g) → HasCleanDisk (file_state c) → IsOpenedOver bytes c → (Opens (file_state c) → HoldTrees left (file_state c).now.trees) → Keeps bytes left (file_state c).now
   keeps_so c bytes left clean over held = by (over clean) where
     by : FindsIn bytes (file_state c) × IsOpened c → Keeps bytes left (file_state c).now
     by (finds, opened) = record {
@@ -170,7 +180,18 @@ module _ {D : Type 0} {g : Ghosts D} where
 
   pub refused_over : {X Y : Type 0} (c : Held (FileStore D g)) (bytes : Image) (ended : Ended X D g) (answer : Result Y TaskFault) → IsOpenedOver bytes c → ((U : Type 0) → IsRefusal U ended.answer → IsRefusal U answer)
       → IsRefused c ended → (tables : Database) × Keeps bytes ended.left tables × IsRefusal (IsUnknown (λ _. 2) tables) answer
-  refused_over c bytes ended answer over told it = ((file_state c).now, keeps_so c bytes ended.left it.clean over it.held, told _ it.fault)
+  refused_over c bytes ended answer over told it = ((file_state c).now, keeps_so c bytes ended.left it.kept.clean over it.kept.held, told _ it.fault)
+
+  -- and so is one that was copied
+  pub copied_over : {C : Type 0} {h : Ghosts C} (c : Held (FileStore D g)) (bytes : Image) (left : Left D g) (copy : Left C h) → IsOpenedOver bytes c → (AreHonest left → IsKept c left) → HoldCopy c left copy → CopiesBooks bytes left copy
+  copied_over c bytes left copy over keeps it = (
+    it.shut.0,
+    it.shut.1,
+    λ honest.
+        let kept = keeps honest in
+        let it = it.world honest in
+        (it.0, λ u books. same_world c bytes it.0 u kept.clean over books it.1, it.2, it.3),
+  )
 
   pub checks_over : (Wrong : Type 0) (c : Held (FileStore D g)) (bytes : Image) (left : Left D g) → IsOpenedOver bytes c
       → HasCleanDisk (file_state c) × ((Wrong × (Opens (file_state c) → HoldTrees left (file_state c).now.trees)) ⊎ (AreShut left → (w : World) × Represents (file_state c).now w × HoldWorld left w)) → Checks bytes left Wrong
@@ -231,6 +252,18 @@ wrong_closed (Unclosed store) (Ok done) wrong = tt
 wrong_closed (Unclosed store) (Err e) wrong = tt
 wrong_closed Nothing answer wrong = wrong
 
+-- a line more on checksums tells of the same
+pub wrong_sums : (X : List ℕ → List ℕ → Type 0) (answer result : Result Work TaskFault) → (IsOk result → IsOk answer) → IfOk answer (λ was. IfOk result (λ done. (done.fault ≡ was.fault) × X was.text.items done.text.items)) → IfOk answer IsWrong
+    → IfOk result IsWrong
+wrong_sums X (Ok was) (Ok done) ok adds wrong = adds.0 ∙ wrong
+wrong_sums X (Ok was) (Err e) ok adds wrong = tt
+wrong_sums X (Err e) (Ok done) ok adds wrong = absurd (let none = ok (search rules) in cc)
+wrong_sums X (Err e) (Err f) ok adds wrong = tt
+
+pub checks_weaker : {D : Type 0} {g : Ghosts D} {P Q : Type 0} (bytes : Image) (left : Left D g) → (P → Q) → Checks bytes left P → Checks bytes left Q
+checks_weaker bytes left so (inl it) = inl (so it.0, it.1, it.2)
+checks_weaker bytes left so (inr it) = inr it
+
 wrong_ends : {X : Type 0} (answer : Result Work TaskFault) (result : Result X TaskFault) (before after : Option (List ℕ)) → EndsWork answer result before after → IfOk answer IsWrong → IsErr result
 wrong_ends (Ok done) result before after (inl failed) wrong = rw failed (search rules)
 wrong_ends (Ok done) result before after (inr it) wrong = by (rw wrong at it.1) where
@@ -244,11 +277,11 @@ checks_ended bytes left answer result before after ends (inl it) = inl (wrong_en
 checks_ended bytes left answer result before after ends (inr it) = inr it
 
 -- a migration keeps the World
-upgraded_so : (made : Migrated) (old new : Database) (w : World) → Migrates made old new → RepresentsIn (version_before made) old w → Represents new w
+pub upgraded_so : (made : Migrated) (old new : Database) (w : World) → Migrates made old new → RepresentsIn (version_before made) old w → Represents new w
 upgraded_so Done old new w it stands = ∥∥₁_map stands (λ one. (it.1.spells w one).0)
 upgraded_so Already old new w it stands = subst (λ (db : Database). Represents db w) (sym it.1) stands
 
-version_so : (made : Migrated) (old new : Database) → Migrates made old new → old.schema ≡ schema_of (version_before made)
+pub version_so : (made : Migrated) (old new : Database) → Migrates made old new → old.schema ≡ schema_of (version_before made)
 version_so Done old new it = it.0.schema
 version_so Already old new it = it.0.schema
 
@@ -262,19 +295,19 @@ migrated_so Shut Ours old new (Err fault) ours it close = tt
 pub raised_so : {D : Type 0} {g : Ghosts D} (c last : Held (FileStore D g)) (left : Left D g) (result : Result Migrated TaskFault) → Closes last left → AreHonest left → AreShut left → Opens (file_state c)
     → (c.in_transaction ≡ false → HasCleanDisk (file_state last) → last.in_transaction ≡ false)
     → OnErr result (((file_state last).now ≡ (file_state c).now) ⊎ (IsOurs false (file_state last) × Migrates Done (file_state c).now (file_state last).now))
-    → OnErr result (HoldTrees left (file_state c).now.trees ⊎ Raises c left Done)
+    → OnErr result (HoldTrees left (file_state c).now.trees ⊎ Raises (file_state c).now left Done)
 raised_so c last left result closes honest shut opens idle it = on_err_weaker result by it where
-  by : ((file_state last).now ≡ (file_state c).now) ⊎ (IsOurs false (file_state last) × Migrates Done (file_state c).now (file_state last).now) → HoldTrees left (file_state c).now.trees ⊎ Raises c left Done
+  by : ((file_state last).now ≡ (file_state c).now) ⊎ (IsOurs false (file_state last) × Migrates Done (file_state c).now (file_state last).now) → HoldTrees left (file_state c).now.trees ⊎ Raises (file_state c).now left Done
   by (inl same) = inl (closes.trees honest (file_state c).now.trees (idle opens.autocommit (not_lied (file_state last) (closes.honest honest))) (λ sound. ap (λ (db : Database). db.trees) same) (inl shut))
   by (inr raised) = inr (version_so Done _ _ raised.1, λ w stands. closes.world honest w raised.0 (λ _. upgraded_so Done _ _ w raised.1 stands))
 
 -- over bytes that hold the books of that version
-raises_over : {D : Type 0} {g : Ghosts D} (c : Held (FileStore D g)) (bytes : Image) (left : Left D g) (made : Migrated) → HasCleanDisk (file_state c) → IsOpenedOver bytes c → Raises c left made
+raises_over : {D : Type 0} {g : Ghosts D} (c : Held (FileStore D g)) (bytes : Image) (left : Left D g) (made : Migrated) → HasCleanDisk (file_state c) → IsOpenedOver bytes c → Raises (file_state c).now left made
     → (w : World) → HoldBooksIn (version_before made) bytes w → HoldWorld left w
 raises_over c bytes left made clean over it w books = it.1 w (books_over (version_before made) c bytes w clean over (tables_of books) it.0)
 
 pub migrated_over : {D : Type 0} {g : Ghosts D} (c : Held (FileStore D g)) (bytes : Image) (left : Left D g) (result : Result Migrated TaskFault) → HasCleanDisk (file_state c) → IsOpenedOver bytes c
-    → (AreShut left → IfOk result (Raises c left)) → IfOk result (λ made. (w : World) → HoldBooksIn (version_before made) bytes w → HoldWorld left w)
+    → (AreShut left → IfOk result (Raises (file_state c).now left)) → IfOk result (λ made. (w : World) → HoldBooksIn (version_before made) bytes w → HoldWorld left w)
 migrated_over c bytes (Closed files) (Ok made) clean over it = raises_over c bytes (Closed files) made clean over (it tt)
 migrated_over c bytes (Closed files) (Err fault) clean over it = tt
 migrated_over c bytes (Unclosed store) (Ok made) clean over it = λ w books. tt
@@ -283,11 +316,56 @@ migrated_over c bytes Nothing (Ok made) clean over it = λ w books. tt
 migrated_over c bytes Nothing (Err fault) clean over it = tt
 
 pub unraised_over : {D : Type 0} {g : Ghosts D} (c : Held (FileStore D g)) (bytes : Image) (left : Left D g) (result : Result Migrated TaskFault) → HasCleanDisk (file_state c) → IsOpenedOver bytes c
-    → (Opens (file_state c) → OnErr result (HoldTrees left (file_state c).now.trees ⊎ Raises c left Done)) → OnErr result (((tables : Database) × Keeps bytes left tables) ⊎ ((w : World) → HoldBooksIn One bytes w → HoldWorld left w))
+    → (Opens (file_state c) → OnErr result (HoldTrees left (file_state c).now.trees ⊎ Raises (file_state c).now left Done)) → OnErr result (((tables : Database) × Keeps bytes left tables) ⊎ ((w : World) → HoldBooksIn One bytes w → HoldWorld left w))
 unraised_over c bytes left result clean over it = on_err_weaker result by (it (over clean).1.0) where
-  by : HoldTrees left (file_state c).now.trees ⊎ Raises c left Done → ((tables : Database) × Keeps bytes left tables) ⊎ ((w : World) → HoldBooksIn One bytes w → HoldWorld left w)
+  by : HoldTrees left (file_state c).now.trees ⊎ Raises (file_state c).now left Done → ((tables : Database) × Keeps bytes left tables) ⊎ ((w : World) → HoldBooksIn One bytes w → HoldWorld left w)
   by (inl held) = inl ((file_state c).now, keeps_so c bytes left clean over (λ opens. held))
   by (inr raised) = inr (raises_over c bytes left Done clean over raised)
+
+-- one of a copy keeps the World there, and what was there is there still
+taken_raised : {D C : Type 0} {g : Ghosts D} {h : Ghosts C} (c : Held (FileStore D g)) (bytes : Image) (left : Left D g) (copy : Left C h) (made : Migrated) → HasCleanDisk (file_state c) → IsOpenedOver bytes c → AreHonest left → HoldRaised c left copy made
+    → (w : World) → HoldBooksIn (version_before made) bytes w → HoldTaken left copy w
+taken_raised c bytes left (Closed files) made clean over honest it w books = λ also. let raised = it.raises honest also in raised.1 w (books_over (version_before made) c bytes w clean over (tables_of books) raised.0)
+taken_raised c bytes left (Unclosed store) made clean over honest it w books = absurd it.shut.1
+taken_raised c bytes left Nothing made clean over honest it w books = absurd it.shut.1
+
+pub raised_books : {D C : Type 0} {g : Ghosts D} {h : Ghosts C} (c : Held (FileStore D g)) (bytes : Image) (left : Left D g) (copy : Left C h) (answer : Result Migrated TaskFault) → IsOpenedOver bytes c → AreHonest left → IsKept c left → IfOk answer (HoldRaised c left copy)
+    → MigratesBooks bytes answer left copy
+raised_books c bytes left copy answer over honest kept raised = record {
+  migrates = IfOk-weaker answer _ _ (λ made it. taken_raised c bytes left copy made kept.clean over honest it) raised;
+  refused = λ shut. on_any answer (inl ((file_state c).now, keeps_so c bytes left kept.clean over kept.held));
+}
+
+pub raised_shut : {D C : Type 0} {g : Ghosts D} {h : Ghosts C} (c : Held (FileStore D g)) (left : Left D g) (copy : Left C h) (answer : Result Migrated TaskFault) → IfOk answer (HoldRaised c left copy) → IsOk answer → AreShut left
+raised_shut c left copy (Ok made) it ok = it.shut.0
+raised_shut c left copy (Err fault) it ok = absurd (cc)
+
+-- one of the files themselves
+pub migrated_books : {D C : Type 0} {g : Ghosts D} {h : Ghosts C} (c : Held (FileStore D g)) (bytes : Image) (left : Left D g) (answer : Result Migrated TaskFault) → HasCleanDisk (file_state c) → IsOpenedOver bytes c
+    → (AreShut left → IfOk answer (Raises (file_state c).now left)) → (AreShut left → Opens (file_state c) → OnErr answer (HoldTrees left (file_state c).now.trees ⊎ Raises (file_state c).now left Done))
+    → MigratesBooks {C = C} {h = h} bytes answer left Nothing
+migrated_books c bytes left answer clean over raises kept =
+    record { migrates = migrated_over c bytes left answer clean over raises; refused = λ shut. unraised_over c bytes left answer clean over (kept shut) }
+
+-- a copy that is said was closed
+pub copied_shut : {D C X Y : Type 0} {g : Ghosts D} {h : Ghosts C} (c : Held (FileStore D g)) (left : Left D g) (copy : Left C h) (text : X → List ℕ) (answer : Result X TaskFault) (result : Result Y TaskFault) (before after : Option (List ℕ))
+    → OnOk answer (HoldCopy c left copy) → EndsSaying text answer result before after → IsOk result → AreShut left
+copied_shut c left copy text (Ok x) result before after it ends ok = it.shut.0
+copied_shut c left copy text (Err fault) result before after it ends ok = never_ok result (rw ends.0 (search rules)) ok
+
+-- where the files were closed, a close tells what was answered
+pub told_shut : {D X : Type 0} {g : Ghosts D} (left : Left D g) (answer : Result X TaskFault) → (IsOk answer → AreShut left) → answer ≡ closed_answer left answer
+told_shut (Closed files) answer shut = refl
+told_shut (Unclosed store) (Ok x) shut = absurd (shut (search rules))
+told_shut (Unclosed store) (Err e) shut = refl
+told_shut Nothing answer shut = refl
+
+-- an answer behind a close was one before it
+pub ok_closed : {D X : Type 0} {g : Ghosts D} (left : Left D g) (answer : Result X TaskFault) → IsOk (closed_answer left answer) → IsOk answer
+ok_closed (Closed files) answer ok = ok
+ok_closed (Unclosed store) (Ok x) ok = search rules
+ok_closed (Unclosed store) (Err e) ok = ok
+ok_closed Nothing answer ok = ok
 
 -- a task that answers Ok behind work has no fault of that
 ends_none : {X : Type 0} (fault : Option TaskFault) (result : Result X TaskFault) → EndsWith fault result → IsOk result → fault ≡ None
@@ -300,9 +378,14 @@ ends_well (Ok done) result before after (inr it) ok so = so (ends_none done.faul
 ends_well (Err fault) result before after it ok so = absurd (cc)
 
 -- what holds of a task as it ended holds of it where its files were not opened too
-pub ended_so : {D X : Type 0} {g : Ghosts D} (P : Ended X D g → Type 0) (r : Result (Ended X D g) TaskFault) (e : Ended X D g) → e ≡ ended_of r → IfOk r P → ((fault : TaskFault) → IsErr r → P (record { answer = Err fault; left = Nothing })) → P e
+pub ended_so : {D X : Type 0} {g : Ghosts D} (P : Ended X D g → Type 0) (r : Result (Ended X D g) TaskFault) (e : Ended X D g) → e ≡ ended_of r → IfOk r P → ((fault : TaskFault) → IsErr r → P (record { answer = Err fault; left = Nothing; copy = Nothing })) → P e
 ended_so P (Ok ended) e is ok err = rw is ok
 ended_so P (Err fault) e is ok err = rw is (err fault (search rules))
+
+-- a copy of books that aren't opened
+pub copy_unopened : {D : Type 0} {g : Ghosts D} (bytes : Image) (fault : TaskFault) (before after : Option (List ℕ)) → after ≡ before
+    → PerformsCopy {D = D} {X = Unit {0}} {g = g} bytes (record { answer = Err fault; left = Nothing; copy = Nothing }) before after
+copy_unopened bytes fault before after same = record { answer = Err fault; copies = tt; keeps = λ honest. absurd honest; ends = (refl, same) }
 
 -- a task does what its plan does
 pub performs_as : {D X : Type 0} {g : Ghosts D} (bytes : Image) (before after : Streams) (task : Planned) (ended : Ended X D g) (plan shape : Plan) → plan ≡ shape → planned_task plan ≡ task → PerformsPlan bytes before after shape ended

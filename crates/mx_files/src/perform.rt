@@ -1,20 +1,28 @@
 //! Every task, over an input, an output and the files that the task names.
-ghost use Rattle.std.specs.Prelude.{◌≡◌, ℕ, List, [], IfErr, IfOk, IsErr, IsOk, None, OnOk};
+ghost use Rattle.std.specs.Prelude.{◌≡◌, ℕ, List, [], IfErr, IfOk, IsErr, IsOk, None, OnOk, Result, codes};
 ghost use Rattle.std.specs.Io.KnownBytes.{Appends};
 ghost use Rattle.sqlite_wal.specs.Files.{image_at};
+ghost use Rattle.sqlite_wal.specs.Recovery.{Image};
 ghost use Rattle.mx_book.specs.World.{World, opening};
 ghost use Rattle.mx_desk.specs.Rounds.{Leads};
 ghost use Rattle.mx_desk.specs.Serve.{Marked};
 ghost use Rattle.mx_desk.specs.Steps.{state};
+ghost use Rattle.mx_tables.specs.declared.migration.Migrated.{Migrated};
 ghost use Rattle.mx_tasks.specs.Faults.{Untouched};
-ghost use Rattle.mx_files.specs.InFiles.{AreHonest, AreShut, HoldRounds, closed_answer};
+ghost use Rattle.mx_tasks.specs.declared.fault.TaskFault.{TaskFault};
+ghost use Rattle.mx_files.specs.InFiles.{AreHonest, AreShut, HoldRounds, IsOpenedOver, closed_answer};
 ghost use Rattle.mx_files.specs.Opened.{IsWrong};
-ghost use Rattle.mx_files.specs.Performed.{Checks, EndsMigration, EndsRun, EndsWork, MakesBooks, OverBooks, Performs, PerformsInMemory, PerformsMigration, PerformsRun, PerformsWork, ended_of, streams};
+ghost use Rattle.mx_files.specs.Performed.{Checks, EndsRun, EndsSaying, EndsWork, MakesBooks, MigratesBooks, OverBooks, Performs, PerformsCopy, PerformsInMemory, PerformsMigration, PerformsRun, PerformsWork, ended_of, migrated_text, streams};
 
-use crate::closing::{Ended, check_in_files, migrate_in_files, run_in_files, work_in_files};
-use crate::files::{BookFile, make_in_file, no_files, open_found, open_told};
+use crate::check::with_sums;
+use crate::closing::{Ended, Left, check_in_files, migrate_in_files, run_in_files, work_in_files};
+use crate::files::{
+    BookFile, Opened, copy_to_file, make_in_file, no_files, number_of, open_found, open_told,
+    raise_file,
+};
 use crate::plan::{Act, Plan, plan_of};
 use mx_args::Task;
+use mx_audit::has_first_tables;
 use mx_book::Book;
 use mx_desk::output::{flush_out, write_out};
 use mx_desk::{Counted, Outlet};
@@ -71,7 +79,7 @@ fn say_migrated<W: Write>(
     answer: Result<Migrated, TaskFault>,
     writer: &mut Counted<W>,
 ) -> Result<(), TaskFault>
-    ensures ends { EndsMigration answer result
+    ensures ends { EndsSaying migrated_text answer result
         (W.contents writer.old.device) (W.contents writer.new.device) }
 {
     match answer? {
@@ -100,10 +108,11 @@ fn run_in_file<'a, S: Start, R: Read, W: Outlet>(
         (HoldRounds ended.left w))) }
 {
     let store = open_told(rt, path, start)?;
-    let Ended { answer, left } = run_in_files(rt.alloc(), store, reader, writer);
+    let Ended { answer, left, copy } = run_in_files(rt.alloc(), store, reader, writer);
     Ok(Ended {
         answer: pass_on(answer, writer),
         left,
+        copy,
     })
 }
 
@@ -125,10 +134,11 @@ fn work_in_file<'a, S: Start, W: Write>(
         work.now ended.answer (W.contents writer.old.device) (W.contents writer.new.device))) }
 {
     let store = open_told(rt, path, start)?;
-    let Ended { answer, left } = work_in_files(rt, store, work);
+    let Ended { answer, left, copy } = work_in_files(rt, store, work);
     Ok(Ended {
         answer: say_done(answer, writer),
         left,
+        copy,
     })
 }
 
@@ -144,7 +154,14 @@ fn check_in_file<'a, S: Start>(
         → Checks (image_at S.Start) ended.left (IfOk ended.answer IsWrong)) }
 {
     match open_found(rt, path, start) {
-        Ok(store) => Ok(check_in_files(rt, store)),
+        Ok(store) => {
+            let Ended { answer, left, copy } = check_in_files(rt, store);
+            Ok(Ended {
+                answer: with_sums(&rt, rt.alloc(), path, answer),
+                left,
+                copy,
+            })
+        }
         Err(cause) => {
             let line = format!(in rt.alloc(); "{path}: {cause}\n")?;
             let done = Done {
@@ -188,6 +205,7 @@ fn init_file<'a, S: Start, W: Write>(
     Ok(Ended {
         answer: say(writer, b"created\n"),
         left,
+        copy: Left::Nothing,
     })
 }
 
@@ -202,15 +220,68 @@ fn check_file<'a, S: Start, W: Write>(
     ensures checks { IfOk result (λ ended. AreHonest ended.left
         → Checks (image_at S.Start) ended.left (IsErr ended.answer)) }
 {
-    let Ended { answer, left } = check_in_file(rt, path, start)?;
+    let Ended { answer, left, copy } = check_in_file(rt, path, start)?;
     Ok(Ended {
         answer: say_done(answer, writer),
         left,
+        copy,
     })
 }
 
-/// Brings the books in a file to the schema of this version, audits them, and says what came of it. Where the audit has a
-/// finding, the file is of this schema then, with its rows as they were.
+/// Writes that a copy was made.
+fn say_copied<W: Write>(
+    answer: Result<(), TaskFault>,
+    writer: &mut Counted<W>,
+) -> Result<(), TaskFault>
+    ensures { EndsSaying (λ _. codes "copied\n") answer result
+        (W.contents writer.old.device) (W.contents writer.new.device) }
+{
+    answer?;
+    say(writer, b"copied\n")
+}
+
+/// Copies the books in a file to a new one, and says so.
+fn copy_file<'a, S: Start, W: Write>(
+    rt: &'a HostRuntime,
+    path: &str,
+    start: S,
+    to: &str,
+    writer: &mut Counted<W>,
+) -> Result<Ended<(), BookFile<'a, S>>, TaskFault>
+    ensures unopened { IsErr result → writer.new ≡ writer.old }
+    ensures shut { IfOk result (λ ended. IsOk ended.answer → AreShut ended.left) }
+    ensures copies { IfOk result (λ ended. PerformsCopy (image_at S.Start) ended
+        (W.contents writer.old.device) (W.contents writer.new.device)) }
+{
+    let store = open_told(rt, path, start)?;
+    let Ended { answer, left, copy } = copy_to_file(rt, to, store);
+    Ok(Ended {
+        answer: say_copied(answer, writer),
+        left,
+        copy,
+    })
+}
+
+/// Brings the books in a file to the schema of this version: a copy of those of version 1, which takes the file's place.
+fn migrate_opened<'a, S: Start>(
+    rt: &'a HostRuntime,
+    path: &str,
+    number: Option<u64>,
+    store: Opened<'a, S>,
+) -> Ended<Migrated, BookFile<'a, S>>
+    ensures shut { IsOk result.answer → AreShut result.left }
+    ensures migrates { (bytes : Image) → IsOpenedOver bytes store.entry → AreHonest result.left
+        → (answer : Result Migrated TaskFault)
+        × (result.answer ≡ closed_answer result.left answer)
+        × MigratesBooks bytes answer result.left result.copy }
+{
+    match number {
+        Some(number) if has_first_tables(&store) => raise_file(rt, path, number, store),
+        _ => migrate_in_files(rt.alloc(), store),
+    }
+}
+
+/// Brings the books in a file to the schema of this version, audits them, and says what came of it.
 fn migrate_file<'a, S: Start, W: Write>(
     rt: &'a HostRuntime,
     path: &str,
@@ -219,14 +290,16 @@ fn migrate_file<'a, S: Start, W: Write>(
 ) -> Result<Ended<(), BookFile<'a, S>>, TaskFault>
     ensures shut { IfOk result (λ ended. IsOk ended.answer → AreShut ended.left) }
     ensures migrates { IfOk result (λ ended. AreHonest ended.left
-        → PerformsMigration (image_at S.Start) ended.left ended.answer
+        → PerformsMigration (image_at S.Start) ended
         (W.contents writer.old.device) (W.contents writer.new.device)) }
 {
+    let number = number_of(&rt, path);
     let store = open_told(rt, path, start)?;
-    let Ended { answer, left } = migrate_in_files(rt.alloc(), store);
+    let Ended { answer, left, copy } = migrate_opened(rt, path, number, store);
     Ok(Ended {
         answer: say_migrated(answer, writer),
         left,
+        copy,
     })
 }
 
@@ -265,12 +338,14 @@ pub fn perform<'a, S: Start, R: Read, W: Outlet>(
         Plan::InMemory(operator) => Ended {
             answer: perform_memory(rt.alloc(), *operator, reader, writer),
             left: no_files(rt),
+            copy: Left::Nothing,
         },
         Plan::InFile(path, act) => match act {
             Act::Run => ended(run_in_file(rt, path, start, reader, writer)),
             Act::Make(operator) => ended(init_file(rt, path, start, *operator, writer)),
             Act::Work(work) => ended(work_in_file(rt, path, start, work, writer)),
             Act::Check => ended(check_file(rt, path, start, writer)),
+            Act::Copy(to) => ended(copy_file(rt, path, start, to, writer)),
             Act::Migrate => ended(migrate_file(rt, path, start, writer)),
         },
     }
