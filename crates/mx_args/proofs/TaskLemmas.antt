@@ -11,7 +11,7 @@ use Rattle.mx_pay.specs.Tokens.{token_of}
 use Rattle.mx_pay.proofs.EntryLemmas.{bind_some, number_again, number_takes}
 use Rattle.mx_args.specs.Named.{Given, HasPurse, HasValue, IsFoundBy, IsNumber, IsToken, Names, NamesNone}
 use Rattle.mx_args.specs.declared.task.Task.{Task}
-use Rattle.mx_args.specs.declared.task.Task.TheVariants.{RunMemory, RunFile, Init, Serve, Import, Report, Check, Migrate}
+use Rattle.mx_args.specs.declared.task.Task.TheVariants.{RunMemory, RunFile, Init, Serve, Import, Report, Check, Copy, Migrate}
 
 -- ---- numbers
 
@@ -100,6 +100,9 @@ import_report e = let first : ◌≡◌ {A = ℕ} 105 114 = ap (λ (t : Text). s
 serve_check : codes "serve" ≡ codes "check" → ⊥
 serve_check e = let first : ◌≡◌ {A = ℕ} 115 99 = ap (λ (t : Text). slice_index t 0) e in absurd (omega arith)
 
+init_copy : codes "init" ≡ codes "copy" → ⊥
+init_copy e = let first : ◌≡◌ {A = ℕ} 105 99 = ap (λ (t : Text). slice_index t 0) e in absurd (omega arith)
+
 -- two tasks that the rows name are one
 pub names_once : (name : Text) (rows : List Row) (a b : Task) → Names name rows a → Names name rows b → a ≡ b
 names_once name rows (RunMemory t) (RunMemory u) h k =
@@ -120,7 +123,10 @@ names_once name rows (Report f p) (Report g q) h k =
     let purse = purse_once rows p q h.2 k.2 in
     cc
 names_once name rows (Check f) (Check g) h k = cc
+names_once name rows (Copy f t) (Copy g u) h k = cc
 names_once name rows (Migrate f) (Migrate g) h k = cc
+names_once name rows (Init f t) (Copy g u) h k = absurd (init_copy (sym h.0 ∙ k.0))
+names_once name rows (Copy f t) (Init g u) h k = absurd (init_copy (sym k.0 ∙ h.0))
 names_once name rows (Import f r) (Report g p) h k = absurd (import_report (sym h.0 ∙ k.0))
 names_once name rows (Report f p) (Import g r) h k = absurd (import_report (sym k.0 ∙ h.0))
 names_once name rows (Serve f p m) (Check g) h k = absurd (serve_check (sym h.0 ∙ k.0))

@@ -48,6 +48,11 @@ report_app = with_rule (with_rule (new_app (codes "report")) (word_rule (codes "
 abbrev pub check_app : App
 check_app = with_rule (new_app (codes "check")) (word_rule (codes "FILE") true)
 
+-- `copy FILE TO`
+abbrev pub copy_app : App
+copy_app = with_rule (with_rule (new_app (codes "copy")) (word_rule (codes "FILE") true))
+    (word_rule (codes "TO") true)
+
 -- `migrate FILE`
 abbrev pub migrate_app : App
 migrate_app = with_rule (new_app (codes "migrate")) (word_rule (codes "FILE") true)
@@ -66,5 +71,5 @@ program_app = record {
 -- the program with its commands
 abbrev pub line_app : App
 line_app = with_subcommand (with_subcommand (with_subcommand (with_subcommand (with_subcommand (with_subcommand
-    (with_subcommand program_app run_app.top) init_app.top) serve_app.top) import_app.top) report_app.top)
-    check_app.top) migrate_app.top
+    (with_subcommand (with_subcommand program_app run_app.top) init_app.top) serve_app.top) import_app.top)
+    report_app.top) check_app.top) copy_app.top) migrate_app.top

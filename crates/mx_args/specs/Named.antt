@@ -5,7 +5,7 @@ use Rattle.mx_pay.specs.Names.{is_name_text}
 use Rattle.mx_pay.specs.Tokens.{token_of}
 use Rattle.mx_args.specs.Line.{line_app}
 use Rattle.mx_args.specs.declared.task.Task.{Task}
-use Rattle.mx_args.specs.declared.task.Task.TheVariants.{RunMemory, RunFile, Init, Serve, Import, Report, Check, Migrate}
+use Rattle.mx_args.specs.declared.task.Task.TheVariants.{RunMemory, RunFile, Init, Serve, Import, Report, Check, Copy, Migrate}
 
 -- the text is 32 hexadecimal digits, which spell these bytes
 abbrev pub IsToken : List ℕ → Text → Type 0
@@ -48,6 +48,8 @@ Names name rows (Import file roll) = (name ≡ codes "import") × Given rows (co
 Names name rows (Report file purse) = (name ≡ codes "report") × Given rows (codes "FILE") file
     × HasPurse rows purse
 Names name rows (Check file) = (name ≡ codes "check") × Given rows (codes "FILE") file
+Names name rows (Copy file to) = (name ≡ codes "copy") × Given rows (codes "FILE") file
+    × Given rows (codes "TO") to
 Names name rows (Migrate file) = (name ≡ codes "migrate") × Given rows (codes "FILE") file
 
 -- the command of this name with these rows is no task

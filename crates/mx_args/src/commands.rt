@@ -58,7 +58,7 @@ const TOKEN: Argument = Argument {
 };
 
 // The commands in the order of help.
-static FORMS: [Form; 7] = [
+static FORMS: [Form; 8] = [
     Form {
         name: "run",
         full_name: "purse-office run",
@@ -143,6 +143,20 @@ static FORMS: [Form; 7] = [
         full_name: "purse-office check",
         about: "Tells whether a file of books is sound, and what is wrong in it",
         arguments: &[FILE],
+    },
+    Form {
+        name: "copy",
+        full_name: "purse-office copy",
+        about: "Copies the books to a new file",
+        arguments: &[
+            FILE,
+            Argument {
+                id: "TO",
+                kind: Kind::Word,
+                required: true,
+                help: "The new file, which isn't there yet",
+            },
+        ],
     },
     Form {
         name: "migrate",

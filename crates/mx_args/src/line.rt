@@ -220,6 +220,16 @@ fn check_task<'a>(matches: &ArgMatches<'a>) -> Result<Task<'a>, Misfit>
     Ok(Task::Check(file))
 }
 
+fn copy_task<'a>(matches: &ArgMatches<'a>) -> Result<Task<'a>, Misfit>
+    ensures named { IfOk result (Names (codes "copy") (rows_of (found_of matches.now))) }
+    ensures unnamed { OnErr result (NamesNone (codes "copy") (rows_of (found_of matches.now))) }
+    ensures misfit { IfErr result (HasMisfit (codes "copy") (rows_of (found_of matches.now))) }
+{
+    let file = needed_word(matches, "FILE")?;
+    let to = needed_word(matches, "TO")?;
+    Ok(Task::Copy { file, to })
+}
+
 fn migrate_task<'a>(matches: &ArgMatches<'a>) -> Result<Task<'a>, Misfit>
     ensures named { IfOk result (Names (codes "migrate") (rows_of (found_of matches.now))) }
     ensures unnamed { OnErr result (NamesNone (codes "migrate") (rows_of (found_of matches.now))) }
@@ -241,6 +251,7 @@ fn task_of<'a>(name: &str, matches: &ArgMatches<'a>) -> Result<Task<'a>, Misfit>
         "import" => import_task(matches),
         "report" => report_task(matches),
         "check" => check_task(matches),
+        "copy" => copy_task(matches),
         "migrate" => migrate_task(matches),
         _ => Err(Misfit::Missing),
     }

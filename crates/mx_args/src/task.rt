@@ -76,6 +76,13 @@ pub enum Task<'a> {
     },
     /// `check FILE`: whether the books in a file are sound, and what is wrong in them if not.
     Check(Word<'a>),
+    /// `copy FILE TO`: the books in a file, in a new one.
+    Copy {
+        /// The file of the books.
+        file: Word<'a>,
+        /// The new file.
+        to: Word<'a>,
+    },
     /// `migrate FILE`: the books in a file, which are of the schema before, are brought to the schema of this version.
     Migrate(Word<'a>),
 }

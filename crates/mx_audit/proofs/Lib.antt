@@ -25,3 +25,6 @@ pub mod KindLemmas
 pub mod CallerLemmas
 pub mod ContentsLemmas
 pub mod LookedLemmas
+pub mod CopyTexts
+pub mod WholeRows
+pub mod CopyLemmas

@@ -8,21 +8,21 @@ use Rattle.sqlite.specs.Listing.{understood}
 use Rattle.sqlite.specs.State.{State, Shown}
 use Rattle.mx_tables.specs.States.{IsQuery}
 use Rattle.mx_tables.proofs.Texts.{IsSelect}
-use Rattle.mx_audit.specs.Audited.{GoesOver, GoesOverOne, IsScan}
+use Rattle.mx_audit.specs.Audited.{IsScan}
 use Rattle.mx_audit.specs.Typed.{source_text}
-use Rattle.mx_audit.specs.declared.audit.Audit.{Audit}
 use Rattle.mx_audit.specs.declared.typed.Source.{Source}
 use Rattle.mx_audit.specs.declared.typed.Source.TheVariants.{Meta, Members, Holders, Tokens, Purses, Inbox, Lines, Tray, Archive, Loads, Redemptions, Settled}
 use Rattle.mx_audit.proofs.ScanLemmas as scan
 use Rattle.std.proofs.Common.{Bool, Ok, Result}
 use Rattle.std.specs.Result.{IsErr}
+use Rattle.sqlite_schema.specs.declared.schema.Schema.{Schema}
 use Rattle.sqlite.specs.Held.{Held, state}
 use Rattle.sqlite.specs.Effect.{Database}
 use Rattle.sqlite_trees.specs.declared.store.Store.{Ghosts}
 use Rattle.mx_book.specs.declared.contract.StoreFault.{StoreFault}
-use Rattle.mx_tables.specs.States.{IsAwake, IsOurs, Stays, unsure}
+use Rattle.mx_tables.specs.States.{IsAt, IsAwake, StaysAt, unsure}
 use Rattle.mx_tables.proofs.StateLemmas.{stays_same, stays_then, sure_first, on_ok_never}
-use Rattle.mx_audit.specs.Scans.{Scans}
+use Rattle.mx_audit.specs.Scans.{Each, ScansAt}
 
 abbrev scan_meta : List ℕ
 scan_meta = codes "SELECT version, id FROM meta"
@@ -61,51 +61,54 @@ source_shows Loads old new rows has h = scan.shows_loads old new rows has h
 source_shows Redemptions old new rows has h = scan.shows_redemptions old new rows has h
 source_shows Settled old new rows has h = scan.shows_settled old new rows has h
 
--- one table more
-goes_on : (db : Trees) (before : List Source) (from : Source) (old mid new : Audit) → GoesOver db before old mid → GoesOverOne db from mid new → GoesOver db (before ++ from ∷ []) old new
-goes_on db [] from old mid new was next = (new, subst (λ (a : Audit). GoesOverOne db from a new) was next, refl)
-goes_on db (s ∷ more) from old mid new was next = (was.0, was.1, goes_on db more from was.0 mid new was.2 next)
+-- one more
+each_on : {X A : Type 0} (does : X → A → A → Type 0) (before : List X) (x : X) (old mid new : A) → Each does before old mid → does x mid new → Each does (before ++ x ∷ []) old new
+each_on {A = A} does [] x old mid new was next = (new, subst (λ (a : A). does x a new) was next, refl)
+each_on does (y ∷ more) x old mid new was next = (was.0, was.1, each_on does more x was.0 mid new was.2 next)
 
-goes_next : (db : Trees) (all : List Source) (at : ℕ) (from : Source) (old mid new : Audit) → at < length all → from ≡ get_or all at from → GoesOver db (take at all) old mid → GoesOverOne db from mid new → GoesOver db (take (at + 1) all) old new
-goes_next db all at from old mid new within is was next =
-    subst (λ (l : List Source). GoesOver db l old new) (ap (λ s. take at all ++ s ∷ []) is ∙ sym (take_more all at from within)) (goes_on db (take at all) from old mid new was next)
+each_next : {X A : Type 0} (does : X → A → A → Type 0) (all : List X) (at : ℕ) (x : X) (old mid new : A) → at < length all → x ≡ get_or all at x → Each does (take at all) old mid → does x mid new → Each does (take (at + 1) all) old new
+each_next {X = X} does all at x old mid new within is was next =
+    subst (λ (l : List X). Each does l old new) (ap (λ y. take at all ++ y ∷ []) is ∙ sym (take_more all at x within)) (each_on does (take at all) x old mid new was next)
 
 -- ---- the connection meanwhile
 
 -- it is as it was but for a fault, and without doubt this was done
-pub record IsOver {S : Type 0} (g : Ghosts S) (old new : Held S) (did : Type 0) : Type 0 where
-  pub stays : {begun : Bool} → IsOurs begun (state g old) → Stays begun (state g old) (state g new)
-  pub value : {begun : Bool} → IsOurs begun (state g old) → unsure begun (state g new) ≡ 0 → did
+pub record IsOver {S : Type 0} (of : Schema) (g : Ghosts S) (old new : Held S) (did : Type 0) : Type 0 where
+  pub stays : {begun : Bool} → IsAt begun of (state g old) → StaysAt begun of (state g old) (state g new)
+  pub value : {begun : Bool} → IsAt begun of (state g old) → unsure begun (state g new) ≡ 0 → did
 
-pub over_none : {S : Type 0} (g : Ghosts S) (h : Held S) {did : Type 0} → did → IsOver g h h did
-over_none g h done = record { stays = λ ours. stays_same (state g h) ours; value = λ ours calm. done }
+module _ {S : Type 0} {of : Schema} (g : Ghosts S) where
+  pub over_none : (h : Held S) {did : Type 0} → did → IsOver of g h h did
+  over_none h done = record { stays = λ ours. stays_same (state g h) ours; value = λ ours calm. done }
 
--- and then one table more
-pub over_more : {S : Type 0} (g : Ghosts S) (a b c : Held S) (all : List Source) (at : ℕ) (from : Source) (old mid new : Audit)
-    → at < length all → from ≡ get_or all at from → IsOver g a b (GoesOver (state g a).now.trees (take at all) old mid)
-    → Scans {S = S} {T = Unit {0}} g b c (Ok tt) (GoesOverOne (state g b).now.trees from mid new) → IsOver g a c (GoesOver (state g a).now.trees (take (at + 1) all) old new)
-over_more g a b c all at from old mid new within is was step = record {
-  stays = λ ours. let kept = was.stays ours in stays_then (state g a) (state g b) (state g c) kept (step.stays kept.ours);
-  value = λ {begun} ours calm.
-      let kept = was.stays ours in
-      let before = sure_first (step.stays kept.ours).later calm in
-      goes_next (state g a).now.trees all at from old mid new within is (was.value ours before)
-      (subst (λ (d : Database). GoesOverOne d.trees from mid new) (kept.same before) (step.value kept.ours calm));
-}
+  -- a fault behind some
+  pub over_fault : (a b c : Held S) {one two : Type 0} {did : Type 0} {q r : Result (Unit {0}) StoreFault} → IsOver of g a b did → ScansAt of g b c q one → IsErr r → ScansAt of g a c r two
+  over_fault a b c {two = two} {r = r} was step fault = record {
+    stays = λ ours. let kept = was.stays ours in stays_then (state g a) (state g b) (state g c) kept (step.stays kept.ours);
+    value = λ ours calm. on_ok_never r two fault;
+    live = on_ok_never r _ fault;
+  }
 
--- all of them
-pub over_all : {S : Type 0} (g : Ghosts S) (a b : Held S) (all : List Source) (at : ℕ) (old new : Audit) → length all ≤ at → IsAwake (state g b)
-    → IsOver g a b (GoesOver (state g a).now.trees (take at all) old new) → Scans {S = S} {T = Unit {0}} g a b (Ok tt) (GoesOver (state g a).now.trees all old new)
-over_all g a b all at old new past live was = record {
-  stays = was.stays;
-  value = λ ours calm. subst (λ (l : List Source). GoesOver (state g a).now.trees l old new) (take_all at all past) (was.value ours calm);
-  live = live;
-}
+  -- what is done with each of these, by what the tables hold
+  module _ {X A : Type 0} (does : Trees → X → A → A → Type 0) where
+    -- one more
+    pub over_more : (a b c : Held S) (all : List X) (at : ℕ) (x : X) (old mid new : A) → at < length all → x ≡ get_or all at x
+        → IsOver of g a b (Each (does (state g a).now.trees) (take at all) old mid) → ScansAt {T = Unit {0}} of g b c (Ok tt) (does (state g b).now.trees x mid new)
+        → IsOver of g a c (Each (does (state g a).now.trees) (take (at + 1) all) old new)
+    over_more a b c all at x old mid new within is was step = record {
+      stays = λ ours. let kept = was.stays ours in stays_then (state g a) (state g b) (state g c) kept (step.stays kept.ours);
+      value = λ {begun} ours calm.
+          let kept = was.stays ours in
+          let before = sure_first (step.stays kept.ours).later calm in
+          each_next (does (state g a).now.trees) all at x old mid new within is (was.value ours before)
+          (subst (λ (d : Database). does d.trees x mid new) (kept.same before) (step.value kept.ours calm));
+    }
 
--- a fault behind some
-pub over_fault : {S : Type 0} (g : Ghosts S) (a b c : Held S) {one two : Type 0} {did : Type 0} {q r : Result (Unit {0}) StoreFault} → IsOver g a b did → Scans g b c q one → IsErr r → Scans g a c r two
-over_fault g a b c {two = two} {r = r} was step fault = record {
-  stays = λ ours. let kept = was.stays ours in stays_then (state g a) (state g b) (state g c) kept (step.stays kept.ours);
-  value = λ ours calm. on_ok_never r two fault;
-  live = on_ok_never r _ fault;
-}
+    -- all of them
+    pub over_all : (a b : Held S) (all : List X) (at : ℕ) (old new : A) → length all ≤ at → IsAwake (state g b)
+        → IsOver of g a b (Each (does (state g a).now.trees) (take at all) old new) → ScansAt {T = Unit {0}} of g a b (Ok tt) (Each (does (state g a).now.trees) all old new)
+    over_all a b all at old new past live was = record {
+      stays = was.stays;
+      value = λ ours calm. subst (λ (l : List X). Each (does (state g a).now.trees) l old new) (take_all at all past) (was.value ours calm);
+      live = live;
+    }

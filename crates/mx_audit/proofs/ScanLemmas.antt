@@ -1,5 +1,5 @@
 -- The queries of the audit, and what each shows of the rows of its table, whatever these are.
-use Rattle.mx_tables.proofs.Common.{◌≡◌, ℕ, List, [], ◌∷◌, codes, refl, IsPermutation, Binary, Row, column, Term, col, office_schema}
+use Rattle.mx_tables.proofs.Common.{◌≡◌, ℕ, List, [], ◌∷◌, codes, refl, false, IsPermutation, Binary, Row, column, Term, col, office_schema}
 use Rattle.std.proofs.Common.{Bool, Less, Ok, Err, Result, IfOk, OnOk, ap, map, subst, ◌∙◌}
 use Rattle.std.proofs.lemmas.Result.{on_ok_weaker}
 use Rattle.std.specs.Result.{IsErr}
@@ -14,16 +14,19 @@ use Rattle.sqlite_sql.specs.Query.{Output, output, output_cmp}
 use Rattle.sqlite_sql.proofs.QueryLemmas.{output_cmp_total}
 use Rattle.sqlite_keyed.proofs.SortLemmas.{sorted_unique}
 use Rattle.sqlite_keyed.proofs.ListLemmas.{ascending-map, ascending_weaker}
-use Rattle.sqlite.specs.Listing.{understood}
+use Rattle.sqlite.specs.Listing.{understood, reads_listing}
 use Rattle.sqlite.specs.State.{State, Shown}
 use Rattle.sqlite.specs.Held.{Held, state}
 use Rattle.sqlite_trees.specs.declared.store.Store.{Ghosts}
 use Rattle.mx_book.specs.declared.contract.StoreFault.{StoreFault}
-use Rattle.mx_tables.specs.States.{IsOurs, IsQuery, Reads, Stays, unsure}
+use Rattle.mx_tables.specs.States.{IsAt, IsQuery, Reads, StaysAt, unsure}
 use Rattle.mx_tables.proofs.StateLemmas.{sound, stays_then, sure_before, sure_first, on_ok_anyway, on_ok_never}
-use Rattle.mx_audit.specs.Scans.{Scans}
-use Rattle.sqlite.proofs.Callers.{reads_as}
-use Rattle.mx_tables.proofs.Texts.{IsSelect, scan}
+use Rattle.mx_audit.specs.Scans.{Scans, ScansAt}
+use Rattle.sqlite.proofs.Callers.{command_of, reads_as}
+use Rattle.sqlite.specs.Given.{IsPlain}
+use Rattle.sqlite_schema.specs.declared.command.Command.TheVariants.{Select}
+use Rattle.sqlite_schema.specs.declared.schema.Schema.{Schema}
+use Rattle.mx_tables.proofs.Texts.{IsSelect, alone, scan}
 use Rattle.mx_tables.proofs.Statements.{env, picked, selected}
 use Rattle.mx_tables.proofs.MemberLemmas.{filter_everything}
 
@@ -33,6 +36,25 @@ pub shows_all : (sql : List ℕ) (tree : ℕ) (project : List Term) (names : Lis
 shows_all sql tree project names text old new rows h has =
     let read = reads_as sql [] old new office_schema has _ text.is text.query.plain text.unlisted rows h in
     subst (λ all. IsPermutation (map (λ r. eval_all project (env [] r)) all) rows) (filter_everything (old.now.trees tree)) (picked tree [] project [] names old.now [] rows read)
+
+-- by row number it shows them in the order of the tree
+abbrev pub by_number : List (Term × Key)
+by_number = (col 1 0, ascending Binary) ∷ []
+
+pub shows_in_order : (of : Schema) (sql : List ℕ) (tree : ℕ) (project : List Term) (names : List (List ℕ)) → command_of (understood of sql) ≡ Select (alone (scan tree [] project by_number)) names
+    → IsPlain (understood of sql) → reads_listing of sql ≡ false → (old new : State) (rows : List Row) → old.now.schema ≡ of → IsTable (old.now.trees tree) → Shown sql [] old new rows
+    → rows ≡ map (λ r. eval_all project (env [] r)) (old.now.trees tree)
+shows_in_order of sql at project names is plain unlisted old new rows has rise h =
+    let tree = old.now.trees at in
+    let q = scan at [] project by_number in
+    let out = λ (r : Row). output q (env [] r) in
+    let read = reads_as sql [] old new of has _ is plain unlisted rows h in
+    let got = selected at [] project by_number names old.now [] rows read in
+    let shown : IsPermutation (map out tree) got.0 =
+    subst (λ all. IsPermutation all got.0) (map-map (output q) (env []) _ ∙ ap (map out) (filter_everything tree)) got.1 in
+    let up = ascending-map (λ a b. output_cmp q a b ≡ Less) out tree (ascending_weaker _ _ (λ a b less. then-Equal _ ∙ less) tree rise) in
+    let order : got.0 ≡ map out tree = sorted_unique (output_cmp q) (output_cmp_total q) (map out tree) got.0 up shown got.2 in
+    got.3 ∙ ap (map (λ (o : Output). o.1)) order ∙ map-map (λ (o : Output). o.1) out tree
 
 -- ---- the texts
 
@@ -114,13 +136,10 @@ scan_tokens = codes "SELECT kind, name, token FROM token ORDER BY rowid"
 abbrev token_project : List Term
 token_project = col 1 2 ∷ col 1 3 ∷ col 1 1 ∷ []
 
-abbrev token_order : List (Term × Key)
-token_order = (col 1 0, ascending Binary) ∷ []
-
 abbrev token_names : List (List ℕ)
 token_names = codes "kind" ∷ codes "name" ∷ codes "token" ∷ []
 
-pub scan_tokens_is : IsSelect scan_tokens 3 [] token_project token_order token_names
+pub scan_tokens_is : IsSelect scan_tokens 3 [] token_project by_number token_names
 unfolding understood everything
 scan_tokens_is = record { is = refl; query = record { plain = (refl, refl); silent = λ _ _. refl }; unlisted = refl }
 
@@ -166,16 +185,7 @@ module _ (old new : State) (rows : List Row) (has : old.now.schema ≡ office_sc
   -- the tokens come by row number, which is the order of their tree
   pub shows_tokens : IsTable (old.now.trees 3) → Shown scan_tokens [] old new rows → rows ≡ map (λ r. column r 2 ∷ column r 3 ∷ column r 1 ∷ []) (old.now.trees 3)
   shows_tokens rise h =
-      let tree = old.now.trees 3 in
-      let q = scan 3 [] token_project token_order in
-      let out = λ (r : Row). output q (env [] r) in
-      let read = reads_as scan_tokens [] old new office_schema has _ scan_tokens_is.is scan_tokens_is.query.plain scan_tokens_is.unlisted rows h in
-      let got = selected 3 [] token_project token_order token_names old.now [] rows read in
-      let shown : IsPermutation (map out tree) got.0 =
-      subst (λ all. IsPermutation all got.0) (map-map (output q) (env []) _ ∙ ap (map out) (filter_everything tree)) got.1 in
-      let up = ascending-map (λ a b. output_cmp q a b ≡ Less) out tree (ascending_weaker _ _ (λ a b less. then-Equal _ ∙ less) tree rise) in
-      let order : got.0 ≡ map out tree = sorted_unique (output_cmp q) (output_cmp_total q) (map out tree) got.0 up shown got.2 in
-      got.3 ∙ ap (map (λ (o : Output). o.1)) order ∙ map-map (λ (o : Output). o.1) out tree
+      shows_in_order office_schema scan_tokens 3 token_project token_names scan_tokens_is.is scan_tokens_is.query.plain scan_tokens_is.unlisted old new rows has rise h
 
 -- ---- scans one after another
 
@@ -184,25 +194,6 @@ nothing_said (Ok x) = tt
 nothing_said (Err e) = tt
 
 module _ {S : Type 0} (g : Ghosts S) where
-  -- without doubt the schema was that of the office
-  was_office : {begun : Bool} (old new : Held S) → IsOurs begun (state g old) → Stays begun (state g old) (state g new) → unsure begun (state g new) ≡ 0 → (state g old).now.schema ≡ office_schema
-  was_office {begun} old new ours stays calm = ours.schema (sure_before (state g old) (state g new) stays.lasts (sound begun (state g new) calm))
-
-  -- what follows from what was done
-  pub scans_more : {T : Type 0} {old new : Held S} {r : Result T StoreFault} {did other : Type 0}
-      → Scans g old new r did → ((state g old).now.schema ≡ office_schema → did → other) → Scans g old new r other
-  scans_more {old = old} {new = new} {r = r} h f = record { stays = h.stays; value = λ ours calm. on_ok_weaker r (f (was_office old new ours (h.stays ours) calm)) (h.value ours calm); live = h.live }
-
-  -- a scan that answered Ok, as what answers something else
-  pub scans_to : {T U : Type 0} {old new : Held S} {x : T} {r : Result U StoreFault} {did other : Type 0}
-      → Scans g old new (Ok x) did → ((state g old).now.schema ≡ office_schema → did → OnOk r other) → Scans g old new r other
-  scans_to {old = old} {new = new} {r = r} h f = record { stays = h.stays; value = λ ours calm. f (was_office old new ours (h.stays ours) calm) (h.value ours calm); live = on_ok_anyway r h.live }
-
-  -- a fault after a scan
-  pub scans_fault : {T U : Type 0} {old new : Held S} {q : Result T StoreFault} {r : Result U StoreFault} {did other : Type 0}
-      → Scans g old new q did → IsErr r → Scans g old new r other
-  scans_fault {r = r} {other = other} h fault = record { stays = h.stays; value = λ ours calm. on_ok_never r other fault; live = on_ok_never r _ fault }
-
   -- a scan as a read that says nothing of the rows
   pub scans_read : {T U : Type 0} {old new : Held S} {x : T} {r : Result U StoreFault} {did : Type 0} → Scans g old new (Ok x) did → Reads g old new r (λ _ _. Unit {0})
   scans_read {r = r} h = record { stays = h.stays; value = λ ours calm rows holds. nothing_said r; live = on_ok_anyway r h.live }
@@ -210,9 +201,29 @@ module _ {S : Type 0} (g : Ghosts S) where
   pub scan_fails : {T U : Type 0} {old new : Held S} {q : Result T StoreFault} {r : Result U StoreFault} {did : Type 0} → Scans g old new q did → IsErr r → Reads g old new r (λ _ _. Unit {0})
   scan_fails {r = r} h fault = record { stays = h.stays; value = λ ours calm rows holds. nothing_said r; live = on_ok_never r _ fault }
 
+module _ {S : Type 0} (g : Ghosts S) {of : Schema} where
+  -- without doubt the schema was this one
+  was_of : {begun : Bool} (old new : Held S) → IsAt begun of (state g old) → StaysAt begun of (state g old) (state g new) → unsure begun (state g new) ≡ 0 → (state g old).now.schema ≡ of
+  was_of {begun} old new ours stays calm = ours.schema (sure_before (state g old) (state g new) stays.lasts (sound begun (state g new) calm))
+
+  -- what follows from what was done
+  pub scans_more : {T : Type 0} {old new : Held S} {r : Result T StoreFault} {did other : Type 0}
+      → ScansAt of g old new r did → ((state g old).now.schema ≡ of → did → other) → ScansAt of g old new r other
+  scans_more {old = old} {new = new} {r = r} h f = record { stays = h.stays; value = λ ours calm. on_ok_weaker r (f (was_of old new ours (h.stays ours) calm)) (h.value ours calm); live = h.live }
+
+  -- a scan that answered Ok, as what answers something else
+  pub scans_to : {T U : Type 0} {old new : Held S} {x : T} {r : Result U StoreFault} {did other : Type 0}
+      → ScansAt of g old new (Ok x) did → ((state g old).now.schema ≡ of → did → OnOk r other) → ScansAt of g old new r other
+  scans_to {old = old} {new = new} {r = r} h f = record { stays = h.stays; value = λ ours calm. f (was_of old new ours (h.stays ours) calm) (h.value ours calm); live = on_ok_anyway r h.live }
+
+  -- a fault after a scan
+  pub scans_fault : {T U : Type 0} {old new : Held S} {q : Result T StoreFault} {r : Result U StoreFault} {did other : Type 0}
+      → ScansAt of g old new q did → IsErr r → ScansAt of g old new r other
+  scans_fault {r = r} {other = other} h fault = record { stays = h.stays; value = λ ours calm. on_ok_never r other fault; live = on_ok_never r _ fault }
+
   -- a scan after a scan: both are of the same database
   pub scans_then : {T U : Type 0} {a b c : Held S} {x : T} {r : Result U StoreFault} {one two : Type 0}
-      → Scans g a b (Ok x) one → Scans g b c r two → Scans g a c r (((state g b).now ≡ (state g a).now) × one × two)
+      → ScansAt of g a b (Ok x) one → ScansAt of g b c r two → ScansAt of g a c r (((state g b).now ≡ (state g a).now) × one × two)
   scans_then {a = a} {b = b} {c = c} {r = r} first second = record {
     stays = λ ours. let kept = first.stays ours in stays_then (state g a) (state g b) (state g c) kept (second.stays kept.ours);
     value = λ ours calm.

@@ -18,7 +18,7 @@ use Rattle.mx_tables.specs.Holds.{Spells, SpellsOne}
 use Rattle.mx_tables.specs.Made.{HasVersion, IsUnknown}
 use Rattle.mx_tables.specs.States.{IsAwake, IsOurs, Stays, StaysIdle, unsure, IsHonest, IsSound}
 use Rattle.mx_audit.specs.Audit.{Goes}
-use Rattle.mx_audit.specs.Scans.{TakesAll}
+use Rattle.mx_audit.specs.Scans.{Each, TakesAll}
 use Rattle.mx_audit.specs.declared.audit.Audit.{Audit}
 use Rattle.mx_audit.specs.declared.opening.Refusal.{Refusal}
 use Rattle.mx_audit.specs.declared.opening.Refusal.TheVariants.{NotThisSchema, Unsound}
@@ -71,8 +71,7 @@ GoesOverOne db from old new = (rows : List Row) × IsScan from db rows × TakesA
 
 -- and of tables, one after another
 abbrev pub GoesOver : Trees → List Source → Audit → Audit → Type 0
-GoesOver db [] old new = new ≡ old
-GoesOver db (from ∷ more) old new = (mid : Audit) × GoesOverOne db from old mid × GoesOver db more mid new
+GoesOver db = Each (GoesOverOne db)
 
 -- ---- what is looked up
 

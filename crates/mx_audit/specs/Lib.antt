@@ -8,3 +8,4 @@ pub mod Audited
 pub mod Raw
 pub mod Ordered
 pub mod Readings
+pub mod Copies

@@ -3,6 +3,7 @@
 
 mod audit;
 mod columns;
+mod copying;
 mod findings;
 mod look;
 mod misfits;
@@ -14,5 +15,6 @@ mod seen;
 pub mod tables;
 mod typed;
 
+pub use copying::copy;
 pub use opening::{Refusal, Refused, migrate, open};
 pub use ordered::Ordered;

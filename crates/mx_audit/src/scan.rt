@@ -1,12 +1,14 @@
 //! The rows of a query, handed on one at a time.
 ghost use Rattle.std.specs.Prelude.{Bool, ◌≡◌, List, OnOk};
-ghost use Rattle.sqlite.specs.Given.{Advances, row_if};
+ghost use Rattle.sqlite_schema.specs.declared.schema.Schema.{Schema};
+ghost use Rattle.sqlite.specs.Given.{Advances, IsPlain, row_if};
 ghost use Rattle.sqlite.specs.Held.{state};
+ghost use Rattle.sqlite.specs.Listing.{understood};
 ghost use Rattle.sqlite.specs.State.{IsUnchanged, Shown};
 ghost use Rattle.sqlite.specs.Values.{bound};
 ghost use Rattle.sqlite_value.specs.Order as order;
-ghost use Rattle.mx_tables.specs.States.{IsAwake, IsOurs, IsQuery, Stays, IsSound};
-ghost use Rattle.mx_audit.specs.Scans.{Scans, TakesAll};
+ghost use Rattle.mx_tables.specs.States.{IsAt, IsAwake, IsSilent, StaysAt, IsSound};
+ghost use Rattle.mx_audit.specs.Scans.{ScansAt, TakesAll};
 
 use mx_book::StoreFault;
 use mx_tables::fault_of;
@@ -26,8 +28,8 @@ pub trait Takes {
 /// Moves to the next row of a query, or past the last. Memory where there is none, and Store where it fails otherwise.
 fn next<S: Alter>(rows: &mut Rows<'_, S>) -> Result<(), StoreFault>
     ensures same_reference { rows.new.conn.ghost_name ≡ rows.old.conn.ghost_name }
-    ensures stays { (begun : Bool) → IsOurs begun (state S.Store rows.old.conn.now)
-        → Stays begun (state S.Store rows.old.conn.now) (state S.Store rows.new.conn.now) }
+    ensures stays { (begun : Bool) (of : Schema) → IsAt begun of (state S.Store rows.old.conn.now)
+        → StaysAt begun of (state S.Store rows.old.conn.now) (state S.Store rows.new.conn.now) }
     ensures shown { IsSound (state S.Store rows.new.conn.now)
         → OnOk result (Advances S.Store rows.old.conn.now rows.new.conn.now
         (row_if rows.new.has_row rows.new.conn.now)) }
@@ -50,8 +52,9 @@ pub fn scan<S: Alter, T: Takes>(
     params: &[ValueRef<'_>],
     taker: &mut T,
 ) -> Result<(), StoreFault>
-    requires { IsQuery sql.now }
-    ensures { Scans S.Store conn.old conn.new result ((rows : List order.Row)
+    requires { IsSilent sql.now }
+    ensures { (of : Schema) → IsPlain (understood of sql.now)
+        → ScansAt of S.Store conn.old conn.new result ((rows : List order.Row)
         × Shown sql.now (bound params.now) (state S.Store conn.old) (state S.Store conn.new) rows
         × TakesAll T.takes taker.old rows taker.new) }
 {

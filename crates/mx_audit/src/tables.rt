@@ -81,7 +81,7 @@ impl Checked {
 }
 
 /// The tables, in the order in which they are gone over: what a row is held against comes before it.
-const SOURCES: [Source; 12] = [
+pub(crate) const SOURCES: [Source; 12] = [
     Source::Meta,
     Source::Members,
     Source::Holders,

@@ -15,6 +15,7 @@ import book.db roll.csv -> import book.db, roll.csv
 report book.db -> report book.db
 report book.db --purse p1 -> report book.db, purse p1
 check book.db -> check book.db
+copy book.db new.db -> copy book.db, new.db
 migrate book.db -> migrate book.db
 run -> error: run takes FILE, or --memory and --token||Usage: purse-office run [OPTIONS] [FILE]||For more information, try '--help'.|
 serve book.db --port 0 --count 3 -> error: the value of --port has to be a number from 1 to 65535, without leading zeros||Usage: purse-office serve --port <N> --count <K> <FILE>||For more information, try '--help'.|
@@ -51,6 +52,7 @@ fn task_words(alloc: Global, task: &Task<'_>) -> Result<String, AllocError> {
             purse: Some(purse),
         } => format!(in alloc; "report {}, purse {}", file.as_str(), purse.as_str()),
         Task::Check(file) => format!(in alloc; "check {}", file.as_str()),
+        Task::Copy { file, to } => format!(in alloc; "copy {}, {}", file.as_str(), to.as_str()),
         Task::Migrate(file) => format!(in alloc; "migrate {}", file.as_str()),
     }
 }

@@ -13,13 +13,14 @@ use std::test::Fail;
 const ROLL: &str =
     "kind,name,of,token\nmember,m,,00000000000000000000000000000002\nholder,ann,m,0000000000000000000000000000000a\npurse,p1,ann,\n";
 
-/// What tasks one after the other print, a line each, `WORDS -> TEXT`, in which `|` stands for the end of a line. FILE and
-/// ROLL are files in the test's folder, of which ROLL is there from the first. The operator's token ends in f.
+/// What tasks one after the other print, a line each, `WORDS -> TEXT`, in which `|` stands for the end of a line. FILE, COPY
+/// and ROLL are files in the test's folder, of which ROLL is there from the first. The operator's token ends in f.
 const TASKS: &str = "
 run FILE -> fault: file
 report FILE -> fault: file
 migrate FILE -> fault: file
 check FILE -> fault: file
+copy FILE COPY -> fault: file
 init FILE --token 0000000000000000000000000000000f -> created|
 init FILE --token 0000000000000000000000000000000f -> fault: file exists
 report FILE -> row,name,granted,float,uncollected,issued,redeemed,balances,transit,lost|scheme,,0,0,0,0,0,0,0,0|
@@ -32,6 +33,11 @@ import FILE FILE -> fault: roll
 report FILE --purse p1 -> number,kind,amount,balance,note|
 report FILE --purse p2 -> fault: no such purse
 check FILE -> sound: 1 members, 1 holders, 1 purses, 0 lines|even: the sums add up, and each statement leads to its purse's balance|
+copy FILE FILE -> fault: file exists
+copy FILE COPY -> copied|
+copy FILE COPY -> fault: file exists
+check COPY -> sound: 1 members, 1 holders, 1 purses, 0 lines|even: the sums add up, and each statement leads to its purse's balance|
+report COPY -> row,name,granted,float,uncollected,issued,redeemed,balances,transit,lost|member,m,0,0,0,0,0,0,,|scheme,,0,0,0,0,0,0,0,0|
 migrate FILE -> already schema 2|
 run --memory --token 0000000000000000000000000000000f -> RESPONSES
 run --memory --token 00000000000000000000000000000001 -> STRANGER
@@ -70,6 +76,8 @@ fn responses(alloc: Global, is_first: bool) -> Result<String, AllocError> {
 fn word_of(alloc: Global, folder: &str, word: &str) -> Result<String, AllocError> {
     match word {
         "FILE" => format!(in alloc; "{folder}/book.db"),
+        "COPY" => format!(in alloc; "{folder}/copy.db"),
+        "COPY-LOG" => format!(in alloc; "{folder}/copy.db-wal"),
         "LOG" => format!(in alloc; "{folder}/book.db-wal"),
         "ROLL" => format!(in alloc; "{folder}/roll.csv"),
         "NONE" => format!(in alloc; "{folder}/none.csv"),
@@ -133,9 +141,9 @@ fn expect_told(rt: &HostRuntime, folder: &str) -> Result<(), Fail> {
     Ok(())
 }
 
-/// Removes the books, their log and the roll, and fails where the folder has another file.
-fn remove_three(rt: &HostRuntime, folder: &str) -> Result<(), Fail> {
-    for word in ["FILE", "LOG", "ROLL"] {
+/// Removes the books, their copy, the logs and the roll, and fails where the folder has another file.
+fn remove_all(rt: &HostRuntime, folder: &str) -> Result<(), Fail> {
+    for word in ["FILE", "LOG", "COPY", "COPY-LOG", "ROLL"] {
         let path = word_of(rt.alloc(), folder, word)?;
         fs::remove_file(rt, path.as_str())?;
     }
@@ -151,5 +159,5 @@ fn each_task_over_files(rt: HostRuntime) -> Result<(), Fail> {
         let _removed = fs::remove_dir_all(&rt, folder.as_str());
         return Err(fail);
     }
-    remove_three(&rt, folder.as_str())
+    remove_all(&rt, folder.as_str())
 }

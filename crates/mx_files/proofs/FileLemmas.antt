@@ -300,7 +300,7 @@ ends_well (Ok done) result before after (inr it) ok so = so (ends_none done.faul
 ends_well (Err fault) result before after it ok so = absurd (cc)
 
 -- what holds of a task as it ended holds of it where its files were not opened too
-pub ended_so : {D X : Type 0} {g : Ghosts D} (P : Ended X D g → Type 0) (r : Result (Ended X D g) TaskFault) (e : Ended X D g) → e ≡ ended_of r → IfOk r P → ((fault : TaskFault) → IsErr r → P (record { answer = Err fault; left = Nothing })) → P e
+pub ended_so : {D X : Type 0} {g : Ghosts D} (P : Ended X D g → Type 0) (r : Result (Ended X D g) TaskFault) (e : Ended X D g) → e ≡ ended_of r → IfOk r P → ((fault : TaskFault) → IsErr r → P (record { answer = Err fault; left = Nothing; copy = Nothing })) → P e
 ended_so P (Ok ended) e is ok err = rw is ok
 ended_so P (Err fault) e is ok err = rw is (err fault (search rules))
 

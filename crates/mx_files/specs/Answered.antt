@@ -92,7 +92,7 @@ module _ {D : Type 0} {g : Ghosts D} where
   -- the task is done over the input and its own output, and ends so
   pub record DoesTask (bytes : Image) (task : Task) (before after : Seen) (exit : Exit D g) : Type 0 where
     pub answer : Result (Unit {0}) TaskFault
-    pub performs : Performs bytes (streams_of (is_direct task) before) (streams_of (is_direct task) after) task (record { answer = answer; left = exit.left })
+    pub performs : Performs bytes (streams_of (is_direct task) before) (streams_of (is_direct task) after) task (record { answer = answer; left = exit.left; copy = exit.copy })
     pub other : KeepsOther (is_direct task) before after
     pub ends : EndsTask answer before.said after.said (exit_status exit.status)
 

@@ -82,6 +82,11 @@ pub record PerformsMigration {D X : Type 0} {g : Ghosts D} (bytes : Image) (left
   pub refused : AreShut left → OnErr answer (((tables : Database) × Keeps bytes left tables) ⊎ ((w : World) → HoldBooksIn One bytes w → HoldWorld left w))
   pub ends : EndsMigration (closed_answer left answer) result before after
 
+-- The books of a World are in the files still, and those of the copy, which were closed, have them too.
+abbrev pub CopiesBooks : {D X : Type 0} {g : Ghosts D} → Image → Ended X D g → Type 0
+CopiesBooks bytes ended = AreShut ended.copy × (AreHonest ended.left
+    → (w : World) × ((u : World) → HoldTables bytes u → u ≡ w) × HoldWorld ended.left w × (AreHonest ended.copy → HoldWorld ended.copy w))
+
 -- A check: something is wrong, and the database is in the files still; or they were and are the books of a World.
 abbrev pub Checks : {D : Type 0} {g : Ghosts D} → Image → Left D g → Type 0 → Type 0
 Checks bytes left Wrong =
@@ -91,7 +96,7 @@ Checks bytes left Wrong =
 -- a fault before the files of a task are opened leaves none of them
 abbrev pub ended_of : {D X : Type 0} {g : Ghosts D} → Result (Ended X D g) TaskFault → Ended X D g
 ended_of (Ok ended) = ended
-ended_of (Err fault) = record { answer = Err fault; left = Nothing }
+ended_of (Err fault) = record { answer = Err fault; left = Nothing; copy = Nothing }
 
 -- ---- a task
 
@@ -132,6 +137,8 @@ module _ {D X : Type 0} {g : Ghosts D} where
   PerformsAct bytes before after (act.Work work) ended = OverBooks bytes before after ended
       (λ w. PerformsWork MayFail ended.left w work ended.answer before.output after.output)
   PerformsAct bytes before after act.Check ended = AreHonest ended.left → Checks bytes ended.left (IsErr ended.answer)
+  PerformsAct bytes before after (act.Copy to) ended = IsOk ended.answer
+      → CopiesBooks bytes ended × Appends before.output after.output (codes "copied\n")
   PerformsAct bytes before after act.Migrate ended = AreHonest ended.left
       → PerformsMigration bytes ended.left ended.answer before.output after.output
 

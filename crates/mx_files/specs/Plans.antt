@@ -15,4 +15,5 @@ planned_task (InFile path (act.Work (work.Serve port count))) = task.Serve path.
 planned_task (InFile path (act.Work (work.Import roll))) = task.Import path.now roll.now
 planned_task (InFile path (act.Work (work.Report purse))) = task.Report path.now purse
 planned_task (InFile path act.Check) = task.Check path.now
+planned_task (InFile path (act.Copy to)) = task.Copy path.now to.now
 planned_task (InFile path act.Migrate) = task.Migrate path.now

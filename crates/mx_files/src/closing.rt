@@ -21,7 +21,9 @@ ghost use Rattle.mx_files.specs.Opened.{IsWrong};
 ghost use Rattle.mx_files.specs.InFiles.{AreHonest, AreShut, Closes, IsLeftOf, IsRefused, HoldRounds, HoldTrees, HoldWorld, Raises, closed_answer};
 
 use crate::check::check_in_store;
-use crate::stores::{make_in_store, migrate_in_store, run_in_store, unmade, work_in_store};
+use crate::stores::{
+    copy_in_store, make_in_store, migrate_in_store, run_in_store, unmade, work_in_store,
+};
 use mx_audit::Refused;
 use mx_book::Book;
 use mx_desk::{Counted, Outlet};
@@ -29,7 +31,7 @@ use mx_pay::Token;
 use mx_standing::Standing;
 use mx_tables::{Migrated, Tables};
 use mx_tasks::{Done, TaskFault, Work};
-use sqlite::{Connection, FileStore, Files};
+use sqlite::{Connection, FileFrom, FileStore, Files, Unknown};
 use sqlite_disk::Disk;
 use std::alloc::Global;
 use std::io::Read;
@@ -52,6 +54,8 @@ pub struct Ended<T, D: Disk> {
     pub answer: Result<T, TaskFault>,
     /// The files.
     pub left: Left<D>,
+    /// Those of a copy, where the task made one.
+    pub copy: Left<FileFrom<Unknown>>,
 }
 
 impl<D: Disk + Drop> Left<D> {
@@ -69,11 +73,19 @@ impl<D: Disk + Drop> Left<D> {
 impl<T, D: Disk> Ended<T, D> {
     /// A task that leaves no files of books.
     pub fn of(answer: Result<T, TaskFault>) -> Ended<T, D>
-        ensures { result ≡ record { answer = answer; left = Left.Nothing } }
+        ensures { result ≡ record { answer = answer; left = Left.Nothing; copy = Left.Nothing } }
+    {
+        Ended::over(answer, Left::Nothing)
+    }
+
+    /// A task that leaves these files of books, and no copy.
+    pub fn over(answer: Result<T, TaskFault>, left: Left<D>) -> Ended<T, D>
+        ensures { result ≡ record { answer = answer; left = left; copy = Left.Nothing } }
     {
         Ended {
             answer,
-            left: Left::Nothing,
+            left,
+            copy: Left::Nothing,
         }
     }
 }
@@ -115,10 +127,8 @@ pub fn close<D: Disk + Drop, T: Drop>(
     ensures closes { Closes store result.left }
 {
     let left = closed(store);
-    Ended {
-        answer: told(&left, answer),
-        left,
-    }
+    let answer = told(&left, answer);
+    Ended::over(answer, left)
 }
 
 /// Closes the files of a store whose books were refused. They are as they were.
@@ -147,6 +157,36 @@ pub fn make_in_files<D: Disk + Drop>(
 {
     let made = make_in_store(alloc, store, operator)?;
     Ok(close(Ok(()), made))
+}
+
+/// Copies the books in the files of a store to those of a new one, and closes the files of both.
+///
+/// # Errors
+///
+/// As of `copy_in_store`; `Store` too where files can't be closed.
+pub fn copy_in_files<D: Disk + Drop>(
+    alloc: Global,
+    store: Connection<FileStore<D>>,
+    to: Connection<FileStore<FileFrom<Unknown>>>,
+) -> Ended<(), D>
+    ensures shut { IsOk result.answer → AreShut result.left × AreShut result.copy }
+    ensures copies { IsOk result.answer → AreHonest result.left
+        → HasCleanDisk (file_state store) × (w : World) × Represents (file_state store).now w
+        × HoldWorld result.left w × (AreHonest result.copy → HoldWorld result.copy w) }
+{
+    let mut new = to;
+    match copy_in_store(alloc, store, &mut new) {
+        Ok((answer, left)) => {
+            let copied = close(answer, new);
+            let Ended { answer, left, .. } = close(copied.answer, left);
+            Ended {
+                answer,
+                left,
+                copy: copied.left,
+            }
+        }
+        Err(refused) => close_refused(refused),
+    }
 }
 
 /// Answers the requests of the input over the books in the files of a store, and closes the files. Where the books are refused,

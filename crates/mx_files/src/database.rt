@@ -14,7 +14,7 @@ use crate::log::look_at_log;
 use crate::unopened::unopened;
 use crate::watched::Watched;
 use mx_tasks::Cause;
-use sqlite::{Connection, Error, ErrorCode, FileFrom, FileStore, Files, Options, Start};
+use sqlite::{Connection, Error, ErrorCode, FileFrom, FileStore, Files, Options, Start, Unknown};
 use sqlite_disk::Disk;
 use sqlite_std_file::OpenError;
 use sqlite_wal::probe_page_size;
@@ -210,6 +210,40 @@ pub(crate) fn open_at<'a, S: Start>(
 {
     let files = locked_whole(rt, path, start)?;
     match open_files(rt, files, new_has_sums) {
+        Ok(store) => Ok(store),
+        Err(error) => Err(unopened(&rt, rt.alloc(), path, error)),
+    }
+}
+
+/// Opens new files as an empty database.
+fn open_empty<D: Disk + Drop>(
+    rt: &HostRuntime,
+    files: Files<D>,
+) -> Result<Connection<FileStore<D>>, Error>
+    requires log { IsTrue (D.Disk.is_usable files.log) }
+    requires db { IsTrue (D.Disk.is_usable files.db) }
+    ensures sums { IfOk result (HasSumsIfNew (image_of D.Disk files)) }
+{
+    let options = options(rt, 0)?;
+    match Connection::open_files_with(rt.alloc(), files, options, true) {
+        Ok(store) => Ok(store),
+        Err((error, _)) => Err(error),
+    }
+}
+
+/// Opens an empty file as a new database for a copy of books. Its pages end in SQLite's page checksum.
+///
+/// # Errors
+///
+/// As of `open_at`.
+pub(crate) fn open_copy(
+    rt: &HostRuntime,
+    path: &str,
+) -> Result<Connection<FileStore<FileFrom<Unknown>>>, Cause>
+    ensures sums { IfOk result (HasSumsIfNew (image_at ⟦<Unknown as Start>⟧)) }
+{
+    let files = locked_whole(rt, path, Unknown)?;
+    match open_empty(rt, files) {
         Ok(store) => Ok(store),
         Err(error) => Err(unopened(&rt, rt.alloc(), path, error)),
     }

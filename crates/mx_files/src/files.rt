@@ -1,14 +1,19 @@
 //! The files of books.
 ghost use Rattle.std.specs.Prelude.{◌≡◌, IfOk, IsOk, OnErr, OnOk};
 ghost use Rattle.sqlite_wal.specs.Files.{image_at};
-ghost use Rattle.mx_files.specs.InFiles.{HasSumsIfNew, IsNewOf, IsOpenedOver};
+ghost use Rattle.sqlite.specs.Files.{file_state};
+ghost use Rattle.sqlite.specs.State.{HasCleanDisk};
+ghost use Rattle.mx_book.specs.World.{World};
+ghost use Rattle.mx_files.specs.Durable.{Represents};
+ghost use Rattle.mx_files.specs.Folders.{IsMissing};
+ghost use Rattle.mx_files.specs.InFiles.{AreHonest, AreShut, HasSumsIfNew, HoldWorld, IsNewOf, IsOpenedOver};
 ghost use Rattle.mx_files.specs.Makings.{Installs, KeepsFile};
 
-use crate::closing::{Ended, Left, make_in_files};
-use crate::database::open_at;
+use crate::closing::{Ended, Left, copy_in_files, make_in_files};
+use crate::database::{open_at, open_copy};
 use crate::folder::{DatabaseFolder, end_stopped_init};
 use crate::init::{begin, end};
-use crate::places::look_for_books;
+use crate::places::{expect_vacant, look_for_books};
 use crate::watched::Watched;
 use mx_pay::Token;
 use mx_tasks::{Cause, TaskFault};
@@ -98,9 +103,75 @@ fn new_books<'a, S: Start>(
     ensures made { IfOk result (IsNewOf operator) }
 {
     let store = open_new(rt, made, start)?;
-    let Ended { answer, left } = make_in_files(rt.alloc(), store, operator)?;
+    let Ended { answer, left, .. } = make_in_files(rt.alloc(), store, operator)?;
     let kept = where_ok(answer, left)?;
     Ok(kept)
+}
+
+/// Copies the books in a store to an empty file, and closes both.
+fn new_copy<'a, S: Start>(
+    rt: &'a HostRuntime,
+    made: &str,
+    store: Opened<'a, S>,
+) -> Result<Ended<(), BookFile<'a, S>>, Cause>
+    ensures shut { IfOk result (λ ended. AreShut ended.left × AreShut ended.copy) }
+    ensures copies { IfOk result (λ ended. AreHonest ended.left → HasCleanDisk (file_state store)
+        × (w : World) × Represents (file_state store).now w × HoldWorld ended.left w
+        × (AreHonest ended.copy → HoldWorld ended.copy w)) }
+{
+    let to = open_copy(rt, made)?;
+    let ended = copy_in_files(rt.alloc(), store, to);
+    ended.answer?;
+    Ok(Ended {
+        answer: Ok(()),
+        left: ended.left,
+        copy: ended.copy,
+    })
+}
+
+/// Copies the books in a store to a file beside the one of this path, which isn't there, and gives it its place.
+fn copy_over<'a, F: DatabaseFolder, S: Start>(
+    rt: &'a HostRuntime,
+    folder: &mut F,
+    path: &str,
+    store: Opened<'a, S>,
+) -> Result<Ended<(), BookFile<'a, S>>, Cause>
+    ensures shut { IfOk result (λ ended. AreShut ended.left × AreShut ended.copy) }
+    ensures copies { IfOk result (λ ended. AreHonest ended.left → HasCleanDisk (file_state store)
+        × (w : World) × Represents (file_state store).now w × HoldWorld ended.left w
+        × (AreHonest ended.copy → HoldWorld ended.copy w)) }
+    ensures missing { OnOk result (IsMissing ((F.paths folder.old).spot path.now)) }
+    ensures placed { OnOk result (Installs path.now (F.paths folder.old) (F.paths folder.new)) }
+    ensures kept { OnErr result (KeepsFile path.now (F.paths folder.old) (F.paths folder.new)) }
+{
+    expect_vacant(&*folder, path)?;
+    let making = begin(folder, rt.alloc(), path)?;
+    let copied = new_copy(rt, making.made.as_str(), store);
+    end(folder, &making, copied)
+}
+
+/// Copies the books in a store to a file that isn't there yet, for its owner alone to read and write, and closes both. The file
+/// is made in FILE-init, and gets its name once it is whole.
+///
+/// # Errors
+///
+/// `FileExists` where the file is there; `File` where it can't be made, its folder can't be synced, or another process or file is
+/// in the way; those of `copy_in_files`. Then nothing is left of it, unless the sync failed. A terminal is told why.
+pub(crate) fn copy_to_file<'a, S: Start>(
+    rt: &'a HostRuntime,
+    path: &str,
+    store: Opened<'a, S>,
+) -> Result<Ended<(), BookFile<'a, S>>, TaskFault>
+    ensures shut { IfOk result (λ ended. AreShut ended.left × AreShut ended.copy) }
+    ensures copies { IfOk result (λ ended. AreHonest ended.left → HasCleanDisk (file_state store)
+        × (w : World) × Represents (file_state store).now w × HoldWorld ended.left w
+        × (AreHonest ended.copy → HoldWorld ended.copy w)) }
+{
+    let mut folder = rt;
+    match copy_over(rt, &mut folder, path, store) {
+        Ok(ended) => Ok(ended),
+        Err(cause) => Err(cause.tell(rt, path)),
+    }
 }
 
 /// Makes new books in a file beside that of this path, and puts it in its place.

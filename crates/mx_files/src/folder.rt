@@ -201,13 +201,13 @@ fn locked(rt: &HostRuntime, path: &str, file: File) -> io::Result<Held> {
         Err(TryLockError::Error(error)) => return Err(error),
     }
     let number = file.metadata()?.ino();
-    if fs::symlink_metadata(rt, path)?.ino() != number {
-        return Err(io::Error::from(ErrorKind::WouldBlock));
+    match told(fs::symlink_metadata(rt, path))? {
+        Some(entry) if entry.number == number => Ok(Held {
+            number,
+            file: Some(file),
+        }),
+        _ => Err(io::Error::from(ErrorKind::WouldBlock)),
     }
-    Ok(Held {
-        number,
-        file: Some(file),
-    })
 }
 
 /// Ends what an `init` that was stopped once the file had its path has left of it: the other path, FILE-init, and the mark.

@@ -1,5 +1,5 @@
 //! Every task, over an input, an output and the files that the task names.
-ghost use Rattle.std.specs.Prelude.{◌≡◌, ℕ, List, [], IfErr, IfOk, IsErr, IsOk, None, OnOk};
+ghost use Rattle.std.specs.Prelude.{◌≡◌, ℕ, List, [], IfErr, IfOk, IsErr, IsOk, None, OnOk, codes};
 ghost use Rattle.std.specs.Io.KnownBytes.{Appends};
 ghost use Rattle.sqlite_wal.specs.Files.{image_at};
 ghost use Rattle.mx_book.specs.World.{World, opening};
@@ -9,10 +9,10 @@ ghost use Rattle.mx_desk.specs.Steps.{state};
 ghost use Rattle.mx_tasks.specs.Faults.{Untouched};
 ghost use Rattle.mx_files.specs.InFiles.{AreHonest, AreShut, HoldRounds, closed_answer};
 ghost use Rattle.mx_files.specs.Opened.{IsWrong};
-ghost use Rattle.mx_files.specs.Performed.{Checks, EndsMigration, EndsRun, EndsWork, MakesBooks, OverBooks, Performs, PerformsInMemory, PerformsMigration, PerformsRun, PerformsWork, ended_of, streams};
+ghost use Rattle.mx_files.specs.Performed.{Checks, CopiesBooks, EndsMigration, EndsRun, EndsWork, MakesBooks, OverBooks, Performs, PerformsInMemory, PerformsMigration, PerformsRun, PerformsWork, ended_of, streams};
 
 use crate::closing::{Ended, check_in_files, migrate_in_files, run_in_files, work_in_files};
-use crate::files::{BookFile, make_in_file, no_files, open_found, open_told};
+use crate::files::{BookFile, copy_to_file, make_in_file, no_files, open_found, open_told};
 use crate::plan::{Act, Plan, plan_of};
 use mx_args::Task;
 use mx_book::Book;
@@ -100,11 +100,8 @@ fn run_in_file<'a, S: Start, R: Read, W: Outlet>(
         (HoldRounds ended.left w))) }
 {
     let store = open_told(rt, path, start)?;
-    let Ended { answer, left } = run_in_files(rt.alloc(), store, reader, writer);
-    Ok(Ended {
-        answer: pass_on(answer, writer),
-        left,
-    })
+    let Ended { answer, left, .. } = run_in_files(rt.alloc(), store, reader, writer);
+    Ok(Ended::over(pass_on(answer, writer), left))
 }
 
 /// Does a piece of work over the books in a file, and writes its text once that is closed.
@@ -125,11 +122,8 @@ fn work_in_file<'a, S: Start, W: Write>(
         work.now ended.answer (W.contents writer.old.device) (W.contents writer.new.device))) }
 {
     let store = open_told(rt, path, start)?;
-    let Ended { answer, left } = work_in_files(rt, store, work);
-    Ok(Ended {
-        answer: say_done(answer, writer),
-        left,
-    })
+    let Ended { answer, left, .. } = work_in_files(rt, store, work);
+    Ok(Ended::over(say_done(answer, writer), left))
 }
 
 /// Tells whether the books in a file are sound, or what is wrong in them. Where the file isn't opened, a line says why.
@@ -185,10 +179,7 @@ fn init_file<'a, S: Start, W: Write>(
         (W.contents writer.old.device) (W.contents writer.new.device)) }
 {
     let left = make_in_file(rt, path, start, operator)?;
-    Ok(Ended {
-        answer: say(writer, b"created\n"),
-        left,
-    })
+    Ok(Ended::over(say(writer, b"created\n"), left))
 }
 
 /// Checks the books in a file, and says what was found.
@@ -202,10 +193,28 @@ fn check_file<'a, S: Start, W: Write>(
     ensures checks { IfOk result (λ ended. AreHonest ended.left
         → Checks (image_at S.Start) ended.left (IsErr ended.answer)) }
 {
-    let Ended { answer, left } = check_in_file(rt, path, start)?;
+    let Ended { answer, left, .. } = check_in_file(rt, path, start)?;
+    Ok(Ended::over(say_done(answer, writer), left))
+}
+
+/// Copies the books in a file to a new one, and says so.
+fn copy_file<'a, S: Start, W: Write>(
+    rt: &'a HostRuntime,
+    path: &str,
+    start: S,
+    to: &str,
+    writer: &mut Counted<W>,
+) -> Result<Ended<(), BookFile<'a, S>>, TaskFault>
+    ensures shut { IfOk result (λ ended. IsOk ended.answer → AreShut ended.left) }
+    ensures copies { IfOk result (λ ended. IsOk ended.answer → CopiesBooks (image_at S.Start) ended
+        × Appends (W.contents writer.old.device) (W.contents writer.new.device) (codes "copied\n")) }
+{
+    let store = open_told(rt, path, start)?;
+    let Ended { left, copy, .. } = copy_to_file(rt, to, store)?;
     Ok(Ended {
-        answer: say_done(answer, writer),
+        answer: say(writer, b"copied\n"),
         left,
+        copy,
     })
 }
 
@@ -223,11 +232,8 @@ fn migrate_file<'a, S: Start, W: Write>(
         (W.contents writer.old.device) (W.contents writer.new.device)) }
 {
     let store = open_told(rt, path, start)?;
-    let Ended { answer, left } = migrate_in_files(rt.alloc(), store);
-    Ok(Ended {
-        answer: say_migrated(answer, writer),
-        left,
-    })
+    let Ended { answer, left, .. } = migrate_in_files(rt.alloc(), store);
+    Ok(Ended::over(say_migrated(answer, writer), left))
 }
 
 /// A task as it ended: a fault that came before its files were opened leaves none.
@@ -262,15 +268,16 @@ pub fn perform<'a, S: Start, R: Read, W: Outlet>(
         task.now result }
 {
     match &plan_of(task) {
-        Plan::InMemory(operator) => Ended {
-            answer: perform_memory(rt.alloc(), *operator, reader, writer),
-            left: no_files(rt),
-        },
+        Plan::InMemory(operator) => {
+            let answer = perform_memory(rt.alloc(), *operator, reader, writer);
+            Ended::over(answer, no_files(rt))
+        }
         Plan::InFile(path, act) => match act {
             Act::Run => ended(run_in_file(rt, path, start, reader, writer)),
             Act::Make(operator) => ended(init_file(rt, path, start, *operator, writer)),
             Act::Work(work) => ended(work_in_file(rt, path, start, work, writer)),
             Act::Check => ended(check_file(rt, path, start, writer)),
+            Act::Copy(to) => ended(copy_file(rt, path, start, to, writer)),
             Act::Migrate => ended(migrate_file(rt, path, start, writer)),
         },
     }

@@ -1,7 +1,7 @@
 //! What stands where a file of books and its log belong.
 ghost use Rattle.std.specs.Prelude.{◌≡◌, ◌==◌, ◌++◌, ◌↔◌, Err, IfErr, IfOk, IsTrue, OnOk, string_bytes};
 ghost use Rattle.std.specs.List.{list_all};
-ghost use Rattle.mx_files.specs.Folders.{IsEmptyFile, IsLog, IsOtherFile, IsPlaceFor, MayBeOpened, has_log_magic, log_spot, may_begin_log, spot_behind};
+ghost use Rattle.mx_files.specs.Folders.{IsEmptyFile, IsLog, IsMissing, IsOtherFile, IsPlaceFor, MayBeOpened, has_log_magic, log_spot, may_begin_log, spot_behind};
 
 use crate::folder::{Entry, FileKind, Folder};
 use mx_tasks::{Cause, TaskFault};
@@ -96,6 +96,16 @@ pub fn look_for_books<F: Folder>(folder: &F, alloc: Global, path: &str) -> Resul
     }
     has_log(folder, alloc, behind.as_str())?;
     Ok(())
+}
+
+/// Fails as `NotEmpty` where there is a file of this path, also an empty one or a link.
+pub fn expect_vacant<F: Folder>(folder: &F, path: &str) -> Result<(), Cause>
+    ensures { OnOk result (IsMissing ((F.paths folder.now).spot path.now)) }
+{
+    match folder.entry_at(path)? {
+        Some(_) => Err(Cause::NotEmpty),
+        None => Ok(()),
+    }
 }
 
 /// The path at which new books may be put, in place of the file of this path, with no link in it.

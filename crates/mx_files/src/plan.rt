@@ -17,6 +17,8 @@ pub enum Act<'a> {
     Work(Work<'a>),
     /// It is told whether they are sound.
     Check,
+    /// They are copied to the new file at this path.
+    Copy(&'a str),
     /// They are brought to the schema of this version.
     Migrate,
 }
@@ -52,6 +54,7 @@ pub fn plan_of<'a>(task: &Task<'a>) -> Plan<'a>
             Plan::InFile(file.as_str(), Act::Work(Work::Report(*purse)))
         }
         Task::Check(file) => Plan::InFile(file.as_str(), Act::Check),
+        Task::Copy { file, to } => Plan::InFile(file.as_str(), Act::Copy(to.as_str())),
         Task::Migrate(file) => Plan::InFile(file.as_str(), Act::Migrate),
     }
 }

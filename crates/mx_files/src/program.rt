@@ -13,7 +13,7 @@ use mx_desk::Counted;
 use mx_tasks::exits::{fail_to, refuse_to, show_to};
 use mx_tasks::voice::Voice;
 use mx_tasks::{Alarmed, TaskFault};
-use sqlite::Start;
+use sqlite::{FileFrom, Start, Unknown};
 use sqlite_disk::Disk;
 use std::alloc::{AllocError, Global};
 use std::io;
@@ -44,6 +44,8 @@ pub struct Exit<D: Disk> {
     pub status: ExitCode,
     /// The files.
     pub left: Left<D>,
+    /// Those of a copy, where the task made one.
+    pub copy: Left<FileFrom<Unknown>>,
 }
 
 /// Whether a task writes at once, and not to a buffer.
@@ -129,15 +131,17 @@ fn answer_line<'a, S: Start, R: Read, W: Write + Drop, V: Voice>(
 {
     match read {
         Ok(task) => {
-            let Ended { answer, left } = perform_over(rt, start, &task, devices);
+            let Ended { answer, left, copy } = perform_over(rt, start, &task, devices);
             Exit {
                 status: end_task(&mut devices.voice, answer),
                 left,
+                copy,
             }
         }
         Err(fault) => Exit {
             status: end_line(devices, &fault),
             left: no_files(rt),
+            copy: Left::Nothing,
         },
     }
 }
@@ -193,6 +197,7 @@ pub fn run_program<'a, S: Start, R: Read, W: Write + Drop, V: Voice>(
             return Exit {
                 status: end_unread(devices, error.kind()),
                 left: no_files(rt),
+                copy: Left::Nothing,
             };
         }
     };
@@ -201,6 +206,7 @@ pub fn run_program<'a, S: Start, R: Read, W: Write + Drop, V: Voice>(
         Err(_) => Exit {
             status: end_line(devices, &LineFault::Memory),
             left: no_files(rt),
+            copy: Left::Nothing,
         },
     }
 }

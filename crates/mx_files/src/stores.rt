@@ -7,16 +7,16 @@ ghost use Rattle.mx_desk.specs.Rounds.{Leads};
 ghost use Rattle.mx_desk.specs.Steps.{state};
 ghost use Rattle.mx_audit.specs.Audited.{Refuses};
 ghost use Rattle.mx_tables.specs.Migration.{Migrates};
-ghost use Rattle.mx_tables.specs.States.{IsOurs, Leaves, worry, IsSound, IsHonest};
+ghost use Rattle.mx_tables.specs.States.{IsOurs, Leaves, StaysIdle, worry, IsSound, IsHonest};
 ghost use Rattle.mx_tables.specs.declared.migration.Migrated.TheVariants.{Done as Raised};
 ghost use Rattle.mx_tasks.specs.Faults.{Untouched};
 ghost use Rattle.mx_tasks.specs.Runs.{IsRunFault, TaskRuns};
 ghost use Rattle.mx_tasks.specs.Works.{Works};
-ghost use Rattle.mx_files.specs.Durable.{Endures, Represents};
+ghost use Rattle.mx_files.specs.Durable.{Endures, IsCopy, Represents};
 ghost use Rattle.mx_files.specs.Opened.{open_fault_of};
 
 use mx_audit::opening::as_refusal;
-use mx_audit::{Ordered, Refusal, Refused, migrate, open};
+use mx_audit::{Ordered, Refusal, Refused, copy, migrate, open};
 use mx_book::Book;
 use mx_desk::{Counted, Outlet};
 use mx_pay::Token;
@@ -60,6 +60,36 @@ pub fn make_in_store<S: Alter + Drop>(
     match Tables::create(alloc, store, operator) {
         Ok(book) => Ok(book.into_store()),
         Err(refused) => Err(unmade(as_refusal(refused.fault))),
+    }
+}
+
+/// Copies the books in a store to a new one, and gives the store back.
+///
+/// # Errors
+///
+/// Those of `open`. Nothing was copied then, and the store is given back as it was. The answer is `Memory` or `Store` where a
+/// store has no memory, or refuses a statement.
+pub fn copy_in_store<S: Ordered + Drop, T: Alter>(
+    alloc: Global,
+    store: Connection<S>,
+    to: &mut Connection<T>,
+) -> Result<(Result<(), TaskFault>, Connection<S>), Refused<S>>
+    ensures rests { IfOk result (λ x. StaysIdle (state_of S.Store store) (state_of S.Store x.1)) }
+    ensures ours { IfOk result (λ x. IsOurs false (state_of S.Store x.1)) }
+    ensures copies { IfOk result (λ x. IsSound (state_of S.Store x.1)
+        → (w : World) × Represents (state_of S.Store store).now w
+        × OnOk x.0 (IsCopy (state_of T.Store to.new) w)) }
+    ensures refused { IfErr result (λ e. Refuses S.Store store e.fault e.store) }
+{
+    match open(alloc, store, 0) {
+        Ok((book, _)) => {
+            let mut opened = book.into_inner().into_store();
+            match copy(alloc, &mut opened, to) {
+                Ok(_) => Ok((Ok(()), opened)),
+                Err(fault) => Ok((Err(unmade(as_refusal(fault))), opened)),
+            }
+        }
+        Err(refused) => Err(refused),
     }
 }
 

@@ -1,6 +1,7 @@
 use Rattle.std.proofs.Common.{rules, Bool, ℕ, ◌≡◌, List, [], ◌∷◌, ◌++◌, None, Some, Ok, refl, sym, subst, ◌∙◌}
 use Rattle.sqlite_value.specs.Order.{Row}
 use Rattle.sqlite_trees.specs.declared.store.Store.{Ghosts}
+use Rattle.sqlite_schema.specs.declared.schema.Schema.{Schema}
 use Rattle.sqlite.specs.Given.{IsPlain, Advances, row_if}
 use Rattle.sqlite.specs.Held.{Held, state}
 use Rattle.sqlite.specs.Listing.{understood, reads_listing, IsSourceOf}
@@ -9,9 +10,9 @@ use Rattle.sqlite.specs.Effect.{Database}
 use Rattle.sqlite.specs.State.{State, Shown, ShowsRows, IsUnchanged}
 use Rattle.sqlite.specs.Values.{bound}
 use Rattle.sqlite.proofs.Callers.{begun_plain, unchanged_then}
-use Rattle.mx_tables.specs.States.{IsOurs}
+use Rattle.mx_tables.specs.States.{IsAt}
 use Rattle.mx_tables.proofs.StateLemmas.{sound as is_sound, sure_in, sure_first, sure_before, stays_then, begun_stays, refused_stays}
-use Rattle.mx_audit.specs.Scans.{Scans, TakesAll}
+use Rattle.mx_audit.specs.Scans.{ScansAt, TakesAll}
 use Rattle.mx_audit.proofs.scan.scan.Goals as goal
 
 -- one row more was taken
@@ -33,13 +34,13 @@ shown_from sql params old mid new rows plain kept h =
     )
 
 -- the connection is as the rows leave it
-at_last : {S T : Type 0} {x : T} (g : Ghosts S) (old new last : Held S) (did : Held S → Type 0) → Scans g old new (Ok x) (did new) → new ≡ last → Scans g old last (Ok x) (did last)
-at_last {x = x} g old new last did done same = subst (λ h. Scans g old h (Ok x) (did h)) same done
+at_last : {S T : Type 0} {x : T} {of : Schema} (g : Ghosts S) (old new last : Held S) (did : Held S → Type 0) → ScansAt of g old new (Ok x) (did new) → new ≡ last → ScansAt of g old last (Ok x) (did last)
+at_last {x = x} {of = of} g old new last did done same = subst (λ h. ScansAt of g old h (Ok x) (did h)) same done
 
 pub returns-in-Err : goal.returns-in-Err
-returns-in-Err g c = record {
+returns-in-Err g c of plain = record {
   stays = λ ours.
-      refused_stays g.S.Store _ _ c.args.conn.now c.query.follows.lender-at-none c.query.result _ c.in-Err.is c.requires.silent ours c.query.follows.holds-at-none;
+      refused_stays g.S.Store _ _ c.args.conn.now c.query.follows.lender-at-none c.query.result _ c.in-Err.is c.requires ours c.query.follows.holds-at-none;
   value = λ ours calm. tt;
   live = tt;
 }
@@ -49,13 +50,13 @@ loop-init g c =
     let made = c.in-Ok.ensures in
     let old = state g.S.Store c.args.conn.now in
     let new = state g.S.Store c.in-Ok.rows.conn.now in
-    let stays = λ (begun : Bool) (ours : IsOurs begun old). begun_stays g.S.Store c.args.sql.now _ c.args.conn.now c.in-Ok.rows.conn.now c.requires.plain c.requires.silent ours made.mode made.survives made.begun in (
+    let stays = λ (begun : Bool) (of : Schema) (plain : IsPlain (understood of c.args.sql.now)) (ours : IsAt begun of old). begun_stays g.S.Store c.args.sql.now _ c.args.conn.now c.in-Ok.rows.conn.now plain c.requires ours made.mode made.survives made.begun in (
       refl,
       stays,
-      λ begun ours calm.
-          let has = ours.schema (sure_before old new (stays begun ours).lasts (is_sound begun new calm)) in
-          let plain = subst (λ s. IsPlain (understood s c.args.sql.now)) (sym has) c.requires.plain in
-          let began = begun_plain g.S.Store c.args.sql.now _ c.args.conn.now c.in-Ok.rows.conn.now plain (made.begun (sure_in begun new calm).1) in
+      λ begun of plain ours calm.
+          let has = ours.schema (sure_before old new (stays begun of plain ours).lasts (is_sound begun new calm)) in
+          let first = subst (λ s. IsPlain (understood s c.args.sql.now)) (sym has) plain in
+          let began = begun_plain g.S.Store c.args.sql.now _ c.args.conn.now c.in-Ok.rows.conn.now first (made.begun (sure_in begun new calm).1) in
           ([], began.0, began.1, refl),
     )
 
@@ -66,32 +67,32 @@ loop-preserved g c =
     let mid = state g.S.Store c.loop.rows.conn.now in
     let new = state g.S.Store c.next.new.rows.conn.now in (
       made.same_reference ∙ before.0,
-      λ begun ours. let was = before.1 begun ours in stays_then (state g.S.Store c.args.conn.now) mid new was (made.stays begun was.ours),
-      λ begun ours calm.
-          let step = made.stays begun (before.1 begun ours).ours in
-          let was = before.2 begun ours (sure_first step.later calm) in
+      λ begun of plain ours. let was = before.1 begun of plain ours in stays_then (state g.S.Store c.args.conn.now) mid new was (made.stays begun of was.ours),
+      λ begun of plain ours calm.
+          let step = made.stays begun of (before.1 begun of plain ours).ours in
+          let was = before.2 begun of plain ours (sure_first step.later calm) in
           let row : Some c.in-Some.row.now ≡ row_if c.next.new.rows.has_row c.next.new.rows.conn.now = rw c.in-Some.is at c.get.ensures in
           let gives : Advances g.S.Store c.loop.rows.conn.now c.next.new.rows.conn.now (Some c.in-Some.row.now) = rw (sym row) at made.shown (is_sound begun new calm) in
           (was.0 ++ c.in-Some.row.now ∷ [], gives c.args.sql.now (bound c.args.params.now) was.0 was.1, unchanged_then _ mid new was.2 (made.same (is_sound begun new calm)), one_more g.T.Takes.takes was.0 c.in-Some.row.now _ c.loop.taker _ was.3 c.in_ok-take.ensures),
     )
 
 pub returns-in_default : goal.returns-in_default
-returns-in_default g c =
+returns-in_default g c of plain =
     let before = c.loop.invariant in
     let made = c.in_ok-next.ensures in
     let old = state g.S.Store c.args.conn.now in
     let mid = state g.S.Store c.loop.rows.conn.now in
     let new = state g.S.Store c.next.new.rows.conn.now in
     at_last g.S.Store c.args.conn.now c.next.new.rows.conn.now _ (λ h. (rows : List Row) × Shown c.args.sql.now (bound c.args.params.now) old (state g.S.Store h) rows × TakesAll g.T.Takes.takes c.args.taker.now rows c.loop.taker) (record {
-      stays = λ ours. let was = before.1 _ ours in stays_then old mid new was (made.stays _ was.ours);
+      stays = λ ours. let was = before.1 _ of plain ours in stays_then old mid new was (made.stays _ of was.ours);
       value = λ {begun} ours calm.
-          let first = before.1 begun ours in
-          let early = sure_first (made.stays begun first.ours).later calm in
-          let was = before.2 begun ours early in
+          let first = before.1 begun of plain ours in
+          let early = sure_first (made.stays begun of first.ours).later calm in
+          let was = before.2 begun of plain ours early in
           let end : None ≡ row_if c.next.new.rows.has_row c.next.new.rows.conn.now = rw c.in_default.is at c.get.ensures in
           let ends : Advances g.S.Store c.loop.rows.conn.now c.next.new.rows.conn.now None = rw (sym end) at made.shown (is_sound begun new calm) in
           let has = first.ours.schema (is_sound begun mid early) in
-          let plain = subst (λ s. IsPlain (understood s c.args.sql.now)) (sym has) c.requires.plain in
-          (was.0, shown_from c.args.sql.now (bound c.args.params.now) old mid new was.0 plain was.2 (ends c.args.sql.now (bound c.args.params.now) was.0 was.1), was.3);
+          let last = subst (λ s. IsPlain (understood s c.args.sql.now)) (sym has) plain in
+          (was.0, shown_from c.args.sql.now (bound c.args.params.now) old mid new was.0 last was.2 (ends c.args.sql.now (bound c.args.params.now) was.0 was.1), was.3);
       live = made.live;
     }) (search rules)

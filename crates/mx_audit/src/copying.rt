@@ -1,0 +1,238 @@
+//! Copies of tables: their rows in a new store.
+ghost use Rattle.std.specs.Prelude.{◌≡◌, ◌<◌, IfErr, IfOk, OnOk, false, length, map};
+ghost use Rattle.std.specs.List.{AllByRecursion};
+ghost use Rattle.sqlite.specs.Held.{state};
+ghost use Rattle.sqlite.specs.State.{HasCleanDisk};
+ghost use Rattle.sqlite.specs.Values.{bound, bound_value};
+ghost use Rattle.mx_book.specs.World.{World};
+ghost use Rattle.mx_tables.specs.Holds.{SpellsOneIn};
+ghost use Rattle.mx_tables.specs.declared.making.Version.{Version};
+ghost use Rattle.mx_tables.specs.Migration.{IsWhole};
+ghost use Rattle.mx_tables.specs.Made.{IsUnknown};
+ghost use Rattle.mx_tables.specs.Schema.{no_schema, number_of, schema_of};
+ghost use Rattle.mx_tables.specs.States.{Commits, IsAt, IsAwake, IsHonest, IsSound, StaysAt, StaysIdle};
+ghost use Rattle.mx_tables.specs.declared.opening.OpenFault.TheVariants.{NotThisSchema};
+ghost use Rattle.mx_audit.specs.Copies.{Copies, Fills, FillsTable, FillsTables, IsAmong, row_text, rows_text, sources_in};
+ghost use Rattle.mx_audit.specs.Scans.{ScansAt};
+
+use crate::ordered::Ordered;
+use crate::scan::{Takes, scan};
+use crate::tables::SOURCES;
+use crate::typed::Source;
+use mx_book::StoreFault;
+use mx_tables::{
+    OpenFault, Version, fault_of, find_version, is_blank, make_tables, open_fault, run,
+};
+use sqlite::{Alter, Connection, Error, Row, Savepoint};
+use sqlite_value::value::ValueRef;
+use std::alloc::Global;
+
+/// How many tables version 1 has.
+const IN_VERSION_1: usize = 11;
+
+/// The query that shows the rows of a table with their numbers, in their order.
+fn rows_text(source: Source) -> &'static str
+    ensures { result.now ≡ rows_text source }
+{
+    match source {
+        Source::Meta => "SELECT id, version FROM meta ORDER BY rowid",
+        Source::Members => "SELECT rowid, name, granted, unspent FROM member ORDER BY rowid",
+        Source::Holders => "SELECT rowid, name, member FROM holder ORDER BY rowid",
+        Source::Tokens => "SELECT rowid, token, kind, name FROM token ORDER BY rowid",
+        Source::Purses => {
+            "SELECT rowid, name, holder, balance, next_number, status, details, log, line_count, next_message FROM purse ORDER BY rowid"
+        }
+        Source::Inbox => "SELECT rowid, purse, number, kind, details FROM inbox ORDER BY rowid",
+        Source::Lines => {
+            "SELECT rowid, purse, number, kind, amount, balance, note FROM line ORDER BY rowid"
+        }
+        Source::Tray => "SELECT rowid, purse, details FROM tray ORDER BY rowid",
+        Source::Archive => "SELECT rowid, purse, details FROM archive ORDER BY rowid",
+        Source::Loads => "SELECT rowid, purse, reference, amount FROM load ORDER BY rowid",
+        Source::Redemptions => {
+            "SELECT rowid, purse, reference, amount, collected FROM redemption ORDER BY rowid"
+        }
+        Source::Settled => "SELECT rowid, details FROM settled ORDER BY rowid",
+    }
+}
+
+/// The statement that adds such a row.
+fn row_text(source: Source) -> &'static str
+    ensures { result.now ≡ row_text source }
+{
+    match source {
+        Source::Meta => "INSERT INTO meta (id, version) VALUES (?1, ?2)",
+        Source::Members => {
+            "INSERT INTO member (rowid, name, granted, unspent) VALUES (?1, ?2, ?3, ?4)"
+        }
+        Source::Holders => "INSERT INTO holder (rowid, name, member) VALUES (?1, ?2, ?3)",
+        Source::Tokens => "INSERT INTO token (rowid, token, kind, name) VALUES (?1, ?2, ?3, ?4)",
+        Source::Purses => {
+            "INSERT INTO purse (rowid, name, holder, balance, next_number, status, details, log, line_count, next_message) VALUES (?1, ?2, ?3, ?4, ?5, ?6, ?7, ?8, ?9, ?10)"
+        }
+        Source::Inbox => {
+            "INSERT INTO inbox (rowid, purse, number, kind, details) VALUES (?1, ?2, ?3, ?4, ?5)"
+        }
+        Source::Lines => {
+            "INSERT INTO line (rowid, purse, number, kind, amount, balance, note) VALUES (?1, ?2, ?3, ?4, ?5, ?6, ?7)"
+        }
+        Source::Tray => "INSERT INTO tray (rowid, purse, details) VALUES (?1, ?2, ?3)",
+        Source::Archive => "INSERT INTO archive (rowid, purse, details) VALUES (?1, ?2, ?3)",
+        Source::Loads => {
+            "INSERT INTO load (rowid, purse, reference, amount) VALUES (?1, ?2, ?3, ?4)"
+        }
+        Source::Redemptions => {
+            "INSERT INTO redemption (rowid, purse, reference, amount, collected) VALUES (?1, ?2, ?3, ?4, ?5)"
+        }
+        Source::Settled => "INSERT INTO settled (rowid, details) VALUES (?1, ?2)",
+    }
+}
+
+/// The values of a row, as parameters. Memory where there is none.
+fn values_of<'a>(alloc: Global, row: &'a Row) -> Result<Vec<ValueRef<'a>>, StoreFault>
+    ensures { IfOk result (λ values. bound values.items ≡ map bound_value row.now) }
+{
+    let mut values = Vec::new(alloc);
+    for at in 0..row.column_count() {
+        match row.get_ref(at) {
+            Ok(value) => values.push(value)?,
+            Err(error) => return Err(fault_of(error)),
+        }
+    }
+    Ok(values)
+}
+
+/// A transaction that takes the rows of a table.
+#[derive(Drop)]
+struct Filler<'a, S: Alter> {
+    tx: Savepoint<'a, S>,
+    source: Source,
+    alloc: Global,
+}
+
+impl<'a, S: Alter> Takes for Filler<'a, S> {
+    ghost takes = { λ old row new. Fills S.Store old row new };
+
+    fn take(&mut self, row: &Row) -> Result<(), StoreFault> {
+        let values = values_of(self.alloc, row)?;
+        run(&mut self.tx, row_text(self.source), values.as_slice())
+    }
+}
+
+/// Adds the rows of a table. Memory where there is none, and Store where a statement fails otherwise.
+fn fill_table<S: Alter, T: Alter>(
+    conn: &mut Connection<S>,
+    filler: &mut Filler<'_, T>,
+    source: Source,
+) -> Result<(), StoreFault>
+    ensures { (version : _) → IsAmong version source
+        → ScansAt (schema_of version) S.Store conn.old conn.new result
+        (FillsTable T.Store (state S.Store conn.old).now.trees source filler.old filler.new) }
+{
+    filler.source = source;
+    scan(conn, rows_text(source), &[], filler)
+}
+
+/// Adds the rows of these tables, one table after another. A fault is that of the first that fails.
+fn fill_tables<S: Alter, T: Alter>(
+    conn: &mut Connection<S>,
+    filler: &mut Filler<'_, T>,
+    sources: &[Source],
+) -> Result<(), StoreFault>
+    requires { 0 < length sources.now }
+    ensures { (version : _) → AllByRecursion (IsAmong version) sources.now
+        → ScansAt (schema_of version) S.Store conn.old conn.new result
+        (FillsTables T.Store (state S.Store conn.old).now.trees sources.now
+        filler.old filler.new) }
+{
+    for source in sources {
+        fill_table(conn, filler, *source)?;
+    }
+    Ok(())
+}
+
+/// Adds the rows of all tables of a version. A fault is that of the first that fails.
+fn fill_all<S: Alter, T: Alter>(
+    conn: &mut Connection<S>,
+    filler: &mut Filler<'_, T>,
+    version: Version,
+) -> Result<(), StoreFault>
+    ensures { ScansAt (schema_of version) S.Store conn.old conn.new result
+        (FillsTables T.Store (state S.Store conn.old).now.trees (sources_in version)
+        filler.old filler.new) }
+{
+    match version {
+        Version::One => fill_tables(conn, filler, &SOURCES[..IN_VERSION_1]),
+        Version::Two => fill_tables(conn, filler, &SOURCES),
+    }
+}
+
+/// Makes the tables of a version in a new store, with the rows of another store of this version, in one transaction.
+fn copy_as<S: Ordered, T: Alter>(
+    alloc: Global,
+    conn: &mut Connection<S>,
+    to: &mut Connection<T>,
+    version: Version,
+) -> Result<(), StoreFault>
+    requires { to.old.in_transaction ≡ false }
+    ensures stays { IsAt false (schema_of version) (state S.Store conn.old)
+        → StaysAt false (schema_of version) (state S.Store conn.old) (state S.Store conn.new) }
+    ensures copies { IsAt false (schema_of version) (state S.Store conn.old)
+        → IsSound (state S.Store conn.new) → to.old.schema ≡ no_schema
+        → OnOk result (Commits (state T.Store to.old) (state T.Store to.new) result
+        (Copies version (state S.Store conn.old).now (state T.Store to.new).now)) }
+    ensures live { OnOk result (IsAwake (state S.Store conn.new)) }
+{
+    // The reader says that the tables obey their schema.
+    let _schema = conn.schema();
+    let mut tx = match to.savepoint() {
+        Ok(tx) => tx,
+        Err(error) => return Err(fault_of(error)),
+    };
+    if let Err(error) = make_tables(&mut tx, version) {
+        return Err(fault_of(error));
+    }
+    let mut filler = Filler {
+        tx,
+        source: Source::Meta,
+        alloc,
+    };
+    fill_all(conn, &mut filler, version)?;
+    let Filler { tx, .. } = filler;
+    match tx.commit() {
+        Ok(()) => Ok(()),
+        Err(error) => Err(fault_of(error)),
+    }
+}
+
+/// Copies the tables of a store to a new one, all of them or none, and says of which version they are. The first is left as it
+/// was. A store that has no version is refused as `find_version` does; as Store are a new one that has tables, one with an open
+/// transaction, and one that refuses a statement; and for want of memory.
+pub fn copy<S: Ordered, T: Alter>(
+    alloc: Global,
+    conn: &mut Connection<S>,
+    to: &mut Connection<T>,
+) -> Result<Version, OpenFault>
+    ensures rests { StaysIdle (state S.Store conn.old) (state S.Store conn.new) }
+    ensures live { OnOk result (IsAwake (state S.Store conn.new)) }
+    ensures ours { IsSound (state S.Store conn.new) → OnOk result ((v : Version)
+        → (state S.Store conn.old).now.schema ≡ schema_of v
+        → IsAt false (schema_of v) (state T.Store to.new)) }
+    ensures copies { IsSound (state S.Store conn.new) → IfOk result (λ version.
+        IsWhole version (state S.Store conn.old).now × (HasCleanDisk (state T.Store to.new)
+        → Copies version (state S.Store conn.old).now (state T.Store to.new).now)) }
+    ensures spells { IsSound (state S.Store conn.new) → HasCleanDisk (state T.Store to.new)
+        → OnOk result ((v : Version) (w : World) → SpellsOneIn v (state S.Store conn.old).now w
+        → SpellsOneIn v (state T.Store to.new).now w) }
+    ensures unknown { IsHonest (state S.Store conn.new) → IfErr result
+        (λ fault. fault ≡ NotThisSchema → IsUnknown number_of (state S.Store conn.old).now) }
+{
+    if !conn.is_autocommit() || !to.is_autocommit() || !is_blank(to.schema()) {
+        return Err(OpenFault::Store);
+    }
+    let version = find_version(alloc, conn)?;
+    match copy_as(alloc, conn, to, version) {
+        Ok(()) => Ok(version),
+        Err(fault) => Err(open_fault(fault)),
+    }
+}
