@@ -26,6 +26,7 @@ use Rattle.sqlite.specs.Effect.{IsDatabase}
 use Rattle.sqlite.specs.Held.{Held}
 use Rattle.sqlite.specs.State.{HasCleanDisk, IsLive, State, Shown}
 use Rattle.sqlite.specs.Values.{bound, bound_value}
+use Rattle.sqlite.specs.declared.savepoint.Savepoint.{Savepoint}
 use Rattle.sqlite_value.specs.declared.value.ValueRef.{ValueRef}
 use Rattle.sqlite_value.specs.Value.{owned}
 use Rattle.mx_tables.specs.Made.{Blank}
@@ -42,7 +43,7 @@ use Rattle.mx_tables.proofs.MigrationLemmas.{kept_store}
 use Rattle.mx_tables.proofs.StateLemmas.{idle_sure, rests_at, rests_then, sure, sure_before}
 use Rattle.mx_tables.proofs.Statements.{puts}
 use Rattle.mx_audit.specs.Audited.{tree_of}
-use Rattle.mx_audit.specs.Copies.{Copies, Fills, FillsTables, IsAmong, row_text, rows_text, sources_in, whole_of}
+use Rattle.mx_audit.specs.Copies.{Copies, Fills, FillsTables, IsAmong, IsLent, row_text, rows_text, sources_in, whole_of}
 use Rattle.mx_audit.specs.Raw.{AreInOrder, AreNumbered}
 use Rattle.mx_audit.specs.Scans.{ScansAt, TakesAll}
 use Rattle.mx_audit.specs.declared.copying.Filler.{Filler}
@@ -214,44 +215,57 @@ apart_in One = (refl, (refl, (refl, (refl, (refl, (refl, (refl, (refl, (refl, (r
 apart_in Two = (refl, (refl, (refl, (refl, (refl, (refl, (refl, (refl, (refl, (refl, (refl, (refl, tt))))))))))))
 
 module _ {T : Type 0} (g : Ghosts T) where
-  abbrev seen : Filler T g → State
-  seen f = state g f.tx.conn.now
+  abbrev seen : Savepoint T g → State
+  seen tx = state g tx.conn.now
 
-  takes_all : (v : Version) (from : Source) → IsAmong v from → (rows : List Row) → AllByRecursion (IsWholeRow from) rows → (a b : Filler T g) → a.source ≡ from
-      → TakesAll (Fills g) a (map (whole_of from) rows) b → Steps g a.tx b.tx going (λ _. (seen a).now.schema ≡ schema_of v → Puts v from rows (seen a) (seen b))
-  takes_all v from among [] whole a b is h =
-      subst (λ (f : Filler T g). Steps g a.tx f.tx going (λ _. (seen a).now.schema ≡ schema_of v → Puts v from [] (seen a) (seen f))) (sym h)
-      (steps_none g a.tx tt (λ has. record { schema = has; there = refl; others = none_put (seen a) (tree_of from) (schema_of v).tables }))
-  takes_all v from among (r ∷ rows) whole a b is h =
+  takes_all : (v : Version) (from : Source) → IsAmong v from → (rows : List Row) → AllByRecursion (IsWholeRow from) rows → (a b : Savepoint T g)
+      → TakesAll (Fills g from) a (map (whole_of from) rows) b → Steps g a b going (λ _. (seen a).now.schema ≡ schema_of v → Puts v from rows (seen a) (seen b))
+  takes_all v from among [] whole a b h =
+      subst (λ (tx : Savepoint T g). Steps g a tx going (λ _. (seen a).now.schema ≡ schema_of v → Puts v from [] (seen a) (seen tx))) (sym h)
+      (steps_none g a tt (λ has. record { schema = has; there = refl; others = none_put (seen a) (tree_of from) (schema_of v).tables }))
+  takes_all v from among (r ∷ rows) whole a b h =
       let mid = h.0 in
-      let first : Steps g a.tx mid.tx going (λ _. (seen a).now.schema ≡ schema_of v → Puts v from (r ∷ []) (seen a) (seen mid)) =
-      steps_to g h.1.runs (λ x it has. puts_one v from among r whole.0 (seen a) (seen mid) it.0 has
-      (subst (λ (s : Source). Executes (row_text s) (map bound_value (whole_of from r)) (seen a) (seen mid) (Ok it.0)) is it.2)) in
-      steps_to g (steps_then g first (takes_all v from among rows whole.1 mid b (h.1.source ∙ is) h.2)) (λ x both has.
+      let first : Steps g a mid going (λ _. (seen a).now.schema ≡ schema_of v → Puts v from (r ∷ []) (seen a) (seen mid)) =
+      steps_to g h.1 (λ x it has. puts_one v from among r whole.0 (seen a) (seen mid) it.0 has it.2) in
+      steps_to g (steps_then g first (takes_all v from among rows whole.1 mid b h.2)) (λ x both has.
       let one = both.0 has in
       puts_then v from r rows (seen a) (seen mid) (seen b) one (both.1 one.schema))
 
-  fills_tables : (v : Version) (db : Trees) → ((from : Source) → IsAmong v from → AreWhole from (db (tree_of from))) → (left : List Source) → AllByRecursion (IsAmong v) left → AreApart left → (a b : Filler T g)
+  fills_tables : (v : Version) (db : Trees) → ((from : Source) → IsAmong v from → AreWhole from (db (tree_of from))) → (left : List Source) → AllByRecursion (IsAmong v) left → AreApart left → (a b : Savepoint T g)
       → FillsTables g db left a b
-      → Steps g a.tx b.tx going (λ _. (seen a).now.schema ≡ schema_of v → AreLeft db (seen a) left (schema_of v).tables → ((seen b).now.schema ≡ schema_of v) × KeepsRows (schema_of v).tables db (seen b).now.trees)
+      → Steps g a b going (λ _. (seen a).now.schema ≡ schema_of v → AreLeft db (seen a) left (schema_of v).tables → ((seen b).now.schema ≡ schema_of v) × KeepsRows (schema_of v).tables db (seen b).now.trees)
   fills_tables v db whole [] among apart a b h =
-      subst (λ (f : Filler T g). Steps g a.tx f.tx going (λ _. (seen a).now.schema ≡ schema_of v → AreLeft db (seen a) [] (schema_of v).tables → ((seen f).now.schema ≡ schema_of v) × KeepsRows (schema_of v).tables db (seen f).now.trees)) (sym h)
-      (steps_none g a.tx tt (λ has left. (has, left)))
+      subst (λ (tx : Savepoint T g). Steps g a tx going (λ _. (seen a).now.schema ≡ schema_of v → AreLeft db (seen a) [] (schema_of v).tables → ((seen tx).now.schema ≡ schema_of v) × KeepsRows (schema_of v).tables db (seen tx).now.trees)) (sym h)
+      (steps_none g a tt (λ has left. (has, left)))
   fills_tables v db whole (from ∷ left) among apart a b h =
       let mid = h.0 in
       let w = whole from among.0 in
-      let first = takes_all v from among.0 (db (tree_of from)) w.whole (record a { source = from }) mid refl (h.1 w.rise) in
+      let first = takes_all v from among.0 (db (tree_of from)) w.whole a mid (h.1 w.rise) in
       steps_to g (steps_then g first (fills_tables v db whole left among.1 apart.1 mid b h.2)) (λ x both has was.
       let puts = both.0 has in
       both.1 puts.schema (left_all v db from left (seen a) (seen mid) w.rise apart.0 puts was))
 
   -- all tables of new ones
-  pub fills_all : (v : Version) (db : Database) → db.schema ≡ schema_of v → IsDatabase db → AreInOrder db → (a b : Filler T g) → FillsTables g db.trees (sources_in v) a b
-      → Steps g a.tx b.tx going (λ _. Blank (schema_of v) (seen a) → Copies v db (seen b).now)
+  pub fills_all : (v : Version) (db : Database) → db.schema ≡ schema_of v → IsDatabase db → AreInOrder db → (a b : Savepoint T g) → FillsTables g db.trees (sources_in v) a b
+      → Steps g a b going (λ _. Blank (schema_of v) (seen a) → Copies v db (seen b).now)
   fills_all v db has sound ordered a b h =
       steps_to g (fills_tables v db.trees (are_whole v db has sound ordered) (sources_in v) (among_in v) (apart_in v) a b h) (λ x did blank.
       let it = did blank.schema_is (begun v db.trees (seen a) blank.empty) in
       record { from = has; to = it.0; rows = it.1 })
+
+  pub lent_none : {a : Savepoint T g} → IsLent g a a
+  lent_none = record { same_reference = refl; place = refl }
+
+  pub lent_then : {a b c : Savepoint T g} → IsLent g a b → IsLent g b c → IsLent g a c
+  lent_then one two = record { same_reference = two.same_reference ∙ one.same_reference; place = two.place ∙ one.place }
+
+  -- what takes the rows of a table adds them in its savepoint
+  pub fills_taken : (from : Source) (rows : List Row) (a b : Filler T g) → a.source ≡ from → TakesAll (λ (old : Filler T g) row new. (new.source ≡ old.source) × Fills g old.source old.tx.now row new.tx.now) a rows b
+      → TakesAll (Fills g from) a.tx.now rows b.tx.now
+  fills_taken from [] a b is h = ap (λ (f : Filler T g). f.tx.now) h
+  fills_taken from (row ∷ rows) a b is h =
+      let mid = h.0 in
+      (mid.tx.now, subst (λ s. Fills g s a.tx.now row mid.tx.now) is h.1.1, fills_taken from rows mid b (h.1.0 ∙ is) h.2)
 
 -- ---- what a copy spells
 
@@ -309,10 +323,10 @@ copy_spells_one v version old new w copy s =
 
 -- ---- the tables of a store
 
-pub copies_all : {S T : Type 0} (g : Ghosts S) (h : Ghosts T) (v : Version) (a b : Held S) (from to : Filler T h) → IsLive (state g a)
+pub copies_all : {S T : Type 0} (g : Ghosts S) (h : Ghosts T) (v : Version) (a b : Held S) (from to : Savepoint T h) → IsLive (state g a)
     → (IsTrue (state g a).is_open → (state g a).now ≡ (state g a).committed → IsDatabase (state g a).now → AreInOrder (state g a).now)
     → ScansAt {T = Unit {0}} (schema_of v) g a b (Ok tt) (FillsTables h (state g a).now.trees (sources_in v) from to) → IsAt false (schema_of v) (state g a) → worry (state g b) ≡ 0
-    → Steps h from.tx to.tx going (λ _. Blank (schema_of v) (seen h from) → Copies v (state g a).now (seen h to).now)
+    → Steps h from to going (λ _. Blank (schema_of v) (seen h from) → Copies v (state g a).now (seen h to).now)
 copies_all g h v a b from to live ordered scans ours calm =
     let kept = scans.stays ours in
     let before = sure_before (state g a) (state g b) kept.lasts calm in
@@ -348,13 +362,6 @@ module _ {S T : Type 0} (g : Ghosts S) (h : Ghosts T) (version : Version) (old m
           schema = to;
           base = λ sound. ap (λ (d : Database). d.schema) (settled sound) ∙ to sound;
         }
-
--- ---- one row
-
-pub fills_so : {S : Type 0} (g : Ghosts S) (r : Result (Unit {0}) StoreFault) (old new : Filler S g) (row : Row) → new.source ≡ old.source → Runs g (row_text old.source) (map bound_value row) old.tx new.tx r (λ _. Unit {0})
-    → OnOk r (Fills g old row new)
-fills_so g (Ok x) old new row same h = record { source = same; runs = h }
-fills_so g (Err e) old new row same h = tt
 
 -- ---- the parameters of a row
 

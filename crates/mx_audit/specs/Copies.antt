@@ -7,13 +7,13 @@ use Rattle.sqlite_catalog.specs.Change.{KeepsRows}
 use Rattle.sqlite_sql.specs.Term.{Term, col, eval_all}
 use Rattle.sqlite.specs.Effect.{Database}
 use Rattle.sqlite.specs.Values.{bound_value}
+use Rattle.sqlite.specs.declared.savepoint.Savepoint.{Savepoint}
 use Rattle.mx_tables.specs.Schema.{schema_of}
 use Rattle.mx_tables.specs.States.{Runs, going}
 use Rattle.mx_tables.specs.declared.making.Version.{Version}
 use Rattle.mx_tables.specs.declared.making.Version.TheVariants.{One, Two}
 use Rattle.mx_audit.specs.Audited.{tree_of, sources}
 use Rattle.mx_audit.specs.Scans.{Each, TakesAll}
-use Rattle.mx_audit.specs.declared.copying.Filler.{Filler}
 use Rattle.mx_audit.specs.declared.typed.Source.{Source}
 use Rattle.mx_audit.specs.declared.typed.Source.TheVariants.{Meta, Members, Holders, Tokens, Purses, Inbox, Lines, Tray, Archive, Loads, Redemptions, Settled}
 
@@ -83,16 +83,19 @@ abbrev pub whole_of : Source → Row → Row
 whole_of from r = eval_all (project_of from) ([] ∷ r ∷ [])
 
 module _ {S : Type 0} (g : Ghosts S) where
+  -- the same savepoint is lent
+  pub record IsLent (old new : Savepoint S g) : Type 0 where
+    pub same_reference : new.conn.ghost_name ≡ old.conn.ghost_name
+    pub place : new.at ≡ old.at
+
   -- the row is added to the table
-  pub record Fills (old : Filler S g) (row : Row) (new : Filler S g) : Type 0 where
-    pub source : new.source ≡ old.source
-    pub runs : Runs g (row_text old.source) (map bound_value row) old.tx new.tx going (λ _. Unit {0})
+  abbrev pub Fills : Source → Savepoint S g → Row → Savepoint S g → Type 0
+  Fills from old row new = Runs g (row_text from) (map bound_value row) old new going (λ _. Unit {0})
 
   -- all rows of a tree are, in their order
-  abbrev pub FillsTable : Trees → Source → Filler S g → Filler S g → Type 0
-  FillsTable db from old new =
-      IsTable (db (tree_of from)) → TakesAll Fills (record old { source = from }) (map (whole_of from) (db (tree_of from))) new
+  abbrev pub FillsTable : Trees → Source → Savepoint S g → Savepoint S g → Type 0
+  FillsTable db from old new = IsTable (db (tree_of from)) → TakesAll (Fills from) old (map (whole_of from) (db (tree_of from))) new
 
   -- and those of these tables
-  abbrev pub FillsTables : Trees → List Source → Filler S g → Filler S g → Type 0
+  abbrev pub FillsTables : Trees → List Source → Savepoint S g → Savepoint S g → Type 0
   FillsTables db = Each (FillsTable db)

@@ -12,7 +12,7 @@ ghost use Rattle.mx_tables.specs.Made.{IsUnknown};
 ghost use Rattle.mx_tables.specs.Schema.{no_schema, number_of, schema_of};
 ghost use Rattle.mx_tables.specs.States.{Commits, IsAt, IsAwake, IsHonest, IsSound, StaysAt, StaysIdle};
 ghost use Rattle.mx_tables.specs.declared.opening.OpenFault.TheVariants.{NotThisSchema};
-ghost use Rattle.mx_audit.specs.Copies.{Copies, Fills, FillsTable, FillsTables, IsAmong, row_text, rows_text, sources_in};
+ghost use Rattle.mx_audit.specs.Copies.{Copies, Fills, FillsTable, FillsTables, IsAmong, IsLent, row_text, rows_text, sources_in};
 ghost use Rattle.mx_audit.specs.Scans.{ScansAt};
 
 use crate::ordered::Ordered;
@@ -102,68 +102,76 @@ fn values_of<'a>(alloc: Global, row: &'a Row) -> Result<Vec<ValueRef<'a>>, Store
     Ok(values)
 }
 
-/// A transaction that takes the rows of a table.
+/// What adds the rows that it takes to a table, in a transaction.
 #[derive(Drop)]
-struct Filler<'a, S: Alter> {
-    tx: Savepoint<'a, S>,
+struct Filler<'a, 'b, S: Alter> {
+    tx: &'a mut Savepoint<'b, S>,
     source: Source,
     alloc: Global,
 }
 
-impl<'a, S: Alter> Takes for Filler<'a, S> {
-    ghost takes = { λ old row new. Fills S.Store old row new };
+impl<S: Alter> Takes for Filler<'_, '_, S> {
+    ghost takes = { λ old row new. (new.source ≡ old.source)
+        × Fills S.Store old.source old.tx.now row new.tx.now };
+
+    ghost lends = { λ f. (f.tx.ghost_name, f.tx.now.conn.ghost_name, f.tx.now.at) };
 
     fn take(&mut self, row: &Row) -> Result<(), StoreFault> {
         let values = values_of(self.alloc, row)?;
-        run(&mut self.tx, row_text(self.source), values.as_slice())
+        run(self.tx, row_text(self.source), values.as_slice())
     }
 }
 
 /// Adds the rows of a table. Memory where there is none, and Store where a statement fails otherwise.
 fn fill_table<S: Alter, T: Alter>(
+    alloc: Global,
     conn: &mut Connection<S>,
-    filler: &mut Filler<'_, T>,
+    tx: &mut Savepoint<'_, T>,
     source: Source,
 ) -> Result<(), StoreFault>
-    ensures { (version : _) → IsAmong version source
+    ensures lent { IsLent T.Store tx.old tx.new }
+    ensures fills { (version : _) → IsAmong version source
         → ScansAt (schema_of version) S.Store conn.old conn.new result
-        (FillsTable T.Store (state S.Store conn.old).now.trees source filler.old filler.new) }
+        (FillsTable T.Store (state S.Store conn.old).now.trees source tx.old tx.new) }
 {
-    filler.source = source;
-    scan(conn, rows_text(source), &[], filler)
+    let mut filler = Filler { tx, source, alloc };
+    scan(conn, rows_text(source), &[], &mut filler)
 }
 
 /// Adds the rows of these tables, one table after another. A fault is that of the first that fails.
 fn fill_tables<S: Alter, T: Alter>(
+    alloc: Global,
     conn: &mut Connection<S>,
-    filler: &mut Filler<'_, T>,
+    tx: &mut Savepoint<'_, T>,
     sources: &[Source],
 ) -> Result<(), StoreFault>
     requires { 0 < length sources.now }
-    ensures { (version : _) → AllByRecursion (IsAmong version) sources.now
+    ensures lent { IsLent T.Store tx.old tx.new }
+    ensures fills { (version : _) → AllByRecursion (IsAmong version) sources.now
         → ScansAt (schema_of version) S.Store conn.old conn.new result
-        (FillsTables T.Store (state S.Store conn.old).now.trees sources.now
-        filler.old filler.new) }
+        (FillsTables T.Store (state S.Store conn.old).now.trees sources.now tx.old tx.new) }
 {
     for source in sources {
-        fill_table(conn, filler, *source)?;
+        fill_table(alloc, conn, tx, *source)?;
     }
     Ok(())
 }
 
 /// Adds the rows of all tables of a version. A fault is that of the first that fails.
 fn fill_all<S: Alter, T: Alter>(
+    alloc: Global,
     conn: &mut Connection<S>,
-    filler: &mut Filler<'_, T>,
+    tx: &mut Savepoint<'_, T>,
     version: Version,
 ) -> Result<(), StoreFault>
-    ensures { ScansAt (schema_of version) S.Store conn.old conn.new result
+    ensures lent { IsLent T.Store tx.old tx.new }
+    ensures fills { ScansAt (schema_of version) S.Store conn.old conn.new result
         (FillsTables T.Store (state S.Store conn.old).now.trees (sources_in version)
-        filler.old filler.new) }
+        tx.old tx.new) }
 {
     match version {
-        Version::One => fill_tables(conn, filler, &SOURCES[..IN_VERSION_1]),
-        Version::Two => fill_tables(conn, filler, &SOURCES),
+        Version::One => fill_tables(alloc, conn, tx, &SOURCES[..IN_VERSION_1]),
+        Version::Two => fill_tables(alloc, conn, tx, &SOURCES),
     }
 }
 
@@ -192,13 +200,7 @@ fn copy_as<S: Ordered, T: Alter>(
     if let Err(error) = make_tables(&mut tx, version) {
         return Err(fault_of(error));
     }
-    let mut filler = Filler {
-        tx,
-        source: Source::Meta,
-        alloc,
-    };
-    fill_all(conn, &mut filler, version)?;
-    let Filler { tx, .. } = filler;
+    fill_all(alloc, conn, &mut tx, version)?;
     match tx.commit() {
         Ok(()) => Ok(()),
         Err(error) => Err(fault_of(error)),
@@ -214,6 +216,8 @@ pub fn copy<S: Ordered, T: Alter>(
     to: &mut Connection<T>,
 ) -> Result<Version, OpenFault>
     ensures rests { StaysIdle (state S.Store conn.old) (state S.Store conn.new) }
+    ensures stays { (v : Version) → IsAt false (schema_of v) (state S.Store conn.old)
+        → OnOk result (IsAt false (schema_of v) (state S.Store conn.new)) }
     ensures live { OnOk result (IsAwake (state S.Store conn.new)) }
     ensures ours { IsSound (state S.Store conn.new) → OnOk result ((v : Version)
         → (state S.Store conn.old).now.schema ≡ schema_of v

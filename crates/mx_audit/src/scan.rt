@@ -1,5 +1,5 @@
 //! The rows of a query, handed on one at a time.
-ghost use Rattle.std.specs.Prelude.{Bool, ◌≡◌, List, OnOk};
+ghost use Rattle.std.specs.Prelude.{Bool, ◌≡◌, ℕ, List, OnOk};
 ghost use Rattle.sqlite_schema.specs.declared.schema.Schema.{Schema};
 ghost use Rattle.sqlite.specs.Given.{Advances, IsPlain, row_if};
 ghost use Rattle.sqlite.specs.Held.{state};
@@ -20,9 +20,13 @@ pub trait Takes {
     /// What it becomes by a row that it takes.
     ghost takes: { Self → order.Row → Self → Type 0 };
 
-    /// Takes one more row. After a fault nothing is said of it.
+    /// The savepoint that it holds, where it holds one: the reference to that, its connection and its place.
+    ghost lends: { Self → ℕ × ℕ × ℕ } = { λ _. (0, 0, 0) };
+
+    /// Takes one more row. After a fault nothing is said of it, but that it holds the same savepoint.
     fn take(&mut self, row: &Row) -> Result<(), StoreFault>
-        ensures { OnOk result (takes self.old row.now self.new) };
+        ensures takes { OnOk result (takes self.old row.now self.new) }
+        ensures lends { lends self.new ≡ lends self.old };
 }
 
 /// Moves to the next row of a query, or past the last. Memory where there is none, and Store where it fails otherwise.
@@ -53,7 +57,8 @@ pub fn scan<S: Alter, T: Takes>(
     taker: &mut T,
 ) -> Result<(), StoreFault>
     requires { IsSilent sql.now }
-    ensures { (of : Schema) → IsPlain (understood of sql.now)
+    ensures lends { T.lends taker.new ≡ T.lends taker.old }
+    ensures scans { (of : Schema) → IsPlain (understood of sql.now)
         → ScansAt of S.Store conn.old conn.new result ((rows : List order.Row)
         × Shown sql.now (bound params.now) (state S.Store conn.old) (state S.Store conn.new) rows
         × TakesAll T.takes taker.old rows taker.new) }

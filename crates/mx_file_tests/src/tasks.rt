@@ -32,11 +32,11 @@ import FILE ROLL -> added 0|same 3|refused 0|
 import FILE FILE -> fault: roll
 report FILE --purse p1 -> number,kind,amount,balance,note|
 report FILE --purse p2 -> fault: no such purse
-check FILE -> sound: 1 members, 1 holders, 1 purses, 0 lines|even: the sums add up, and each statement leads to its purse's balance|
+check FILE -> sound: 1 members, 1 holders, 1 purses, 0 lines|even: the sums add up, and each statement leads to its purse's balance|checksums: each page has one|
 copy FILE FILE -> fault: file exists
 copy FILE COPY -> copied|
 copy FILE COPY -> fault: file exists
-check COPY -> sound: 1 members, 1 holders, 1 purses, 0 lines|even: the sums add up, and each statement leads to its purse's balance|
+check COPY -> sound: 1 members, 1 holders, 1 purses, 0 lines|even: the sums add up, and each statement leads to its purse's balance|checksums: each page has one|
 report COPY -> row,name,granted,float,uncollected,issued,redeemed,balances,transit,lost|member,m,0,0,0,0,0,0,,|scheme,,0,0,0,0,0,0,0,0|
 migrate FILE -> already schema 2|
 run --memory --token 0000000000000000000000000000000f -> RESPONSES

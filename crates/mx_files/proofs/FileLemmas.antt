@@ -41,12 +41,12 @@ use Rattle.mx_tasks.specs.declared.work.Done.{Done as Work}
 use Rattle.mx_files.specs.declared.closing.Ended.{Ended}
 use Rattle.mx_args.specs.declared.task.Task.{Task as Planned}
 use Rattle.mx_files.specs.Opened.{IsRefusal, IsWrong, open_fault_of}
-use Rattle.mx_files.specs.Performed.{Checks, EndsRun, EndsWith, EndsWork, Performs, PerformsAct, PerformsPlan, Streams, ended_of}
+use Rattle.mx_files.specs.Performed.{Checks, EndsRun, EndsWith, EndsWork, Performs, PerformsAct, PerformsPlan, Streams, ended_of, CopiesBooks}
 use Rattle.mx_files.specs.Plans.{planned_task}
 use Rattle.mx_files.specs.declared.plan.Plan.{Plan}
 use Rattle.mx_files.specs.declared.plan.Plan.TheVariants.{InFile}
 use Rattle.mx_files.specs.declared.plan.Act.{Act}
-use Rattle.mx_files.specs.InFiles.{AreClosed, AreHonest, AreShut, Closes, HoldBooksAlone, HoldBooksIn, HoldTables, HoldTablesIn, HoldTrees, HoldWorld, IsLeftOf, IsOpenedOver, IsRefused, Keeps, Raises, closed_answer, version_before}
+use Rattle.mx_files.specs.InFiles.{AreClosed, AreHonest, AreShut, Closes, HoldBooksAlone, HoldBooksIn, HoldTables, HoldTablesIn, HoldTrees, HoldWorld, IsLeftOf, IsOpenedOver, IsRefused, Keeps, Raises, closed_answer, version_before, HoldCopy, IsKept}
 use Rattle.mx_files.specs.declared.closing.Left.{Left}
 use Rattle.mx_files.specs.declared.closing.Left.TheVariants.{Closed, Unclosed, Nothing}
 
@@ -159,6 +159,11 @@ module _ {D : Type 0} {g : Ghosts D} where
       closes.trees honest (file_state c).now.trees (rests.autocommit opens.autocommit) (λ sound. ap (λ (db : Database). db.trees) (rests.same sound))
       (inr (λ found may. law found opens.is_open (rests.stops (closes.honest honest) found may) ∙ sym (ap (λ (db : Database). db.trees) opens.clean)))
 
+  pub kept_so : (c last : Held (FileStore D g)) (left : Left D g) → ((db : Trees) → IsTrue (file_state c).is_open → (file_state c).may_leave db → db ≡ (file_state c).committed.trees) → StaysIdle (file_state c) (file_state last) → Closes last left
+      → AreHonest left → IsKept c left
+  kept_so c last left law rests closes honest =
+      record { clean = clean_before (file_state c) (file_state last) rests.later (closes.honest honest); held = refused_held c last left law rests closes honest }
+
   -- which is the database of the bytes over which it was opened
   keeps_so : (c : Held (FileStore D g)) (bytes : Image) (left : Left D g) → HasCleanDisk (file_state c) → IsOpenedOver bytes c → (Opens (file_state c) → HoldTrees left (file_state c).now.trees) → Keeps bytes left (file_state c).now
   keeps_so c bytes left clean over held = by (over clean) where
@@ -170,7 +175,13 @@ module _ {D : Type 0} {g : Ghosts D} where
 
   pub refused_over : {X Y : Type 0} (c : Held (FileStore D g)) (bytes : Image) (ended : Ended X D g) (answer : Result Y TaskFault) → IsOpenedOver bytes c → ((U : Type 0) → IsRefusal U ended.answer → IsRefusal U answer)
       → IsRefused c ended → (tables : Database) × Keeps bytes ended.left tables × IsRefusal (IsUnknown (λ _. 2) tables) answer
-  refused_over c bytes ended answer over told it = ((file_state c).now, keeps_so c bytes ended.left it.clean over it.held, told _ it.fault)
+  refused_over c bytes ended answer over told it = ((file_state c).now, keeps_so c bytes ended.left it.kept.clean over it.kept.held, told _ it.fault)
+
+  -- and so is one that was copied
+  pub copied_over : {X : Type 0} (c : Held (FileStore D g)) (bytes : Image) (ended : Ended X D g) → IsOpenedOver bytes c → IsKept c ended.left → HoldCopy c ended → CopiesBooks bytes ended
+  copied_over c bytes ended over kept copy = (copy.shut.0, copy.shut.1, λ honest.
+      let it = copy.world honest in
+      (it.0, λ u books. same_world c bytes it.0 u kept.clean over books it.1, it.2))
 
   pub checks_over : (Wrong : Type 0) (c : Held (FileStore D g)) (bytes : Image) (left : Left D g) → IsOpenedOver bytes c
       → HasCleanDisk (file_state c) × ((Wrong × (Opens (file_state c) → HoldTrees left (file_state c).now.trees)) ⊎ (AreShut left → (w : World) × Represents (file_state c).now w × HoldWorld left w)) → Checks bytes left Wrong

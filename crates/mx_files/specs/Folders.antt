@@ -1,5 +1,5 @@
 -- What stands at the paths of a folder, as far as that is known.
-use Rattle.std.specs.Prelude.{◌≡◌, ◌≢◌, ◌==◌, ◌||◌, ◌&&◌, ◌<◌, ◌↔◌, ℕ, Bool, true, false, List, [], ◌∷◌, ◌++◌, length, take, Option, Some, None, Result, Ok, IsTrue, ⊤, codes, nat_eq}
+use Rattle.std.specs.Prelude.{◌≡◌, ◌≢◌, ◌==◌, ◌||◌, ◌&&◌, ◌<◌, ◌↔◌, ℕ, Bool, true, false, List, [], ◌∷◌, ◌++◌, get_or, length, take, Option, Some, None, Result, Ok, IsTrue, ⊤, codes, nat_eq}
 use Rattle.std.specs.declared.io.Error.{Error}
 use Rattle.std.specs.List.{list_all, starts_with}
 use Rattle.mx_files.specs.declared.folder.Entry.{Entry}
@@ -71,6 +71,10 @@ IsHead (taken inode) most head = head ≡ take most inode.bytes
 -- with these bytes SQLite begins a database
 abbrev pub magic : List ℕ
 magic = codes "SQLite format 3" ++ 0 ∷ []
+
+-- SQLite reserves eight bytes behind the content of each page for its checksum, and says so in byte 20 ("Database file format", 1.3.4)
+abbrev pub has_sums : List ℕ → Bool
+has_sums head = get_or head 20 0 == 8
 
 -- it is a database, or empty
 abbrev pub IsDatabaseFile : Inode → Type 0

@@ -131,10 +131,19 @@ module _ {D : Type 0} {g : Ghosts D} where
     pub trees : AreHonest left → (db : Trees) → c.in_transaction ≡ false → (IsSound (file_state c) → (file_state c).now.trees ≡ db) → AreShut left ⊎ ((found : Trees) → (file_state c).may_leave found → found ≡ db) → HoldTrees left db
     pub rounds : AreHonest left → (w : World) (rs : List Round) (now : World) → IsOurs false (file_state c) → Endures (file_state c) w rs now → HoldRounds left w rs now
 
+  -- the files hold what was in a store
+  pub record IsKept (c : Held (FileStore D g)) (left : Left D g) : Type 0 where
+    pub clean : HasCleanDisk (file_state c)
+    pub held : Opens (file_state c) → HoldTrees left (file_state c).now.trees
+
+  -- The books in a store were copied: both files were closed, and have the World of the store.
+  pub record HoldCopy {X : Type 0} (c : Held (FileStore D g)) (ended : Ended X D g) : Type 0 where
+    pub shut : AreShut ended.left × AreShut ended.copy
+    pub world : AreHonest ended.left → (w : World) × Represents (file_state c).now w × HoldWorld ended.left w × (AreHonest ended.copy → HoldWorld ended.copy w)
+
   -- The books in a store were refused: the files hold what was in it, and a task's fault is of that.
   pub record IsRefused {X : Type 0} (c : Held (FileStore D g)) (ended : Ended X D g) : Type 0 where
-    pub clean : HasCleanDisk (file_state c)
-    pub held : Opens (file_state c) → HoldTrees ended.left (file_state c).now.trees
+    pub kept : IsKept c ended.left
     pub fault : IsRefusal (IsUnknown (λ _. 2) (file_state c).now) ended.answer
 
 -- the version that tables had before a migration that answers so

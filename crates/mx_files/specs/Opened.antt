@@ -1,5 +1,5 @@
 -- Which faults of books that are made or opened are which of the program's, and why a database isn't opened.
-use Rattle.std.specs.Prelude.{◌≡◌, ◌⊎◌, Result, Err, Some, ⊤}
+use Rattle.std.specs.Prelude.{◌≡◌, ◌⊎◌, ◌++◌, ℕ, Bool, true, false, List, Result, Err, Some, codes, ⊤}
 use Rattle.sqlite.specs.declared.error.Error.{Error}
 use Rattle.sqlite.specs.declared.error.Error.TheVariants.{SqliteFailure}
 use Rattle.sqlite.specs.declared.error.ErrorCode.TheVariants as code
@@ -8,6 +8,7 @@ use Rattle.mx_tasks.specs.declared.cause.Cause.TheVariants.{Fault, Busy, Damaged
 use Rattle.mx_audit.specs.declared.opening.Refusal.{Refusal}
 use Rattle.mx_audit.specs.declared.opening.Refusal.TheVariants as refusal
 use Rattle.mx_tasks.specs.declared.work.Done.{Done}
+use Rattle.mx_files.specs.Folders.{IsHead, Spot, has_sums}
 use Rattle.mx_tasks.specs.declared.fault.TaskFault.{TaskFault}
 use Rattle.mx_tasks.specs.declared.fault.TaskFault.TheVariants.{Memory, Store, NotThisSchema}
 
@@ -25,6 +26,15 @@ IsRefusal Unknown result = (result ≡ Err Memory) ⊎ ((result ≡ Err Store) �
 -- a check tells of something wrong
 abbrev pub IsWrong : Done → Type 0
 IsWrong done = done.fault ≡ Some Store
+
+-- what a check says of the checksums of pages
+abbrev pub sums_line : Bool → List ℕ
+sums_line true = codes "checksums: each page has one\n"
+sums_line false = codes "checksums: none, and a copy has them\n"
+
+-- a text has that line more, of a file that begins so, where that is known
+abbrev pub TellsSums : Spot → List ℕ → List ℕ → Type 0
+TellsSums spot before after = (head : List ℕ) × IsHead spot 21 head × (after ≡ before ++ sums_line (has_sums head))
 
 -- why a database isn't opened, by the error
 abbrev pub cause_of : Error → Cause

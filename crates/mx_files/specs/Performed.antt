@@ -69,10 +69,10 @@ abbrev pub migrated_text : Migrated → List ℕ
 migrated_text migrated.Done = codes "migrated\n"
 migrated_text migrated.Already = codes "already schema 2\n"
 
--- it is said; or that can't be written. A fault of the migration is the task's.
-abbrev pub EndsMigration : {X : Type 0} → Result Migrated TaskFault → Result X TaskFault → Option (List ℕ) → Option (List ℕ) → Type 0
-EndsMigration (Ok made) result before after = IfErr result (λ e. e ≡ Write) × OnOk result (Appends before after (migrated_text made))
-EndsMigration (Err e) result before after = (result ≡ Err e) × (after ≡ before)
+-- What was done is said in this text; or that can't be written. A fault is the task's.
+abbrev pub EndsSaying : {X Y : Type 0} → (X → List ℕ) → Result X TaskFault → Result Y TaskFault → Option (List ℕ) → Option (List ℕ) → Type 0
+EndsSaying text (Ok x) result before after = IfErr result (λ e. e ≡ Write) × OnOk result (Appends before after (text x))
+EndsSaying text (Err e) result before after = (result ≡ Err e) × (after ≡ before)
 
 -- A task that is a migration: what was a World in the version before is that in this one. Where that fails, what was there is there
 -- still, or it is of this version.
@@ -80,12 +80,19 @@ pub record PerformsMigration {D X : Type 0} {g : Ghosts D} (bytes : Image) (left
   pub answer : Result Migrated TaskFault
   pub migrates : IfOk answer (λ made. (w : World) → HoldBooksIn (version_before made) bytes w → HoldWorld left w)
   pub refused : AreShut left → OnErr answer (((tables : Database) × Keeps bytes left tables) ⊎ ((w : World) → HoldBooksIn One bytes w → HoldWorld left w))
-  pub ends : EndsMigration (closed_answer left answer) result before after
+  pub ends : EndsSaying migrated_text (closed_answer left answer) result before after
 
--- The books of a World are in the files still, and those of the copy, which were closed, have them too.
+-- The books of a World were copied: they are in the files still, and in those of the copy, and all were closed.
 abbrev pub CopiesBooks : {D X : Type 0} {g : Ghosts D} → Image → Ended X D g → Type 0
-CopiesBooks bytes ended = AreShut ended.copy × (AreHonest ended.left
+CopiesBooks bytes ended = AreShut ended.left × AreShut ended.copy × (AreHonest ended.left
     → (w : World) × ((u : World) → HoldTables bytes u → u ≡ w) × HoldWorld ended.left w × (AreHonest ended.copy → HoldWorld ended.copy w))
+
+-- a task that is a copy: that it was made is said, and whatever comes of it, the files hold what they held
+pub record PerformsCopy {D X : Type 0} {g : Ghosts D} (bytes : Image) (ended : Ended X D g) (before after : Option (List ℕ)) : Type 0 where
+  pub answer : Result (Unit {0}) TaskFault
+  pub copies : OnOk answer (CopiesBooks bytes ended)
+  pub keeps : AreHonest ended.left → (tables : Database) × Keeps bytes ended.left tables
+  pub ends : EndsSaying (λ _. codes "copied\n") answer ended.answer before after
 
 -- A check: something is wrong, and the database is in the files still; or they were and are the books of a World.
 abbrev pub Checks : {D : Type 0} {g : Ghosts D} → Image → Left D g → Type 0 → Type 0
@@ -137,8 +144,7 @@ module _ {D X : Type 0} {g : Ghosts D} where
   PerformsAct bytes before after (act.Work work) ended = OverBooks bytes before after ended
       (λ w. PerformsWork MayFail ended.left w work ended.answer before.output after.output)
   PerformsAct bytes before after act.Check ended = AreHonest ended.left → Checks bytes ended.left (IsErr ended.answer)
-  PerformsAct bytes before after (act.Copy to) ended = IsOk ended.answer
-      → CopiesBooks bytes ended × Appends before.output after.output (codes "copied\n")
+  PerformsAct bytes before after (act.Copy to) ended = PerformsCopy bytes ended before.output after.output
   PerformsAct bytes before after act.Migrate ended = AreHonest ended.left
       → PerformsMigration bytes ended.left ended.answer before.output after.output
 

@@ -1,24 +1,29 @@
 //! Whether the books in a store are sound, in words.
-ghost use Rattle.std.specs.Prelude.{◌≡◌, ◌≤◌, ◌⊎◌, IfOk, false};
+ghost use Rattle.std.specs.Prelude.{◌≡◌, ◌≤◌, ◌⊎◌, IfOk, IsOk, false};
 ghost use Rattle.sqlite.specs.Held.{state};
 ghost use Rattle.mx_book.specs.Views.{Keeps};
 ghost use Rattle.mx_book.specs.World.{World};
 ghost use Rattle.mx_tables.specs.States.{IsOurs, IsSound, StaysIdle, worry};
 ghost use Rattle.mx_files.specs.Durable.{Represents};
-ghost use Rattle.mx_files.specs.Opened.{IsWrong};
+ghost use Rattle.mx_files.specs.Folders.{has_sums, spot_behind};
+ghost use Rattle.mx_files.specs.Opened.{IsWrong, TellsSums, sums_line};
 
+use crate::folder::Folder;
 use crate::stores::unmade;
 use mx_audit::tables::Checked;
 use mx_audit::{Ordered, Refusal, Refused, open};
 use mx_book::Book;
 use mx_tasks::report::evenness::{uneven_purses, uneven_sums};
 use mx_tasks::teller::Teller;
-use mx_tasks::{Done, TaskFault};
+use mx_tasks::{Cause, Done, TaskFault};
 use sqlite::Connection;
 use std::alloc::{AllocError, Global};
 
 /// The most findings that are printed.
 const MOST_FINDINGS: usize = 1_000;
+
+/// Where a database says how many bytes are behind the content of each page.
+const BYTES_BEHIND_PAGES_AT: usize = 20;
 
 /// The lines of what was found, and one that says how many findings more there are, if any.
 fn findings_text(alloc: Global, checked: &Checked) -> Result<String, AllocError> {
@@ -80,6 +85,48 @@ fn findings_done(alloc: Global, checked: &Checked) -> Result<Done, TaskFault>
 {
     let text = findings_text(alloc, checked)?;
     Ok(done(text, false))
+}
+
+/// Whether the pages of a database end in SQLite's page checksum, as the bytes with which it begins tell.
+fn has_sums(head: &[u8]) -> bool
+    ensures { result ≡ has_sums head.now }
+{
+    head.get(BYTES_BEHIND_PAGES_AT) == Some(&8)
+}
+
+/// The line that says so.
+fn sums_line(has_sums: bool) -> &'static str
+    ensures { result.now ≡ sums_line has_sums }
+{
+    if has_sums {
+        "checksums: each page has one\n"
+    } else {
+        "checksums: none, and a copy has them\n"
+    }
+}
+
+/// What a check says of the books in the file of this path, with a line that says whether its pages have checksums.
+///
+/// # Errors
+///
+/// `File` where the file can't be read; `Memory`; that of the check.
+pub(crate) fn with_sums<F: Folder>(
+    folder: &F,
+    alloc: Global,
+    path: &str,
+    checked: Result<Done, TaskFault>,
+) -> Result<Done, TaskFault>
+    ensures ok { IsOk result → IsOk checked }
+    ensures adds { IfOk checked (λ was. IfOk result (λ done. (done.fault ≡ was.fault)
+        × TellsSums (spot_behind (F.paths folder.now) path.now) was.text.items done.text.items)) }
+{
+    let Done { mut text, fault } = checked?;
+    let head = match folder.head_behind(alloc, path, BYTES_BEHIND_PAGES_AT as u64 + 1) {
+        Ok(head) => head,
+        Err(error) => return Err(Cause::from(error).fault()),
+    };
+    text.extend_from_slice(sums_line(has_sums(head.as_slice())).as_bytes())?;
+    Ok(Done { text, fault })
 }
 
 /// Tells whether the books in a store are sound, and gives the store back. Where the audit has findings, a line tells each of the

@@ -1,5 +1,5 @@
 //! Books in two files of any disk, a database and its log: what is done over them, up to the close.
-ghost use Rattle.std.specs.Prelude.{◌≡◌, ◌⊎◌, ℕ, [], false, Result, IfErr, IfOk, IfSome, IsErr, IsOk, IsTrue, OnErr};
+ghost use Rattle.std.specs.Prelude.{◌≡◌, ◌⊎◌, ℕ, [], false, Result, IfErr, IfOk, IfSome, IsErr, IsOk, IsTrue, OnErr, OnOk};
 ghost use Rattle.sqlite.specs.Effect.{IsDatabase};
 ghost use Rattle.sqlite_store.specs.declared.store.FileStore.{FileStore};
 ghost use Rattle.sqlite.specs.Files.{file_state, over_files};
@@ -18,7 +18,7 @@ ghost use Rattle.mx_tables.specs.declared.migration.Migrated.{Migrated};
 ghost use Rattle.mx_tables.specs.declared.migration.Migrated.TheVariants.{Done as Raised};
 ghost use Rattle.mx_files.specs.Durable.{Represents};
 ghost use Rattle.mx_files.specs.Opened.{IsWrong};
-ghost use Rattle.mx_files.specs.InFiles.{AreHonest, AreShut, Closes, IsLeftOf, IsRefused, HoldRounds, HoldTrees, HoldWorld, Raises, closed_answer};
+ghost use Rattle.mx_files.specs.InFiles.{AreHonest, AreShut, Closes, HoldCopy, IsKept, IsLeftOf, IsRefused, HoldRounds, HoldTrees, HoldWorld, Raises, closed_answer};
 
 use crate::check::check_in_store;
 use crate::stores::{
@@ -159,7 +159,7 @@ pub fn make_in_files<D: Disk + Drop>(
     Ok(close(Ok(()), made))
 }
 
-/// Copies the books in the files of a store to those of a new one, and closes the files of both.
+/// Copies the books in the files of a store to those of a new one, and closes the files of both. The first hold what they held.
 ///
 /// # Errors
 ///
@@ -169,15 +169,13 @@ pub fn copy_in_files<D: Disk + Drop>(
     store: Connection<FileStore<D>>,
     to: Connection<FileStore<FileFrom<Unknown>>>,
 ) -> Ended<(), D>
-    ensures shut { IsOk result.answer → AreShut result.left × AreShut result.copy }
-    ensures copies { IsOk result.answer → AreHonest result.left
-        → HasCleanDisk (file_state store) × (w : World) × Represents (file_state store).now w
-        × HoldWorld result.left w × (AreHonest result.copy → HoldWorld result.copy w) }
+    ensures keeps { AreHonest result.left → IsKept store result.left }
+    ensures copies { OnOk result.answer (HoldCopy store result) }
 {
-    let mut new = to;
-    match copy_in_store(alloc, store, &mut new) {
+    let mut to = to;
+    match copy_in_store(alloc, store, &mut to) {
         Ok((answer, left)) => {
-            let copied = close(answer, new);
+            let copied = close(answer, to);
             let Ended { answer, left, .. } = close(copied.answer, left);
             Ended {
                 answer,

@@ -1,23 +1,21 @@
 //! The files of books.
 ghost use Rattle.std.specs.Prelude.{◌≡◌, IfOk, IsOk, OnErr, OnOk};
 ghost use Rattle.sqlite_wal.specs.Files.{image_at};
-ghost use Rattle.sqlite.specs.Files.{file_state};
-ghost use Rattle.sqlite.specs.State.{HasCleanDisk};
-ghost use Rattle.mx_book.specs.World.{World};
-ghost use Rattle.mx_files.specs.Durable.{Represents};
 ghost use Rattle.mx_files.specs.Folders.{IsMissing};
-ghost use Rattle.mx_files.specs.InFiles.{AreHonest, AreShut, HasSumsIfNew, HoldWorld, IsNewOf, IsOpenedOver};
-ghost use Rattle.mx_files.specs.Makings.{Installs, KeepsFile};
+ghost use Rattle.mx_files.specs.InFiles.{AreHonest, HasSumsIfNew, HoldCopy, IsKept, IsNewOf, IsOpenedOver};
+ghost use Rattle.mx_files.specs.Makings.{Begins, ChangesBeside, Installs, KeepsFile};
 
-use crate::closing::{Ended, Left, copy_in_files, make_in_files};
+use crate::closing::{Ended, Left, close, copy_in_files, make_in_files};
 use crate::database::{open_at, open_copy};
 use crate::folder::{DatabaseFolder, end_stopped_init};
 use crate::init::{begin, end};
+use crate::making::Making;
 use crate::places::{expect_vacant, look_for_books};
 use crate::watched::Watched;
 use mx_pay::Token;
 use mx_tasks::{Cause, TaskFault};
 use sqlite::{Connection, FileFrom, FileStore, Start, Unknown};
+use std::alloc::Global;
 
 /// A file of books, or of their log, which held what the start says as it was opened.
 pub type BookFile<'a, S> = Watched<'a, FileFrom<S>>;
@@ -109,24 +107,29 @@ fn new_books<'a, S: Start>(
 }
 
 /// Copies the books in a store to an empty file, and closes both.
-fn new_copy<'a, S: Start>(
+fn copy_to_empty<'a, S: Start>(
     rt: &'a HostRuntime,
     made: &str,
     store: Opened<'a, S>,
-) -> Result<Ended<(), BookFile<'a, S>>, Cause>
-    ensures shut { IfOk result (λ ended. AreShut ended.left × AreShut ended.copy) }
-    ensures copies { IfOk result (λ ended. AreHonest ended.left → HasCleanDisk (file_state store)
-        × (w : World) × Represents (file_state store).now w × HoldWorld ended.left w
-        × (AreHonest ended.copy → HoldWorld ended.copy w)) }
+) -> Ended<(), BookFile<'a, S>>
+    ensures keeps { AreHonest result.left → IsKept store result.left }
+    ensures copies { OnOk result.answer (HoldCopy store result) }
 {
-    let to = open_copy(rt, made)?;
-    let ended = copy_in_files(rt.alloc(), store, to);
-    ended.answer?;
-    Ok(Ended {
-        answer: Ok(()),
-        left: ended.left,
-        copy: ended.copy,
-    })
+    match open_copy(rt, made) {
+        Ok(to) => copy_in_files(rt.alloc(), store, to),
+        Err(cause) => close(Err(cause.tell(rt, made)), store),
+    }
+}
+
+/// Begins a file beside the one of this path, which isn't there.
+fn begin_new<F: DatabaseFolder>(folder: &mut F, alloc: Global, path: &str) -> Result<Making, Cause>
+    ensures missing { OnOk result (IsMissing ((F.paths folder.old).spot path.now)) }
+    ensures begins { IfOk result
+        (λ making. Begins path.now (F.paths folder.old) (F.paths folder.new) making) }
+    ensures others { ChangesBeside path.now (F.paths folder.old) (F.paths folder.new) }
+{
+    expect_vacant(&*folder, path)?;
+    begin(folder, alloc, path)
 }
 
 /// Copies the books in a store to a file beside the one of this path, which isn't there, and gives it its place.
@@ -135,23 +138,29 @@ fn copy_over<'a, F: DatabaseFolder, S: Start>(
     folder: &mut F,
     path: &str,
     store: Opened<'a, S>,
-) -> Result<Ended<(), BookFile<'a, S>>, Cause>
-    ensures shut { IfOk result (λ ended. AreShut ended.left × AreShut ended.copy) }
-    ensures copies { IfOk result (λ ended. AreHonest ended.left → HasCleanDisk (file_state store)
-        × (w : World) × Represents (file_state store).now w × HoldWorld ended.left w
-        × (AreHonest ended.copy → HoldWorld ended.copy w)) }
-    ensures missing { OnOk result (IsMissing ((F.paths folder.old).spot path.now)) }
-    ensures placed { OnOk result (Installs path.now (F.paths folder.old) (F.paths folder.new)) }
-    ensures kept { OnErr result (KeepsFile path.now (F.paths folder.old) (F.paths folder.new)) }
+) -> Ended<(), BookFile<'a, S>>
+    ensures keeps { AreHonest result.left → IsKept store result.left }
+    ensures copies { OnOk result.answer (HoldCopy store result) }
+    ensures missing { OnOk result.answer (IsMissing ((F.paths folder.old).spot path.now)) }
+    ensures placed { OnOk result.answer
+        (Installs path.now (F.paths folder.old) (F.paths folder.new)) }
+    ensures kept { OnErr result.answer
+        (KeepsFile path.now (F.paths folder.old) (F.paths folder.new)) }
 {
-    expect_vacant(&*folder, path)?;
-    let making = begin(folder, rt.alloc(), path)?;
-    let copied = new_copy(rt, making.made.as_str(), store);
-    end(folder, &making, copied)
+    let making = match begin_new(folder, rt.alloc(), path) {
+        Ok(making) => making,
+        Err(cause) => return close(Err(cause.tell(rt, path)), store),
+    };
+    let Ended { answer, left, copy } = copy_to_empty(rt, making.made.as_str(), store);
+    let answer = match end(folder, &making, answer.map_err(Cause::Fault)) {
+        Ok(()) => Ok(()),
+        Err(cause) => Err(cause.tell(rt, path)),
+    };
+    Ended { answer, left, copy }
 }
 
 /// Copies the books in a store to a file that isn't there yet, for its owner alone to read and write, and closes both. The file
-/// is made in FILE-init, and gets its name once it is whole.
+/// is made in FILE-init, and gets its name once it is whole. The first holds what it held.
 ///
 /// # Errors
 ///
@@ -161,17 +170,12 @@ pub(crate) fn copy_to_file<'a, S: Start>(
     rt: &'a HostRuntime,
     path: &str,
     store: Opened<'a, S>,
-) -> Result<Ended<(), BookFile<'a, S>>, TaskFault>
-    ensures shut { IfOk result (λ ended. AreShut ended.left × AreShut ended.copy) }
-    ensures copies { IfOk result (λ ended. AreHonest ended.left → HasCleanDisk (file_state store)
-        × (w : World) × Represents (file_state store).now w × HoldWorld ended.left w
-        × (AreHonest ended.copy → HoldWorld ended.copy w)) }
+) -> Ended<(), BookFile<'a, S>>
+    ensures keeps { AreHonest result.left → IsKept store result.left }
+    ensures copies { OnOk result.answer (HoldCopy store result) }
 {
     let mut folder = rt;
-    match copy_over(rt, &mut folder, path, store) {
-        Ok(ended) => Ok(ended),
-        Err(cause) => Err(cause.tell(rt, path)),
-    }
+    copy_over(rt, &mut folder, path, store)
 }
 
 /// Makes new books in a file beside that of this path, and puts it in its place.

@@ -9,8 +9,9 @@ ghost use Rattle.mx_desk.specs.Steps.{state};
 ghost use Rattle.mx_tasks.specs.Faults.{Untouched};
 ghost use Rattle.mx_files.specs.InFiles.{AreHonest, AreShut, HoldRounds, closed_answer};
 ghost use Rattle.mx_files.specs.Opened.{IsWrong};
-ghost use Rattle.mx_files.specs.Performed.{Checks, CopiesBooks, EndsMigration, EndsRun, EndsWork, MakesBooks, OverBooks, Performs, PerformsInMemory, PerformsMigration, PerformsRun, PerformsWork, ended_of, streams};
+ghost use Rattle.mx_files.specs.Performed.{Checks, EndsRun, EndsSaying, EndsWork, MakesBooks, OverBooks, Performs, PerformsCopy, PerformsInMemory, PerformsMigration, PerformsRun, PerformsWork, ended_of, migrated_text, streams};
 
+use crate::check::with_sums;
 use crate::closing::{Ended, check_in_files, migrate_in_files, run_in_files, work_in_files};
 use crate::files::{BookFile, copy_to_file, make_in_file, no_files, open_found, open_told};
 use crate::plan::{Act, Plan, plan_of};
@@ -71,7 +72,7 @@ fn say_migrated<W: Write>(
     answer: Result<Migrated, TaskFault>,
     writer: &mut Counted<W>,
 ) -> Result<(), TaskFault>
-    ensures ends { EndsMigration answer result
+    ensures ends { EndsSaying migrated_text answer result
         (W.contents writer.old.device) (W.contents writer.new.device) }
 {
     match answer? {
@@ -138,7 +139,11 @@ fn check_in_file<'a, S: Start>(
         → Checks (image_at S.Start) ended.left (IfOk ended.answer IsWrong)) }
 {
     match open_found(rt, path, start) {
-        Ok(store) => Ok(check_in_files(rt, store)),
+        Ok(store) => {
+            let Ended { answer, left, .. } = check_in_files(rt, store);
+            let checked = with_sums(&rt, rt.alloc(), path, answer);
+            Ok(Ended::over(checked, left))
+        }
         Err(cause) => {
             let line = format!(in rt.alloc(); "{path}: {cause}\n")?;
             let done = Done {
@@ -197,6 +202,18 @@ fn check_file<'a, S: Start, W: Write>(
     Ok(Ended::over(say_done(answer, writer), left))
 }
 
+/// Writes that a copy was made.
+fn say_copied<W: Write>(
+    answer: Result<(), TaskFault>,
+    writer: &mut Counted<W>,
+) -> Result<(), TaskFault>
+    ensures { EndsSaying (λ _. codes "copied\n") answer result
+        (W.contents writer.old.device) (W.contents writer.new.device) }
+{
+    answer?;
+    say(writer, b"copied\n")
+}
+
 /// Copies the books in a file to a new one, and says so.
 fn copy_file<'a, S: Start, W: Write>(
     rt: &'a HostRuntime,
@@ -205,14 +222,14 @@ fn copy_file<'a, S: Start, W: Write>(
     to: &str,
     writer: &mut Counted<W>,
 ) -> Result<Ended<(), BookFile<'a, S>>, TaskFault>
-    ensures shut { IfOk result (λ ended. IsOk ended.answer → AreShut ended.left) }
-    ensures copies { IfOk result (λ ended. IsOk ended.answer → CopiesBooks (image_at S.Start) ended
-        × Appends (W.contents writer.old.device) (W.contents writer.new.device) (codes "copied\n")) }
+    ensures unopened { IsErr result → writer.new ≡ writer.old }
+    ensures copies { IfOk result (λ ended. PerformsCopy (image_at S.Start) ended
+        (W.contents writer.old.device) (W.contents writer.new.device)) }
 {
     let store = open_told(rt, path, start)?;
-    let Ended { left, copy, .. } = copy_to_file(rt, to, store)?;
+    let Ended { answer, left, copy } = copy_to_file(rt, to, store);
     Ok(Ended {
-        answer: say(writer, b"copied\n"),
+        answer: say_copied(answer, writer),
         left,
         copy,
     })

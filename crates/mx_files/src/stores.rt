@@ -63,22 +63,20 @@ pub fn make_in_store<S: Alter + Drop>(
     }
 }
 
-/// Copies the books in a store to a new one, and gives the store back.
+/// Copies the books in a store to a new one, and gives the store back, as it was.
 ///
 /// # Errors
 ///
-/// Those of `open`. Nothing was copied then, and the store is given back as it was. The answer is `Memory` or `Store` where a
-/// store has no memory, or refuses a statement.
+/// Those of `open`. The answer is `Memory` or `Store` where a store has no memory, or refuses a statement.
 pub fn copy_in_store<S: Ordered + Drop, T: Alter>(
     alloc: Global,
     store: Connection<S>,
     to: &mut Connection<T>,
 ) -> Result<(Result<(), TaskFault>, Connection<S>), Refused<S>>
     ensures rests { IfOk result (λ x. StaysIdle (state_of S.Store store) (state_of S.Store x.1)) }
-    ensures ours { IfOk result (λ x. IsOurs false (state_of S.Store x.1)) }
-    ensures copies { IfOk result (λ x. IsSound (state_of S.Store x.1)
-        → (w : World) × Represents (state_of S.Store store).now w
-        × OnOk x.0 (IsCopy (state_of T.Store to.new) w)) }
+    ensures copies { IfOk result (λ x. OnOk x.0 (IsOurs false (state_of S.Store x.1)
+        × (IsSound (state_of S.Store x.1) → (w : World) × Represents (state_of S.Store store).now w
+        × IsCopy (state_of T.Store to.new) w))) }
     ensures refused { IfErr result (λ e. Refuses S.Store store e.fault e.store) }
 {
     match open(alloc, store, 0) {

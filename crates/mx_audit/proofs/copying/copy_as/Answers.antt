@@ -15,26 +15,26 @@ pub returns-in-Err-make_tables-clause-stays : goal.returns-in-Err-make_tables-cl
 returns-in-Err-make_tables-clause-stays g c ours = stays_same (state g.S.Store c.args.conn.now) ours
 
 pub returns-in_err-fill_all-clause-stays : goal.returns-in_err-fill_all-clause-stays
-returns-in_err-fill_all-clause-stays g c ours = c.in_err-fill_all.ensures.stays ours
+returns-in_err-fill_all-clause-stays g c ours = c.in_err-fill_all.ensures.fills.stays ours
 
 pub returns-in-Ok-commit-clause-stays : goal.returns-in-Ok-commit-clause-stays
-returns-in-Ok-commit-clause-stays g c ours = c.in_ok-fill_all.ensures.stays ours
+returns-in-Ok-commit-clause-stays g c ours = c.in_ok-fill_all.ensures.fills.stays ours
 
 pub returns-in-Err-commit-clause-stays : goal.returns-in-Err-commit-clause-stays
-returns-in-Err-commit-clause-stays g c ours = c.in_ok-fill_all.ensures.stays ours
+returns-in-Err-commit-clause-stays g c ours = c.in_ok-fill_all.ensures.fills.stays ours
 
 pub returns-in-Ok-commit-clause-live : goal.returns-in-Ok-commit-clause-live
-returns-in-Ok-commit-clause-live g c = c.in_ok-fill_all.ensures.live
+returns-in-Ok-commit-clause-live g c = c.in_ok-fill_all.ensures.fills.live
 
 pub returns-in-Ok-commit-clause-copies : goal.returns-in-Ok-commit-clause-copies
 returns-in-Ok-commit-clause-copies g c ours calm blank =
+    let same : c.commit.new.self.0 ≡ c.to-2-1.given.0 = search rules in
     let from = (state g.S.Store c.args.conn.now).now in
     let old = state g.T.Store c.args.to.now in
-    let mid = state g.T.Store c.fill_all.new.filler.tx.conn.now in
+    let mid = state g.T.Store c.fill_all.new.tx.conn.now in
     let new = state g.T.Store c.commit.new.self.0 in
-    let filled = copies_all g.S.Store g.T.Store c.args.version c.args.conn.now c.fill_all.new.conn _ c.fill_all.new.filler c.schema-schema.ensures.live (g.met.S.Ordered.in_order c.args.conn.now) c.in_ok-fill_all.ensures ours calm in
+    let filled = copies_all g.S.Store g.T.Store c.args.version c.args.conn.now c.fill_all.new.conn _ c.fill_all.new.tx c.schema-schema.ensures.live (g.met.S.Ordered.in_order c.args.conn.now) c.in_ok-fill_all.ensures.fills ours calm in
     let step = steps_then g.T.Store c.in_default.ensures filled in
-    let same : c.commit.new.self.0 ≡ c.to-2-1.given = search (rules, step.same_reference, filled.same_reference) in
     commits_as g.T.Store old _ _ (Ok tt) (λ h. Copies c.args.version from (state g.T.Store h).now) same
     (committed_all old (state g.T.Store c.in-Ok.tx.conn.now) mid new c.in-Ok.tx.at c.requires c.in-Ok.ensures.survives c.in-Ok.ensures.ok c.in-Ok-commit.ensures.survives.clean step.within
     (λ clean. subst (λ n. ReleasesAt mid new n) step.place (c.in-Ok-commit.ensures.ok clean)) _

@@ -1,9 +1,9 @@
-use Rattle.std.proofs.Common.{sym, subst}
 use Rattle.sqlite.specs.Held.{state}
+use Rattle.std.proofs.Common.{refl, subst}
 use Rattle.mx_tables.specs.Schema.{schema_of}
 use Rattle.mx_audit.specs.Copies.{Fills}
 use Rattle.mx_audit.specs.Scans.{TakesAll}
-use Rattle.mx_audit.proofs.CopyLemmas.{shows_rows}
+use Rattle.mx_audit.proofs.CopyLemmas.{fills_taken, shows_rows}
 use Rattle.mx_audit.proofs.CopyTexts.{known, reads_silent}
 use Rattle.mx_audit.proofs.ScanLemmas.{scans_more}
 use Rattle.mx_audit.proofs.copying.fill_table.Goals as goal
@@ -11,8 +11,9 @@ use Rattle.mx_audit.proofs.copying.fill_table.Goals as goal
 pub scan-requires : goal.scan-requires
 scan-requires g c = rw c.rows_text.ensures (reads_silent c.args.source)
 
-pub returns : goal.returns
-returns g c version among =
-    scans_more g.S.Store (c.scan.ensures (schema_of version) (rw c.rows_text.ensures (known version c.args.source among).plain_read)) (λ has did rise.
+pub returns-clause-fills : goal.returns-clause-fills
+returns-clause-fills g c version among =
+    scans_more g.S.Store (c.scan.ensures.scans (schema_of version) (rw c.rows_text.ensures (known version c.args.source among).plain_read)) (λ has did rise.
     let same = shows_rows version c.args.source among (state g.S.Store c.args.conn.now) (state g.S.Store c.scan.new.conn) did.0 has rise (rw c.rows_text.ensures at did.1) in
-    subst (λ rows. TakesAll (Fills g.T.Store) (record c.args.filler.now { source = c.args.source }) rows c.scan.new.taker) same did.2)
+    subst (λ rows. TakesAll (Fills g.T.Store c.args.source) c.args.tx.now rows c.scan.new.taker.tx.now) same
+    (fills_taken g.T.Store c.args.source did.0 _ c.scan.new.taker refl did.2))

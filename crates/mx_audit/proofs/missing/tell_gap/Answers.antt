@@ -10,7 +10,7 @@ pub returns-then-not-has_room : goal.returns-then-not-has_room
 returns-then-not-has_room g c live = reads_none g.S.Store live (λ rows holds. tt)
 
 pub returns-in_err-scan : goal.returns-in_err-scan
-returns-in_err-scan g c live = scan_fails g.S.Store (c.in_err-scan.ensures office_schema numbers_query.plain) c.from_residual.ensures.0
+returns-in_err-scan g c live = scan_fails g.S.Store (c.in_err-scan.ensures.scans office_schema numbers_query.plain) c.from_residual.ensures.0
 
 pub returns : goal.returns
-returns g c live = scans_read g.S.Store (c.in_ok-scan.ensures office_schema numbers_query.plain)
+returns g c live = scans_read g.S.Store (c.in_ok-scan.ensures.scans office_schema numbers_query.plain)

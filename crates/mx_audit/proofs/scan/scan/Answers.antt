@@ -37,8 +37,8 @@ shown_from sql params old mid new rows plain kept h =
 at_last : {S T : Type 0} {x : T} {of : Schema} (g : Ghosts S) (old new last : Held S) (did : Held S → Type 0) → ScansAt of g old new (Ok x) (did new) → new ≡ last → ScansAt of g old last (Ok x) (did last)
 at_last {x = x} {of = of} g old new last did done same = subst (λ h. ScansAt of g old h (Ok x) (did h)) same done
 
-pub returns-in-Err : goal.returns-in-Err
-returns-in-Err g c of plain = record {
+pub returns-in-Err-clause-scans : goal.returns-in-Err-clause-scans
+returns-in-Err-clause-scans g c of plain = record {
   stays = λ ours.
       refused_stays g.S.Store _ _ c.args.conn.now c.query.follows.lender-at-none c.query.result _ c.in-Err.is c.requires ours c.query.follows.holds-at-none;
   value = λ ours calm. tt;
@@ -58,6 +58,7 @@ loop-init g c =
           let first = subst (λ s. IsPlain (understood s c.args.sql.now)) (sym has) plain in
           let began = begun_plain g.S.Store c.args.sql.now _ c.args.conn.now c.in-Ok.rows.conn.now first (made.begun (sure_in begun new calm).1) in
           ([], began.0, began.1, refl),
+      refl,
     )
 
 pub loop-preserved : goal.loop-preserved
@@ -73,11 +74,12 @@ loop-preserved g c =
           let was = before.2 begun of plain ours (sure_first step.later calm) in
           let row : Some c.in-Some.row.now ≡ row_if c.next.new.rows.has_row c.next.new.rows.conn.now = rw c.in-Some.is at c.get.ensures in
           let gives : Advances g.S.Store c.loop.rows.conn.now c.next.new.rows.conn.now (Some c.in-Some.row.now) = rw (sym row) at made.shown (is_sound begun new calm) in
-          (was.0 ++ c.in-Some.row.now ∷ [], gives c.args.sql.now (bound c.args.params.now) was.0 was.1, unchanged_then _ mid new was.2 (made.same (is_sound begun new calm)), one_more g.T.Takes.takes was.0 c.in-Some.row.now _ c.loop.taker _ was.3 c.in_ok-take.ensures),
+          (was.0 ++ c.in-Some.row.now ∷ [], gives c.args.sql.now (bound c.args.params.now) was.0 was.1, unchanged_then _ mid new was.2 (made.same (is_sound begun new calm)), one_more g.T.Takes.takes was.0 c.in-Some.row.now _ c.loop.taker _ was.3 c.in_ok-take.ensures.takes),
+      c.take.ensures.lends ∙ before.3,
     )
 
-pub returns-in_default : goal.returns-in_default
-returns-in_default g c of plain =
+pub returns-in_default-clause-scans : goal.returns-in_default-clause-scans
+returns-in_default-clause-scans g c of plain =
     let before = c.loop.invariant in
     let made = c.in_ok-next.ensures in
     let old = state g.S.Store c.args.conn.now in

@@ -10,7 +10,7 @@ use Rattle.mx_tables.specs.States.{unsure, IsAt, StaysAt}
 use Rattle.mx_audit.specs.Scans.{TakesAll}
 use Rattle.mx_audit.proofs.scan.scan.Given as goal
 
--- the rows that the query has given were taken, and the rows of the tables stay
+-- the rows that the query has given were taken, and the rows of the tables and the savepoint stay
 abbrev pub invariant-loop : goal.invariant-loop
 invariant-loop g l =
     let old = state g.S.Store l.fn.conn in
@@ -18,3 +18,4 @@ invariant-loop g l =
     (l.rows.conn.ghost_name ≡ l.initial.rows.conn.ghost_name)
     × ((begun : Bool) (of : Schema) → IsPlain (understood of l.fn.sql) → IsAt begun of old → StaysAt begun of old now)
     × ((begun : Bool) (of : Schema) → IsPlain (understood of l.fn.sql) → IsAt begun of old → unsure begun now ≡ 0 → (rows : List Row) × HasGiven g.S.Store l.fn.sql (bound l.fn.params) l.rows.conn.now rows × IsUnchanged old now × TakesAll g.T.Takes.takes l.fn.taker rows l.taker)
+    × (g.T.Takes.lends l.taker ≡ g.T.Takes.lends l.fn.taker)

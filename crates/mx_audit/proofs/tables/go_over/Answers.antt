@@ -7,5 +7,5 @@ pub scan-requires : goal.scan-requires
 scan-requires g c = rw c.text.ensures (source_query c.args.source.now).silent
 
 pub returns : goal.returns
-returns g c = scans_more g.S.Store (c.scan.ensures office_schema (rw c.text.ensures (source_query c.args.source.now).plain)) (λ has did.
+returns g c = scans_more g.S.Store (c.scan.ensures.scans office_schema (rw c.text.ensures (source_query c.args.source.now).plain)) (λ has did.
     (did.0, source_shows c.args.source.now _ _ did.0 has (rw c.text.ensures at did.1), did.2))

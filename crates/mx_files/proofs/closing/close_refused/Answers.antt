@@ -2,7 +2,7 @@ use Rattle.std.proofs.Common.{rules, ◌∙◌}
 use Rattle.sqlite_store.specs.Laws.{settled_at}
 use Rattle.sqlite.specs.Files.{file_state}
 use Rattle.mx_tables.specs.Made.{IsUnknown}
-use Rattle.mx_files.proofs.FileLemmas.{clean_before, fault_closed, refusal_of, refused_held}
+use Rattle.mx_files.proofs.FileLemmas.{fault_closed, kept_so, refusal_of}
 use Rattle.mx_files.proofs.closing.close_refused.Goals as goal
 
 pub returns-clause-fault : goal.returns-clause-fault
@@ -11,8 +11,7 @@ returns-clause-fault g c = rw (c.close.ensures.answer ∙ fault_closed c.close.r
 pub returns-clause-refused : goal.returns-clause-refused
 returns-clause-refused g c = λ store refuses honest.
     let closes = c.close.ensures.closes in record {
-      clean = clean_before (file_state store) (file_state c.args.refused.store) refuses.rests.later (closes.honest honest);
-      held = refused_held store c.args.refused.store c.close.result.left (settled_at store.store g.met.D.Disk.seen_may_stay) refuses.rests closes honest;
+      kept = kept_so store c.args.refused.store c.close.result.left (settled_at store.store g.met.D.Disk.seen_may_stay) refuses.rests closes honest;
       fault = rw (c.close.ensures.answer ∙ fault_closed c.close.result.left c.unmade.result, c.unmade.ensures)
           (refusal_of (IsUnknown (λ _. 2) (file_state store).now) c.args.refused.fault (λ is. refuses.unknown is (closes.honest honest)));
     }
