@@ -1,6 +1,6 @@
 -- What the rows of tables are that were copied one after another.
-use Rattle.mx_tables.proofs.Common.{◌≡◌, ℕ, ◌&&◌, Bool, true, false, List, [], ◌∷◌, ◌++◌, Some, Ok, refl, ◌∙◌, inl, inr, arith, length, take, ◌+◌, ◌<◌, column, Null, Row, Database, Executes, state, going, AllByRecursion}
-use Rattle.std.proofs.Common.{Err, Result, OnOk, ◌≢◌, ◌==◌, ◌||◌, if◌then◌else◌, Less, append_assoc, drop, get_or, map, not, slice_get, sym, ap, subst, suc, zero}
+use Rattle.mx_tables.proofs.Common.{IfOk-weaker, ◌≡◌, ℕ, ◌&&◌, Bool, true, false, List, [], ◌∷◌, ◌++◌, Some, Ok, refl, ◌∙◌, inl, inr, arith, length, take, ◌+◌, ◌<◌, ◌≤◌, column, Null, Row, Database, Executes, state, going, AllByRecursion}
+use Rattle.std.proofs.Common.{Err, IfOk, Result, OnOk, ◌≢◌, ◌==◌, ◌||◌, if◌then◌else◌, Less, append_assoc, drop, get_or, map, not, slice_get, sym, ap, subst, suc, zero}
 use Rattle.std.specs.Prelude.{IsTrue}
 use Rattle.std.specs.List.{list_all, list_any}
 use Rattle.std.specs.Cmp.{first_so}
@@ -33,7 +33,7 @@ use Rattle.mx_tables.specs.Made.{Blank}
 use Rattle.mx_book.specs.World.{World}
 use Rattle.mx_tables.specs.Holds.{SpellsIn, SpellsOneIn}
 use Rattle.mx_tables.specs.Schema.{cells_in, schema_of}
-use Rattle.mx_tables.specs.Migration.{IsWhole}
+use Rattle.mx_tables.specs.Migration.{IsWhole, Migrates}
 use Rattle.mx_book.specs.declared.contract.StoreFault.{StoreFault}
 use Rattle.mx_tables.specs.States.{Commits, IsAt, Runs, StaysAt, StaysIdle, Steps, worry}
 use Rattle.mx_tables.specs.declared.making.Version.{Version}
@@ -43,10 +43,12 @@ use Rattle.mx_tables.proofs.MigrationLemmas.{kept_store}
 use Rattle.mx_tables.proofs.StateLemmas.{idle_sure, rests_at, rests_then, sure, sure_before}
 use Rattle.mx_tables.proofs.Statements.{puts}
 use Rattle.mx_audit.specs.Audited.{tree_of}
-use Rattle.mx_audit.specs.Copies.{Copies, Fills, FillsTables, IsAmong, IsLent, row_text, rows_text, sources_in, whole_of}
+use Rattle.mx_audit.specs.Copies.{Copies, Fills, FillsTables, HasRaised, IsAmong, IsLent, row_text, rows_text, sources_in, whole_of}
 use Rattle.mx_audit.specs.Raw.{AreInOrder, AreNumbered}
 use Rattle.mx_audit.specs.Scans.{ScansAt, TakesAll}
 use Rattle.mx_audit.specs.declared.copying.Filler.{Filler}
+use Rattle.mx_audit.specs.declared.opening.Refusal.{Refusal}
+use Rattle.mx_tables.specs.declared.migration.Migrated.{Migrated}
 use Rattle.mx_audit.specs.declared.typed.Source.{Source}
 use Rattle.mx_audit.proofs.CopyTexts.{known, place_of, table_at, terms_of, uncounted}
 use Rattle.mx_audit.proofs.RawLemmas.{are_of_types}
@@ -335,6 +337,16 @@ copies_all g h v a b from to live ordered scans ours calm =
     let steady = ours.steady before (ours.idle first.1 refl) in
     fills_all h v (state g a).now (ours.schema before) database (ordered first.0 (sym steady) database) from to (scans.value ours (idle_sure (state g b) calm))
 
+-- what a copy became that was migrated
+pub raised_so : {T : Type 0} (h : Ghosts T) (version : Version) (old : Database) (mid new : Held T) (result : Result Migrated Refusal) → (HasCleanDisk (state h mid) → Copies version old (state h mid).now) → worry (state h mid) ≤ worry (state h new)
+    → worry (state h new) ≡ 0 → IfOk result (λ made. Migrates made (state h mid).now (state h new).now) → IfOk result (λ made. HasRaised made old (state h new).now)
+raised_so h version old mid new result copied later sound it = IfOk-weaker result _ _ (λ made migrated. record {
+  version = version;
+  copy = (state h mid).now;
+  copied = copied (sure (state h mid) (sure_before (state h mid) (state h new) later sound)).1;
+  migrated = migrated;
+}) it
+
 -- a store was found to be of a version, and was copied as one
 module _ {S T : Type 0} (g : Ghosts S) (h : Ghosts T) (version : Version) (old mid new : Held S) (before after : Held T) (found : StaysAt false (schema_of version) (state g old) (state g mid))
     (whole : worry (state g mid) ≡ 0 → IsWhole version (state g old).now) (went : StaysAt false (schema_of version) (state g mid) (state g new)) where
@@ -362,6 +374,13 @@ module _ {S T : Type 0} (g : Ghosts S) (h : Ghosts T) (version : Version) (old m
           schema = to;
           base = λ sound. ap (λ (d : Database). d.schema) (settled sound) ∙ to sound;
         }
+
+-- ---- one row
+
+pub fills_so : {S : Type 0} (g : Ghosts S) (r : Result (Unit {0}) StoreFault) (from is : Source) (old new : Savepoint S g) (row : Row) → is ≡ from → Runs g (row_text from) (map bound_value row) old new r (λ _. Unit {0})
+    → OnOk r ((is ≡ from) × Fills g from old row new)
+fills_so g (Ok x) from is old new row same h = (same, h)
+fills_so g (Err e) from is old new row same h = tt
 
 -- ---- the parameters of a row
 

@@ -10,7 +10,9 @@ use Rattle.sqlite.specs.Values.{bound_value}
 use Rattle.sqlite.specs.declared.savepoint.Savepoint.{Savepoint}
 use Rattle.mx_tables.specs.Schema.{schema_of}
 use Rattle.mx_tables.specs.States.{Runs, going}
+use Rattle.mx_tables.specs.Migration.{Migrates}
 use Rattle.mx_tables.specs.declared.making.Version.{Version}
+use Rattle.mx_tables.specs.declared.migration.Migrated.{Migrated}
 use Rattle.mx_tables.specs.declared.making.Version.TheVariants.{One, Two}
 use Rattle.mx_audit.specs.Audited.{tree_of, sources}
 use Rattle.mx_audit.specs.Scans.{Each, TakesAll}
@@ -22,6 +24,13 @@ pub record Copies (v : Version) (old new : Database) : Type 0 where
   pub from : old.schema ≡ schema_of v
   pub to : new.schema ≡ schema_of v
   pub rows : KeepsRows (schema_of v).tables old.trees new.trees
+
+-- a database was copied, and the copy migrated
+pub record HasRaised (made : Migrated) (old new : Database) : Type 0 where
+  pub version : Version
+  pub copy : Database
+  pub copied : Copies version old copy
+  pub migrated : Migrates made copy new
 
 -- ---- table by table
 

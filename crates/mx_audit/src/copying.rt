@@ -1,5 +1,5 @@
 //! Copies of tables: their rows in a new store.
-ghost use Rattle.std.specs.Prelude.{◌≡◌, ◌<◌, IfErr, IfOk, OnOk, false, length, map};
+ghost use Rattle.std.specs.Prelude.{◌≡◌, ◌<◌, ◌↔◌, IfErr, IfOk, IsTrue, OnOk, false, length, map};
 ghost use Rattle.std.specs.List.{AllByRecursion};
 ghost use Rattle.sqlite.specs.Held.{state};
 ghost use Rattle.sqlite.specs.State.{HasCleanDisk};
@@ -10,18 +10,19 @@ ghost use Rattle.mx_tables.specs.declared.making.Version.{Version};
 ghost use Rattle.mx_tables.specs.Migration.{IsWhole};
 ghost use Rattle.mx_tables.specs.Made.{IsUnknown};
 ghost use Rattle.mx_tables.specs.Schema.{no_schema, number_of, schema_of};
-ghost use Rattle.mx_tables.specs.States.{Commits, IsAt, IsAwake, IsHonest, IsSound, StaysAt, StaysIdle};
+ghost use Rattle.mx_tables.specs.States.{Commits, IsAt, IsAwake, IsHonest, IsOurs, IsSound, StaysAt, StaysIdle};
 ghost use Rattle.mx_tables.specs.declared.opening.OpenFault.TheVariants.{NotThisSchema};
-ghost use Rattle.mx_audit.specs.Copies.{Copies, Fills, FillsTable, FillsTables, IsAmong, IsLent, row_text, rows_text, sources_in};
+ghost use Rattle.mx_audit.specs.Copies.{Copies, Fills, FillsTable, FillsTables, HasRaised, IsAmong, IsLent, row_text, rows_text, sources_in};
 ghost use Rattle.mx_audit.specs.Scans.{ScansAt};
 
+use crate::opening::{Refusal, as_refusal, migrate};
 use crate::ordered::Ordered;
 use crate::scan::{Takes, scan};
 use crate::tables::SOURCES;
 use crate::typed::Source;
 use mx_book::StoreFault;
 use mx_tables::{
-    OpenFault, Version, fault_of, find_version, is_blank, make_tables, open_fault, run,
+    Migrated, OpenFault, Version, fault_of, find_version, is_blank, make_tables, open_fault, run,
 };
 use sqlite::{Alter, Connection, Error, Row, Savepoint};
 use sqlite_value::value::ValueRef;
@@ -238,5 +239,30 @@ pub fn copy<S: Ordered, T: Alter>(
     match copy_as(alloc, conn, to, version) {
         Ok(()) => Ok(version),
         Err(fault) => Err(open_fault(fault)),
+    }
+}
+
+/// Whether a store has as many tables as those of version 1.
+pub fn has_first_tables<S: Alter>(conn: &Connection<S>) -> bool
+    ensures { IsTrue result ↔ (length (state S.Store conn.now).now.schema.tables ≡ 11) }
+{
+    conn.schema().tables.len() == IN_VERSION_1
+}
+
+/// Copies the tables of a store to a new one, where they are brought to version 2 as `mx_tables::migrate` does, and audited. The
+/// first is left as it was. It is refused as `copy` and the audit refuse it.
+pub fn raise<S: Ordered, T: Ordered>(
+    alloc: Global,
+    conn: &mut Connection<S>,
+    to: &mut Connection<T>,
+) -> Result<Migrated, Refusal>
+    ensures rests { StaysIdle (state S.Store conn.old) (state S.Store conn.new) }
+    ensures ours { OnOk result (IsOurs false (state T.Store to.new)) }
+    ensures raises { IsSound (state S.Store conn.new) → IsSound (state T.Store to.new) → IfOk result
+        (λ made. HasRaised made (state S.Store conn.old).now (state T.Store to.new).now) }
+{
+    match copy(alloc, conn, to) {
+        Ok(_) => migrate(alloc, to),
+        Err(fault) => Err(as_refusal(fault)),
     }
 }

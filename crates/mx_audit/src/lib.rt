@@ -15,6 +15,6 @@ mod seen;
 pub mod tables;
 mod typed;
 
-pub use copying::copy;
+pub use copying::{copy, has_first_tables, raise};
 pub use opening::{Refusal, Refused, migrate, open};
 pub use ordered::Ordered;

@@ -38,7 +38,7 @@ const BEFORE: [(&str, &[u8]); 5] = [
 #[test]
 fn new_books_take_their_place(rt: HostRuntime) -> Result<(), Fail> {
     let mut folder = folder_of(rt.alloc(), &BEFORE)?;
-    let making = begin(&mut folder, rt.alloc(), "a.db")?;
+    let making = begin(&mut folder, rt.alloc(), "a.db", Replaces::EmptyFile)?;
     assert_eq!(&rt; making.place.as_str(), "a.db");
     assert_eq!(&rt; end(&mut folder, &making, Ok(7u8))?, 7);
     assert_eq!(&rt; folder.files.len(), 3);
@@ -52,7 +52,7 @@ fn new_books_take_their_place(rt: HostRuntime) -> Result<(), Fail> {
 #[test]
 fn books_that_were_not_made_leave_the_file(rt: HostRuntime) -> Result<(), Fail> {
     let mut folder = folder_of(rt.alloc(), &BEFORE)?;
-    let making = begin(&mut folder, rt.alloc(), "a.db")?;
+    let making = begin(&mut folder, rt.alloc(), "a.db", Replaces::EmptyFile)?;
     let unmade: Result<u8, Cause> = Err(Cause::DiskFull);
     assert!(&rt; end(&mut folder, &making, unmade).is_err());
     assert_eq!(&rt; folder.files.len(), 3);
@@ -92,7 +92,7 @@ const REFUSED: [(&str, &[u8], &str); 5] = [
 fn what_stands_there_is_left_alone(rt: HostRuntime) -> Result<(), Fail> {
     for (path, bytes, words) in REFUSED {
         let mut folder = folder_of(rt.alloc(), &[(path, bytes)])?;
-        let Err(cause) = begin(&mut folder, rt.alloc(), "a.db") else {
+        let Err(cause) = begin(&mut folder, rt.alloc(), "a.db", Replaces::EmptyFile) else {
             return Err(Fail::new("it isn't refused"));
         };
         assert_eq!(&rt; format!(in rt.alloc(); "{cause}")?.as_str(), words);

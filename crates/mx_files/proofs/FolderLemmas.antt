@@ -4,6 +4,7 @@ use Rattle.std.specs.Prelude.{OnErr}
 use Rattle.std.proofs.lemmas.Grind.{common_steps}
 use Rattle.mx_files.specs.Makings.{Begins, ChangesBeside, Installs, IsGivenUp, IsOwned, IsPut, KeepsBehind, KeepsFile}
 use Rattle.mx_files.specs.declared.making.Making.{Making}
+use Rattle.mx_files.specs.declared.places.Replaces.{Replaces}
 use Rattle.mx_files.specs.Folders.{ChangesAt, IsMissing, IsPlaceBehind, IsPlaceFor, IsPrivate, Makes, named, removed, init_of, Paths, Spot, log_of, log_spot, spot_behind, unseen, vacant, taken, IsHead, IsLog, may_begin_log}
 
 -- one byte more than so many, of so many and one
@@ -21,21 +22,21 @@ pub head-log_at : (paths : Paths) (path log head : List ℕ) (n : ℕ) → log �
 head-log_at paths path log head n at is begins long = let P : List ℕ → Type 0 = λ l. IsHead (spot_behind paths l) 57 head in rw long (head-log (log_spot paths path) head (subst P at is) begins)
 
 -- what changes only where new books are made is beside their place
-pub changes-beside : (path place at_clear at_make : List ℕ) (old mid new : Paths) → IsPlaceFor old path place → at_clear ≡ init_of place → at_make ≡ init_of place → ChangesAt at_clear old mid → ChangesAt at_make mid new → ChangesBeside path old new
-changes-beside path place at_clear at_make old mid new right clear make first second = λ q away. second q (λ e. away place right (e ∙ make)) ∙ first q (λ e. away place right (e ∙ clear))
+pub changes-beside : (replaces : Replaces) (path place at_clear at_make : List ℕ) (old mid new : Paths) → IsPlaceFor replaces old path place → at_clear ≡ init_of place → at_make ≡ init_of place → ChangesAt at_clear old mid → ChangesAt at_make mid new → ChangesBeside replaces path old new
+changes-beside replaces path place at_clear at_make old mid new right clear make first second = λ q away. second q (λ e. away place right (e ∙ make)) ∙ first q (λ e. away place right (e ∙ clear))
 
 -- a path isn't that where new books of it are made
 apart : (path place : List ℕ) → place ≡ path → path ≢ init_of place
 apart path place same = λ e. absurd (omega (arith, length-append place (codes "-init"), ap length e, ap length same))
 
 -- where new books of a path weren't begun, its file is as it was
-begun-not : (spot : Spot) (target path : List ℕ) (old new : Paths) → ((q : List ℕ) → ((place : List ℕ) → IsPlaceBehind spot target path place → q ≢ init_of place) → new.spot q ≡ old.spot q) → KeepsBehind spot target path old new
-begun-not unseen target path old new beside = tt
-begun-not vacant target path old new beside = inl (beside path (λ place right. apart path place right))
-begun-not (taken inode) target path old new beside = inl (beside target (λ place right. apart target place right.1))
+begun-not : (replaces : Replaces) (spot : Spot) (target path : List ℕ) (old new : Paths) → ((q : List ℕ) → ((place : List ℕ) → IsPlaceBehind replaces spot target path place → q ≢ init_of place) → new.spot q ≡ old.spot q) → KeepsBehind spot target path old new
+begun-not replaces unseen target path old new beside = tt
+begun-not replaces vacant target path old new beside = inl (beside path (λ place right. apart path place right))
+begun-not replaces (taken inode) target path old new beside = inl (beside target (λ place right. apart target place right.1))
 
-pub keeps-begin : (path : List ℕ) (old new : Paths) → ChangesBeside path old new → KeepsFile path old new
-keeps-begin path old new beside = begun-not (spot_behind old path) (old.target path) path old new (λ q away. beside q (λ place right. away place right.behind))
+pub keeps-begin : (replaces : Replaces) (path : List ℕ) (old new : Paths) → ChangesBeside replaces path old new → KeepsFile path old new
+keeps-begin replaces path old new beside = begun-not replaces (spot_behind old path) (old.target path) path old new (λ q away. beside q (λ place right. away place right.behind))
 
 -- a file that was made is its owner's alone
 owned : (old mid new : Spot) (number : ℕ) → Makes (removed old) mid number 0o600 → new ≡ named false mid → IsOwned new
@@ -56,8 +57,8 @@ missing vacant new gone = rw gone tt
 missing (taken inode) new gone = rw gone tt
 
 -- new books that are put in their place are made there
-pub installs : (path : List ℕ) (old mid new : Paths) (making : Making) → Begins path old mid making → IsPut true mid new making → Installs path old new
-installs path old mid new making begins put =
+pub installs : (replaces : Replaces) (path : List ℕ) (old mid new : Paths) (making : Making) → Begins replaces path old mid making → IsPut true mid new making → Installs replaces path old new
+installs replaces path old mid new making begins put =
     let gone = missing _ _ put.gone in
     record {
       place = string_bytes making.place;
@@ -74,14 +75,14 @@ both old mid new (inr made) (inl last) = inr (rw last made)
 both old mid new first (inr made) = inr made
 
 -- where they weren't put in their place, it is as it was, or the one that was made
-ended-not : (spot : Spot) (target path place : List ℕ) (old mid new : Paths) → IsPlaceBehind spot target path place → KeepsBehind spot target path old mid → (new.spot place ≡ mid.spot place) ⊎ IsOwned (new.spot place) → KeepsBehind spot target path old new
-ended-not unseen target path place old mid new right kept last = tt
-ended-not vacant target path place old mid new right kept last = both _ _ _ kept (subst (λ (at : List ℕ). (new.spot at ≡ mid.spot at) ⊎ IsOwned (new.spot at)) right last)
-ended-not (taken inode) target path place old mid new right kept last = both _ _ _ kept (subst (λ (at : List ℕ). (new.spot at ≡ mid.spot at) ⊎ IsOwned (new.spot at)) right.1 last)
+ended-not : (replaces : Replaces) (spot : Spot) (target path place : List ℕ) (old mid new : Paths) → IsPlaceBehind replaces spot target path place → KeepsBehind spot target path old mid → (new.spot place ≡ mid.spot place) ⊎ IsOwned (new.spot place) → KeepsBehind spot target path old new
+ended-not replaces unseen target path place old mid new right kept last = tt
+ended-not replaces vacant target path place old mid new right kept last = both _ _ _ kept (subst (λ (at : List ℕ). (new.spot at ≡ mid.spot at) ⊎ IsOwned (new.spot at)) right last)
+ended-not replaces (taken inode) target path place old mid new right kept last = both _ _ _ kept (subst (λ (at : List ℕ). (new.spot at ≡ mid.spot at) ⊎ IsOwned (new.spot at)) right.1 last)
 
-pub keeps-end : (path : List ℕ) (old mid new : Paths) (making : Making) → Begins path old mid making → ChangesBeside path old mid → IsGivenUp mid new making ⊎ IsPut false mid new making → KeepsFile path old new
-keeps-end path old mid new making begins beside (inl given) = ended-not (spot_behind old path) (old.target path) path (string_bytes making.place) old mid new begins.place.behind (keeps-begin path old mid beside) (inl given.kept)
-keeps-end path old mid new making begins beside (inr put) = ended-not (spot_behind old path) (old.target path) path (string_bytes making.place) old mid new begins.place.behind (keeps-begin path old mid beside) (inr (owned (old.spot (string_bytes making.made)) _ _ making.number begins.made put.put))
+pub keeps-end : (replaces : Replaces) (path : List ℕ) (old mid new : Paths) (making : Making) → Begins replaces path old mid making → ChangesBeside replaces path old mid → IsGivenUp mid new making ⊎ IsPut false mid new making → KeepsFile path old new
+keeps-end replaces path old mid new making begins beside (inl given) = ended-not replaces (spot_behind old path) (old.target path) path (string_bytes making.place) old mid new begins.place.behind (keeps-begin replaces path old mid beside) (inl given.kept)
+keeps-end replaces path old mid new making begins beside (inr put) = ended-not replaces (spot_behind old path) (old.target path) path (string_bytes making.place) old mid new begins.place.behind (keeps-begin replaces path old mid beside) (inr (owned (old.spot (string_bytes making.made)) _ _ making.number begins.made put.put))
 
 -- what holds anyway
 pub on_any : {X E : Type 0} {A : Type 0} (r : Result X E) → A → OnErr r A

@@ -4,6 +4,8 @@ use Rattle.std.specs.declared.io.Error.{Error}
 use Rattle.std.specs.List.{list_all, starts_with}
 use Rattle.mx_files.specs.declared.folder.Entry.{Entry}
 use Rattle.mx_files.specs.declared.folder.FileKind.{FileKind}
+use Rattle.mx_files.specs.declared.places.Replaces.{Replaces}
+use Rattle.mx_files.specs.declared.places.Replaces.TheVariants as replaces
 use Rattle.mx_files.specs.declared.folder.FileKind.TheVariants.{Regular}
 
 -- a file of any kind: its bytes, its number, how many names it has, its mode; and whether its folder was synced since it got this name
@@ -150,21 +152,32 @@ log_spot paths path = spot_behind paths (log_of path)
 abbrev pub IsEmptyFile : Entry → Type 0
 IsEmptyFile entry = (entry.kind ≡ Regular) × (entry.length ≡ 0)
 
--- new books may take the place of what is there: nothing, or an empty file
-abbrev pub MayBeReplaced : Spot → Type 0
-MayBeReplaced (taken inode) = IsEmptyFile (entry_of inode)
-MayBeReplaced _ = ⊤
+-- what may be replaced is this file
+abbrev pub MayBe : Replaces → Entry → Type 0
+MayBe replaces.Nothing entry = ⊥
+MayBe replaces.EmptyFile entry = IsEmptyFile entry
+MayBe (replaces.File number) entry = entry.number ≡ number
 
--- new books of a path go there: to the path, where it leads to nothing, and else to where it leads, which is an empty file
-abbrev pub IsPlaceBehind : Spot → List ℕ → List ℕ → List ℕ → Type 0
-IsPlaceBehind unseen target path place = ⊤
-IsPlaceBehind vacant target path place = place ≡ path
-IsPlaceBehind (taken inode) target path place = IsEmptyFile (entry_of inode) × (place ≡ target)
+-- it has no log
+abbrev pub HasNoLog : Replaces → Type 0
+HasNoLog (replaces.File number) = ⊥
+HasNoLog _ = ⊤
+
+-- books may take the place of what is there: of nothing, or of such a file
+abbrev pub MayBeReplaced : Replaces → Spot → Type 0
+MayBeReplaced replaces (taken inode) = MayBe replaces (entry_of inode)
+MayBeReplaced replaces _ = ⊤
+
+-- books of a path go there: to the path, where it leads to nothing, and else to where it leads, to such a file
+abbrev pub IsPlaceBehind : Replaces → Spot → List ℕ → List ℕ → List ℕ → Type 0
+IsPlaceBehind replaces unseen target path place = ⊤
+IsPlaceBehind replaces vacant target path place = place ≡ path
+IsPlaceBehind replaces (taken inode) target path place = MayBe replaces (entry_of inode) × (place ≡ target)
 
 -- and no log with a change is where its log belongs
-pub record IsPlaceFor (paths : Paths) (path place : List ℕ) : Type 0 where
-  pub behind : IsPlaceBehind (spot_behind paths path) (paths.target path) path place
-  pub log : IsLog (log_spot paths place) false
+pub record IsPlaceFor (replaces : Replaces) (paths : Paths) (path place : List ℕ) : Type 0 where
+  pub behind : IsPlaceBehind replaces (spot_behind paths path) (paths.target path) path place
+  pub log : HasNoLog replaces → IsLog (log_spot paths place) false
 
 -- books may be opened at a path: no other file stands where the log of what it leads to belongs, and that isn't empty
 abbrev pub MayBeOpened : Paths → List ℕ → Spot → Type 0

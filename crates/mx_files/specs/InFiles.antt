@@ -136,11 +136,6 @@ module _ {D : Type 0} {g : Ghosts D} where
     pub clean : HasCleanDisk (file_state c)
     pub held : Opens (file_state c) → HoldTrees left (file_state c).now.trees
 
-  -- The books in a store were copied: both files were closed, and have the World of the store.
-  pub record HoldCopy {X : Type 0} (c : Held (FileStore D g)) (ended : Ended X D g) : Type 0 where
-    pub shut : AreShut ended.left × AreShut ended.copy
-    pub world : AreHonest ended.left → (w : World) × Represents (file_state c).now w × HoldWorld ended.left w × (AreHonest ended.copy → HoldWorld ended.copy w)
-
   -- The books in a store were refused: the files hold what was in it, and a task's fault is of that.
   pub record IsRefused {X : Type 0} (c : Held (FileStore D g)) (ended : Ended X D g) : Type 0 where
     pub kept : IsKept c ended.left
@@ -152,6 +147,15 @@ version_before Done = One
 version_before Already = Two
 
 -- a migration that answers so was of tables of that version, and files that were closed hold their World in this one
-abbrev pub Raises : {D : Type 0} {g : Ghosts D} → Held (FileStore D g) → Left D g → Migrated → Type 0
-Raises c left made =
-    ((file_state c).now.schema ≡ schema_of (version_before made)) × ((w : World) → RepresentsIn (version_before made) (file_state c).now w → HoldWorld left w)
+abbrev pub Raises : {D : Type 0} {g : Ghosts D} → Database → Left D g → Migrated → Type 0
+Raises old left made = (old.schema ≡ schema_of (version_before made)) × ((w : World) → RepresentsIn (version_before made) old w → HoldWorld left w)
+
+-- The books in a store were copied: the files of both were closed, and have the World of the store.
+pub record HoldCopy {D C : Type 0} {g : Ghosts D} {h : Ghosts C} (c : Held (FileStore D g)) (left : Left D g) (copy : Left C h) : Type 0 where
+  pub shut : AreShut left × AreShut copy
+  pub world : AreHonest left → (w : World) × Represents (file_state c).now w × HoldWorld left w × (AreHonest copy → HoldWorld copy w)
+
+-- A migration of the books in a store was of a copy: the files of both were closed, and those of the copy hold the World.
+pub record HoldRaised {D C : Type 0} {g : Ghosts D} {h : Ghosts C} (c : Held (FileStore D g)) (left : Left D g) (copy : Left C h) (made : Migrated) : Type 0 where
+  pub shut : AreShut left × AreShut copy
+  pub raises : AreHonest left → AreHonest copy → Raises (file_state c).now copy made

@@ -18,11 +18,12 @@ ghost use Rattle.mx_tables.specs.declared.migration.Migrated.{Migrated};
 ghost use Rattle.mx_tables.specs.declared.migration.Migrated.TheVariants.{Done as Raised};
 ghost use Rattle.mx_files.specs.Durable.{Represents};
 ghost use Rattle.mx_files.specs.Opened.{IsWrong};
-ghost use Rattle.mx_files.specs.InFiles.{AreHonest, AreShut, Closes, HoldCopy, IsKept, IsLeftOf, IsRefused, HoldRounds, HoldTrees, HoldWorld, Raises, closed_answer};
+ghost use Rattle.mx_files.specs.InFiles.{AreHonest, AreShut, Closes, HoldCopy, HoldRaised, IsKept, IsLeftOf, IsRefused, HoldRounds, HoldTrees, HoldWorld, Raises, closed_answer};
 
 use crate::check::check_in_store;
 use crate::stores::{
-    copy_in_store, make_in_store, migrate_in_store, run_in_store, unmade, work_in_store,
+    copy_in_store, make_in_store, migrate_in_store, raise_in_store, run_in_store, unmade,
+    work_in_store,
 };
 use mx_audit::Refused;
 use mx_book::Book;
@@ -170,7 +171,7 @@ pub fn copy_in_files<D: Disk + Drop>(
     to: Connection<FileStore<FileFrom<Unknown>>>,
 ) -> Ended<(), D>
     ensures keeps { AreHonest result.left → IsKept store result.left }
-    ensures copies { OnOk result.answer (HoldCopy store result) }
+    ensures copies { OnOk result.answer (HoldCopy store result.left result.copy) }
 {
     let mut to = to;
     match copy_in_store(alloc, store, &mut to) {
@@ -184,6 +185,32 @@ pub fn copy_in_files<D: Disk + Drop>(
             }
         }
         Err(refused) => close_refused(refused),
+    }
+}
+
+/// Brings a copy of the books in the files of a store to the schema of this version, in the files of a new one, audits it, and
+/// closes the files of both. The first hold what they held.
+///
+/// # Errors
+///
+/// As of `raise_in_store`; `Store` too where files can't be closed.
+pub fn raise_in_files<D: Disk + Drop>(
+    alloc: Global,
+    store: Connection<FileStore<D>>,
+    to: Connection<FileStore<FileFrom<Unknown>>>,
+) -> Ended<Migrated, D>
+    ensures keeps { AreHonest result.left → IsKept store result.left }
+    ensures raises { IfOk result.answer (HoldRaised store result.left result.copy) }
+{
+    let mut store = store;
+    let mut to = to;
+    let answer = raise_in_store(alloc, &mut store, &mut to);
+    let raised = close(answer, to);
+    let Ended { answer, left, .. } = close(raised.answer, store);
+    Ended {
+        answer,
+        left,
+        copy: raised.left,
     }
 }
 
@@ -242,9 +269,9 @@ pub fn migrate_in_files<D: Disk + Drop>(
     ensures migrates { AreHonest result.left → HasCleanDisk (file_state store)
         × (answer : Result Migrated TaskFault)
         × (result.answer ≡ closed_answer result.left answer)
-        × (AreShut result.left → IfOk answer (Raises store result.left))
+        × (AreShut result.left → IfOk answer (Raises (file_state store).now result.left))
         × (AreShut result.left → Opens (file_state store) → OnErr answer
-        (HoldTrees result.left (file_state store).now.trees ⊎ Raises store result.left Raised)) }
+        (HoldTrees result.left (file_state store).now.trees ⊎ Raises (file_state store).now result.left Raised)) }
 {
     let mut held = store;
     let answer = migrate_in_store(alloc, &mut held);

@@ -190,7 +190,7 @@ fn make<'a, F: DatabaseFolder, S: Start>(
     ensures placed { OnOk result (Installs path.now (F.paths folder.old) (F.paths folder.new)) }
     ensures kept { OnErr result (KeepsFile path.now (F.paths folder.old) (F.paths folder.new)) }
 {
-    let making = begin(folder, rt.alloc(), path)?;
+    let making = begin(folder, rt.alloc(), path, Replaces::EmptyFile)?;
     let books = new_books(rt, making.made.as_str(), start, operator);
     end(folder, &making, books)
 }

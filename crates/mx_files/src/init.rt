@@ -6,7 +6,7 @@ ghost use Rattle.mx_files.specs.Makings.{Begins, ChangesBeside, ChangesIn, IsGiv
 
 use crate::folder::{DatabaseFolder, Entry, FileKind, Folder, Held};
 use crate::making::Making;
-use crate::places::{has_log, is_empty, place_for, with_ending};
+use crate::places::{Replaces, has_log, place_for, with_ending};
 use mx_tasks::{Cause, TaskFault};
 use std::alloc::Global;
 use std::io;
@@ -87,19 +87,24 @@ fn left_over(cause: &Cause) -> Cause
     }
 }
 
-/// Makes an empty file beside the place of new books, for them, where they may be put at this path. What an init that was broken
+/// Makes an empty file beside the place of books, for them, where they may be put at this path. What an init that was broken
 /// off has left there is removed.
 ///
 /// # Errors
 ///
 /// Those of `place_for`; `Leftover` where what is at FILE-init can't be removed; `Rival` where another process makes it;
 /// `System` where it can't be made; `Memory`.
-pub fn begin<F: DatabaseFolder>(folder: &mut F, alloc: Global, path: &str) -> Result<Making, Cause>
+pub fn begin<F: DatabaseFolder>(
+    folder: &mut F,
+    alloc: Global,
+    path: &str,
+    replaces: Replaces,
+) -> Result<Making, Cause>
     ensures begins { IfOk result
-        (λ making. Begins path.now (F.paths folder.old) (F.paths folder.new) making) }
-    ensures others { ChangesBeside path.now (F.paths folder.old) (F.paths folder.new) }
+        (λ making. Begins replaces path.now (F.paths folder.old) (F.paths folder.new) making) }
+    ensures others { ChangesBeside replaces path.now (F.paths folder.old) (F.paths folder.new) }
 {
-    let place = place_for(&*folder, alloc, path)?;
+    let place = place_for(&*folder, alloc, path, replaces)?;
     let made = with_ending(alloc, place.as_str(), "-init")?;
     let log = with_ending(alloc, made.as_str(), "-wal")?;
     if let Err(cause) = clear(folder, alloc, made.as_str()) {
@@ -108,6 +113,7 @@ pub fn begin<F: DatabaseFolder>(folder: &mut F, alloc: Global, path: &str) -> Re
     let held = make_private(folder, made.as_str())?;
     Ok(Making {
         place,
+        replaces,
         made,
         log,
         number: held.number,
@@ -125,13 +131,18 @@ fn is_there<F: Folder>(folder: &F, path: &str, number: u64) -> bool
     }
 }
 
-/// Gives a file another path, where nothing is or an empty file.
+/// Gives a file another path, where nothing is or what it may replace.
 ///
 /// # Errors
 ///
 /// `NotEmpty` where something else is there; `System` where that can't be told, or the file can't be moved.
-fn give_path<F: Folder>(folder: &mut F, from: &str, to: &str) -> Result<(), Cause>
-    ensures free { OnOk result (MayBeReplaced ((F.paths folder.old).spot to.now)) }
+fn give_path<F: Folder>(
+    folder: &mut F,
+    from: &str,
+    to: &str,
+    replaces: &Replaces,
+) -> Result<(), Cause>
+    ensures free { OnOk result (MayBeReplaced replaces.now ((F.paths folder.old).spot to.now)) }
     ensures put { OnOk result ((F.paths folder.new).spot to.now
         ≡ named false ((F.paths folder.old).spot from.now)) }
     ensures gone { OnOk result (from.now ≢ to.now
@@ -141,7 +152,7 @@ fn give_path<F: Folder>(folder: &mut F, from: &str, to: &str) -> Result<(), Caus
 {
     let moved = match folder.entry_at(to)? {
         None => folder.rename_new(from, to),
-        Some(entry) if is_empty(&entry) => folder.rename(from, to),
+        Some(entry) if replaces.may_be(&entry) => folder.rename(from, to),
         Some(_) => return Err(Cause::NotEmpty),
     };
     match moved {
@@ -156,7 +167,8 @@ fn put<F: Folder>(folder: &mut F, making: &Making) -> Result<(), Cause>
     ensures ours { OnOk result (HasNumber ((F.paths folder.old).spot (string_bytes making.now.made))
         making.now.number) }
     ensures free { OnOk result
-        (MayBeReplaced ((F.paths folder.old).spot (string_bytes making.now.place))) }
+        (MayBeReplaced making.now.replaces
+        ((F.paths folder.old).spot (string_bytes making.now.place))) }
     ensures put { OnOk result ((F.paths folder.new).spot (string_bytes making.now.place)
         ≡ named false ((F.paths folder.old).spot (string_bytes making.now.made))) }
     ensures gone { OnOk result ((F.paths folder.new).spot (string_bytes making.now.made)
@@ -168,7 +180,12 @@ fn put<F: Folder>(folder: &mut F, making: &Making) -> Result<(), Cause>
     if !is_there(&*folder, making.made.as_str(), making.number) {
         return Err(Cause::Rival);
     }
-    give_path(folder, making.made.as_str(), making.place.as_str())
+    give_path(
+        folder,
+        making.made.as_str(),
+        making.place.as_str(),
+        &making.replaces,
+    )
 }
 
 /// Gives the file its place, where books were made in it.
@@ -181,7 +198,8 @@ fn put_made<F: Folder, T: Drop>(
     ensures ours { OnOk result (HasNumber ((F.paths folder.old).spot (string_bytes making.now.made))
         making.now.number) }
     ensures free { OnOk result
-        (MayBeReplaced ((F.paths folder.old).spot (string_bytes making.now.place))) }
+        (MayBeReplaced making.now.replaces
+        ((F.paths folder.old).spot (string_bytes making.now.place))) }
     ensures put { OnOk result ((F.paths folder.new).spot (string_bytes making.now.place)
         ≡ named false ((F.paths folder.old).spot (string_bytes making.now.made))) }
     ensures gone { OnOk result ((F.paths folder.new).spot (string_bytes making.now.made)

@@ -3,12 +3,15 @@ ghost use Rattle.std.specs.Prelude.{◌≡◌, string_bytes};
 ghost use Rattle.mx_files.specs.Folders.{init_of, log_of};
 
 use crate::folder::Held;
+use crate::places::Replaces;
 
 /// New books that are made.
 #[derive(Drop)]
 pub struct Making {
     /// The path at which they are to be.
     pub place: String,
+    /// What may be there.
+    pub replaces: Replaces,
     /// The path at which they are made.
     pub made: String,
     /// The path of their log.

@@ -1,7 +1,7 @@
 //! What stands where a file of books and its log belong.
 ghost use Rattle.std.specs.Prelude.{◌≡◌, ◌==◌, ◌++◌, ◌↔◌, Err, IfErr, IfOk, IsTrue, OnOk, string_bytes};
 ghost use Rattle.std.specs.List.{list_all};
-ghost use Rattle.mx_files.specs.Folders.{IsEmptyFile, IsLog, IsMissing, IsOtherFile, IsPlaceFor, MayBeOpened, has_log_magic, log_spot, may_begin_log, spot_behind};
+ghost use Rattle.mx_files.specs.Folders.{HasNoLog, IsEmptyFile, IsLog, IsOtherFile, IsPlaceFor, MayBe, MayBeOpened, has_log_magic, log_spot, may_begin_log, spot_behind};
 
 use crate::folder::{Entry, FileKind, Folder};
 use mx_tasks::{Cause, TaskFault};
@@ -98,13 +98,34 @@ pub fn look_for_books<F: Folder>(folder: &F, alloc: Global, path: &str) -> Resul
     Ok(())
 }
 
-/// Fails as `NotEmpty` where there is a file of this path, also an empty one or a link.
-pub fn expect_vacant<F: Folder>(folder: &F, path: &str) -> Result<(), Cause>
-    ensures { OnOk result (IsMissing ((F.paths folder.now).spot path.now)) }
-{
-    match folder.entry_at(path)? {
-        Some(_) => Err(Cause::NotEmpty),
-        None => Ok(()),
+/// What may stand where books are put.
+#[derive(Clone, Copy, Debug)]
+pub enum Replaces {
+    /// Nothing.
+    Nothing,
+    /// Nothing, or an empty file.
+    EmptyFile,
+    /// The file of this number, whose books they are.
+    File(u64),
+}
+
+impl Replaces {
+    /// Whether it may be this file.
+    pub fn may_be(&self, entry: &Entry) -> bool
+        ensures { IsTrue result ↔ MayBe self.now entry.now }
+    {
+        match self {
+            Replaces::Nothing => false,
+            Replaces::EmptyFile => is_empty(entry),
+            Replaces::File(number) => entry.number == *number,
+        }
+    }
+
+    /// Whether it has no log. That of a file whose books are put there has nothing in it once it is closed.
+    fn has_no_log(&self) -> bool
+        ensures { IsTrue result ↔ HasNoLog self.now }
+    {
+        !matches!(self, Replaces::File(_))
     }
 }
 
@@ -112,18 +133,23 @@ pub fn expect_vacant<F: Folder>(folder: &F, path: &str) -> Result<(), Cause>
 ///
 /// # Errors
 ///
-/// `NotEmpty` where it is there and isn't empty; `FullLog` where a log with changes is where its log belongs, which would go
-/// into the new books; `OtherLog` where another file is there; `System` where that can't be told.
-pub fn place_for<F: Folder>(folder: &F, alloc: Global, path: &str) -> Result<String, Cause>
+/// `NotEmpty` where a file is there that may not be replaced; `FullLog` where a log with changes is where its log belongs, which
+/// would go into the new books; `OtherLog` where another file is there; `System` where that can't be told.
+pub fn place_for<F: Folder>(
+    folder: &F,
+    alloc: Global,
+    path: &str,
+    replaces: Replaces,
+) -> Result<String, Cause>
     ensures { IfOk result
-        (λ place. IsPlaceFor (F.paths folder.now) path.now (string_bytes place)) }
+        (λ place. IsPlaceFor replaces (F.paths folder.now) path.now (string_bytes place)) }
 {
     let place = match folder.entry_behind(path)? {
-        Some(entry) if is_empty(&entry) => folder.path_behind(alloc, path)?,
+        Some(entry) if replaces.may_be(&entry) => folder.path_behind(alloc, path)?,
         Some(_) => return Err(Cause::NotEmpty),
         None => with_ending(alloc, path, "")?,
     };
-    if has_log(folder, alloc, place.as_str())? {
+    if replaces.has_no_log() && has_log(folder, alloc, place.as_str())? {
         return Err(Cause::FullLog);
     }
     Ok(place)

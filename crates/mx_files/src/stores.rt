@@ -6,6 +6,7 @@ ghost use Rattle.mx_book.specs.World.{World, opening};
 ghost use Rattle.mx_desk.specs.Rounds.{Leads};
 ghost use Rattle.mx_desk.specs.Steps.{state};
 ghost use Rattle.mx_audit.specs.Audited.{Refuses};
+ghost use Rattle.mx_audit.specs.Copies.{HasRaised};
 ghost use Rattle.mx_tables.specs.Migration.{Migrates};
 ghost use Rattle.mx_tables.specs.States.{IsOurs, Leaves, StaysIdle, worry, IsSound, IsHonest};
 ghost use Rattle.mx_tables.specs.declared.migration.Migrated.TheVariants.{Done as Raised};
@@ -16,7 +17,7 @@ ghost use Rattle.mx_files.specs.Durable.{Endures, IsCopy, Represents};
 ghost use Rattle.mx_files.specs.Opened.{open_fault_of};
 
 use mx_audit::opening::as_refusal;
-use mx_audit::{Ordered, Refusal, Refused, copy, migrate, open};
+use mx_audit::{Ordered, Refusal, Refused, copy, migrate, open, raise};
 use mx_book::Book;
 use mx_desk::{Counted, Outlet};
 use mx_pay::Token;
@@ -88,6 +89,28 @@ pub fn copy_in_store<S: Ordered + Drop, T: Alter>(
             }
         }
         Err(refused) => Err(refused),
+    }
+}
+
+/// Copies the books in a store to a new one, brings them to the schema of this version there, and audits them. The first is left
+/// as it was.
+///
+/// # Errors
+///
+/// As of `migrate_in_store`.
+pub fn raise_in_store<S: Ordered, T: Ordered>(
+    alloc: Global,
+    store: &mut Connection<S>,
+    to: &mut Connection<T>,
+) -> Result<Migrated, TaskFault>
+    ensures rests { StaysIdle (state_of S.Store store.old) (state_of S.Store store.new) }
+    ensures ours { OnOk result (IsOurs false (state_of T.Store to.new)) }
+    ensures raises { IsSound (state_of S.Store store.new) → IsSound (state_of T.Store to.new) → IfOk result
+        (λ made. HasRaised made (state_of S.Store store.old).now (state_of T.Store to.new).now) }
+{
+    match raise(alloc, store, to) {
+        Ok(made) => Ok(made),
+        Err(refusal) => Err(unmade(refusal)),
     }
 }
 
