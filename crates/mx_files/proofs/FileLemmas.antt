@@ -1,6 +1,6 @@
 -- What the bytes of files hold, and what a close leaves of them.
 use Rattle.std.proofs.Common.{◌≡◌, ◌≤◌, ◌⊎◌, Bor, Bool, true, false, ℕ, inl, inr, List, Ok, Err, None, Option, Some, Result, IsTrue, ap, ap₂, arith, refl, rules, sym, subst, ◌∙◌}
-use Rattle.std.proofs.lemmas.Result.{on_err_weaker}
+use Rattle.std.proofs.lemmas.Result.{IfOk-weaker, on_err_weaker}
 use Rattle.std.specs.Prelude.{IfOk, IsErr, IsOk, OnErr, OnOk}
 use mathlib.Core.Logic.{∥∥₁_elim, ∥∥₁_map}
 use Rattle.sqlite_disk.specs.declared.Disk.{Ghosts}
@@ -41,13 +41,14 @@ use Rattle.mx_tasks.specs.declared.work.Done.{Done as Work}
 use Rattle.mx_files.specs.declared.closing.Ended.{Ended}
 use Rattle.mx_args.specs.declared.task.Task.{Task as Planned}
 use Rattle.mx_files.specs.Opened.{IsRefusal, IsWrong, open_fault_of}
-use Rattle.mx_files.specs.Performed.{Checks, EndsRun, EndsWith, EndsWork, Performs, PerformsAct, PerformsPlan, Streams, ended_of, CopiesBooks}
+use Rattle.mx_files.specs.Performed.{Checks, EndsRun, EndsWith, EndsWork, Performs, PerformsAct, PerformsPlan, Streams, ended_of, CopiesBooks, HoldTaken, MigratesBooks}
 use Rattle.mx_files.specs.Plans.{planned_task}
 use Rattle.mx_files.specs.declared.plan.Plan.{Plan}
 use Rattle.mx_files.specs.declared.plan.Plan.TheVariants.{InFile}
 use Rattle.mx_files.specs.declared.plan.Act.{Act}
-use Rattle.mx_files.specs.InFiles.{AreClosed, AreHonest, AreShut, Closes, HoldBooksAlone, HoldBooksIn, HoldTables, HoldTablesIn, HoldTrees, HoldWorld, IsLeftOf, IsOpenedOver, IsRefused, Keeps, Raises, closed_answer, version_before, HoldCopy, IsKept}
+use Rattle.mx_files.specs.InFiles.{AreClosed, AreHonest, AreShut, Closes, HoldBooksAlone, HoldBooksIn, HoldTables, HoldTablesIn, HoldTrees, HoldWorld, IsLeftOf, IsOpenedOver, IsRefused, Keeps, Raises, closed_answer, version_before, HoldCopy, HoldRaised, IsKept}
 use Rattle.mx_files.specs.declared.closing.Left.{Left}
+use Rattle.mx_files.proofs.FolderLemmas.{on_any}
 use Rattle.mx_files.specs.declared.closing.Left.TheVariants.{Closed, Unclosed, Nothing}
 
 -- tables that represent a World have the schema of the office, and represent no other
@@ -73,6 +74,10 @@ low_if_clean s clean = rw (clean_of s.is_clean clean) (low_at s.is_open)
 -- a disk that told no lie had told none before
 pub clean_before : (old new : State) → worry old ≤ worry new → worry new ≤ 1 → HasCleanDisk old
 clean_before old new later low = not_lied old (omega (arith, later, low))
+
+-- a store to which nothing happens rests
+pub rests_none : (s : State) → StaysIdle s s
+rests_none s = record { autocommit = λ idle. idle; later = omega arith; same = λ sound. refl; stops = λ honest db left. left }
 
 module _ {D : Type 0} {g : Ghosts D} where
   -- a close of the books of a World leaves their bytes
@@ -178,9 +183,10 @@ module _ {D : Type 0} {g : Ghosts D} where
   refused_over c bytes ended answer over told it = ((file_state c).now, keeps_so c bytes ended.left it.kept.clean over it.kept.held, told _ it.fault)
 
   -- and so is one that was copied
-  pub copied_over : {X : Type 0} (c : Held (FileStore D g)) (bytes : Image) (ended : Ended X D g) → IsOpenedOver bytes c → IsKept c ended.left → HoldCopy c ended → CopiesBooks bytes ended
-  copied_over c bytes ended over kept copy = (copy.shut.0, copy.shut.1, λ honest.
-      let it = copy.world honest in
+  pub copied_over : {C : Type 0} {h : Ghosts C} (c : Held (FileStore D g)) (bytes : Image) (left : Left D g) (copy : Left C h) → IsOpenedOver bytes c → (AreHonest left → IsKept c left) → HoldCopy c left copy → CopiesBooks bytes left copy
+  copied_over c bytes left copy over keeps it = (it.shut.0, it.shut.1, λ honest.
+      let kept = keeps honest in
+      let it = it.world honest in
       (it.0, λ u books. same_world c bytes it.0 u kept.clean over books it.1, it.2))
 
   pub checks_over : (Wrong : Type 0) (c : Held (FileStore D g)) (bytes : Image) (left : Left D g) → IsOpenedOver bytes c
@@ -273,19 +279,19 @@ migrated_so Shut Ours old new (Err fault) ours it close = tt
 pub raised_so : {D : Type 0} {g : Ghosts D} (c last : Held (FileStore D g)) (left : Left D g) (result : Result Migrated TaskFault) → Closes last left → AreHonest left → AreShut left → Opens (file_state c)
     → (c.in_transaction ≡ false → HasCleanDisk (file_state last) → last.in_transaction ≡ false)
     → OnErr result (((file_state last).now ≡ (file_state c).now) ⊎ (IsOurs false (file_state last) × Migrates Done (file_state c).now (file_state last).now))
-    → OnErr result (HoldTrees left (file_state c).now.trees ⊎ Raises c left Done)
+    → OnErr result (HoldTrees left (file_state c).now.trees ⊎ Raises (file_state c).now left Done)
 raised_so c last left result closes honest shut opens idle it = on_err_weaker result by it where
-  by : ((file_state last).now ≡ (file_state c).now) ⊎ (IsOurs false (file_state last) × Migrates Done (file_state c).now (file_state last).now) → HoldTrees left (file_state c).now.trees ⊎ Raises c left Done
+  by : ((file_state last).now ≡ (file_state c).now) ⊎ (IsOurs false (file_state last) × Migrates Done (file_state c).now (file_state last).now) → HoldTrees left (file_state c).now.trees ⊎ Raises (file_state c).now left Done
   by (inl same) = inl (closes.trees honest (file_state c).now.trees (idle opens.autocommit (not_lied (file_state last) (closes.honest honest))) (λ sound. ap (λ (db : Database). db.trees) same) (inl shut))
   by (inr raised) = inr (version_so Done _ _ raised.1, λ w stands. closes.world honest w raised.0 (λ _. upgraded_so Done _ _ w raised.1 stands))
 
 -- over bytes that hold the books of that version
-raises_over : {D : Type 0} {g : Ghosts D} (c : Held (FileStore D g)) (bytes : Image) (left : Left D g) (made : Migrated) → HasCleanDisk (file_state c) → IsOpenedOver bytes c → Raises c left made
+raises_over : {D : Type 0} {g : Ghosts D} (c : Held (FileStore D g)) (bytes : Image) (left : Left D g) (made : Migrated) → HasCleanDisk (file_state c) → IsOpenedOver bytes c → Raises (file_state c).now left made
     → (w : World) → HoldBooksIn (version_before made) bytes w → HoldWorld left w
 raises_over c bytes left made clean over it w books = it.1 w (books_over (version_before made) c bytes w clean over (tables_of books) it.0)
 
 pub migrated_over : {D : Type 0} {g : Ghosts D} (c : Held (FileStore D g)) (bytes : Image) (left : Left D g) (result : Result Migrated TaskFault) → HasCleanDisk (file_state c) → IsOpenedOver bytes c
-    → (AreShut left → IfOk result (Raises c left)) → IfOk result (λ made. (w : World) → HoldBooksIn (version_before made) bytes w → HoldWorld left w)
+    → (AreShut left → IfOk result (Raises (file_state c).now left)) → IfOk result (λ made. (w : World) → HoldBooksIn (version_before made) bytes w → HoldWorld left w)
 migrated_over c bytes (Closed files) (Ok made) clean over it = raises_over c bytes (Closed files) made clean over (it tt)
 migrated_over c bytes (Closed files) (Err fault) clean over it = tt
 migrated_over c bytes (Unclosed store) (Ok made) clean over it = λ w books. tt
@@ -294,11 +300,39 @@ migrated_over c bytes Nothing (Ok made) clean over it = λ w books. tt
 migrated_over c bytes Nothing (Err fault) clean over it = tt
 
 pub unraised_over : {D : Type 0} {g : Ghosts D} (c : Held (FileStore D g)) (bytes : Image) (left : Left D g) (result : Result Migrated TaskFault) → HasCleanDisk (file_state c) → IsOpenedOver bytes c
-    → (Opens (file_state c) → OnErr result (HoldTrees left (file_state c).now.trees ⊎ Raises c left Done)) → OnErr result (((tables : Database) × Keeps bytes left tables) ⊎ ((w : World) → HoldBooksIn One bytes w → HoldWorld left w))
+    → (Opens (file_state c) → OnErr result (HoldTrees left (file_state c).now.trees ⊎ Raises (file_state c).now left Done)) → OnErr result (((tables : Database) × Keeps bytes left tables) ⊎ ((w : World) → HoldBooksIn One bytes w → HoldWorld left w))
 unraised_over c bytes left result clean over it = on_err_weaker result by (it (over clean).1.0) where
-  by : HoldTrees left (file_state c).now.trees ⊎ Raises c left Done → ((tables : Database) × Keeps bytes left tables) ⊎ ((w : World) → HoldBooksIn One bytes w → HoldWorld left w)
+  by : HoldTrees left (file_state c).now.trees ⊎ Raises (file_state c).now left Done → ((tables : Database) × Keeps bytes left tables) ⊎ ((w : World) → HoldBooksIn One bytes w → HoldWorld left w)
   by (inl held) = inl ((file_state c).now, keeps_so c bytes left clean over (λ opens. held))
   by (inr raised) = inr (raises_over c bytes left Done clean over raised)
+
+-- one of a copy keeps the World there, and what was there is there still
+taken_raised : {D C : Type 0} {g : Ghosts D} {h : Ghosts C} (c : Held (FileStore D g)) (bytes : Image) (left : Left D g) (copy : Left C h) (made : Migrated) → HasCleanDisk (file_state c) → IsOpenedOver bytes c → AreHonest left → HoldRaised c left copy made
+    → (w : World) → HoldBooksIn (version_before made) bytes w → HoldTaken left copy w
+taken_raised c bytes left (Closed files) made clean over honest it w books = λ also. let raised = it.raises honest also in raised.1 w (books_over (version_before made) c bytes w clean over (tables_of books) raised.0)
+taken_raised c bytes left (Unclosed store) made clean over honest it w books = absurd it.shut.1
+taken_raised c bytes left Nothing made clean over honest it w books = absurd it.shut.1
+
+pub raised_books : {D C : Type 0} {g : Ghosts D} {h : Ghosts C} (c : Held (FileStore D g)) (bytes : Image) (left : Left D g) (copy : Left C h) (answer : Result Migrated TaskFault) → IsOpenedOver bytes c → AreHonest left → IsKept c left → IfOk answer (HoldRaised c left copy)
+    → MigratesBooks bytes answer left copy
+raised_books c bytes left copy answer over honest kept raised = record {
+  migrates = IfOk-weaker answer _ _ (λ made it. taken_raised c bytes left copy made kept.clean over honest it) raised;
+  refused = λ shut. on_any answer (inl ((file_state c).now, keeps_so c bytes left kept.clean over kept.held));
+}
+
+-- where the files were closed, a close tells what was answered
+pub told_shut : {D X : Type 0} {g : Ghosts D} (left : Left D g) (answer : Result X TaskFault) → (IsOk answer → AreShut left) → answer ≡ closed_answer left answer
+told_shut (Closed files) answer shut = refl
+told_shut (Unclosed store) (Ok x) shut = absurd (shut (search rules))
+told_shut (Unclosed store) (Err e) shut = refl
+told_shut Nothing answer shut = refl
+
+-- an answer behind a close was one before it
+pub ok_closed : {D X : Type 0} {g : Ghosts D} (left : Left D g) (answer : Result X TaskFault) → IsOk (closed_answer left answer) → IsOk answer
+ok_closed (Closed files) answer ok = ok
+ok_closed (Unclosed store) (Ok x) ok = search rules
+ok_closed (Unclosed store) (Err e) ok = ok
+ok_closed Nothing answer ok = ok
 
 -- a task that answers Ok behind work has no fault of that
 ends_none : {X : Type 0} (fault : Option TaskFault) (result : Result X TaskFault) → EndsWith fault result → IsOk result → fault ≡ None

@@ -74,23 +74,32 @@ abbrev pub EndsSaying : {X Y : Type 0} → (X → List ℕ) → Result X TaskFau
 EndsSaying text (Ok x) result before after = IfErr result (λ e. e ≡ Write) × OnOk result (Appends before after (text x))
 EndsSaying text (Err e) result before after = (result ≡ Err e) × (after ≡ before)
 
--- A task that is a migration: what was a World in the version before is that in this one. Where that fails, what was there is there
--- still, or it is of this version.
-pub record PerformsMigration {D X : Type 0} {g : Ghosts D} (bytes : Image) (left : Left D g) (result : Result X TaskFault) (before after : Option (List ℕ)) : Type 0 where
-  pub answer : Result Migrated TaskFault
-  pub migrates : IfOk answer (λ made. (w : World) → HoldBooksIn (version_before made) bytes w → HoldWorld left w)
+-- the books of the World are in the files that are at the path then: those of a copy, where one was made
+abbrev pub HoldTaken : {D C : Type 0} {g : Ghosts D} {h : Ghosts C} → Left D g → Left C h → World → Type 0
+HoldTaken left Nothing w = HoldWorld left w
+HoldTaken left copy w = AreHonest copy → HoldWorld copy w
+
+-- What was a World in the version before is that in this one. Where that fails, what was there is there still, or it is of this
+-- version.
+pub record MigratesBooks {D C : Type 0} {g : Ghosts D} {h : Ghosts C} (bytes : Image) (answer : Result Migrated TaskFault) (left : Left D g) (copy : Left C h) : Type 0 where
+  pub migrates : IfOk answer (λ made. (w : World) → HoldBooksIn (version_before made) bytes w → HoldTaken left copy w)
   pub refused : AreShut left → OnErr answer (((tables : Database) × Keeps bytes left tables) ⊎ ((w : World) → HoldBooksIn One bytes w → HoldWorld left w))
-  pub ends : EndsSaying migrated_text (closed_answer left answer) result before after
+
+-- a task that is a migration, as it was told behind the close of its files
+pub record PerformsMigration {D X : Type 0} {g : Ghosts D} (bytes : Image) (ended : Ended X D g) (before after : Option (List ℕ)) : Type 0 where
+  pub answer : Result Migrated TaskFault
+  pub migrates : MigratesBooks bytes answer ended.left ended.copy
+  pub ends : EndsSaying migrated_text (closed_answer ended.left answer) ended.answer before after
 
 -- The books of a World were copied: they are in the files still, and in those of the copy, and all were closed.
-abbrev pub CopiesBooks : {D X : Type 0} {g : Ghosts D} → Image → Ended X D g → Type 0
-CopiesBooks bytes ended = AreShut ended.left × AreShut ended.copy × (AreHonest ended.left
-    → (w : World) × ((u : World) → HoldTables bytes u → u ≡ w) × HoldWorld ended.left w × (AreHonest ended.copy → HoldWorld ended.copy w))
+abbrev pub CopiesBooks : {D C : Type 0} {g : Ghosts D} {h : Ghosts C} → Image → Left D g → Left C h → Type 0
+CopiesBooks bytes left copy = AreShut left × AreShut copy × (AreHonest left
+    → (w : World) × ((u : World) → HoldTables bytes u → u ≡ w) × HoldWorld left w × (AreHonest copy → HoldWorld copy w))
 
 -- a task that is a copy: that it was made is said, and whatever comes of it, the files hold what they held
 pub record PerformsCopy {D X : Type 0} {g : Ghosts D} (bytes : Image) (ended : Ended X D g) (before after : Option (List ℕ)) : Type 0 where
   pub answer : Result (Unit {0}) TaskFault
-  pub copies : OnOk answer (CopiesBooks bytes ended)
+  pub copies : OnOk answer (CopiesBooks bytes ended.left ended.copy)
   pub keeps : AreHonest ended.left → (tables : Database) × Keeps bytes ended.left tables
   pub ends : EndsSaying (λ _. codes "copied\n") answer ended.answer before after
 
@@ -146,7 +155,7 @@ module _ {D X : Type 0} {g : Ghosts D} where
   PerformsAct bytes before after act.Check ended = AreHonest ended.left → Checks bytes ended.left (IsErr ended.answer)
   PerformsAct bytes before after (act.Copy to) ended = PerformsCopy bytes ended before.output after.output
   PerformsAct bytes before after act.Migrate ended = AreHonest ended.left
-      → PerformsMigration bytes ended.left ended.answer before.output after.output
+      → PerformsMigration bytes ended before.output after.output
 
   -- what a plan does. Where one over a file answers Ok, the file was closed.
   abbrev pub PerformsPlan : Image → Streams → Streams → Plan → Ended X D g → Type 0

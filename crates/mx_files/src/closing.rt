@@ -1,5 +1,5 @@
 //! Books in two files of any disk, a database and its log: what is done over them, up to the close.
-ghost use Rattle.std.specs.Prelude.{◌≡◌, ◌⊎◌, ℕ, [], false, Result, IfErr, IfOk, IfSome, IsErr, IsOk, IsTrue, OnErr, OnOk};
+ghost use Rattle.std.specs.Prelude.{◌≡◌, ◌⊎◌, ℕ, [], false, Err, Result, IfErr, IfOk, IfSome, IsErr, IsOk, IsTrue, OnErr, OnOk};
 ghost use Rattle.sqlite.specs.Effect.{IsDatabase};
 ghost use Rattle.sqlite_store.specs.declared.store.FileStore.{FileStore};
 ghost use Rattle.sqlite.specs.Files.{file_state, over_files};
@@ -124,12 +124,24 @@ pub fn close<D: Disk + Drop, T: Drop>(
     store: Connection<FileStore<D>>,
 ) -> Ended<T, D>
     ensures answer { result.answer ≡ closed_answer result.left answer }
+    ensures alone { result.copy ≡ Left.Nothing }
     ensures shut { IsOk result.answer → AreShut result.left }
     ensures closes { Closes store result.left }
 {
     let left = closed(store);
     let answer = told(&left, answer);
     Ended::over(answer, left)
+}
+
+/// Closes the files of a store of which nothing was done, for this fault. They hold what they held.
+pub(crate) fn close_idle<D: Disk + Drop, T: Drop>(
+    fault: TaskFault,
+    store: Connection<FileStore<D>>,
+) -> Ended<T, D>
+    ensures fault { result.answer ≡ Err fault }
+    ensures keeps { AreHonest result.left → IsKept store result.left }
+{
+    close(Err(fault), store)
 }
 
 /// Closes the files of a store whose books were refused. They are as they were.
@@ -265,13 +277,15 @@ pub fn migrate_in_files<D: Disk + Drop>(
     alloc: Global,
     store: Connection<FileStore<D>>,
 ) -> Ended<Migrated, D>
+    ensures alone { result.copy ≡ Left.Nothing }
     ensures shut { IsOk result.answer → AreShut result.left }
     ensures migrates { AreHonest result.left → HasCleanDisk (file_state store)
         × (answer : Result Migrated TaskFault)
         × (result.answer ≡ closed_answer result.left answer)
         × (AreShut result.left → IfOk answer (Raises (file_state store).now result.left))
         × (AreShut result.left → Opens (file_state store) → OnErr answer
-        (HoldTrees result.left (file_state store).now.trees ⊎ Raises (file_state store).now result.left Raised)) }
+        (HoldTrees result.left (file_state store).now.trees
+        ⊎ Raises (file_state store).now result.left Raised)) }
 {
     let mut held = store;
     let answer = migrate_in_store(alloc, &mut held);

@@ -1,21 +1,21 @@
 //! The files of books.
-ghost use Rattle.std.specs.Prelude.{◌≡◌, IfOk, IsOk, OnErr, OnOk};
+ghost use Rattle.std.specs.Prelude.{◌≡◌, ◌⊎◌, IfOk, IsOk, Ok, OnErr, OnOk, true, false};
 ghost use Rattle.sqlite_wal.specs.Files.{image_at};
-ghost use Rattle.mx_files.specs.Folders.{IsMissing};
-ghost use Rattle.mx_files.specs.InFiles.{AreHonest, HasSumsIfNew, HoldCopy, IsKept, IsNewOf, IsOpenedOver};
-ghost use Rattle.mx_files.specs.Makings.{Begins, ChangesBeside, Installs, KeepsFile};
+ghost use Rattle.mx_files.specs.InFiles.{AreHonest, HasSumsIfNew, HoldCopy, HoldRaised, IsKept, IsNewOf, IsOpenedOver};
+ghost use Rattle.mx_files.specs.Makings.{Installs, IsGivenUp, IsPut, KeepsFile};
 
-use crate::closing::{Ended, Left, close, copy_in_files, make_in_files};
+use crate::closing::{Ended, Left, close_idle, copy_in_files, make_in_files, raise_in_files};
 use crate::database::{open_at, open_copy};
-use crate::folder::{DatabaseFolder, end_stopped_init};
+use crate::folder::{DatabaseFolder, Folder, end_stopped_init};
 use crate::init::{begin, end};
 use crate::making::Making;
-use crate::places::{expect_vacant, look_for_books};
+use crate::places::{Replaces, look_for_books};
 use crate::watched::Watched;
 use mx_pay::Token;
+use mx_tables::Migrated;
 use mx_tasks::{Cause, TaskFault};
 use sqlite::{Connection, FileFrom, FileStore, Start, Unknown};
-use std::alloc::Global;
+use sqlite_disk::Disk;
 
 /// A file of books, or of their log, which held what the start says as it was opened.
 pub type BookFile<'a, S> = Watched<'a, FileFrom<S>>;
@@ -113,26 +113,59 @@ fn copy_to_empty<'a, S: Start>(
     store: Opened<'a, S>,
 ) -> Ended<(), BookFile<'a, S>>
     ensures keeps { AreHonest result.left → IsKept store result.left }
-    ensures copies { OnOk result.answer (HoldCopy store result) }
+    ensures copies { OnOk result.answer (HoldCopy store result.left result.copy) }
 {
     match open_copy(rt, made) {
         Ok(to) => copy_in_files(rt.alloc(), store, to),
-        Err(cause) => close(Err(cause.tell(rt, made)), store),
+        Err(cause) => close_idle(cause.tell(rt, made), store),
     }
 }
 
-/// Begins a file beside the one of this path, which isn't there.
-fn begin_new<F: DatabaseFolder>(folder: &mut F, alloc: Global, path: &str) -> Result<Making, Cause>
-    ensures missing { OnOk result (IsMissing ((F.paths folder.old).spot path.now)) }
-    ensures begins { IfOk result
-        (λ making. Begins path.now (F.paths folder.old) (F.paths folder.new) making) }
-    ensures others { ChangesBeside path.now (F.paths folder.old) (F.paths folder.new) }
+/// Brings a copy of the books in a store, in an empty file, to the schema of this version, and closes both.
+fn raise_to_empty<'a, S: Start>(
+    rt: &'a HostRuntime,
+    made: &str,
+    store: Opened<'a, S>,
+) -> Ended<Migrated, BookFile<'a, S>>
+    ensures keeps { AreHonest result.left → IsKept store result.left }
+    ensures raises { IfOk result.answer (HoldRaised store result.left result.copy) }
 {
-    expect_vacant(&*folder, path)?;
-    begin(folder, alloc, path)
+    match open_copy(rt, made) {
+        Ok(to) => raise_in_files(rt.alloc(), store, to),
+        Err(cause) => close_idle(cause.tell(rt, made), store),
+    }
 }
 
-/// Copies the books in a store to a file beside the one of this path, which isn't there, and gives it its place.
+/// Gives a copy that was made its place. A terminal is told why that fails.
+fn put_copy<F: Folder, T: Drop, D: Disk>(
+    rt: &HostRuntime,
+    folder: &mut F,
+    path: &str,
+    making: &Making,
+    ended: Ended<T, D>,
+) -> Ended<T, D>
+    ensures left { result.left ≡ ended.left }
+    ensures copy { result.copy ≡ ended.copy }
+    ensures same { IfOk result.answer (λ x. ended.answer ≡ Ok x) }
+    ensures put { OnOk result.answer
+        (IsPut true (F.paths folder.old) (F.paths folder.new) making.now) }
+    ensures err { OnErr result.answer
+        (IsGivenUp (F.paths folder.old) (F.paths folder.new) making.now
+        ⊎ IsPut false (F.paths folder.old) (F.paths folder.new) making.now) }
+{
+    let Ended { answer, left, copy } = ended;
+    let books = match answer {
+        Ok(books) => Ok(books),
+        Err(fault) => Err(Cause::Fault(fault)),
+    };
+    let answer = match end(folder, making, books) {
+        Ok(books) => Ok(books),
+        Err(cause) => Err(cause.tell(rt, path)),
+    };
+    Ended { answer, left, copy }
+}
+
+/// Copies the books in a store to a file beside the one of this path, where nothing is, and gives it its place.
 fn copy_over<'a, F: DatabaseFolder, S: Start>(
     rt: &'a HostRuntime,
     folder: &mut F,
@@ -140,23 +173,43 @@ fn copy_over<'a, F: DatabaseFolder, S: Start>(
     store: Opened<'a, S>,
 ) -> Ended<(), BookFile<'a, S>>
     ensures keeps { AreHonest result.left → IsKept store result.left }
-    ensures copies { OnOk result.answer (HoldCopy store result) }
-    ensures missing { OnOk result.answer (IsMissing ((F.paths folder.old).spot path.now)) }
+    ensures copies { OnOk result.answer (HoldCopy store result.left result.copy) }
     ensures placed { OnOk result.answer
-        (Installs path.now (F.paths folder.old) (F.paths folder.new)) }
+        (Installs Replaces.Nothing path.now (F.paths folder.old) (F.paths folder.new)) }
     ensures kept { OnErr result.answer
         (KeepsFile path.now (F.paths folder.old) (F.paths folder.new)) }
 {
-    let making = match begin_new(folder, rt.alloc(), path) {
-        Ok(making) => making,
-        Err(cause) => return close(Err(cause.tell(rt, path)), store),
-    };
-    let Ended { answer, left, copy } = copy_to_empty(rt, making.made.as_str(), store);
-    let answer = match end(folder, &making, answer.map_err(Cause::Fault)) {
-        Ok(()) => Ok(()),
-        Err(cause) => Err(cause.tell(rt, path)),
-    };
-    Ended { answer, left, copy }
+    match begin(folder, rt.alloc(), path, Replaces::Nothing) {
+        Ok(making) => {
+            let copied = copy_to_empty(rt, making.made.as_str(), store);
+            put_copy(rt, folder, path, &making, copied)
+        }
+        Err(cause) => close_idle(cause.tell(rt, path), store),
+    }
+}
+
+/// Brings a copy of the books in the file of this path and number to the schema of this version, and gives it the file's place.
+fn raise_over<'a, F: DatabaseFolder, S: Start>(
+    rt: &'a HostRuntime,
+    folder: &mut F,
+    path: &str,
+    number: u64,
+    store: Opened<'a, S>,
+) -> Ended<Migrated, BookFile<'a, S>>
+    ensures keeps { AreHonest result.left → IsKept store result.left }
+    ensures raises { IfOk result.answer (HoldRaised store result.left result.copy) }
+    ensures placed { OnOk result.answer
+        (Installs (Replaces.File number) path.now (F.paths folder.old) (F.paths folder.new)) }
+    ensures kept { OnErr result.answer
+        (KeepsFile path.now (F.paths folder.old) (F.paths folder.new)) }
+{
+    match begin(folder, rt.alloc(), path, Replaces::File(number)) {
+        Ok(making) => {
+            let raised = raise_to_empty(rt, making.made.as_str(), store);
+            put_copy(rt, folder, path, &making, raised)
+        }
+        Err(cause) => close_idle(cause.tell(rt, path), store),
+    }
 }
 
 /// Copies the books in a store to a file that isn't there yet, for its owner alone to read and write, and closes both. The file
@@ -172,10 +225,38 @@ pub(crate) fn copy_to_file<'a, S: Start>(
     store: Opened<'a, S>,
 ) -> Ended<(), BookFile<'a, S>>
     ensures keeps { AreHonest result.left → IsKept store result.left }
-    ensures copies { OnOk result.answer (HoldCopy store result) }
+    ensures copies { OnOk result.answer (HoldCopy store result.left result.copy) }
 {
     let mut folder = rt;
     copy_over(rt, &mut folder, path, store)
+}
+
+/// Brings a copy of the books in the file of this path and number, with which its store was opened, to the schema of this version,
+/// and puts it in the file's place, for its owner alone to read and write.
+///
+/// # Errors
+///
+/// `FileExists` where another file has the path now; `File` as of `copy_to_file`; those of `raise_in_files`. Then the file is as
+/// it was, unless the sync of its folder failed. A terminal is told why.
+pub(crate) fn raise_file<'a, S: Start>(
+    rt: &'a HostRuntime,
+    path: &str,
+    number: u64,
+    store: Opened<'a, S>,
+) -> Ended<Migrated, BookFile<'a, S>>
+    ensures keeps { AreHonest result.left → IsKept store result.left }
+    ensures raises { IfOk result.answer (HoldRaised store result.left result.copy) }
+{
+    let mut folder = rt;
+    raise_over(rt, &mut folder, path, number, store)
+}
+
+/// The number of the file to which a path leads, where one is there.
+pub(crate) fn number_of<F: Folder>(folder: &F, path: &str) -> Option<u64> {
+    match folder.entry_behind(path) {
+        Ok(Some(entry)) => Some(entry.number),
+        _ => None,
+    }
 }
 
 /// Makes new books in a file beside that of this path, and puts it in its place.
@@ -187,7 +268,8 @@ fn make<'a, F: DatabaseFolder, S: Start>(
     operator: Token,
 ) -> Result<Left<BookFile<'a, S>>, Cause>
     ensures made { IfOk result (IsNewOf operator) }
-    ensures placed { OnOk result (Installs path.now (F.paths folder.old) (F.paths folder.new)) }
+    ensures placed { OnOk result
+        (Installs Replaces.EmptyFile path.now (F.paths folder.old) (F.paths folder.new)) }
     ensures kept { OnErr result (KeepsFile path.now (F.paths folder.old) (F.paths folder.new)) }
 {
     let making = begin(folder, rt.alloc(), path, Replaces::EmptyFile)?;

@@ -1,21 +1,28 @@
 //! Every task, over an input, an output and the files that the task names.
-ghost use Rattle.std.specs.Prelude.{◌≡◌, ℕ, List, [], IfErr, IfOk, IsErr, IsOk, None, OnOk, codes};
+ghost use Rattle.std.specs.Prelude.{◌≡◌, ℕ, List, [], IfErr, IfOk, IsErr, IsOk, None, OnOk, Result, codes};
 ghost use Rattle.std.specs.Io.KnownBytes.{Appends};
 ghost use Rattle.sqlite_wal.specs.Files.{image_at};
+ghost use Rattle.sqlite_wal.specs.Recovery.{Image};
 ghost use Rattle.mx_book.specs.World.{World, opening};
 ghost use Rattle.mx_desk.specs.Rounds.{Leads};
 ghost use Rattle.mx_desk.specs.Serve.{Marked};
 ghost use Rattle.mx_desk.specs.Steps.{state};
+ghost use Rattle.mx_tables.specs.declared.migration.Migrated.{Migrated};
 ghost use Rattle.mx_tasks.specs.Faults.{Untouched};
-ghost use Rattle.mx_files.specs.InFiles.{AreHonest, AreShut, HoldRounds, closed_answer};
+ghost use Rattle.mx_tasks.specs.declared.fault.TaskFault.{TaskFault};
+ghost use Rattle.mx_files.specs.InFiles.{AreHonest, AreShut, HoldRounds, IsOpenedOver, closed_answer};
 ghost use Rattle.mx_files.specs.Opened.{IsWrong};
-ghost use Rattle.mx_files.specs.Performed.{Checks, EndsRun, EndsSaying, EndsWork, MakesBooks, OverBooks, Performs, PerformsCopy, PerformsInMemory, PerformsMigration, PerformsRun, PerformsWork, ended_of, migrated_text, streams};
+ghost use Rattle.mx_files.specs.Performed.{Checks, EndsRun, EndsSaying, EndsWork, MakesBooks, MigratesBooks, OverBooks, Performs, PerformsCopy, PerformsInMemory, PerformsMigration, PerformsRun, PerformsWork, ended_of, migrated_text, streams};
 
 use crate::check::with_sums;
 use crate::closing::{Ended, check_in_files, migrate_in_files, run_in_files, work_in_files};
-use crate::files::{BookFile, copy_to_file, make_in_file, no_files, open_found, open_told};
+use crate::files::{
+    BookFile, Opened, copy_to_file, make_in_file, no_files, number_of, open_found, open_told,
+    raise_file,
+};
 use crate::plan::{Act, Plan, plan_of};
 use mx_args::Task;
+use mx_audit::has_first_tables;
 use mx_book::Book;
 use mx_desk::output::{flush_out, write_out};
 use mx_desk::{Counted, Outlet};
@@ -235,8 +242,26 @@ fn copy_file<'a, S: Start, W: Write>(
     })
 }
 
-/// Brings the books in a file to the schema of this version, audits them, and says what came of it. Where the audit has a
-/// finding, the file is of this schema then, with its rows as they were.
+/// Brings the books in a file to the schema of this version: a copy of those of version 1, which takes the file's place.
+fn migrate_opened<'a, S: Start>(
+    rt: &'a HostRuntime,
+    path: &str,
+    number: Option<u64>,
+    store: Opened<'a, S>,
+) -> Ended<Migrated, BookFile<'a, S>>
+    ensures shut { IsOk result.answer → AreShut result.left }
+    ensures migrates { (bytes : Image) → IsOpenedOver bytes store → AreHonest result.left
+        → (answer : Result Migrated TaskFault)
+        × (result.answer ≡ closed_answer result.left answer)
+        × MigratesBooks bytes answer result.left result.copy }
+{
+    match number {
+        Some(number) if has_first_tables(&store) => raise_file(rt, path, number, store),
+        _ => migrate_in_files(rt.alloc(), store),
+    }
+}
+
+/// Brings the books in a file to the schema of this version, audits them, and says what came of it.
 fn migrate_file<'a, S: Start, W: Write>(
     rt: &'a HostRuntime,
     path: &str,
@@ -245,12 +270,17 @@ fn migrate_file<'a, S: Start, W: Write>(
 ) -> Result<Ended<(), BookFile<'a, S>>, TaskFault>
     ensures shut { IfOk result (λ ended. IsOk ended.answer → AreShut ended.left) }
     ensures migrates { IfOk result (λ ended. AreHonest ended.left
-        → PerformsMigration (image_at S.Start) ended.left ended.answer
+        → PerformsMigration (image_at S.Start) ended
         (W.contents writer.old.device) (W.contents writer.new.device)) }
 {
+    let number = number_of(&rt, path);
     let store = open_told(rt, path, start)?;
-    let Ended { answer, left, .. } = migrate_in_files(rt.alloc(), store);
-    Ok(Ended::over(say_migrated(answer, writer), left))
+    let Ended { answer, left, copy } = migrate_opened(rt, path, number, store);
+    Ok(Ended {
+        answer: say_migrated(answer, writer),
+        left,
+        copy,
+    })
 }
 
 /// A task as it ended: a fault that came before its files were opened leaves none.

@@ -105,8 +105,8 @@ pub fn raise_in_store<S: Ordered, T: Ordered>(
 ) -> Result<Migrated, TaskFault>
     ensures rests { StaysIdle (state_of S.Store store.old) (state_of S.Store store.new) }
     ensures ours { OnOk result (IsOurs false (state_of T.Store to.new)) }
-    ensures raises { IsSound (state_of S.Store store.new) → IsSound (state_of T.Store to.new) → IfOk result
-        (λ made. HasRaised made (state_of S.Store store.old).now (state_of T.Store to.new).now) }
+    ensures raises { IsSound (state_of S.Store store.new) → IsSound (state_of T.Store to.new)
+        → IfOk result (λ made. HasRaised made (state_of S.Store store.old).now (state_of T.Store to.new).now) }
 {
     match raise(alloc, store, to) {
         Ok(made) => Ok(made),
