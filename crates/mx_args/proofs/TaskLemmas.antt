@@ -1,5 +1,5 @@
 -- The rows of a command name one task at most, and none where a word is missing or means nothing.
-use Rattle.std.proofs.Common.{◌≡◌, ◌≤◌, ◌<◌, ◌^◌, ◌∙◌, ℕ, List, Option, Some, None, cond, sym, ap, subst, option_map, codes, slice_index, arith}
+use Rattle.std.proofs.Common.{◌≡◌, ◌≤◌, ◌<◌, ◌^◌, ◌∙◌, ℕ, List, Option, Some, None, cond, refl, sym, ap, subst, option_map, codes, slice_index, arith}
 use Rattle.std.specs.Prelude.{decimal}
 use Rattle.std.specs.Option.{option_and_then}
 use Rattle.std.proofs.lemmas.Bool.{le-leb}
@@ -9,7 +9,9 @@ use Rattle.mx_pay.specs.Limits.{most_number}
 use Rattle.mx_pay.specs.Reading.{limited, number_of, up_to}
 use Rattle.mx_pay.specs.Tokens.{token_of}
 use Rattle.mx_pay.proofs.EntryLemmas.{bind_some, number_again, number_takes}
-use Rattle.mx_args.specs.Named.{Given, HasPurse, HasValue, IsFoundBy, IsNumber, IsToken, Names, NamesNone}
+use Rattle.mx_args.specs.Named.{AsksFor, Given, HasValue, IsFoundBy, IsNumber, IsToken, Names, NamesNone}
+use Rattle.mx_args.specs.declared.task.AskedReport.{AskedReport}
+use Rattle.mx_args.specs.declared.task.AskedReport.TheVariants.{Reconciliation, Statement, Statements}
 use Rattle.mx_args.specs.declared.task.Task.{Task}
 use Rattle.mx_args.specs.declared.task.Task.TheVariants.{RunMemory, RunFile, Init, Serve, Import, Report, Check, Copy, Migrate}
 
@@ -85,11 +87,16 @@ numbers_once : (rows : List Row) (id : Text) (most m n : ℕ) → most < 2 ^ 32 
 numbers_once rows id most m n small h k =
     number_once most m n k.0 small (subst (IsNumber most m) (value_once rows id h.0 k.0 h.1 k.1) h.2) k.2
 
-purse_once : (rows : List Row) (p q : Option (List ℕ)) → HasPurse rows p → HasPurse rows q → p ≡ q
-purse_once rows None None h k = cc
-purse_once rows None (Some q) h k = cc
-purse_once rows (Some p) None h k = cc
-purse_once rows (Some p) (Some q) h k = cc
+report_once : (rows : List Row) (a b : AskedReport) → AsksFor rows a → AsksFor rows b → a ≡ b
+report_once rows Reconciliation Reconciliation h k = refl
+report_once rows Reconciliation (Statement q) h k = cc
+report_once rows Reconciliation Statements h k = absurd (h.0 k.0)
+report_once rows (Statement p) Reconciliation h k = cc
+report_once rows (Statement p) (Statement q) h k = cc
+report_once rows (Statement p) Statements h k = absurd (h.0 k.0)
+report_once rows Statements Reconciliation h k = absurd (k.0 h.0)
+report_once rows Statements (Statement q) h k = absurd (k.0 h.0)
+report_once rows Statements Statements h k = refl
 
 -- ---- one task at most
 
@@ -120,7 +127,7 @@ names_once name rows (Serve f p m) (Serve g q n) h k =
     cc
 names_once name rows (Import f r) (Import g s) h k = cc
 names_once name rows (Report f p) (Report g q) h k =
-    let purse = purse_once rows p q h.2 k.2 in
+    let report = report_once rows p q h.2 k.2 in
     cc
 names_once name rows (Check f) (Check g) h k = cc
 names_once name rows (Copy f t) (Copy g u) h k = cc

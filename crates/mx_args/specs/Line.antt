@@ -39,10 +39,10 @@ abbrev pub import_app : App
 import_app = with_rule (with_rule (new_app (codes "import")) (word_rule (codes "FILE") true))
     (word_rule (codes "ROLL") true)
 
--- `report FILE [--purse P]`
+-- `report FILE [--purse P] [--statements]`: that not both go together is not clap's to say
 abbrev pub report_app : App
-report_app = with_rule (with_rule (new_app (codes "report")) (word_rule (codes "FILE") true))
-    (option_rule (codes "purse") false)
+report_app = with_rule (with_rule (with_rule (new_app (codes "report")) (word_rule (codes "FILE") true))
+    (option_rule (codes "purse") false)) (flag_rule (codes "statements"))
 
 -- `check FILE`
 abbrev pub check_app : App

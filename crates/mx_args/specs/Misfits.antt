@@ -4,9 +4,9 @@ use Rattle.std.specs.declared.alloc.Global.{Global}
 use Rattle.clap.specs.Words.{IsAmong, Kinds, Row, Text, first_of}
 use Rattle.clap.specs.declared.error.kind.ErrorKind.{ErrorKind}
 use Rattle.clap.specs.declared.error.kind.ErrorKind.TheVariants.{DisplayVersion, OutOfMemory}
-use Rattle.mx_args.specs.Named.{Absent, Given, HasValue, IsNumber}
+use Rattle.mx_args.specs.Named.{Absent, Given, HasValue, IsNumber, OfAll}
 use Rattle.mx_args.specs.declared.line.Misfit.{Misfit}
-use Rattle.mx_args.specs.declared.line.Misfit.TheVariants.{Token, Port, Count, Purse, FileAndMemory, NoBooks, NoToken, TokenForFile, Missing}
+use Rattle.mx_args.specs.declared.line.Misfit.TheVariants.{Token, Port, Count, Purse, PurseAndStatements, FileAndMemory, NoBooks, NoToken, TokenForFile, Missing}
 use Rattle.mx_args.specs.declared.task.LineFault.{LineFault}
 use Rattle.mx_args.specs.declared.task.LineFault.TheVariants.{Bad, Version, Memory}
 
@@ -46,7 +46,10 @@ HasMisfit name rows TokenForFile = IsRun name rows × Has rows (codes "FILE")
 HasMisfit name rows NoBooks = IsRun name rows × Absent rows (codes "FILE")
 HasMisfit name rows Port = (name ≡ codes "serve") × Has rows (codes "FILE") × ¬ HasPort rows
 HasMisfit name rows Count = (name ≡ codes "serve") × Has rows (codes "FILE") × HasPort rows
-HasMisfit name rows Purse = (name ≡ codes "report") × Has rows (codes "FILE")
+HasMisfit name rows Purse = (name ≡ codes "report") × Has rows (codes "FILE") × ¬ OfAll rows
+    × Has rows (codes "purse")
+HasMisfit name rows PurseAndStatements = (name ≡ codes "report") × Has rows (codes "FILE") × OfAll rows
+    × Has rows (codes "purse")
 HasMisfit name rows Missing = (name ≢ codes "run") × (Absent rows (codes "FILE") ⊎ ¬ HasValues name)
 
 -- the command that was found, with its rows, is no task for this cause
@@ -62,6 +65,7 @@ words_of Token = codes "the value of --token has to be 32 hexadecimal digits"
 words_of Port = codes "the value of --port has to be a number from 1 to 65535, without leading zeros"
 words_of Count = codes "the value of --count has to be a number from 1 to 1000000, without leading zeros"
 words_of Purse = codes "the value of --purse has to be 1 to 24 of a to z, 0 to 9 and -, the first a letter"
+words_of PurseAndStatements = codes "report takes --purse or --statements, and not both"
 words_of FileAndMemory = codes "run takes FILE or --memory, and not both"
 words_of NoBooks = codes "run takes FILE, or --memory and --token"
 words_of NoToken = codes "run --memory takes --token"

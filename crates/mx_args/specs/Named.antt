@@ -4,6 +4,8 @@ use Rattle.clap.specs.Words.{Row, Text, fault_of, first_of, subcommand_of}
 use Rattle.mx_pay.specs.Names.{is_name_text}
 use Rattle.mx_pay.specs.Tokens.{token_of}
 use Rattle.mx_args.specs.Line.{line_app}
+use Rattle.mx_args.specs.declared.task.AskedReport.{AskedReport}
+use Rattle.mx_args.specs.declared.task.AskedReport.TheVariants.{Reconciliation, Statement, Statements}
 use Rattle.mx_args.specs.declared.task.Task.{Task}
 use Rattle.mx_args.specs.declared.task.Task.TheVariants.{RunMemory, RunFile, Init, Serve, Import, Report, Check, Copy, Migrate}
 
@@ -27,10 +29,16 @@ Absent rows id = first_of id rows ≡ None
 abbrev pub HasValue : List Row → Text → (Text → Type 0) → Type 0
 HasValue rows id P = (value : Text) × Given rows id value × P value
 
--- `--purse` is left out, or its value is this name
-abbrev pub HasPurse : List Row → Option (List ℕ) → Type 0
-HasPurse rows None = Absent rows (codes "purse")
-HasPurse rows (Some purse) = Given rows (codes "purse") purse × (is_name_text purse ≡ true)
+-- `--statements` is there
+abbrev pub OfAll : List Row → Type 0
+OfAll rows = Given rows (codes "statements") (codes "true")
+
+-- the report that is asked for: `--purse` and `--statements` are left out; or `--purse` has a name as its value; or
+-- `--statements` is there; and not both
+abbrev pub AsksFor : List Row → AskedReport → Type 0
+AsksFor rows Reconciliation = ¬ OfAll rows × Absent rows (codes "purse")
+AsksFor rows (Statement purse) = ¬ OfAll rows × Given rows (codes "purse") purse × (is_name_text purse ≡ true)
+AsksFor rows Statements = OfAll rows × Absent rows (codes "purse")
 
 -- the command of this name with these rows is this task
 abbrev pub Names : Text → List Row → Task → Type 0
@@ -45,8 +53,8 @@ Names name rows (Serve file port count) = (name ≡ codes "serve") × Given rows
     × HasValue rows (codes "count") (IsNumber 1000000 count)
 Names name rows (Import file roll) = (name ≡ codes "import") × Given rows (codes "FILE") file
     × Given rows (codes "ROLL") roll
-Names name rows (Report file purse) = (name ≡ codes "report") × Given rows (codes "FILE") file
-    × HasPurse rows purse
+Names name rows (Report file report) = (name ≡ codes "report") × Given rows (codes "FILE") file
+    × AsksFor rows report
 Names name rows (Check file) = (name ≡ codes "check") × Given rows (codes "FILE") file
 Names name rows (Copy file to) = (name ≡ codes "copy") × Given rows (codes "FILE") file
     × Given rows (codes "TO") to

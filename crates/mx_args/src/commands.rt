@@ -127,7 +127,7 @@ static FORMS: [Form; 8] = [
     Form {
         name: "report",
         full_name: "purse-office report",
-        about: "Prints the reconciliation of the books, or the statement of a purse",
+        about: "Prints the reconciliation of the books, or the statements of purses",
         arguments: &[
             FILE,
             Argument {
@@ -135,6 +135,12 @@ static FORMS: [Form; 8] = [
                 kind: Kind::Value("P"),
                 required: false,
                 help: "The purse whose statement is printed",
+            },
+            Argument {
+                id: "statements",
+                kind: Kind::Flag,
+                required: false,
+                help: "Prints the statements of all purses; not with --purse",
             },
         ],
     },

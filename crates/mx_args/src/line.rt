@@ -4,14 +4,14 @@ ghost use Rattle.std.specs.Prelude.{Ok, codes, map, option_map, string_bytes};
 ghost use Rattle.std.specs.Option.{option_and_then};
 ghost use Rattle.clap.specs.Words.{first_of, found_of, rows_of, subcommand_rows_of};
 ghost use Rattle.mx_pay.specs.Tokens.{token_of};
-ghost use Rattle.mx_args.specs.Named.{Absent, Given, HasPurse, HasValue};
+ghost use Rattle.mx_args.specs.Named.{Absent, AsksFor, Given, HasValue};
 ghost use Rattle.mx_args.specs.Named.{IsFoundBy, IsNumber, Names, NamesNone};
 ghost use Rattle.mx_args.specs.Read.{IsReadAs};
-ghost use Rattle.mx_args.specs.Misfits.{BadOrMemory, HasMisfit, IsFaultOf, IsFaultOfError};
+ghost use Rattle.mx_args.specs.Misfits.{BadOrMemory, Has, HasMisfit, IsFaultOf, IsFaultOfError};
 ghost use Rattle.mx_args.specs.Misfits.{TellsMisfit, TellsWords, error_text, words_of};
 
 use crate::commands::{command_named, line_command};
-use crate::task::{LineFault, Task, Word};
+use crate::task::{AskedReport, LineFault, Task, Word};
 use clap::ArgMatches;
 use clap::error::ErrorKind;
 use mx_pay::{Name, Token, read_seq};
@@ -31,6 +31,7 @@ enum Misfit {
     Port,
     Count,
     Purse,
+    PurseAndStatements,
     FileAndMemory,
     NoBooks,
     NoToken,
@@ -53,6 +54,7 @@ impl Misfit {
             Misfit::Purse => {
                 "the value of --purse has to be 1 to 24 of a to z, 0 to 9 and -, the first a letter"
             }
+            Misfit::PurseAndStatements => "report takes --purse or --statements, and not both",
             Misfit::FileAndMemory => "run takes FILE or --memory, and not both",
             Misfit::NoBooks => "run takes FILE, or --memory and --token",
             Misfit::NoToken => "run --memory takes --token",
@@ -109,19 +111,23 @@ fn number_of(matches: &ArgMatches<'_>, id: &str, most: u32) -> Option<u32>
     }
 }
 
-// The purse that the value of `--purse` names, if there is one.
-fn purse_of(matches: &ArgMatches<'_>) -> Result<Option<Name>, Misfit>
-    ensures named { IfOk result (HasPurse (rows_of (found_of matches.now))) }
+// The report that `--purse` and `--statements` ask for.
+fn report_of(matches: &ArgMatches<'_>) -> Result<AskedReport, Misfit>
+    ensures named { IfOk result (AsksFor (rows_of (found_of matches.now))) }
     ensures unnamed { OnErr result
-        ((purse : Option (List ℕ)) → ¬ HasPurse (rows_of (found_of matches.now)) purse) }
-    ensures misfit { IfErr result (λ misfit. misfit ≡ Misfit.Purse) }
+        ((report : AskedReport) → ¬ AsksFor (rows_of (found_of matches.now)) report) }
+    ensures misfit { IfErr result (λ misfit. Has (rows_of (found_of matches.now)) (codes "FILE")
+        → HasMisfit (codes "report") (rows_of (found_of matches.now)) misfit) }
 {
-    let Some(text) = text_of(matches, "purse") else {
-        return Ok(None);
-    };
-    match Name::read(text) {
-        Some(name) => Ok(Some(name)),
-        None => Err(Misfit::Purse),
+    let of_all = text_of(matches, "statements") == Some("true");
+    match (of_all, text_of(matches, "purse")) {
+        (false, None) => Ok(AskedReport::Reconciliation),
+        (false, Some(text)) => match Name::read(text) {
+            Some(name) => Ok(AskedReport::Statement(name)),
+            None => Err(Misfit::Purse),
+        },
+        (true, None) => Ok(AskedReport::Statements),
+        (true, Some(_)) => Err(Misfit::PurseAndStatements),
     }
 }
 
@@ -207,8 +213,8 @@ fn report_task<'a>(matches: &ArgMatches<'a>) -> Result<Task<'a>, Misfit>
     ensures misfit { IfErr result (HasMisfit (codes "report") (rows_of (found_of matches.now))) }
 {
     let file = needed_word(matches, "FILE")?;
-    let purse = purse_of(matches)?;
-    Ok(Task::Report { file, purse })
+    let report = report_of(matches)?;
+    Ok(Task::Report { file, report })
 }
 
 fn check_task<'a>(matches: &ArgMatches<'a>) -> Result<Task<'a>, Misfit>

@@ -35,6 +35,17 @@ impl<'a> Word<'a> {
     }
 }
 
+/// Which report is asked for.
+#[derive(Clone, Copy)]
+pub enum AskedReport {
+    /// The reconciliation.
+    Reconciliation,
+    /// `--purse P`: the statement of this purse.
+    Statement(Name),
+    /// `--statements`: the statements of all purses.
+    Statements,
+}
+
 /// What the program is asked to do. It borrows the words of the command line.
 #[derive(Drop)]
 pub enum Task<'a> {
@@ -66,13 +77,12 @@ pub enum Task<'a> {
         /// The file of the roll.
         roll: Word<'a>,
     },
-    /// `report FILE`: the reconciliation of the books in a file. `report FILE --purse P`: the statement of
-    /// one purse.
+    /// `report FILE`: a report of the books in a file, with `--purse P`, `--statements` or neither.
     Report {
         /// The file.
         file: Word<'a>,
-        /// The purse, where one is named.
-        purse: Option<Name>,
+        /// Which report.
+        report: AskedReport,
     },
     /// `check FILE`: whether the books in a file are sound, and what is wrong in them if not.
     Check(Word<'a>),

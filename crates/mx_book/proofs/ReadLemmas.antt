@@ -15,8 +15,8 @@ use Rattle.mx_book.specs.declared.values.PurseRow.{PurseRow}
 use Rattle.mx_book.specs.declared.values.LineRow.{LineRow}
 use Rattle.mx_book.specs.Under.{under, those, remade}
 use Rattle.mx_book.specs.Rows.{Rows, world_of, row_of, line_at, amount_of, IsProper}
-use Rattle.mx_book.specs.Reads.{of_purse, from_row, purses_of, holder_of, account_of, has_purse, own_purse, finds_place, inbox_of, message_of, lines_of, members_of, load_of, redemption_of}
-use Rattle.mx_book.specs.RowReads.{of_name, purse_rows_of, row_purses_of, row_holder_of, row_account_of, row_own_purse, row_finds_place, row_inbox_of, row_lines_of, row_members_of, row_load_of, row_redemption_of, line_of_row}
+use Rattle.mx_book.specs.Reads.{of_purse, from_row, purses_of, holder_of, account_of, has_purse, own_purse, finds_place, inbox_of, message_of, lines_of, purse_names_of, members_of, load_of, redemption_of}
+use Rattle.mx_book.specs.RowReads.{of_name, purse_rows_of, row_purses_of, row_holder_of, row_account_of, row_own_purse, row_finds_place, row_inbox_of, row_lines_of, row_purse_names_of, row_members_of, row_load_of, row_redemption_of, line_of_row}
 use Rattle.mx_book.proofs.UnderLemmas.{get-under, entries-under, len-under, entries-remake, under-none, entries_empty}
 use Rattle.mx_book.proofs.RowLemmas.{get_rows}
 
@@ -104,7 +104,14 @@ module _ (r : Rows) (h : IsProper r) where
       (λ gone. grind (arith, h.redemptions p ref gone))
       (λ z at. grind (arith, get-pick names_total amount_of (under name_cmp name_cmp p r.redemptions) ref, get-under name_cmp name_cmp names_total p r.redemptions ref))
 
--- ---- the members
+-- ---- the purses and the members
+
+remade_names : (r : Rows) (es : List (Name × PurseRow)) → map (λ (e : Name × Row). e.0) (remade (row_of r) es) ≡ map (λ (e : Name × PurseRow). e.0) es
+remade_names r [] = refl
+remade_names r (e ∷ es) = grind (arith, remade_names r es)
+
+pub purse_names_are : (r : Rows) → purse_names_of (world_of r) ≡ row_purse_names_of r
+purse_names_are r = ap (map (λ (e : Name × Row). e.0)) (entries-remake name_cmp (row_of r) r.purses) ∙ remade_names r (fmap.entries r.purses)
 
 pub members_are : (r : Rows) → members_of (world_of r) ≡ row_members_of r
 members_are r = refl

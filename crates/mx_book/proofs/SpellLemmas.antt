@@ -5,13 +5,13 @@ use Rattle.mx_pay.specs.Details.{Details}
 use Rattle.mx_book.specs.declared.edits.Edit.{Edit}
 use Rattle.mx_book.specs.World.{World, Name, Token}
 use Rattle.mx_book.specs.Rows.{Rows, world_of}
-use Rattle.mx_book.specs.Reads.{who_of, member_of, holder_of, purses_of, account_of, has_purse, own_purse, finds_place, message_of, inbox_of, lines_of, members_of, load_of, redemption_of, is_archived, is_settled, tray_of, uncollected_of}
-use Rattle.mx_book.specs.RowReads.{row_who_of, row_holder_of, row_purses_of, row_account_of, row_own_purse, row_finds_place, row_inbox_of, row_lines_of, row_members_of, row_load_of, row_redemption_of, row_is_archived, row_is_settled, row_uncollected_of}
+use Rattle.mx_book.specs.Reads.{who_of, member_of, holder_of, purses_of, account_of, has_purse, own_purse, finds_place, message_of, inbox_of, lines_of, purse_names_of, members_of, load_of, redemption_of, is_archived, is_settled, tray_of, uncollected_of}
+use Rattle.mx_book.specs.RowReads.{row_who_of, row_holder_of, row_purses_of, row_account_of, row_own_purse, row_finds_place, row_inbox_of, row_lines_of, row_purse_names_of, row_members_of, row_load_of, row_redemption_of, row_is_archived, row_is_settled, row_uncollected_of}
 use Rattle.mx_book.specs.Edits.{all_edited, Fits}
 use Rattle.mx_book.specs.RowEdits.{all_rewritten, all_able, row_laid_of}
 use Rattle.std.proofs.Props.{props}
 use mathlib.Core.Logic.{∥∥₁_elim, ∥∥₁_map}
-use Rattle.mx_book.proofs.ReadLemmas.{purses_are, holder_is, account_is, there_is, own_is, place_is, message_is, inbox_is, lines_are, members_are, load_is, redemption_is}
+use Rattle.mx_book.proofs.ReadLemmas.{purses_are, holder_is, account_is, there_is, own_is, place_is, message_is, inbox_is, lines_are, purse_names_are, members_are, load_is, redemption_is}
 use Rattle.mx_book.proofs.CountedLemmas.{uncollected_is}
 use Rattle.mx_book.proofs.TotalLemmas.{totals_are, member_totals_are, members_totals_are}
 use Rattle.mx_book.specs.Totals.{totals_of, member_totals_of, members_totals_of}
@@ -58,6 +58,9 @@ inbox_at r w p h = read_at (λ z. inbox_of z p) r w _ h (inbox_is r h.spelled.pr
 
 pub lines_at : (r : Rows) (w : World) (p : Name) (after most : ℕ) → Spells r w → row_lines_of r p after most ≡ lines_of w p after most
 lines_at r w p after most h = read_at (λ z. lines_of z p after most) r w _ h (lines_are r h.spelled.proper p after most)
+
+pub purse_names_at : (r : Rows) (w : World) → Spells r w → row_purse_names_of r ≡ purse_names_of w
+purse_names_at r w h = read_at purse_names_of r w _ h (purse_names_are r)
 
 pub members_at : (r : Rows) (w : World) → Spells r w → row_members_of r ≡ members_of w
 members_at r w h = read_at members_of r w _ h (members_are r)

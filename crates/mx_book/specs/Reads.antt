@@ -98,6 +98,10 @@ is_settled w d = fmap.contains_key w.settled d
 abbrev pub tray_of : World → Name → Entries
 tray_of w p = under name_cmp details_cmp p w.tray
 
+-- the names of the purses, in order
+abbrev pub purse_names_of : World → List Name
+purse_names_of w = fmap.keys w.rows
+
 -- the names of the members, in order
 abbrev pub members_of : World → List Name
 members_of w = fmap.keys w.members

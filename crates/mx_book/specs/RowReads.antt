@@ -72,6 +72,10 @@ line_of_row e = line_at (e.0.1, e.1)
 abbrev pub row_lines_of : Rows → Name → ℕ → ℕ → List Line
 row_lines_of r p after most = map line_of_row (take most (filter (λ (e : (Name × ℕ) × LineRow). is_name p e.0.0 && nat_lt after e.0.1) (fmap.entries r.lines)))
 
+-- the names of the purses, in order
+abbrev pub row_purse_names_of : Rows → List Name
+row_purse_names_of r = fmap.keys r.purses
+
 -- the names of the members, in order
 abbrev pub row_members_of : Rows → List Name
 row_members_of r = fmap.keys r.members

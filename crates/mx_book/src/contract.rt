@@ -1,7 +1,7 @@
 //! The trait that every book meets.
 ghost use Rattle.std.specs.Prelude.{◌≡◌, ◌⊎◌, is_some, IfErr};
 ghost use Rattle.mx_book.specs.Edits.{Fits, all_edited};
-ghost use Rattle.mx_book.specs.Reads.{who_of, member_of, holder_of, account_of, has_purse, own_purse, finds_place, purses_of, inbox_of, message_of, lines_of, members_of, load_of, redemption_of, is_archived, is_settled, tray_of, uncollected_of};
+ghost use Rattle.mx_book.specs.Reads.{who_of, member_of, holder_of, account_of, has_purse, own_purse, finds_place, purses_of, inbox_of, message_of, lines_of, purse_names_of, members_of, load_of, redemption_of, is_archived, is_settled, tray_of, uncollected_of};
 ghost use Rattle.mx_book.specs.Totals.{totals_of, member_totals_of, members_totals_of};
 ghost use Rattle.mx_book.specs.declared.contract.StoreFault.{StoreFault};
 ghost use Rattle.mx_book.specs.declared.contract.StoreFault.TheVariants.{Memory};
@@ -135,6 +135,11 @@ pub trait Book {
     ) -> Result<Vec<Line>, StoreFault>
         ensures { Answers (λ e. (e ≡ Memory) ⊎ fails e) (view self.old) (view self.new) result
             (λ w r. r.items ≡ lines_of w purse after most) };
+
+    /// The names of the purses, in order.
+    fn purses(&mut self, alloc: Global) -> Result<Vec<Name>, StoreFault>
+        ensures { Answers (λ e. (e ≡ Memory) ⊎ fails e) (view self.old) (view self.new) result
+            (λ w r. r.items ≡ purse_names_of w) };
 
     /// The names of the members, in order.
     fn members(&mut self, alloc: Global) -> Result<Vec<Name>, StoreFault>

@@ -1,6 +1,6 @@
 //! Command lines with a growth refused: each is answered as usual or with want of memory, and as usual when it is read
 //! again.
-use mx_args::{LineFault, Task, read_line};
+use mx_args::{AskedReport, LineFault, Task, read_line};
 use mx_pay::Token;
 use std::alloc::{AllocError, Global};
 use std::test::Fail;
@@ -14,12 +14,14 @@ serve book.db --port 8080 --count 3 -> serve book.db, port 8080, count 3
 import book.db roll.csv -> import book.db, roll.csv
 report book.db -> report book.db
 report book.db --purse p1 -> report book.db, purse p1
+report book.db --statements -> report book.db, all statements
 check book.db -> check book.db
 copy book.db new.db -> copy book.db, new.db
 migrate book.db -> migrate book.db
 run -> error: run takes FILE, or --memory and --token||Usage: purse-office run [OPTIONS] [FILE]||For more information, try '--help'.|
 serve book.db --port 0 --count 3 -> error: the value of --port has to be a number from 1 to 65535, without leading zeros||Usage: purse-office serve --port <N> --count <K> <FILE>||For more information, try '--help'.|
 report book.db --purse P1 -> error: the value of --purse has to be 1 to 24 of a to z, 0 to 9 and -, the first a letter||Usage: purse-office report [OPTIONS] <FILE>||For more information, try '--help'.|
+report book.db --statements --purse p1 -> error: report takes --purse or --statements, and not both||Usage: purse-office report [OPTIONS] <FILE>||For more information, try '--help'.|
 --version -> purse-office 1.0.0|
 check -> error: the following required arguments were not provided:|  <FILE>||Usage: purse-office check <FILE>||For more information, try '--help'.|
 migrate -> error: the following required arguments were not provided:|  <FILE>||Usage: purse-office migrate <FILE>||For more information, try '--help'.|
@@ -28,6 +30,17 @@ migrate -> error: the following required arguments were not provided:|  <FILE>||
 /// The last digit of a token.
 fn end_of(token: &Token) -> char {
     char::from(token.text()[31])
+}
+
+/// A report in words.
+fn report_words(alloc: Global, file: &str, report: AskedReport) -> Result<String, AllocError> {
+    match report {
+        AskedReport::Reconciliation => format!(in alloc; "report {file}"),
+        AskedReport::Statement(purse) => {
+            format!(in alloc; "report {file}, purse {}", purse.as_str())
+        }
+        AskedReport::Statements => format!(in alloc; "report {file}, all statements"),
+    }
 }
 
 /// A task in words.
@@ -46,11 +59,7 @@ fn task_words(alloc: Global, task: &Task<'_>) -> Result<String, AllocError> {
         Task::Import { file, roll } => {
             format!(in alloc; "import {}, {}", file.as_str(), roll.as_str())
         }
-        Task::Report { file, purse: None } => format!(in alloc; "report {}", file.as_str()),
-        Task::Report {
-            file,
-            purse: Some(purse),
-        } => format!(in alloc; "report {}, purse {}", file.as_str(), purse.as_str()),
+        Task::Report { file, report } => report_words(alloc, file.as_str(), *report),
         Task::Check(file) => format!(in alloc; "check {}", file.as_str()),
         Task::Copy { file, to } => format!(in alloc; "copy {}, {}", file.as_str(), to.as_str()),
         Task::Migrate(file) => format!(in alloc; "migrate {}", file.as_str()),

@@ -32,6 +32,7 @@ import FILE ROLL -> added 0|same 3|refused 0|
 import FILE FILE -> fault: roll
 report FILE --purse p1 -> number,kind,amount,balance,note|
 report FILE --purse p2 -> fault: no such purse
+report FILE --statements -> purse,number,kind,amount,balance,note|
 check FILE -> sound: 1 members, 1 holders, 1 purses, 0 lines|even: the sums add up, and each statement leads to its purse's balance|checksums: each page has one|
 copy FILE FILE -> fault: file exists
 copy FILE COPY -> copied|

@@ -106,7 +106,7 @@ module _ {D : Type 0} {g : Ghosts D} where
   life_planned bytes next before after ended w books honest may (InFile path (act.Work (work.Serve port count))) is it =
       life_over bytes next before after ended w _ (λ v done. (done.works.rounds, done.works.end, inr (inr (count, done.answer, done.works.holds)), done.works.moves)) books honest may it.1
   life_planned bytes next before after ended w books honest may (InFile path (act.Work (work.Import roll))) is it = absurd is
-  life_planned bytes next before after ended w books honest may (InFile path (act.Work (work.Report purse))) is it = absurd is
+  life_planned bytes next before after ended w books honest may (InFile path (act.Work (work.Report kind))) is it = absurd is
   life_planned bytes next before after ended w books honest may (InFile path act.Check) is it = absurd is
   life_planned bytes next before after ended w books honest may (InFile path act.Migrate) is it = absurd is
 

@@ -1,10 +1,10 @@
 //! What a task is to do, and in which file.
 ghost use Rattle.std.specs.Prelude.{◌≡◌};
-ghost use Rattle.mx_files.specs.Plans.{planned_task};
+ghost use Rattle.mx_files.specs.Plans.{asked_report, planned_task};
 
-use mx_args::Task;
+use mx_args::{AskedReport, Task};
 use mx_pay::Token;
-use mx_tasks::Work;
+use mx_tasks::{ReportKind, Work};
 
 /// What is done with the books in a file.
 #[derive(Drop)]
@@ -32,6 +32,17 @@ pub enum Plan<'a> {
     InFile(&'a str, Act<'a>),
 }
 
+/// The kind of a report that is asked for.
+fn kind_of(report: AskedReport) -> ReportKind
+    ensures { asked_report result ≡ report }
+{
+    match report {
+        AskedReport::Reconciliation => ReportKind::Reconciliation,
+        AskedReport::Statement(purse) => ReportKind::Statement(purse),
+        AskedReport::Statements => ReportKind::Statements,
+    }
+}
+
 /// The plan of a task.
 pub fn plan_of<'a>(task: &Task<'a>) -> Plan<'a>
     ensures { planned_task result ≡ task.now }
@@ -50,8 +61,8 @@ pub fn plan_of<'a>(task: &Task<'a>) -> Plan<'a>
         Task::Import { file, roll } => {
             Plan::InFile(file.as_str(), Act::Work(Work::Import(roll.as_str())))
         }
-        Task::Report { file, purse } => {
-            Plan::InFile(file.as_str(), Act::Work(Work::Report(*purse)))
+        Task::Report { file, report } => {
+            Plan::InFile(file.as_str(), Act::Work(Work::Report(kind_of(*report))))
         }
         Task::Check(file) => Plan::InFile(file.as_str(), Act::Check),
         Task::Copy { file, to } => Plan::InFile(file.as_str(), Act::Copy(to.as_str())),

@@ -143,6 +143,10 @@ impl RowBook for PlainBook {
         Ok(self.shelves.lines_of(alloc, purse, after, most)?)
     }
 
+    fn purses(&mut self, alloc: Global) -> Result<Vec<Name>, StoreFault> {
+        Ok(self.shelves.purse_names(alloc)?)
+    }
+
     fn members(&mut self, alloc: Global) -> Result<Vec<Name>, StoreFault> {
         Ok(self.shelves.members_of(alloc)?)
     }

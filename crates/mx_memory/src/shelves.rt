@@ -5,9 +5,8 @@ ghost use Rattle.std.specs.FinMap as fmap;
 ghost use Rattle.mx_purse.specs.declared.message.Message.{Message as Kept};
 ghost use Rattle.mx_book.specs.declared.values.Scope.TheVariants.{Member};
 ghost use Rattle.mx_book.specs.declared.values.LineRow.{LineRow as KeptLine};
-ghost use Rattle.mx_book.specs.declared.values.MemberRow.{MemberRow as KeptMember};
 ghost use Rattle.mx_book.specs.RowEdits.{rewritten, all_rewritten, able, all_able, archive_rows, is_archiving, row_laid_of};
-ghost use Rattle.mx_book.specs.RowReads.{row_who_of, row_holder_of, row_purses_of, row_account_of, row_own_purse, row_finds_place, row_inbox_of, row_lines_of, row_members_of, row_load_of, row_redemption_of, row_is_archived, row_is_settled, row_uncollected_of, line_of_row, of_name};
+ghost use Rattle.mx_book.specs.RowReads.{row_who_of, row_holder_of, row_purses_of, row_account_of, row_own_purse, row_finds_place, row_inbox_of, row_lines_of, row_purse_names_of, row_members_of, row_load_of, row_redemption_of, row_is_archived, row_is_settled, row_uncollected_of, line_of_row, of_name};
 ghost use Rattle.mx_sorted.specs.Blocks.{first_of};
 ghost use Rattle.mx_sorted.specs.Left.{rows_left};
 ghost use Rattle.mx_memory.specs.Due.{is_fit, all_fit};
@@ -253,11 +252,18 @@ impl Shelves {
         )
     }
 
+    /// The names of the purses, in order.
+    pub fn purse_names(&self, alloc: Global) -> Result<Vec<Name>, AllocError>
+        ensures { IfOk result (λ r. r.items ≡ row_purse_names_of (rows_of self.now)) }
+    {
+        names_in(alloc, self.purses.rows())
+    }
+
     /// The names of the members, in order.
     pub fn members_of(&self, alloc: Global) -> Result<Vec<Name>, AllocError>
         ensures { IfOk result (λ r. r.items ≡ row_members_of (rows_of self.now)) }
     {
-        member_names(alloc, self.members.rows())
+        names_in(alloc, self.members.rows())
     }
 
     /// The amount of the load of a purse with that reference, or None where there is none.
@@ -322,10 +328,9 @@ fn archives(edit: &Edit) -> bool
     matches!(edit, Edit::ArchiveTray { .. })
 }
 
-/// The names of these members, in order.
-fn member_names(alloc: Global, rows: Rows<'_, Name, MemberRow>) -> Result<Vec<Name>, AllocError>
-    ensures { IfOk result (λ r. r.items ≡ map (λ (e : List ℕ × KeptMember). e.0)
-        (rows_left rows.entry)) }
+/// The names that are the keys of these rows, in order.
+fn names_in<V>(alloc: Global, rows: Rows<'_, Name, V>) -> Result<Vec<Name>, AllocError>
+    ensures { IfOk result (λ r. r.items ≡ map (λ (e : List ℕ × V). e.0) (rows_left rows.entry)) }
 {
     rows.map(|row| row.0).collect(alloc)
 }

@@ -1,3 +1,4 @@
+pub mod TextLemmas
 pub mod StatementLemmas
 pub mod EvenLemmas
 pub mod RollLemmas

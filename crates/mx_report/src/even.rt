@@ -1,11 +1,15 @@
 //! Whether reports add up.
-ghost use Rattle.std.specs.Prelude.{◌≡◌, ◌+◌, ◌<◌, IfSome, IsNone};
+ghost use Rattle.std.specs.Prelude.{◌≡◌, ◌+◌, ◌<◌, IfErr, IfSome, IsNone};
 ghost use Rattle.std.specs.List.{list_all};
-ghost use Rattle.mx_report.specs.Even.{is_even_member, is_even_report, is_even_scheme, is_even_statement};
+ghost use Rattle.mx_book.specs.Reads.{account_of};
+ghost use Rattle.mx_book.specs.Views.{Keeps, Gives};
+ghost use Rattle.mx_report.specs.Even.{is_even_account, is_even_member, is_even_report, is_even_scheme, is_even_statement};
 
 use crate::reconciliation::Report;
 use mx_book::values::{Line, MemberTotals, Totals};
+use mx_book::{Book, StoreFault};
 use mx_pay::Name;
+use std::alloc::Global;
 
 /// What is left of a sum without three others. None where they are more.
 fn without(sum: u128, first: u128, second: u128, third: u128) -> Option<u128>
@@ -69,4 +73,22 @@ pub fn is_even_statement(lines: &[Line], balance: u64) -> bool
         last = line.balance;
     }
     last == balance
+}
+
+/// Whether these lines lead to the balance of a purse, which they don't where there is no such purse.
+pub fn leads_to_balance<B: Book>(
+    alloc: Global,
+    book: &mut B,
+    purse: Name,
+    lines: &[Line],
+) -> Result<bool, StoreFault>
+    ensures keeps { Keeps (B.view book.old) (B.view book.new) }
+    ensures value { Gives (B.view book.old) (B.view book.new) result
+        (λ w is_even. is_even ≡ is_even_account lines.now (account_of w purse)) }
+    ensures fault { IfErr result B.fails }
+{
+    match book.purse(alloc, purse)? {
+        Some(account) => Ok(is_even_statement(lines, account.purse.balance())),
+        None => Ok(false),
+    }
 }

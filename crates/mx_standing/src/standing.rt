@@ -115,6 +115,10 @@ impl<B: RowBook> Book for Standing<B> {
         self.book.lines(alloc, purse, after, most)
     }
 
+    fn purses(&mut self, alloc: Global) -> Result<Vec<Name>, StoreFault> {
+        self.book.purses(alloc)
+    }
+
     fn members(&mut self, alloc: Global) -> Result<Vec<Name>, StoreFault> {
         self.book.members(alloc)
     }

@@ -130,6 +130,11 @@ impl<B: Book> Book for Faulty<B> {
         self.book.lines(alloc, purse, after, most)
     }
 
+    fn purses(&mut self, alloc: Global) -> Result<Vec<Name>, StoreFault> {
+        self.pass()?;
+        self.book.purses(alloc)
+    }
+
     fn members(&mut self, alloc: Global) -> Result<Vec<Name>, StoreFault> {
         self.pass()?;
         self.book.members(alloc)

@@ -34,6 +34,7 @@ const PAID: &str = "
 statement p1 -> number,kind,amount,balance,note|1,loaded,100,100,a1|2,sent,60,40,\"p1,q1,60,0,0\"|
 statement q1 -> number,kind,amount,balance,note|1,received,60,60,\"p1,q1,60,0,0\"|
 statement zz -> none
+statements -> purse,number,kind,amount,balance,note|p1,1,loaded,100,100,a1|p1,2,sent,60,40,\"p1,q1,60,0,0\"|q1,1,received,60,60,\"p1,q1,60,0,0\"|even
 is_even -> yes
 reconcile -> row,name,granted,float,uncollected,issued,redeemed,balances,transit,lost|member,m,1000,900,0,100,0,100,,|scheme,,1000,900,0,100,0,100,0,0|
 ";

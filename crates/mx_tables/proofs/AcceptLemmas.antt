@@ -9,15 +9,15 @@ use Rattle.mx_tables.proofs.FaultLemmas.{IsWhole, select_accepted}
 use Rattle.mx_tables.proofs.LineLemmas.{select_lines, select_lines_is}
 use Rattle.mx_tables.proofs.LoadLemmas.{select_load, select_load_is, select_redemption, select_redemption_is}
 use Rattle.mx_tables.proofs.ResultLemmas.{select_tray, select_tray_is}
-use Rattle.mx_tables.proofs.Texts.{select_inbox, select_inbox_is, select_members, select_members_is, select_message, select_message_is, select_number, select_number_is, select_owners, select_owners_is, select_token, select_token_is}
+use Rattle.mx_tables.proofs.Texts.{select_inbox, select_inbox_is, select_members, select_members_is, select_message, select_message_is, select_number, select_number_is, select_owners, select_owners_is, select_purses, select_purses_is, select_token, select_token_is}
 
 -- the text is one statement, which takes so many parameters
 abbrev Takes : List ℕ → ℕ → Type 0
 Takes sql count = IsWhole sql count (understood office_schema sql)
 
-takes : Takes select_token 1 × Takes select_members 0 × Takes select_owners 0 × Takes select_inbox 1 × Takes select_message 2 × Takes select_number 2 × Takes select_lines 2 × Takes select_tray 1 × Takes select_load 2 × Takes select_redemption 2
+takes : Takes select_token 1 × Takes select_members 0 × Takes select_owners 0 × Takes select_inbox 1 × Takes select_message 2 × Takes select_number 2 × Takes select_lines 2 × Takes select_tray 1 × Takes select_load 2 × Takes select_redemption 2 × Takes select_purses 0
 unfolding understood everything
-takes = ((le_refl _, refl), (le_refl _, refl), (le_refl _, refl), (le_refl _, refl), (le_refl _, refl), (le_refl _, refl), (le_refl _, refl), (le_refl _, refl), (le_refl _, refl), (le_refl _, refl))
+takes = ((le_refl _, refl), (le_refl _, refl), (le_refl _, refl), (le_refl _, refl), (le_refl _, refl), (le_refl _, refl), (le_refl _, refl), (le_refl _, refl), (le_refl _, refl), (le_refl _, refl), (le_refl _, refl))
 
 module _ (db : Trees) where
   pub token_accepted : (text : List ℕ) → Accepts select_token (Text text ∷ []) db
@@ -28,6 +28,9 @@ module _ (db : Trees) where
 
   pub owners_accepted : Accepts select_owners [] db
   owners_accepted = select_accepted select_owners _ _ _ _ _ select_owners_is _ db takes.2 (λ h. cc)
+
+  pub purses_accepted : Accepts select_purses [] db
+  purses_accepted = select_accepted select_purses _ _ _ _ _ select_purses_is _ db takes.10 (λ h. cc)
 
   module _ (p : Name) where
     pub inbox_accepted : Accepts select_inbox (Text p ∷ []) db

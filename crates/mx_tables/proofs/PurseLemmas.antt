@@ -1,6 +1,6 @@
 -- The statements on purses, and what they show.
-use Rattle.mx_tables.proofs.Common.{◌≡◌, ℕ, ◌+◌, ℤ, pos, Bool, true, length, List, [], ◌∷◌, codes, Ok, Option, Some, None, refl, ◌∙◌, arith, ◌&&◌, option_map, eq_by_cmp, nat_cmp, Null, Int, Text, Row, column, Term, col, Executes, name_cmp, is_name, Name, rewritten, Rows, PurseRow, office_schema, number, Holds}
-use Rattle.std.proofs.Common.{drop, sym, ap, ap₂}
+use Rattle.mx_tables.proofs.Common.{◌≡◌, ℕ, ◌+◌, ℤ, pos, Bool, true, length, List, [], ◌∷◌, codes, Ok, Option, Some, None, refl, ◌∙◌, arith, ◌&&◌, option_map, eq_by_cmp, nat_cmp, Null, Int, Text, Row, column, Term, col, Executes, Binary, name_cmp, is_name, Name, rewritten, Rows, PurseRow, office_schema, number, Holds}
+use Rattle.std.proofs.Common.{drop, map, sym, ap, ap₂}
 use Rattle.std.specs.Prelude.{nat_lt}
 use Rattle.mx_pay.specs.Limits.{most_number}
 use Rattle.mx_book.specs.Limits.{most_messages}
@@ -8,7 +8,10 @@ use Rattle.std.specs.FinMap.{nat_cmp-IsAntisymmetric}
 use Rattle.std.specs.FinMap as fmap
 use Rattle.sqlite_rules.specs.Cast.{cast_row}
 use Rattle.sqlite_sql.specs.Term.{eval_all}
-use Rattle.sqlite.specs.State.{State}
+use Rattle.sqlite.specs.State.{State, Shown}
+use Rattle.sqlite_trees.proofs.ListLemmas.{map-map}
+use Rattle.sqlite_value.specs.Keys.{ascending}
+use Rattle.sqlite_value.proofs.OrderLemmas.{value_cmp-Text, then-Equal}
 use Rattle.mx_pay.specs.Codes.{code, entry_texts}
 use Rattle.mx_pay.proofs.CodeLemmas.{none_is}
 use Rattle.mx_purse.specs.State.{new_purse, State as Purse}
@@ -18,12 +21,14 @@ use Rattle.mx_book.specs.declared.edits.Edit.TheVariants.{NewPurse, SetPurse}
 use Rattle.mx_book.specs.RowReads.{row_finds_place, of_name}
 use Rattle.mx_cells.specs.Cells.{purse_cells}
 use Rattle.mx_tables.specs.States.{Brings}
-use Rattle.mx_tables.specs.Answers.{next_shown}
-use Rattle.mx_tables.proofs.Texts.{is_given, insert_purse, insert_purse_is, update_purse, update_purse_is, raise_next, raise_next_is}
+use Rattle.mx_tables.specs.Answers.{next_shown, text_shown}
+use Rattle.mx_tables.proofs.Texts.{is_given, select_purses, select_purses_is, insert_purse, insert_purse_is, update_purse, update_purse_is, raise_next, raise_next_is}
 use Rattle.mx_pay.proofs.TestLemmas.{is_equal}
 use Rattle.mx_tables.proofs.Statements.{env, passes}
 use Rattle.mx_tables.proofs.StoredLemmas.{and_true, same_text, same_numbers, cast_int, cast_null}
 use Rattle.mx_tables.proofs.WriteLemmas.{adds, alters_one, was_there}
+use Rattle.mx_tables.proofs.MemberLemmas.{filter_everything}
+use Rattle.mx_tables.proofs.ReadLemmas.{answers_in_order}
 use Rattle.mx_tables.proofs.KeptLemmas.{purse_place, purses}
 
 -- ---- writes
@@ -80,6 +85,15 @@ module _ (p : Name) (n : ℕ) (old new : State) (has : old.now.schema ≡ office
   raises_next =
       alters_one purses raise_next _ _ raise_next_is _ p is_next raised tests (λ id e. refl) forms old new has ran
       _ (λ r x at. ap (λ o. on_purse o r (λ x. record r { purses = fmap.insert r.purses p (raised x) })) at)
+
+-- ---- the names
+
+pub lists_purses : (old new : State) (rows : List Row) → Shown select_purses [] old new rows → (r : Rows) → Holds old.now r → rows ≡ map text_shown (fmap.keys r.purses)
+lists_purses old new rows shown r h =
+    answers_in_order purses [] (col 1 1 ∷ []) ((col 1 1, ascending Binary) ∷ []) [] (λ _. true) (λ (e : Name × PurseRow). (text_shown e.0, text_shown e.0)) (λ id e. refl) (λ id e. refl)
+    (λ a b _ _ low. then-Equal _ ∙ value_cmp-Text a.0 b.0 ∙ low) select_purses (codes "name" ∷ []) select_purses_is old new rows shown r h
+    ∙ ap (map (λ (e : Name × PurseRow). text_shown e.0)) (filter_everything (fmap.entries r.purses))
+    ∙ sym (map-map text_shown (λ (e : Name × PurseRow). e.0) (fmap.entries r.purses))
 
 -- ---- what a look at one column says of a row
 

@@ -1,5 +1,5 @@
 -- What the rows of a World show is read.
-use Rattle.mx_tables.proofs.Common.{◌≡◌, ◌≤◌, ℕ, List, [], ◌∷◌, length, Some, None, Option, refl, true, ◌∙◌, arith, inl, inr, state, ◌++◌, AllByRecursion, Row, column, Text, Name, Rows, Holds, is_name, name_cmp, nat_cmp, number, option_map}
+use Rattle.mx_tables.proofs.Common.{◌≡◌, ◌≤◌, ℕ, List, [], ◌∷◌, length, Some, None, Option, refl, true, ◌∙◌, arith, inl, inr, state, ◌++◌, AllByRecursion, Row, column, Text, Name, Rows, Holds, is_name, name_cmp, nat_cmp, number, option_map, PurseRow}
 use Rattle.std.proofs.Common.{IsTrue, map, sym, ap, subst}
 use Rattle.std.specs.FinMap as fmap
 use Rattle.std.specs.Prelude.{IfSome}
@@ -157,6 +157,12 @@ module _ (r : Rows) (w : World) (h : book.Spells r w) where
       (shown_all (λ (m : ℕ × Message). IsMessage m.1) message_row (λ e. (refl, (refl, (refl, tt)))) (row_inbox_of r p)
       (all-map (λ (m : ℕ × Message). IsMessage m.1) (λ (e : (Name × ℕ) × Message). (e.0.1, e.1)) (of_name p (fmap.entries r.inbox))
       (all-filter (λ e. IsMessage e.1) (λ e. is_name p e.0.0) (fmap.entries r.inbox) (all_entries kept.pairs_key.total (λ _ m. IsMessage m) r.inbox (messages_valid r w h)))))
+
+  pub purses_shown : (rows : List Row) → rows ≡ map text_shown (fmap.keys r.purses) → AllByRecursion (Displays (λ n. is_name_text n ≡ true) text_shown) rows
+  purses_shown rows is =
+      subst (AllByRecursion (Displays (λ n. is_name_text n ≡ true) text_shown)) (sym is)
+      (shown_all (λ n. is_name_text n ≡ true) text_shown (λ e. (refl, tt)) (fmap.keys r.purses)
+      (all-map (λ n. is_name_text n ≡ true) (λ (e : Name × PurseRow). e.0) (fmap.entries r.purses) (all_entries names_total (λ p x. is_name_text p ≡ true) r.purses (purses_named r w h))))
 
   pub members_shown : (rows : List Row) → rows ≡ map text_shown (fmap.keys r.members) → AllByRecursion (Displays (λ n. is_name_text n ≡ true) text_shown) rows
   members_shown rows is =

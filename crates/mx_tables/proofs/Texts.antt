@@ -97,6 +97,13 @@ pub select_owners_is : IsSelect select_owners 8 [] (col 1 1 ∷ col 1 2 ∷ []) 
 unfolding understood everything
 select_owners_is = record { is = refl; query = record { plain = (refl, refl); silent = λ _ _. refl }; unlisted = refl }
 
+abbrev pub select_purses : List ℕ
+select_purses = codes "SELECT name FROM purse ORDER BY name"
+
+pub select_purses_is : IsSelect select_purses 8 [] (col 1 1 ∷ []) ((col 1 1, ascending Binary) ∷ []) (codes "name" ∷ [])
+unfolding understood everything
+select_purses_is = record { is = refl; query = record { plain = (refl, refl); silent = λ _ _. refl }; unlisted = refl }
+
 abbrev pub select_members : List ℕ
 select_members = codes "SELECT name FROM member ORDER BY name"
 

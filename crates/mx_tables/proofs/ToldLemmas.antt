@@ -9,8 +9,8 @@ use Rattle.mx_pay.specs.Log.{Entries}
 use Rattle.mx_purse.specs.declared.message.Message.{Message}
 use Rattle.mx_book.specs.World.{World, Token}
 use Rattle.mx_book.specs.Spells as book
-use Rattle.mx_book.specs.Reads.{who_of, members_of, account_of, inbox_of, lines_of, tray_of, load_of}
-use Rattle.mx_book.specs.RowReads.{row_who_of, row_members_of, row_account_of, row_inbox_of, row_lines_of, row_load_of}
+use Rattle.mx_book.specs.Reads.{who_of, members_of, purse_names_of, account_of, inbox_of, lines_of, tray_of, load_of}
+use Rattle.mx_book.specs.RowReads.{row_who_of, row_members_of, row_purse_names_of, row_account_of, row_inbox_of, row_lines_of, row_load_of}
 use Rattle.mx_book.specs.Totals.{totals_of, member_totals_of, members_totals_of}
 use Rattle.mx_book.specs.RowEdits.{row_tray_of}
 use Rattle.mx_book.specs.RowTotals.{row_totals_of, row_member_totals_of, row_members_totals_of}
@@ -73,6 +73,10 @@ module _ {S : Type 0} (g : Ghosts S) {old new : Held S} where
   -- ---- lists
 
   module _ {Z : Type 0} where
+    pub tell_purses : {r : Result (Vec Name Z) StoreFault}
+        → Asks g old new r (λ rows v. v.items ≡ row_purse_names_of rows) → Tells g old new r (λ w v. v.items ≡ purse_names_of w)
+    tell_purses = tell (λ rows w s v is. is ∙ spell.purse_names_at rows w s)
+
     pub tell_members : {r : Result (Vec Name Z) StoreFault}
         → Asks g old new r (λ rows v. v.items ≡ row_members_of rows) → Tells g old new r (λ w v. v.items ≡ members_of w)
     tell_members = tell (λ rows w s v is. is ∙ spell.members_at rows w s)

@@ -9,13 +9,14 @@ ghost use Rattle.mx_tables.specs.Answers.{ArePurses, Raises};
 ghost use Rattle.mx_tables.specs.Cached.{ReadsThrough};
 ghost use Rattle.mx_tables.specs.Schema.{office_schema};
 ghost use Rattle.mx_tables.specs.States.{Finds, Asks, Steps, Tells, Writes};
-ghost use Rattle.mx_book.specs.Reads.{account_of, finds_place, has_purse, own_purse};
+ghost use Rattle.mx_book.specs.Reads.{account_of, finds_place, has_purse, own_purse, purse_names_of};
 
-use crate::asking::{About, ask_about, ask_about_inside, run, run_one};
+use crate::asking::{About, ask, ask_about, ask_about_inside, run, run_one};
 use crate::cache::Cache;
 use crate::given;
 use crate::holders::find_holder;
 use crate::inbox::{count_messages, has_room};
+use crate::members::names_in;
 use mx_book::{Account, PurseRow, StoreFault};
 use mx_cells::cells::{name_in, number_in};
 use mx_cells::codes::{log_code, status_code};
@@ -55,6 +56,17 @@ pub fn find_purse<S: Alter>(
         Some(row) => Ok(Some(purse_in(name, &row)?)),
         None => Ok(None),
     }
+}
+
+/// The names of the purses, in order.
+pub fn list_purse_names<S: Alter>(
+    alloc: Global,
+    conn: &mut Connection<S>,
+) -> Result<Vec<Name>, StoreFault>
+    ensures { Tells S.Store conn.old conn.new result (λ w v. v.items ≡ purse_names_of w) }
+{
+    let rows = ask(conn, "SELECT name FROM purse ORDER BY name", &[])?;
+    names_in(alloc, &rows)
 }
 
 /// A purse with its holder and the holder's member, how many messages it holds and the number of its next one, or

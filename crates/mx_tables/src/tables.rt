@@ -24,7 +24,7 @@ use crate::member_sums::sum_members;
 use crate::members::{find_member, list_members};
 use crate::opening::{OpenFault, OpenRefused, check_office, make_office};
 use crate::owners::list_purses;
-use crate::purses::{finds_place, has_purse, is_own, own_purse, read_account};
+use crate::purses::{finds_place, has_purse, is_own, list_purse_names, own_purse, read_account};
 use crate::redemptions::find_redemption;
 use crate::results::{find_archived, list_tray};
 use crate::rounds::end;
@@ -223,6 +223,10 @@ impl<S: Alter> RowBook for Tables<S> {
 
     fn holder(&mut self, alloc: Global, name: Name) -> Result<Option<HolderRow>, StoreFault> {
         read_holder(alloc, &mut self.conn, &mut self.cache, &name)
+    }
+
+    fn purses(&mut self, alloc: Global) -> Result<Vec<Name>, StoreFault> {
+        list_purse_names(alloc, &mut self.conn)
     }
 
     fn members(&mut self, alloc: Global) -> Result<Vec<Name>, StoreFault> {

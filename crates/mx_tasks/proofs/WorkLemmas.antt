@@ -41,4 +41,4 @@ pub works_so : (fails : StoreFault → Type 0) (Sure Certain : Type 0) (S T : Wo
     → ((rs : List Round) (now : World) → M rs now → N rs now) → (w : World) (work : Work) (result : Result Done TaskFault) → Works fails Sure S M w work result → Works fails Certain T N w work result
 works_so fails Sure Certain S T M N sure f g w (Serve port count) result so = leads_so _ M N g so
 works_so fails Sure Certain S T M N sure f g w (Import roll) result so = λ certain. file_so S T w (f certain) result (so (sure certain))
-works_so fails Sure Certain S T M N sure f g w (Report purse) result so = (so.0, λ certain. let it = so.1 (sure certain) in (f certain _ it.0, it.1))
+works_so fails Sure Certain S T M N sure f g w (Report kind) result so = (so.0, λ certain. let it = so.1 (sure certain) in (f certain _ it.0, it.1))

@@ -1,21 +1,20 @@
 -- What the program prints of an import, and of the books.
-use Rattle.std.specs.Prelude.{◌≡◌, ℕ, List, ◌++◌, Bool, false, Option, Some, None, Result, Err, codes, flat_map, length, option_map}
+use Rattle.std.specs.Prelude.{◌≡◌, ℕ, List, ◌++◌, Bool, Option, Some, None, Result, Err, codes, flat_map, length, option_map}
 use Rattle.std.specs.Fmt.{decimal}
-use Rattle.mx_book.specs.Reads.{account_of}
 use Rattle.mx_book.specs.Totals.{members_totals_of, totals_of}
-use Rattle.mx_book.specs.declared.values.Account.{Account}
-use Rattle.mx_book.specs.declared.values.Line.{Line}
-use Rattle.mx_book.specs.World.{World, Name}
+use Rattle.mx_book.specs.World.{World}
 use Rattle.mx_command.specs.Texts.{refusal_text}
-use Rattle.mx_report.specs.Even.{is_even_report, is_even_statement}
+use Rattle.mx_report.specs.Even.{are_even_statements, is_even_purse, is_even_report}
 use Rattle.mx_report.specs.Reconciliation.{reconciliation_text}
-use Rattle.mx_report.specs.Statement.{own_lines, statement_of, statement_text}
+use Rattle.mx_report.specs.Statement.{statement_of, statement_text, statements_text}
 use Rattle.mx_report.specs.declared.rolls.RefusedRow.{RefusedRow}
 use Rattle.mx_report.specs.declared.rolls.RollReason.{RollReason}
 use Rattle.mx_report.specs.declared.rolls.RollReason.TheVariants.{BadRow, Refused}
 use Rattle.mx_report.specs.declared.rolls.RollReport.{RollReport}
 use Rattle.mx_tasks.specs.declared.fault.TaskFault.{TaskFault}
 use Rattle.mx_tasks.specs.declared.fault.TaskFault.TheVariants.{NoSuchPurse}
+use Rattle.mx_tasks.specs.declared.report.ReportKind.{ReportKind}
+use Rattle.mx_tasks.specs.declared.report.ReportKind.TheVariants.{Reconciliation, Statement, Statements}
 use Rattle.mx_tasks.specs.declared.report.ReportText.{ReportText}
 
 -- why a row is refused
@@ -39,25 +38,22 @@ counts_text added same refused =
 abbrev pub import_text : RollReport → List ℕ
 import_text r = counts_text r.added r.same (length r.refused.items) ++ flat_map row_line r.refused.items
 
--- the text of the reconciliation; or that of a purse's statement, where there is such a purse
-abbrev pub report_of : World → Option Name → Option (List ℕ)
-report_of w None = Some (reconciliation_text (members_totals_of w) (totals_of w))
-report_of w (Some purse) = option_map statement_text (statement_of w purse)
-
--- whether lines lead to the balance of an account, which they don't where there is none
-abbrev pub is_even_account : List Line → Option Account → Bool
-is_even_account lines None = false
-is_even_account lines (Some a) = is_even_statement lines a.purse.balance
+-- the text of the reconciliation; that of a purse's statement, where there is such a purse; or that of all statements
+abbrev pub report_of : World → ReportKind → Option (List ℕ)
+report_of w Reconciliation = Some (reconciliation_text (members_totals_of w) (totals_of w))
+report_of w (Statement purse) = option_map statement_text (statement_of w purse)
+report_of w Statements = Some (statements_text w)
 
 -- whether the sums that are reported add up, or the lines lead to the balance of their purse
-abbrev pub is_even_of : World → Option Name → Bool
-is_even_of w None = is_even_report (members_totals_of w) (totals_of w)
-is_even_of w (Some purse) = is_even_account (own_lines w purse) (account_of w purse)
+abbrev pub is_even_of : World → ReportKind → Bool
+is_even_of w Reconciliation = is_even_report (members_totals_of w) (totals_of w)
+is_even_of w (Statement purse) = is_even_purse w purse
+is_even_of w Statements = are_even_statements w
 
 -- what is reported of the World: its text, and whether it adds up
-abbrev pub Reports : World → Option Name → ReportText → Type 0
-Reports w purse r = (report_of w purse ≡ Some r.text.items) × (r.is_even ≡ is_even_of w purse)
+abbrev pub Reports : World → ReportKind → ReportText → Type 0
+Reports w kind r = (report_of w kind ≡ Some r.text.items) × (r.is_even ≡ is_even_of w kind)
 
 -- the fault that there is no such purse comes only where there is none
-abbrev pub Denies : {T : Type 0} → World → Option Name → Result T TaskFault → Type 0
-Denies w purse result = result ≡ Err NoSuchPurse → report_of w purse ≡ None
+abbrev pub Denies : {T : Type 0} → World → ReportKind → Result T TaskFault → Type 0
+Denies w kind result = result ≡ Err NoSuchPurse → report_of w kind ≡ None

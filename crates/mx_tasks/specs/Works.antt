@@ -1,7 +1,6 @@
 -- What work over the books does, and what comes of it.
 use Rattle.std.specs.Prelude.{◌≡◌, ◌≤◌, ◌⊎◌, ℕ, Bool, true, false, List, ◌++◌, Option, Some, None, Result, IfOk, IfErr, IfSome, IsErr, MatchResult, codes, length, String, string_bytes}
 use Rattle.std.specs.Fmt.{decimal}
-use Rattle.mx_pay.specs.declared.names.Name.{Name}
 use Rattle.mx_book.specs.World.{World}
 use Rattle.mx_book.specs.declared.contract.StoreFault.{StoreFault}
 use Rattle.mx_desk.specs.Serve.{Marked}
@@ -14,6 +13,7 @@ use Rattle.mx_tasks.specs.Faults.{IsReportFault}
 use Rattle.mx_tasks.specs.Texts.{import_text, is_even_of, report_of}
 use Rattle.mx_tasks.specs.declared.fault.TaskFault.{TaskFault}
 use Rattle.mx_tasks.specs.declared.fault.TaskFault.TheVariants.{Memory, NoSuchPurse, Store}
+use Rattle.mx_tasks.specs.declared.report.ReportKind.{ReportKind}
 use Rattle.mx_tasks.specs.declared.work.Done.{Done}
 use Rattle.mx_tasks.specs.declared.work.Work.{Work}
 use Rattle.mx_tasks.specs.declared.work.Work.TheVariants.{Serve, Import, Report}
@@ -55,15 +55,15 @@ fault_unless_even true = None
 fault_unless_even false = Some Store
 
 -- a report: its text, and whether it adds up
-abbrev pub IsReport : World → Option Name → Done → Type 0
-IsReport w purse d = (report_of w purse ≡ Some d.text.items) × (d.fault ≡ fault_unless_even (is_even_of w purse))
+abbrev pub IsReport : World → ReportKind → Done → Type 0
+IsReport w kind d = (report_of w kind ≡ Some d.text.items) × (d.fault ≡ fault_unless_even (is_even_of w kind))
 
-abbrev pub WorksReport : World → Option Name → Result Done TaskFault → Type 0
-WorksReport w purse result = MatchResult result (IsReport w purse) (λ e. e ≡ NoSuchPurse → report_of w purse ≡ None)
+abbrev pub WorksReport : World → ReportKind → Result Done TaskFault → Type 0
+WorksReport w kind result = MatchResult result (IsReport w kind) (λ e. e ≡ NoSuchPurse → report_of w kind ≡ None)
 
 -- work that began with the World w: what comes of it, and where the books stand. Of requests that is said also where the store
 -- was shut on the way, and else where it is sure.
 abbrev pub Works : (StoreFault → Type 0) → Type 0 → (World → Type 0) → (List Round → World → Type 0) → World → Work → Result Done TaskFault → Type 0
 Works fails Sure Stands Moves w (Serve port count) result = Leads (WorksServe fails w count result) Moves
 Works fails Sure Stands Moves w (Import roll) result = Sure → ImportsFile None Stands w IsSaid result
-Works fails Sure Stands Moves w (Report purse) result = IfErr result (IsReportFault fails) × (Sure → Stands w × WorksReport w purse result)
+Works fails Sure Stands Moves w (Report kind) result = IfErr result (IsReportFault fails) × (Sure → Stands w × WorksReport w kind result)

@@ -16,5 +16,6 @@ pub mod work;
 
 pub use cause::Cause;
 pub use fault::TaskFault;
+pub use report::ReportKind;
 pub use serve::alarm::{Alarm, Alarmed};
 pub use work::{Done, Work, do_work, work_in_book};

@@ -11,7 +11,7 @@ ghost use Rattle.mx_tasks.specs.Works.{ImportsFile, IsSaid, Works, WorksReport, 
 
 use crate::fault::TaskFault;
 use crate::import::import_file;
-use crate::report::report_text;
+use crate::report::{ReportKind, report_text};
 use crate::serve::alarm::Alarm;
 use crate::serve::listen;
 use crate::serve::listener::Listener;
@@ -19,7 +19,6 @@ use crate::serve::reception::{Reception, serve_client};
 use crate::voice::Voice;
 use mx_book::Book;
 use mx_office::Office;
-use mx_pay::Name;
 use mx_wire::Routes;
 use std::alloc::{AllocError, Global};
 use std::io;
@@ -39,8 +38,8 @@ pub enum Work<'a> {
     },
     /// A roll is imported, from the file of this name.
     Import(&'a str),
-    /// The reconciliation is reported, or the statement of a purse.
-    Report(Option<Name>),
+    /// A report is made.
+    Report(ReportKind),
 }
 
 /// What comes of work: a text, which is printed once the file of the books is closed, and the fault with which the task ends
@@ -60,14 +59,14 @@ fn said(text: Vec<u8>) -> Done
     Done { text, fault: None }
 }
 
-/// What the books come to, or the statement of a purse.
-fn report<B: Book>(alloc: Global, book: &mut B, purse: Option<Name>) -> Result<Done, TaskFault>
+/// The report of this kind.
+fn report<B: Book>(alloc: Global, book: &mut B, kind: ReportKind) -> Result<Done, TaskFault>
     ensures keeps { Keeps (B.view book.old) (B.view book.new) }
     ensures fault { IfErr result (IsReportFault B.fails) }
     ensures reports { IsSure (B.view book.new)
-        → WorksReport (B.view book.old).world purse result }
+        → WorksReport (B.view book.old).world kind result }
 {
-    let reported = report_text(alloc, book, purse)?;
+    let reported = report_text(alloc, book, kind)?;
     Ok(Done {
         text: reported.text,
         fault: (!reported.is_even).then_some(TaskFault::Store),
@@ -211,7 +210,7 @@ pub fn do_work<B: Book>(
     match work {
         Work::Serve { port, count } => serve(rt, &mut io::writer(rt), *port, *count, office),
         Work::Import(roll) => import(rt, roll, office),
-        Work::Report(purse) => report(rt.alloc(), &mut office.book, *purse),
+        Work::Report(kind) => report(rt.alloc(), &mut office.book, *kind),
     }
 }
 

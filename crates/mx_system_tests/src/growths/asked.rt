@@ -2,11 +2,11 @@
 use super::values::{
     account_words, caller_words, end_words, holder_words, inbox_words, lines_words, log_words,
     member_sums_words, member_words, members_sums_words, message_words, names_words, number_words,
-    purse_words, report_words, scheme_words, truth_words,
+    purse_words, report_words, scheme_words, statements_words, truth_words,
 };
 use mx_book::{Book, RowBook, StoreFault};
 use mx_pay::{Amount, Name, PayDetails, Token, read_details};
-use mx_report::{reconcile, statement};
+use mx_report::{all_statements, reconcile, statement};
 use std::alloc::{AllocError, Global};
 
 /// The name of a word. A word of another kind is Store: asked twice it answers Store twice, which no refused growth explains.
@@ -46,10 +46,12 @@ fn amount_words(alloc: Global, amount: Option<Amount>) -> Result<String, AllocEr
 /// A call about the whole scheme.
 fn of_scheme(alloc: Global, book: &mut impl Book, call: &str) -> Result<String, StoreFault> {
     in_words(match call {
+        "purses" => names_words(alloc, book.purses(alloc)?),
         "members" => names_words(alloc, book.members(alloc)?),
         "totals" => scheme_words(alloc, &book.totals(alloc)?),
         "members_totals" => members_sums_words(alloc, book.members_totals(alloc)?),
         "reconcile" => report_words(alloc, &reconcile(alloc, book)?),
+        "statements" => statements_words(alloc, &all_statements(alloc, book)?),
         "is_even" => truth_words(alloc, reconcile(alloc, book)?.is_even()),
         _ => unknown_words(alloc),
     })

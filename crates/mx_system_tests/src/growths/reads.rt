@@ -16,6 +16,7 @@ who 0000000000000000000000000000000a -> holder ann
 who 0000000000000000000000000000000c -> none
 member m -> granted 1000, float 900
 member zz -> none
+purses -> p1|q1|
 members -> m|
 holder ann -> of m, purses 1
 holder zz -> none
@@ -50,6 +51,7 @@ members_totals -> m,1000,900,0,100,0,100|
 statement p1 -> number,kind,amount,balance,note|1,loaded,100,100,a1|2,sent,60,40,\"p1,q1,60,0,0\"|
 statement q1 -> number,kind,amount,balance,note|1,received,60,60,\"p1,q1,60,0,0\"|
 statement zz -> none
+statements -> purse,number,kind,amount,balance,note|p1,1,loaded,100,100,a1|p1,2,sent,60,40,\"p1,q1,60,0,0\"|q1,1,received,60,60,\"p1,q1,60,0,0\"|even
 reconcile -> row,name,granted,float,uncollected,issued,redeemed,balances,transit,lost|member,m,1000,900,0,100,0,100,,|scheme,,1000,900,0,100,0,100,0,0|
 ";
 

@@ -4,7 +4,7 @@ use mx_book::{Account, Caller, HolderRow, Line, MemberRow, MemberTotals, Totals}
 use mx_pay::{Log, Name, PayDetails, code_text, push_entry};
 use mx_purse::words::{message_word, status_word};
 use mx_purse::{Message, Purse, Status};
-use mx_report::{Report, reconcile_text, statement_text};
+use mx_report::{Report, StatementsText, reconcile_text, statement_text};
 use std::alloc::{AllocError, Global};
 
 /// The word for what isn't there.
@@ -240,4 +240,18 @@ pub(super) fn end_words(alloc: Global, lines: Option<Vec<Line>>) -> Result<Strin
 pub(super) fn report_words(alloc: Global, report: &Report) -> Result<String, AllocError> {
     let text = reconcile_text(alloc, report)?;
     folded(alloc, text.as_slice())
+}
+
+/// The text of the statements of all purses, and whether they are even.
+pub(super) fn statements_words(
+    alloc: Global,
+    statements: &StatementsText,
+) -> Result<String, AllocError> {
+    let mut words = folded(alloc, statements.text.as_slice())?;
+    words.push_str(if statements.are_even {
+        "even"
+    } else {
+        "not even"
+    })?;
+    Ok(words)
 }

@@ -5,7 +5,7 @@ ghost use Rattle.mx_tasks.specs.Evenness.{purse_line, uneven_member, uneven_purs
 ghost use Rattle.mx_tasks.specs.Faults.{IsBookFault, IsReportFault};
 
 use crate::fault::TaskFault;
-use crate::report::report_text;
+use crate::report::{ReportKind, report_text};
 use mx_book::Book;
 use mx_book::values::MemberTotals;
 use mx_pay::Name;
@@ -68,7 +68,7 @@ fn uneven_purse<B: Book>(alloc: Global, book: &mut B, purse: Name) -> Result<Str
         (λ w line. string_bytes line ≡ uneven_purse w purse) }
     ensures fault { IfErr result (IsReportFault B.fails) }
 {
-    if report_text(alloc, book, Some(purse))?.is_even {
+    if report_text(alloc, book, ReportKind::Statement(purse))?.is_even {
         return Ok(String::new(alloc));
     }
     Ok(purse_line(alloc, purse)?)

@@ -1,7 +1,7 @@
 -- Each row adds its line.
 use Rattle.std.proofs.Common.{◌∙◌, string_bytes}
 use Rattle.mx_tasks.specs.Texts.{row_line}
-use Rattle.mx_tasks.proofs.TextLemmas.{row_more, rows_done}
+use Rattle.mx_report.proofs.TextLemmas.{row_more, rows_done}
 use Rattle.mx_tasks.proofs.import.summary.import_text.Goals as goal
 
 pub loop-row-preserved : goal.loop-row-preserved

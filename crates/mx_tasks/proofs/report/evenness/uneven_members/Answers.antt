@@ -1,7 +1,7 @@
 -- Each member adds its line.
 use Rattle.std.proofs.Common.{◌∙◌, ap, string_bytes}
 use Rattle.mx_tasks.specs.Evenness.{uneven_member}
-use Rattle.mx_tasks.proofs.TextLemmas.{row_more, rows_done}
+use Rattle.mx_report.proofs.TextLemmas.{row_more, rows_done}
 use Rattle.mx_tasks.proofs.report.evenness.uneven_members.Goals as goal
 
 pub loop-member-preserved : goal.loop-member-preserved

@@ -2,7 +2,7 @@
 use Rattle.std.proofs.Common.{◌∙◌, ap, rules, string_bytes}
 use Rattle.mx_book.proofs.StandLemmas.{sure_before}
 use Rattle.mx_tasks.specs.Evenness.{uneven_purse}
-use Rattle.mx_tasks.proofs.TextLemmas.{row_more, rows_done}
+use Rattle.mx_report.proofs.TextLemmas.{row_more, rows_done}
 use Rattle.mx_tasks.proofs.report.evenness.uneven_purses.Goals as goal
 
 pub loop-purse-preserved : goal.loop-purse-preserved
