@@ -193,4 +193,3 @@ whole_row Archive r raw present = plain_row Archive (plain_table Archive (λ e. 
 whole_row Loads r raw present = plain_row Loads (plain_table Loads (λ e. cc)) r raw present
 whole_row Redemptions r raw present = plain_row Redemptions (plain_table Redemptions (λ e. cc)) r raw present
 whole_row Settled r raw present = plain_row Settled (plain_table Settled (λ e. cc)) r raw present
-

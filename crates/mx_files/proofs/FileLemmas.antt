@@ -184,10 +184,14 @@ module _ {D : Type 0} {g : Ghosts D} where
 
   -- and so is one that was copied
   pub copied_over : {C : Type 0} {h : Ghosts C} (c : Held (FileStore D g)) (bytes : Image) (left : Left D g) (copy : Left C h) → IsOpenedOver bytes c → (AreHonest left → IsKept c left) → HoldCopy c left copy → CopiesBooks bytes left copy
-  copied_over c bytes left copy over keeps it = (it.shut.0, it.shut.1, λ honest.
-      let kept = keeps honest in
-      let it = it.world honest in
-      (it.0, λ u books. same_world c bytes it.0 u kept.clean over books it.1, it.2))
+  copied_over c bytes left copy over keeps it = (
+    it.shut.0,
+    it.shut.1,
+    λ honest.
+        let kept = keeps honest in
+        let it = it.world honest in
+        (it.0, λ u books. same_world c bytes it.0 u kept.clean over books it.1, it.2),
+  )
 
   pub checks_over : (Wrong : Type 0) (c : Held (FileStore D g)) (bytes : Image) (left : Left D g) → IsOpenedOver bytes c
       → HasCleanDisk (file_state c) × ((Wrong × (Opens (file_state c) → HoldTrees left (file_state c).now.trees)) ⊎ (AreShut left → (w : World) × Represents (file_state c).now w × HoldWorld left w)) → Checks bytes left Wrong
