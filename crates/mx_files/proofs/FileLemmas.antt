@@ -41,7 +41,7 @@ use Rattle.mx_tasks.specs.declared.work.Done.{Done as Work}
 use Rattle.mx_files.specs.declared.closing.Ended.{Ended}
 use Rattle.mx_args.specs.declared.task.Task.{Task as Planned}
 use Rattle.mx_files.specs.Opened.{IsRefusal, IsWrong, open_fault_of}
-use Rattle.mx_files.specs.Performed.{Checks, EndsRun, EndsWith, EndsWork, Performs, PerformsAct, PerformsPlan, Streams, ended_of, CopiesBooks, HoldTaken, MigratesBooks}
+use Rattle.mx_files.specs.Performed.{Checks, EndsRun, EndsWith, EndsWork, Performs, PerformsAct, PerformsPlan, Streams, ended_of, CopiesBooks, HoldTaken, MigratesBooks, PerformsCopy, EndsSaying}
 use Rattle.mx_files.specs.Plans.{planned_task}
 use Rattle.mx_files.specs.declared.plan.Plan.{Plan}
 use Rattle.mx_files.specs.declared.plan.Plan.TheVariants.{InFile}
@@ -170,7 +170,7 @@ module _ {D : Type 0} {g : Ghosts D} where
       record { clean = clean_before (file_state c) (file_state last) rests.later (closes.honest honest); held = refused_held c last left law rests closes honest }
 
   -- which is the database of the bytes over which it was opened
-  keeps_so : (c : Held (FileStore D g)) (bytes : Image) (left : Left D g) → HasCleanDisk (file_state c) → IsOpenedOver bytes c → (Opens (file_state c) → HoldTrees left (file_state c).now.trees) → Keeps bytes left (file_state c).now
+  pub keeps_so : (c : Held (FileStore D g)) (bytes : Image) (left : Left D g) → HasCleanDisk (file_state c) → IsOpenedOver bytes c → (Opens (file_state c) → HoldTrees left (file_state c).now.trees) → Keeps bytes left (file_state c).now
   keeps_so c bytes left clean over held = by (over clean) where
     by : FindsIn bytes (file_state c) × IsOpened c → Keeps bytes left (file_state c).now
     by (finds, opened) = record {
@@ -265,11 +265,11 @@ checks_ended bytes left answer result before after ends (inl it) = inl (wrong_en
 checks_ended bytes left answer result before after ends (inr it) = inr it
 
 -- a migration keeps the World
-upgraded_so : (made : Migrated) (old new : Database) (w : World) → Migrates made old new → RepresentsIn (version_before made) old w → Represents new w
+pub upgraded_so : (made : Migrated) (old new : Database) (w : World) → Migrates made old new → RepresentsIn (version_before made) old w → Represents new w
 upgraded_so Done old new w it stands = ∥∥₁_map stands (λ one. (it.1.spells w one).0)
 upgraded_so Already old new w it stands = subst (λ (db : Database). Represents db w) (sym it.1) stands
 
-version_so : (made : Migrated) (old new : Database) → Migrates made old new → old.schema ≡ schema_of (version_before made)
+pub version_so : (made : Migrated) (old new : Database) → Migrates made old new → old.schema ≡ schema_of (version_before made)
 version_so Done old new it = it.0.schema
 version_so Already old new it = it.0.schema
 
@@ -324,6 +324,23 @@ raised_books c bytes left copy answer over honest kept raised = record {
   refused = λ shut. on_any answer (inl ((file_state c).now, keeps_so c bytes left kept.clean over kept.held));
 }
 
+pub raised_shut : {D C : Type 0} {g : Ghosts D} {h : Ghosts C} {c : Held (FileStore D g)} {left : Left D g} {copy : Left C h} (answer : Result Migrated TaskFault) → IfOk answer (HoldRaised c left copy) → IsOk answer → AreShut left
+raised_shut (Ok made) it ok = it.shut.0
+raised_shut (Err fault) it ok = absurd (cc)
+
+-- one of the files themselves
+pub migrated_books : {D C : Type 0} {g : Ghosts D} {h : Ghosts C} (c : Held (FileStore D g)) (bytes : Image) (left : Left D g) (answer : Result Migrated TaskFault) → HasCleanDisk (file_state c) → IsOpenedOver bytes c
+    → (AreShut left → IfOk answer (Raises (file_state c).now left)) → (AreShut left → Opens (file_state c) → OnErr answer (HoldTrees left (file_state c).now.trees ⊎ Raises (file_state c).now left Done))
+    → MigratesBooks {C = C} {h = h} bytes answer left Nothing
+migrated_books c bytes left answer clean over raises kept =
+    record { migrates = migrated_over c bytes left answer clean over raises; refused = λ shut. unraised_over c bytes left answer clean over (kept shut) }
+
+-- a copy that is said was closed
+pub copied_shut : {D C X Y : Type 0} {g : Ghosts D} {h : Ghosts C} {c : Held (FileStore D g)} {left : Left D g} {copy : Left C h} (text : X → List ℕ) (answer : Result X TaskFault) (result : Result Y TaskFault) (before after : Option (List ℕ))
+    → OnOk answer (HoldCopy c left copy) → EndsSaying text answer result before after → IsOk result → AreShut left
+copied_shut text (Ok x) result before after it ends ok = it.shut.0
+copied_shut text (Err fault) result before after it ends ok = never_ok result (rw ends.0 (search rules)) ok
+
 -- where the files were closed, a close tells what was answered
 pub told_shut : {D X : Type 0} {g : Ghosts D} (left : Left D g) (answer : Result X TaskFault) → (IsOk answer → AreShut left) → answer ≡ closed_answer left answer
 told_shut (Closed files) answer shut = refl
@@ -352,6 +369,11 @@ ends_well (Err fault) result before after it ok so = absurd (cc)
 pub ended_so : {D X : Type 0} {g : Ghosts D} (P : Ended X D g → Type 0) (r : Result (Ended X D g) TaskFault) (e : Ended X D g) → e ≡ ended_of r → IfOk r P → ((fault : TaskFault) → IsErr r → P (record { answer = Err fault; left = Nothing; copy = Nothing })) → P e
 ended_so P (Ok ended) e is ok err = rw is ok
 ended_so P (Err fault) e is ok err = rw is (err fault (search rules))
+
+-- a copy of books that aren't opened
+pub copy_unopened : {D : Type 0} {g : Ghosts D} (bytes : Image) (fault : TaskFault) (before after : Option (List ℕ)) → after ≡ before
+    → PerformsCopy {D = D} {X = Unit {0}} {g = g} bytes (record { answer = Err fault; left = Nothing; copy = Nothing }) before after
+copy_unopened bytes fault before after same = record { answer = Err fault; copies = tt; keeps = λ honest. absurd honest; ends = (refl, same) }
 
 -- a task does what its plan does
 pub performs_as : {D X : Type 0} {g : Ghosts D} (bytes : Image) (before after : Streams) (task : Planned) (ended : Ended X D g) (plan shape : Plan) → plan ≡ shape → planned_task plan ≡ task → PerformsPlan bytes before after shape ended

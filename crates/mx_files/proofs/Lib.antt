@@ -1,5 +1,6 @@
 pub mod RowLemmas
 pub mod TableLemmas
+pub mod CopiedLemmas
 pub mod FileLemmas
 pub mod FolderLemmas
 pub mod SeriesLemmas

@@ -112,8 +112,8 @@ fn copy_to_empty<'a, S: Start>(
     made: &str,
     store: Opened<'a, S>,
 ) -> Ended<(), BookFile<'a, S>>
-    ensures keeps { AreHonest result.left → IsKept store result.left }
-    ensures copies { OnOk result.answer (HoldCopy store result.left result.copy) }
+    ensures keeps { AreHonest result.left → IsKept store.entry result.left }
+    ensures copies { OnOk result.answer (HoldCopy store.entry result.left result.copy) }
 {
     match open_copy(rt, made) {
         Ok(to) => copy_in_files(rt.alloc(), store, to),
@@ -127,8 +127,8 @@ fn raise_to_empty<'a, S: Start>(
     made: &str,
     store: Opened<'a, S>,
 ) -> Ended<Migrated, BookFile<'a, S>>
-    ensures keeps { AreHonest result.left → IsKept store result.left }
-    ensures raises { IfOk result.answer (HoldRaised store result.left result.copy) }
+    ensures keeps { AreHonest result.left → IsKept store.entry result.left }
+    ensures raises { IfOk result.answer (HoldRaised store.entry result.left result.copy) }
 {
     match open_copy(rt, made) {
         Ok(to) => raise_in_files(rt.alloc(), store, to),
@@ -172,8 +172,8 @@ fn copy_over<'a, F: DatabaseFolder, S: Start>(
     path: &str,
     store: Opened<'a, S>,
 ) -> Ended<(), BookFile<'a, S>>
-    ensures keeps { AreHonest result.left → IsKept store result.left }
-    ensures copies { OnOk result.answer (HoldCopy store result.left result.copy) }
+    ensures keeps { AreHonest result.left → IsKept store.entry result.left }
+    ensures copies { OnOk result.answer (HoldCopy store.entry result.left result.copy) }
     ensures placed { OnOk result.answer
         (Installs Replaces.Nothing path.now (F.paths folder.old) (F.paths folder.new)) }
     ensures kept { OnErr result.answer
@@ -196,8 +196,8 @@ fn raise_over<'a, F: DatabaseFolder, S: Start>(
     number: u64,
     store: Opened<'a, S>,
 ) -> Ended<Migrated, BookFile<'a, S>>
-    ensures keeps { AreHonest result.left → IsKept store result.left }
-    ensures raises { IfOk result.answer (HoldRaised store result.left result.copy) }
+    ensures keeps { AreHonest result.left → IsKept store.entry result.left }
+    ensures raises { IfOk result.answer (HoldRaised store.entry result.left result.copy) }
     ensures placed { OnOk result.answer
         (Installs (Replaces.File number) path.now (F.paths folder.old) (F.paths folder.new)) }
     ensures kept { OnErr result.answer
@@ -224,8 +224,8 @@ pub(crate) fn copy_to_file<'a, S: Start>(
     path: &str,
     store: Opened<'a, S>,
 ) -> Ended<(), BookFile<'a, S>>
-    ensures keeps { AreHonest result.left → IsKept store result.left }
-    ensures copies { OnOk result.answer (HoldCopy store result.left result.copy) }
+    ensures keeps { AreHonest result.left → IsKept store.entry result.left }
+    ensures copies { OnOk result.answer (HoldCopy store.entry result.left result.copy) }
 {
     let mut folder = rt;
     copy_over(rt, &mut folder, path, store)
@@ -244,8 +244,8 @@ pub(crate) fn raise_file<'a, S: Start>(
     number: u64,
     store: Opened<'a, S>,
 ) -> Ended<Migrated, BookFile<'a, S>>
-    ensures keeps { AreHonest result.left → IsKept store result.left }
-    ensures raises { IfOk result.answer (HoldRaised store result.left result.copy) }
+    ensures keeps { AreHonest result.left → IsKept store.entry result.left }
+    ensures raises { IfOk result.answer (HoldRaised store.entry result.left result.copy) }
 {
     let mut folder = rt;
     raise_over(rt, &mut folder, path, number, store)

@@ -230,6 +230,7 @@ fn copy_file<'a, S: Start, W: Write>(
     writer: &mut Counted<W>,
 ) -> Result<Ended<(), BookFile<'a, S>>, TaskFault>
     ensures unopened { IsErr result → writer.new ≡ writer.old }
+    ensures shut { IfOk result (λ ended. IsOk ended.answer → AreShut ended.left) }
     ensures copies { IfOk result (λ ended. PerformsCopy (image_at S.Start) ended
         (W.contents writer.old.device) (W.contents writer.new.device)) }
 {
@@ -250,7 +251,7 @@ fn migrate_opened<'a, S: Start>(
     store: Opened<'a, S>,
 ) -> Ended<Migrated, BookFile<'a, S>>
     ensures shut { IsOk result.answer → AreShut result.left }
-    ensures migrates { (bytes : Image) → IsOpenedOver bytes store → AreHonest result.left
+    ensures migrates { (bytes : Image) → IsOpenedOver bytes store.entry → AreHonest result.left
         → (answer : Result Migrated TaskFault)
         × (result.answer ≡ closed_answer result.left answer)
         × MigratesBooks bytes answer result.left result.copy }

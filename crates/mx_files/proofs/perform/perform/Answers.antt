@@ -1,5 +1,5 @@
 use Rattle.std.proofs.Common.{inl, refl}
-use Rattle.mx_files.proofs.FileLemmas.{ended_so, performs_act, performs_as}
+use Rattle.mx_files.proofs.FileLemmas.{copy_unopened, ended_so, performs_act, performs_as}
 use Rattle.mx_files.proofs.perform.perform.Goals as goal
 
 pub returns-in-InMemory : goal.returns-in-InMemory
@@ -20,3 +20,7 @@ returns-in-Check g c = performs_act _ _ _ _ c.check_file.result _ _ _ _ _ c.in-I
 pub returns-in-Migrate : goal.returns-in-Migrate
 returns-in-Migrate g c = performs_act _ _ _ _ c.migrate_file.result _ _ _ _ _ c.in-InFile.is c.in-Migrate.is c.plan_of.ensures c.ended-in-Migrate.ensures c.migrate_file.ensures.shut
     (ended_so _ c.migrate_file.result _ c.ended-in-Migrate.ensures c.migrate_file.ensures.migrates (λ fault was honest. absurd honest))
+
+pub returns-in-Copy : goal.returns-in-Copy
+returns-in-Copy g c = performs_act _ _ _ _ c.copy_file.result _ _ _ _ _ c.in-InFile.is c.in-Copy.is c.plan_of.ensures c.ended-in-Copy.ensures c.copy_file.ensures.shut
+    (ended_so _ c.copy_file.result _ c.ended-in-Copy.ensures c.copy_file.ensures.copies (λ fault was. copy_unopened _ _ _ _ (c.copy_file.ensures.unopened was)))
