@@ -1,5 +1,5 @@
 -- What copies of books hold.
-use Rattle.std.proofs.Common.{◌≡◌, ◌∙◌, ap, Result, Ok, Err, rules, subst, sym}
+use Rattle.std.proofs.Common.{◌≡◌, ◌∙◌, Result, Ok, Err, refl, rules, sym}
 use Rattle.std.specs.Prelude.{IfOk, IsOk, OnOk}
 use mathlib.Core.Logic.{∥∥₁_map}
 use Rattle.sqlite_disk.specs.declared.Disk.{Ghosts}
@@ -28,10 +28,13 @@ answered r P x is it = rw is at it
 pub is_answered : {X E : Type 0} (r : Result X E) (x : X) → r ≡ Ok x → IsOk r
 is_answered r x is = rw is (search rules)
 
+never_both : {X E P : Type 0} (e : E) (x : X) → Err e ≡ Ok x → P
+never_both e x is = absurd (cc)
+
 -- what was answered behind a close was answered before it
 pub before_close : {D X : Type 0} {g : Ghosts D} (left : Left D g) (answer told : Result X TaskFault) (x : X) → told ≡ closed_answer left answer → told ≡ Ok x → answer ≡ Ok x
 before_close (Closed files) answer told x closed is = sym closed ∙ is
-before_close (Unclosed store) (Ok y) told x closed is = absurd (let e : Err {T = X} Store ≡ Ok x = sym closed ∙ is in cc)
+before_close (Unclosed store) (Ok y) told x closed is = never_both _ x (sym closed ∙ is)
 before_close (Unclosed store) (Err e) told x closed is = sym closed ∙ is
 before_close Nothing answer told x closed is = sym closed ∙ is
 

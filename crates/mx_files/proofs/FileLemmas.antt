@@ -190,7 +190,7 @@ module _ {D : Type 0} {g : Ghosts D} where
     λ honest.
         let kept = keeps honest in
         let it = it.world honest in
-        (it.0, λ u books. same_world c bytes it.0 u kept.clean over books it.1, it.2),
+        (it.0, λ u books. same_world c bytes it.0 u kept.clean over books it.1, it.2, it.3),
   )
 
   pub checks_over : (Wrong : Type 0) (c : Held (FileStore D g)) (bytes : Image) (left : Left D g) → IsOpenedOver bytes c
@@ -251,6 +251,18 @@ wrong_closed (Closed files) answer wrong = wrong
 wrong_closed (Unclosed store) (Ok done) wrong = tt
 wrong_closed (Unclosed store) (Err e) wrong = tt
 wrong_closed Nothing answer wrong = wrong
+
+-- a line more on checksums tells of the same
+pub wrong_sums : (X : List ℕ → List ℕ → Type 0) (answer result : Result Work TaskFault) → (IsOk result → IsOk answer) → IfOk answer (λ was. IfOk result (λ done. (done.fault ≡ was.fault) × X was.text.items done.text.items)) → IfOk answer IsWrong
+    → IfOk result IsWrong
+wrong_sums X (Ok was) (Ok done) ok adds wrong = adds.0 ∙ wrong
+wrong_sums X (Ok was) (Err e) ok adds wrong = tt
+wrong_sums X (Err e) (Ok done) ok adds wrong = absurd (let none = ok (search rules) in cc)
+wrong_sums X (Err e) (Err f) ok adds wrong = tt
+
+pub checks_weaker : {D : Type 0} {g : Ghosts D} {P Q : Type 0} (bytes : Image) (left : Left D g) → (P → Q) → Checks bytes left P → Checks bytes left Q
+checks_weaker bytes left so (inl it) = inl (so it.0, it.1, it.2)
+checks_weaker bytes left so (inr it) = inr it
 
 wrong_ends : {X : Type 0} (answer : Result Work TaskFault) (result : Result X TaskFault) (before after : Option (List ℕ)) → EndsWork answer result before after → IfOk answer IsWrong → IsErr result
 wrong_ends (Ok done) result before after (inl failed) wrong = rw failed (search rules)
@@ -324,9 +336,9 @@ raised_books c bytes left copy answer over honest kept raised = record {
   refused = λ shut. on_any answer (inl ((file_state c).now, keeps_so c bytes left kept.clean over kept.held));
 }
 
-pub raised_shut : {D C : Type 0} {g : Ghosts D} {h : Ghosts C} {c : Held (FileStore D g)} {left : Left D g} {copy : Left C h} (answer : Result Migrated TaskFault) → IfOk answer (HoldRaised c left copy) → IsOk answer → AreShut left
-raised_shut (Ok made) it ok = it.shut.0
-raised_shut (Err fault) it ok = absurd (cc)
+pub raised_shut : {D C : Type 0} {g : Ghosts D} {h : Ghosts C} (c : Held (FileStore D g)) (left : Left D g) (copy : Left C h) (answer : Result Migrated TaskFault) → IfOk answer (HoldRaised c left copy) → IsOk answer → AreShut left
+raised_shut c left copy (Ok made) it ok = it.shut.0
+raised_shut c left copy (Err fault) it ok = absurd (cc)
 
 -- one of the files themselves
 pub migrated_books : {D C : Type 0} {g : Ghosts D} {h : Ghosts C} (c : Held (FileStore D g)) (bytes : Image) (left : Left D g) (answer : Result Migrated TaskFault) → HasCleanDisk (file_state c) → IsOpenedOver bytes c
@@ -336,10 +348,10 @@ migrated_books c bytes left answer clean over raises kept =
     record { migrates = migrated_over c bytes left answer clean over raises; refused = λ shut. unraised_over c bytes left answer clean over (kept shut) }
 
 -- a copy that is said was closed
-pub copied_shut : {D C X Y : Type 0} {g : Ghosts D} {h : Ghosts C} {c : Held (FileStore D g)} {left : Left D g} {copy : Left C h} (text : X → List ℕ) (answer : Result X TaskFault) (result : Result Y TaskFault) (before after : Option (List ℕ))
+pub copied_shut : {D C X Y : Type 0} {g : Ghosts D} {h : Ghosts C} (c : Held (FileStore D g)) (left : Left D g) (copy : Left C h) (text : X → List ℕ) (answer : Result X TaskFault) (result : Result Y TaskFault) (before after : Option (List ℕ))
     → OnOk answer (HoldCopy c left copy) → EndsSaying text answer result before after → IsOk result → AreShut left
-copied_shut text (Ok x) result before after it ends ok = it.shut.0
-copied_shut text (Err fault) result before after it ends ok = never_ok result (rw ends.0 (search rules)) ok
+copied_shut c left copy text (Ok x) result before after it ends ok = it.shut.0
+copied_shut c left copy text (Err fault) result before after it ends ok = never_ok result (rw ends.0 (search rules)) ok
 
 -- where the files were closed, a close tells what was answered
 pub told_shut : {D X : Type 0} {g : Ghosts D} (left : Left D g) (answer : Result X TaskFault) → (IsOk answer → AreShut left) → answer ≡ closed_answer left answer

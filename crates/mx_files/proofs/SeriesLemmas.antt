@@ -108,6 +108,7 @@ module _ {D : Type 0} {g : Ghosts D} where
   life_planned bytes next before after ended w books honest may (InFile path (act.Work (work.Import roll))) is it = absurd is
   life_planned bytes next before after ended w books honest may (InFile path (act.Work (work.Report kind))) is it = absurd is
   life_planned bytes next before after ended w books honest may (InFile path act.Check) is it = absurd is
+  life_planned bytes next before after ended w books honest may (InFile path (act.Copy to)) is it = absurd is
   life_planned bytes next before after ended w books honest may (InFile path act.Migrate) is it = absurd is
 
   pub life_performed : (bytes next : Image) (before after : Streams) (task : Task) (ended : Ended (Unit {0}) D g) (w : World) → IsAnswering task → HoldTables bytes w

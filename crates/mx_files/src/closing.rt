@@ -76,17 +76,23 @@ impl<T, D: Disk> Ended<T, D> {
     pub fn of(answer: Result<T, TaskFault>) -> Ended<T, D>
         ensures { result ≡ record { answer = answer; left = Left.Nothing; copy = Left.Nothing } }
     {
-        Ended::over(answer, Left::Nothing)
-    }
-
-    /// A task that leaves these files of books, and no copy.
-    pub fn over(answer: Result<T, TaskFault>, left: Left<D>) -> Ended<T, D>
-        ensures { result ≡ record { answer = answer; left = left; copy = Left.Nothing } }
-    {
         Ended {
             answer,
-            left,
+            left: Left::Nothing,
             copy: Left::Nothing,
+        }
+    }
+}
+
+impl<T: Drop, D: Disk + Drop> Ended<T, D> {
+    /// The files, where what was answered is no fault.
+    pub fn into_left(self) -> Result<Left<D>, TaskFault>
+        ensures { IfOk result (λ left. (left ≡ self.left) × IsOk self.answer) }
+    {
+        let Ended { answer, left, .. } = self;
+        match answer {
+            Ok(_) => Ok(left),
+            Err(fault) => Err(fault),
         }
     }
 }
@@ -129,8 +135,11 @@ pub fn close<D: Disk + Drop, T: Drop>(
     ensures closes { Closes store result.left }
 {
     let left = closed(store);
-    let answer = told(&left, answer);
-    Ended::over(answer, left)
+    Ended {
+        answer: told(&left, answer),
+        left,
+        copy: Left::Nothing,
+    }
 }
 
 /// Closes the files of a store of which nothing was done, for this fault. They hold what they held.
@@ -214,11 +223,10 @@ pub fn raise_in_files<D: Disk + Drop>(
     ensures keeps { AreHonest result.left → IsKept store result.left }
     ensures raises { IfOk result.answer (HoldRaised store result.left result.copy) }
 {
-    let mut store = store;
     let mut to = to;
-    let answer = raise_in_store(alloc, &mut store, &mut to);
+    let (answer, left) = raise_in_store(alloc, store, &mut to);
     let raised = close(answer, to);
-    let Ended { answer, left, .. } = close(raised.answer, store);
+    let Ended { answer, left, .. } = close(raised.answer, left);
     Ended {
         answer,
         left,

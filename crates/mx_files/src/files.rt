@@ -83,14 +83,6 @@ fn open_new<'a, S: Start>(rt: &'a HostRuntime, path: &str, start: S) -> Result<O
     open_at(rt, path, true, start)
 }
 
-/// A value, where what was answered is no fault.
-fn where_ok<T: Drop>(answer: Result<(), TaskFault>, value: T) -> Result<T, TaskFault>
-    ensures { IfOk result (λ kept. (kept ≡ value) × IsOk answer) }
-{
-    answer?;
-    Ok(value)
-}
-
 /// Makes new books in an empty file, and closes it.
 fn new_books<'a, S: Start>(
     rt: &'a HostRuntime,
@@ -101,9 +93,9 @@ fn new_books<'a, S: Start>(
     ensures made { IfOk result (IsNewOf operator) }
 {
     let store = open_new(rt, made, start)?;
-    let Ended { answer, left, .. } = make_in_files(rt.alloc(), store, operator)?;
-    let kept = where_ok(answer, left)?;
-    Ok(kept)
+    let made = make_in_files(rt.alloc(), store, operator)?;
+    let left = made.into_left()?;
+    Ok(left)
 }
 
 /// Copies the books in a store to an empty file, and closes both.

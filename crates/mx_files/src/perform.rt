@@ -15,7 +15,7 @@ ghost use Rattle.mx_files.specs.Opened.{IsWrong};
 ghost use Rattle.mx_files.specs.Performed.{Checks, EndsRun, EndsSaying, EndsWork, MakesBooks, MigratesBooks, OverBooks, Performs, PerformsCopy, PerformsInMemory, PerformsMigration, PerformsRun, PerformsWork, ended_of, migrated_text, streams};
 
 use crate::check::with_sums;
-use crate::closing::{Ended, check_in_files, migrate_in_files, run_in_files, work_in_files};
+use crate::closing::{Ended, Left, check_in_files, migrate_in_files, run_in_files, work_in_files};
 use crate::files::{
     BookFile, Opened, copy_to_file, make_in_file, no_files, number_of, open_found, open_told,
     raise_file,
@@ -109,7 +109,11 @@ fn run_in_file<'a, S: Start, R: Read, W: Outlet>(
 {
     let store = open_told(rt, path, start)?;
     let Ended { answer, left, .. } = run_in_files(rt.alloc(), store, reader, writer);
-    Ok(Ended::over(pass_on(answer, writer), left))
+    Ok(Ended {
+        answer: pass_on(answer, writer),
+        left,
+        copy: Left::Nothing,
+    })
 }
 
 /// Does a piece of work over the books in a file, and writes its text once that is closed.
@@ -131,7 +135,11 @@ fn work_in_file<'a, S: Start, W: Write>(
 {
     let store = open_told(rt, path, start)?;
     let Ended { answer, left, .. } = work_in_files(rt, store, work);
-    Ok(Ended::over(say_done(answer, writer), left))
+    Ok(Ended {
+        answer: say_done(answer, writer),
+        left,
+        copy: Left::Nothing,
+    })
 }
 
 /// Tells whether the books in a file are sound, or what is wrong in them. Where the file isn't opened, a line says why.
@@ -148,8 +156,11 @@ fn check_in_file<'a, S: Start>(
     match open_found(rt, path, start) {
         Ok(store) => {
             let Ended { answer, left, .. } = check_in_files(rt, store);
-            let checked = with_sums(&rt, rt.alloc(), path, answer);
-            Ok(Ended::over(checked, left))
+            Ok(Ended {
+                answer: with_sums(&rt, rt.alloc(), path, answer),
+                left,
+                copy: Left::Nothing,
+            })
         }
         Err(cause) => {
             let line = format!(in rt.alloc(); "{path}: {cause}\n")?;
@@ -191,7 +202,11 @@ fn init_file<'a, S: Start, W: Write>(
         (W.contents writer.old.device) (W.contents writer.new.device)) }
 {
     let left = make_in_file(rt, path, start, operator)?;
-    Ok(Ended::over(say(writer, b"created\n"), left))
+    Ok(Ended {
+        answer: say(writer, b"created\n"),
+        left,
+        copy: Left::Nothing,
+    })
 }
 
 /// Checks the books in a file, and says what was found.
@@ -206,7 +221,11 @@ fn check_file<'a, S: Start, W: Write>(
         → Checks (image_at S.Start) ended.left (IsErr ended.answer)) }
 {
     let Ended { answer, left, .. } = check_in_file(rt, path, start)?;
-    Ok(Ended::over(say_done(answer, writer), left))
+    Ok(Ended {
+        answer: say_done(answer, writer),
+        left,
+        copy: Left::Nothing,
+    })
 }
 
 /// Writes that a copy was made.
@@ -316,10 +335,11 @@ pub fn perform<'a, S: Start, R: Read, W: Outlet>(
         task.now result }
 {
     match &plan_of(task) {
-        Plan::InMemory(operator) => {
-            let answer = perform_memory(rt.alloc(), *operator, reader, writer);
-            Ended::over(answer, no_files(rt))
-        }
+        Plan::InMemory(operator) => Ended {
+            answer: perform_memory(rt.alloc(), *operator, reader, writer),
+            left: no_files(rt),
+            copy: Left::Nothing,
+        },
         Plan::InFile(path, act) => match act {
             Act::Run => ended(run_in_file(rt, path, start, reader, writer)),
             Act::Make(operator) => ended(init_file(rt, path, start, *operator, writer)),

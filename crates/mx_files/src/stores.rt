@@ -92,25 +92,27 @@ pub fn copy_in_store<S: Ordered + Drop, T: Alter>(
     }
 }
 
-/// Copies the books in a store to a new one, brings them to the schema of this version there, and audits them. The first is left
-/// as it was.
+/// Copies the books in a store to a new one, brings them to the schema of this version there, and audits them. The first is given
+/// back as it was.
 ///
 /// # Errors
 ///
 /// As of `migrate_in_store`.
 pub fn raise_in_store<S: Ordered, T: Ordered>(
     alloc: Global,
-    store: &mut Connection<S>,
+    store: Connection<S>,
     to: &mut Connection<T>,
-) -> Result<Migrated, TaskFault>
-    ensures rests { StaysIdle (state_of S.Store store.old) (state_of S.Store store.new) }
-    ensures ours { OnOk result (IsOurs false (state_of T.Store to.new)) }
-    ensures raises { IsSound (state_of S.Store store.new) → IsSound (state_of T.Store to.new)
-        → IfOk result (λ made. HasRaised made (state_of S.Store store.old).now (state_of T.Store to.new).now) }
+) -> (Result<Migrated, TaskFault>, Connection<S>)
+    ensures rests { StaysIdle (state_of S.Store store) (state_of S.Store result.1) }
+    ensures ours { OnOk result.0 (IsOurs false (state_of T.Store to.new)) }
+    ensures raises { IsSound (state_of S.Store result.1) → IsSound (state_of T.Store to.new)
+        → IfOk result.0 (λ made. HasRaised made (state_of S.Store store).now
+        (state_of T.Store to.new).now) }
 {
-    match raise(alloc, store, to) {
-        Ok(made) => Ok(made),
-        Err(refusal) => Err(unmade(refusal)),
+    let mut store = store;
+    match raise(alloc, &mut store, to) {
+        Ok(made) => (Ok(made), store),
+        Err(refusal) => (Err(unmade(refusal)), store),
     }
 }
 

@@ -1,5 +1,6 @@
 use Rattle.std.proofs.Common.{sym, subst}
 use Rattle.sqlite_store.specs.Laws.{settled_at}
+use Rattle.mx_tables.proofs.StateLemmas.{on_ok_never}
 use Rattle.mx_files.specs.Durable.{Represents}
 use Rattle.mx_files.proofs.CopiedLemmas.{answered, before_close, if_answered, is_answered}
 use Rattle.mx_files.proofs.FileLemmas.{kept_so}
@@ -19,10 +20,16 @@ returns-in-Ok-clause-copies g c = if_answered c.close-answer.result.answer _ (λ
     record {
       shut = (shut, first.shut (is_answered _ x copied));
       world = λ honest.
-          let found = it.1 (last.closes.sound honest shut) in
-          (found.0, found.1, last.closes.world honest found.0 it.0 (λ sound. subst (λ db. Represents db found.0) (sym (c.in-Ok.ensures.rests.same sound)) found.1),
-          λ also. first.closes.world also found.0 found.2.ours found.2.stands);
+          let found = it.1 (last.closes.sound honest shut) in (
+            found.0,
+            found.1,
+            last.closes.world honest found.0 it.0 (λ sound. subst (λ db. Represents db found.0) (sym (c.in-Ok.ensures.rests.same sound)) found.1),
+            λ also. first.closes.world also found.0 found.2.ours found.2.stands,
+          );
     })
 
 pub returns-in-Err-clause-keeps : goal.returns-in-Err-clause-keeps
 returns-in-Err-clause-keeps g c = λ honest. (c.close_refused.ensures.refused c.args.store c.in-Err.ensures.refused honest).kept
+
+pub returns-in-Err-clause-copies : goal.returns-in-Err-clause-copies
+returns-in-Err-clause-copies g c = on_ok_never _ _ c.close_refused.ensures.fault

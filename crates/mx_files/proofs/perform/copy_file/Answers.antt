@@ -17,4 +17,4 @@ returns-clause-copies g c =
     }
 
 pub returns-clause-shut : goal.returns-clause-shut
-returns-clause-shut g c = copied_shut _ c.copy_to_file-answer.result.answer c.say_copied.result _ _ c.copy_to_file-answer.ensures.copies c.say_copied.ensures
+returns-clause-shut g c = copied_shut c.in_ok-store.store c.copy_to_file-answer.result.left c.copy_to_file-answer.result.copy _ c.copy_to_file-answer.result.answer c.say_copied.result _ _ c.copy_to_file-answer.ensures.copies c.say_copied.ensures

@@ -23,4 +23,4 @@ returns-in-Migrate g c = performs_act _ _ _ _ c.migrate_file.result _ _ _ _ _ c.
 
 pub returns-in-Copy : goal.returns-in-Copy
 returns-in-Copy g c = performs_act _ _ _ _ c.copy_file.result _ _ _ _ _ c.in-InFile.is c.in-Copy.is c.plan_of.ensures c.ended-in-Copy.ensures c.copy_file.ensures.shut
-    (ended_so _ c.copy_file.result _ c.ended-in-Copy.ensures c.copy_file.ensures.copies (λ fault was. copy_unopened _ _ _ _ (c.copy_file.ensures.unopened was)))
+    (ended_so _ c.copy_file.result _ c.ended-in-Copy.ensures c.copy_file.ensures.copies (λ fault was. copy_unopened _ _ _ _ (rw (c.copy_file.ensures.unopened was) refl)))
