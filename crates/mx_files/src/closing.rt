@@ -3,12 +3,14 @@ ghost use Rattle.std.specs.Prelude.{◌≡◌, ◌⊎◌, ℕ, [], false, Err, R
 ghost use Rattle.sqlite.specs.Effect.{IsDatabase};
 ghost use Rattle.sqlite_store.specs.declared.store.FileStore.{FileStore};
 ghost use Rattle.sqlite.specs.Files.{file_state, over_files};
-ghost use Rattle.sqlite.specs.Held.{Held};
+ghost use Rattle.sqlite.specs.Held.{Held, state as state_of};
 ghost use Rattle.sqlite.specs.State.{HasCleanDisk, Opens};
 ghost use Rattle.mx_book.specs.World.{World, opening};
 ghost use Rattle.mx_desk.specs.Rounds.{Leads};
 ghost use Rattle.mx_desk.specs.Steps.{state};
 ghost use Rattle.mx_audit.specs.Audited.{Refuses};
+ghost use Rattle.mx_audit.specs.Copies.{HasRaised};
+ghost use Rattle.mx_tables.specs.States.{IsOurs, IsSound};
 ghost use Rattle.mx_tasks.specs.Faults.{Untouched};
 ghost use Rattle.mx_tasks.specs.Runs.{IsRunFault, TaskRuns};
 ghost use Rattle.mx_tasks.specs.Works.{Works};
@@ -16,7 +18,7 @@ ghost use Rattle.mx_tasks.specs.declared.fault.TaskFault.{TaskFault};
 ghost use Rattle.mx_tasks.specs.declared.work.Done.{Done};
 ghost use Rattle.mx_tables.specs.declared.migration.Migrated.{Migrated};
 ghost use Rattle.mx_tables.specs.declared.migration.Migrated.TheVariants.{Done as Raised};
-ghost use Rattle.mx_files.specs.Durable.{Represents};
+ghost use Rattle.mx_files.specs.Durable.{IsCopy, Represents};
 ghost use Rattle.mx_files.specs.Opened.{IsWrong};
 ghost use Rattle.mx_files.specs.InFiles.{AreHonest, AreShut, Closes, HoldCopy, HoldRaised, IsKept, IsLeftOf, IsRefused, HoldRounds, HoldTrees, HoldWorld, Raises, closed_answer};
 
@@ -25,14 +27,14 @@ use crate::stores::{
     copy_in_store, make_in_store, migrate_in_store, raise_in_store, run_in_store, unmade,
     work_in_store,
 };
-use mx_audit::Refused;
+use mx_audit::{Ordered, Refused};
 use mx_book::Book;
 use mx_desk::{Counted, Outlet};
 use mx_pay::Token;
 use mx_standing::Standing;
 use mx_tables::{Migrated, Tables};
 use mx_tasks::{Done, TaskFault, Work};
-use sqlite::{Connection, FileFrom, FileStore, Files, Unknown};
+use sqlite::{Alter, Connection, FileFrom, FileStore, Files, Unknown};
 use sqlite_disk::Disk;
 use std::alloc::Global;
 use std::io::Read;
@@ -57,6 +59,17 @@ pub struct Ended<T, D: Disk> {
     pub left: Left<D>,
     /// Those of a copy, where the task made one.
     pub copy: Left<FileFrom<Unknown>>,
+}
+
+/// How the copying of books ended, and what it leaves of the files of both.
+#[derive(Drop)]
+pub struct Copied<T, D: Disk, C: Disk> {
+    /// What it answered.
+    pub answer: Result<T, TaskFault>,
+    /// The files that were copied.
+    pub left: Left<D>,
+    /// Those of the copy.
+    pub copy: Left<C>,
 }
 
 impl<D: Disk + Drop> Left<D> {
@@ -125,6 +138,19 @@ fn told<T: Drop, D: Disk>(left: &Left<D>, answer: Result<T, TaskFault>) -> Resul
 
 /// Closes the two files of a store, behind what was answered. Where they can't be closed the answer is `Store`, unless it is a
 /// fault already.
+fn close_behind<D: Disk + Drop, T: Drop>(
+    answer: Result<T, TaskFault>,
+    store: Connection<FileStore<D>>,
+) -> (Result<T, TaskFault>, Left<D>)
+    ensures answer { result.0 ≡ closed_answer result.1 answer }
+    ensures shut { IsOk result.0 → AreShut result.1 }
+    ensures closes { Closes store result.1 }
+{
+    let left = closed(store);
+    (told(&left, answer), left)
+}
+
+/// Ends a task over the two files of a store, which are closed as `close_behind` does.
 pub fn close<D: Disk + Drop, T: Drop>(
     answer: Result<T, TaskFault>,
     store: Connection<FileStore<D>>,
@@ -134,9 +160,9 @@ pub fn close<D: Disk + Drop, T: Drop>(
     ensures shut { IsOk result.answer → AreShut result.left }
     ensures closes { Closes store result.left }
 {
-    let left = closed(store);
+    let (answer, left) = close_behind(answer, store);
     Ended {
-        answer: told(&left, answer),
+        answer,
         left,
         copy: Left::Nothing,
     }
@@ -181,32 +207,67 @@ pub fn make_in_files<D: Disk + Drop>(
     Ok(close(Ok(()), made))
 }
 
+/// Copies the books in the files of a store to a new one, and closes the files. They hold what they held.
+///
+/// # Errors
+///
+/// As of `copy_in_store`; `Store` too where the files can't be closed.
+fn copy_from_files<D: Disk + Drop, T: Alter>(
+    alloc: Global,
+    store: Connection<FileStore<D>>,
+    to: &mut Connection<T>,
+) -> (Result<(), TaskFault>, Left<D>)
+    ensures keeps { AreHonest result.1 → IsKept store result.1 }
+    ensures shut { IsOk result.0 → AreShut result.1 }
+    ensures copies { OnOk result.0 (AreHonest result.1 → (w : World)
+        × Represents (file_state store).now w × HoldWorld result.1 w
+        × IsCopy (state_of T.Store to.new) w) }
+{
+    match copy_in_store(alloc, store, to) {
+        Ok((answer, left)) => close_behind(answer, left),
+        Err(refused) => close_behind(Err(unmade(refused.fault)), refused.store),
+    }
+}
+
 /// Copies the books in the files of a store to those of a new one, and closes the files of both. The first hold what they held.
 ///
 /// # Errors
 ///
 /// As of `copy_in_store`; `Store` too where files can't be closed.
-pub fn copy_in_files<D: Disk + Drop>(
+pub fn copy_in_files<D: Disk + Drop, C: Disk + Drop>(
     alloc: Global,
     store: Connection<FileStore<D>>,
-    to: Connection<FileStore<FileFrom<Unknown>>>,
-) -> Ended<(), D>
+    to: Connection<FileStore<C>>,
+) -> Copied<(), D, C>
     ensures keeps { AreHonest result.left → IsKept store result.left }
     ensures copies { OnOk result.answer (HoldCopy store result.left result.copy) }
 {
     let mut to = to;
-    match copy_in_store(alloc, store, &mut to) {
-        Ok((answer, left)) => {
-            let copied = close(answer, to);
-            let Ended { answer, left, .. } = close(copied.answer, left);
-            Ended {
-                answer,
-                left,
-                copy: copied.left,
-            }
-        }
-        Err(refused) => close_refused(refused),
-    }
+    let (copied, left) = copy_from_files(alloc, store, &mut to);
+    let (answer, copy) = close_behind(copied, to);
+    Copied { answer, left, copy }
+}
+
+/// Brings a copy of the books in the files of a store to the schema of this version, in a new one, audits it, and closes the
+/// files. They hold what they held.
+///
+/// # Errors
+///
+/// As of `raise_in_store`; `Store` too where the files can't be closed.
+fn raise_from_files<D: Disk + Drop, T: Ordered>(
+    alloc: Global,
+    store: Connection<FileStore<D>>,
+    to: &mut Connection<T>,
+) -> (Result<Migrated, TaskFault>, Left<D>)
+    ensures keeps { AreHonest result.1 → IsKept store result.1 }
+    ensures shut { IsOk result.0 → AreShut result.1 }
+    ensures ours { OnOk result.0 (IsOurs false (state_of T.Store to.new)) }
+    ensures raises { IfOk result.0 (λ made. AreHonest result.1
+        → IsSound (state_of T.Store to.new)
+        → HasRaised made (file_state store).now (state_of T.Store to.new).now) }
+{
+    let (answer, left) = raise_in_store(alloc, store, to);
+    close_behind(answer, left)
 }
 
 /// Brings a copy of the books in the files of a store to the schema of this version, in the files of a new one, audits it, and
@@ -215,23 +276,18 @@ pub fn copy_in_files<D: Disk + Drop>(
 /// # Errors
 ///
 /// As of `raise_in_store`; `Store` too where files can't be closed.
-pub fn raise_in_files<D: Disk + Drop>(
+pub fn raise_in_files<D: Disk + Drop, C: Disk + Drop>(
     alloc: Global,
     store: Connection<FileStore<D>>,
-    to: Connection<FileStore<FileFrom<Unknown>>>,
-) -> Ended<Migrated, D>
+    to: Connection<FileStore<C>>,
+) -> Copied<Migrated, D, C>
     ensures keeps { AreHonest result.left → IsKept store result.left }
     ensures raises { IfOk result.answer (HoldRaised store result.left result.copy) }
 {
     let mut to = to;
-    let (answer, left) = raise_in_store(alloc, store, &mut to);
-    let raised = close(answer, to);
-    let Ended { answer, left, .. } = close(raised.answer, left);
-    Ended {
-        answer,
-        left,
-        copy: raised.left,
-    }
+    let (raised, left) = raise_from_files(alloc, store, &mut to);
+    let (answer, copy) = close_behind(raised, to);
+    Copied { answer, left, copy }
 }
 
 /// Answers the requests of the input over the books in the files of a store, and closes the files. Where the books are refused,

@@ -4,7 +4,9 @@ ghost use Rattle.sqlite_wal.specs.Files.{image_at};
 ghost use Rattle.mx_files.specs.InFiles.{AreHonest, HasSumsIfNew, HoldCopy, HoldRaised, IsKept, IsNewOf, IsOpenedOver};
 ghost use Rattle.mx_files.specs.Makings.{Installs, IsGivenUp, IsPut, KeepsFile};
 
-use crate::closing::{Ended, Left, close_idle, copy_in_files, make_in_files, raise_in_files};
+use crate::closing::{
+    Copied, Ended, Left, close_idle, copy_in_files, make_in_files, raise_in_files,
+};
 use crate::database::{open_at, open_copy};
 use crate::folder::{DatabaseFolder, Folder, end_stopped_init};
 use crate::init::{begin, end};
@@ -108,7 +110,10 @@ fn copy_to_empty<'a, S: Start>(
     ensures copies { OnOk result.answer (HoldCopy store.entry result.left result.copy) }
 {
     match open_copy(rt, made) {
-        Ok(to) => copy_in_files(rt.alloc(), store, to),
+        Ok(to) => {
+            let Copied { answer, left, copy } = copy_in_files(rt.alloc(), store, to);
+            Ended { answer, left, copy }
+        }
         Err(cause) => close_idle(cause.tell(rt, made), store),
     }
 }
@@ -123,7 +128,10 @@ fn raise_to_empty<'a, S: Start>(
     ensures raises { IfOk result.answer (HoldRaised store.entry result.left result.copy) }
 {
     match open_copy(rt, made) {
-        Ok(to) => raise_in_files(rt.alloc(), store, to),
+        Ok(to) => {
+            let Copied { answer, left, copy } = raise_in_files(rt.alloc(), store, to);
+            Ended { answer, left, copy }
+        }
         Err(cause) => close_idle(cause.tell(rt, made), store),
     }
 }

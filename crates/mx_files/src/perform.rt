@@ -108,11 +108,11 @@ fn run_in_file<'a, S: Start, R: Read, W: Outlet>(
         (HoldRounds ended.left w))) }
 {
     let store = open_told(rt, path, start)?;
-    let Ended { answer, left, .. } = run_in_files(rt.alloc(), store, reader, writer);
+    let Ended { answer, left, copy } = run_in_files(rt.alloc(), store, reader, writer);
     Ok(Ended {
         answer: pass_on(answer, writer),
         left,
-        copy: Left::Nothing,
+        copy,
     })
 }
 
@@ -134,11 +134,11 @@ fn work_in_file<'a, S: Start, W: Write>(
         work.now ended.answer (W.contents writer.old.device) (W.contents writer.new.device))) }
 {
     let store = open_told(rt, path, start)?;
-    let Ended { answer, left, .. } = work_in_files(rt, store, work);
+    let Ended { answer, left, copy } = work_in_files(rt, store, work);
     Ok(Ended {
         answer: say_done(answer, writer),
         left,
-        copy: Left::Nothing,
+        copy,
     })
 }
 
@@ -155,11 +155,11 @@ fn check_in_file<'a, S: Start>(
 {
     match open_found(rt, path, start) {
         Ok(store) => {
-            let Ended { answer, left, .. } = check_in_files(rt, store);
+            let Ended { answer, left, copy } = check_in_files(rt, store);
             Ok(Ended {
                 answer: with_sums(&rt, rt.alloc(), path, answer),
                 left,
-                copy: Left::Nothing,
+                copy,
             })
         }
         Err(cause) => {
@@ -220,11 +220,11 @@ fn check_file<'a, S: Start, W: Write>(
     ensures checks { IfOk result (λ ended. AreHonest ended.left
         → Checks (image_at S.Start) ended.left (IsErr ended.answer)) }
 {
-    let Ended { answer, left, .. } = check_in_file(rt, path, start)?;
+    let Ended { answer, left, copy } = check_in_file(rt, path, start)?;
     Ok(Ended {
         answer: say_done(answer, writer),
         left,
-        copy: Left::Nothing,
+        copy,
     })
 }
 

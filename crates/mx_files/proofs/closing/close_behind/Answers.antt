@@ -1,5 +1,5 @@
 use Rattle.mx_files.proofs.FileLemmas.{closes_so, shut_so}
-use Rattle.mx_files.proofs.closing.close.Goals as goal
+use Rattle.mx_files.proofs.closing.close_behind.Goals as goal
 
 pub returns-clause-shut : goal.returns-clause-shut
 returns-clause-shut g c = λ ok. shut_so c.args.store c.closed-left.result c.args.answer c.closed-left.ensures.left (rw c.told.ensures at ok)
