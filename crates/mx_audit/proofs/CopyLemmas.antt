@@ -3,7 +3,6 @@ use Rattle.mx_tables.proofs.Common.{IfOk-weaker, ◌≡◌, ℕ, ◌&&◌, Bool,
 use Rattle.std.proofs.Common.{Err, IfOk, Result, OnOk, ◌≢◌, ◌==◌, ◌||◌, if◌then◌else◌, Less, append_assoc, drop, get_or, map, not, slice_get, sym, ap, subst, suc, zero}
 use Rattle.std.specs.Prelude.{IsTrue}
 use Rattle.std.specs.List.{list_all, list_any}
-use Rattle.std.specs.Cmp.{first_so}
 use Rattle.std.proofs.lemmas.Bool.{cases_Bool}
 use Rattle.std.proofs.lemmas.Bool.Decides.{nat_tests}
 use Rattle.sqlite_value.specs.Order.{value_cmp}
@@ -53,7 +52,7 @@ use Rattle.mx_audit.specs.declared.typed.Source.{Source}
 use Rattle.mx_audit.proofs.CopyTexts.{known, place_of, table_at, terms_of, uncounted}
 use Rattle.mx_audit.proofs.RawLemmas.{are_of_types}
 use Rattle.mx_audit.proofs.ScanLemmas.{shows_in_order}
-use Rattle.mx_audit.proofs.TypedLemmas.{IsRaw, table_of}
+use Rattle.mx_audit.proofs.TypedLemmas.{table_of}
 use Rattle.mx_audit.proofs.WholeRows.{IsWholeRow, whole_row}
 
 -- ---- what is read

@@ -1,6 +1,6 @@
 -- What copies of books hold.
 use Rattle.std.proofs.Common.{◌≡◌, ◌∙◌, Result, Ok, Err, refl, rules, sym}
-use Rattle.std.specs.Prelude.{IfOk, IsOk, OnOk}
+use Rattle.std.specs.Prelude.{IfOk, IsOk}
 use mathlib.Core.Logic.{∥∥₁_map}
 use Rattle.sqlite_disk.specs.declared.Disk.{Ghosts}
 use Rattle.sqlite.specs.Effect.{Database}

@@ -1,4 +1,4 @@
-use Rattle.std.proofs.Common.{◌∙◌, ap, map, rules, sym}
+use Rattle.std.proofs.Common.{◌∙◌, ap, map, rules}
 use Rattle.std.proofs.lemmas.List.{take_all}
 use Rattle.sqlite.specs.Values.{bound, bound_value}
 use Rattle.mx_audit.proofs.CopyLemmas.{bound_more}

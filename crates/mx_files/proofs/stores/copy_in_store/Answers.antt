@@ -1,6 +1,5 @@
 use Rattle.std.proofs.Common.{◌≡◌, ◌∙◌, ap, false, subst, sym}
 use Rattle.sqlite.specs.Held.{state as state_of}
-use Rattle.mx_book.specs.World.{World}
 use Rattle.mx_tables.specs.Holds.{SpellsOne}
 use Rattle.mx_tables.specs.States.{IsOurs, StaysIdle, worry}
 use Rattle.mx_tables.specs.declared.making.Version.TheVariants.{Two}
