@@ -2,6 +2,7 @@
 use mx_files::folder::FileKind;
 use mx_files::in_memory::FolderInMemory;
 use mx_files::init::{begin, end};
+use mx_files::places::Replaces;
 use mx_files::stored_file::StoredFile;
 use mx_tasks::Cause;
 use std::alloc::Global;

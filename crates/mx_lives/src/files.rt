@@ -62,7 +62,10 @@ pub fn new_files<D: Disk + Drop>(
     let Ok(made) = make_in_files(alloc, store, operator) else {
         return None;
     };
-    made.left.into_closed()
+    let Ok(left) = made.into_left() else {
+        return None;
+    };
+    left.into_closed()
 }
 
 /// One life: opens the books in two files, answers the requests of an input, and closes the files. None where the files can't be
