@@ -1,5 +1,6 @@
 """SQLite's checksums of pages: those of its log, and those that its extension cksumvfs puts at the end of each page, as the
 files have them that `init` makes."""
+import sqlite3
 import struct
 
 PAGE = 4096
@@ -25,3 +26,19 @@ def mend(path):
         data = file.read()
     with open(path, "wb") as file:
         file.write(mended(data))
+
+
+def plain(book, to, version):
+    """The rows of books in a new file without checksums, of this schema: what schema 1 lacks is left out."""
+    made = sqlite3.connect(to)
+    made.execute("ATTACH ? AS books", (book,))
+    names = []
+    for name, text in made.execute("SELECT tbl_name, sql FROM books.sqlite_schema WHERE sql IS NOT NULL ORDER BY rowid").fetchall():
+        if version == 2 or name != "settled":
+            made.execute(text)
+            names.append(name)
+    for name in dict.fromkeys(names):
+        made.execute(f"INSERT INTO {name} SELECT * FROM books.{name} ORDER BY rowid")
+    made.execute("UPDATE meta SET version = ?", (version,))
+    made.commit()
+    made.close()
