@@ -100,10 +100,10 @@ shown_stored (Settled details) id is = (refl, tt)
 
 -- ---- and what is shown so is stored
 
-null_is : (v : Value) → is_null v ≡ true → v ≡ Null
+pub null_is : (v : Value) → is_null v ≡ true → v ≡ Null
 null_is v h = grind arith
 
-never : ◌≡◌ {A = Bool} false true → ⊥
+pub never : ◌≡◌ {A = Bool} false true → ⊥
 never h = cc
 
 version_stored : (row : Row) → IsRaw source.Meta row → HasColumns (shown_of source.Meta row) 0 (kept Version) → StoresRow row Version

@@ -23,7 +23,7 @@ use Rattle.mx_audit.specs.Copies.{whole_of}
 use Rattle.mx_audit.specs.declared.typed.Source.{Source}
 use Rattle.mx_audit.specs.declared.typed.Source.TheVariants.{Meta, Members, Holders, Tokens, Purses, Inbox, Lines, Tray, Archive, Loads, Redemptions, Settled}
 use Rattle.mx_audit.proofs.CopyTexts.{table_at, terms_of}
-use Rattle.mx_audit.proofs.TypedLemmas.{IsRaw, table_of}
+use Rattle.mx_audit.proofs.TypedLemmas.{IsRaw, never, null_is, table_of}
 
 -- ---- values
 
@@ -144,12 +144,6 @@ plain_row from p r raw present =
       same = ap (made from) params ∙ p.makes r ∙ ap (λ (x : Row). cast_row t x ∷ []) same ∙ ap (λ (x : Row). x ∷ []) it.cast;
       numbered = int_there (rowid r) raw.numbered;
     }
-
-null_is : (v : Value) → is_null v ≡ true → v ≡ Null
-null_is v h = grind arith
-
-never : ◌≡◌ {A = Bool} false true → ⊥
-never h = cc
 
 meta_row : (r : Row) → IsRaw Meta r → are_present (table_of Meta).key 0 (table_of Meta).columns r ≡ true → IsWholeRow Meta r
 meta_row [] raw present = absurd (let h = raw.numbered in cc)

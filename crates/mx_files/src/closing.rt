@@ -100,7 +100,8 @@ impl<T, D: Disk> Ended<T, D> {
 impl<T: Drop, D: Disk + Drop> Ended<T, D> {
     /// The files, where what was answered is no fault.
     pub fn into_left(self) -> Result<Left<D>, TaskFault>
-        ensures { IfOk result (λ left. (left ≡ self.left) × IsOk self.answer) }
+        ensures left { IfOk result (λ left. (left ≡ self.left) × IsOk self.answer) }
+        ensures gives { IsOk self.answer → IsOk result }
     {
         let Ended { answer, left, .. } = self;
         match answer {

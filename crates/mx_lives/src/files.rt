@@ -6,7 +6,7 @@ ghost use Rattle.sqlite.specs.State.{HasCleanDisk};
 ghost use Rattle.mx_book.specs.World.{World, opening};
 ghost use Rattle.mx_desk.specs.Rounds.{Leads};
 ghost use Rattle.mx_office.specs.Reachable.{IsReachable};
-ghost use Rattle.mx_files.specs.InFiles.{AreClosed, HoldBooks, IsOpenedOver};
+ghost use Rattle.mx_files.specs.InFiles.{AreClosed, HasSumsIfNew, HoldBooks, IsOpenedOver};
 ghost use Rattle.mx_lives.specs.Lived.{AreLeft, LivedTo, RunsOver};
 
 use crate::answered::Life;
@@ -22,13 +22,14 @@ use sqlite::{Connection, FileStore, Files, Options};
 use sqlite_disk::{Crash, Disk};
 use std::alloc::Global;
 
-/// Opens the database in two files. None where they can't be opened.
+/// Opens the database in two files. None where they can't be opened. A new one has page checksums.
 fn opened<D: Disk + Drop>(
     alloc: Global,
     files: Files<D>,
     options: Options,
 ) -> Option<Connection<FileStore<D>>>
     ensures over { IfSome result (IsOpenedOver (image_of D.Disk files)) }
+    ensures sums { IfSome result (HasSumsIfNew (image_of D.Disk files)) }
     ensures clean { IfSome result
         (λ c. HasCleanDisk (file_state c) → AreClean D.Disk files.log files.db) }
 {

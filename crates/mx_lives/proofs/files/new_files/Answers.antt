@@ -7,4 +7,4 @@ use Rattle.mx_lives.proofs.files.new_files.Goals as goal
 pub returns-clause-made : goal.returns-clause-made
 returns-clause-made g c =
     closed_hold c.in-Ok-into_left.left c.into_closed.result (opening c.args.operator) c.into_closed.ensures
-    (subst (λ left. AreHonest left → HoldWorld left (opening c.args.operator)) (sym c.in-Ok-into_left.ensures.0) c.in-Ok.ensures.made)
+    (subst (λ left. AreHonest left → HoldWorld left (opening c.args.operator)) (sym c.in-Ok-into_left.ensures.left.0) c.in-Ok.ensures.made)
