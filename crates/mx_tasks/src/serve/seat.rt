@@ -1,0 +1,233 @@
+//! Clients that are connected.
+ghost use Rattle.std.specs.Prelude.{◌≡◌, ◌≤◌, ◌*◌, IfSome, IfOk, OnOk, ℕ, List, length, take};
+ghost use Rattle.mx_tasks.specs.Clients.{IsKnown, IsPrefix};
+ghost use Rattle.mx_tasks.specs.Seats.{IsAfter, IsFresh, IsRead, IsSentSo, answer_of, is_over, stream_of};
+
+use crate::serve::connection::Connection;
+use mx_desk::held::Held;
+use std::io;
+use std::io::ErrorKind;
+use std::time::{Duration, Instant};
+
+/// How many connections are open at once.
+pub const MOST_CLIENTS: usize = 512;
+
+/// How long a client has for its request, how long for taking the answer, and how long it is read behind that, in seconds.
+pub const PATIENCE: u64 = 10;
+
+/// How many bytes are read at most behind a request.
+pub const MOST_BEHIND: usize = 1_048_576;
+
+/// A client that was answered nothing yet.
+#[derive(Drop)]
+pub struct Visitor<S> {
+    pub stream: S,
+    /// What came.
+    pub came: Vec<u8>,
+    /// When its time for the request is over.
+    pub until: Instant,
+}
+
+/// A client whose answer waits until its round is settled.
+#[derive(Drop)]
+pub struct Asked<S> {
+    pub visitor: Visitor<S>,
+    /// What is held for it.
+    pub held: Held,
+    /// Its place.
+    pub place: usize,
+}
+
+/// A client that is answered.
+#[derive(Drop)]
+pub struct Answered<S> {
+    pub stream: S,
+    /// What is held for it.
+    pub held: Held,
+    /// Whether its round was kept.
+    pub kept: bool,
+    /// How much of the answer was written.
+    pub sent: usize,
+    /// How much was read behind the request. None until the answer is written.
+    pub behind: Option<usize>,
+    /// When its time is over: that for taking the answer, and then that for what comes behind the request.
+    pub until: Instant,
+    /// When it was silent for too long.
+    pub silent: Instant,
+}
+
+/// A client that is connected.
+#[derive(Drop)]
+pub enum Seat<S> {
+    /// It asks.
+    Asking(Visitor<S>),
+    /// It takes its answer.
+    Taking(Answered<S>),
+}
+
+/// What a read brought.
+#[derive(Clone, Copy, Debug, PartialEq, Eq)]
+pub enum Arrival {
+    /// Some bytes.
+    Bytes,
+    /// None yet.
+    Nothing,
+    /// None, and none comes any more.
+    End,
+    /// The connection has failed, or there is no memory for what came.
+    Failed,
+}
+
+/// So many seconds from now on; or now, where the clock doesn't count so far.
+pub fn seconds_from(now: Instant, seconds: u64) -> Instant
+    requires { seconds ≤ 10 }
+    ensures { IsAfter now (seconds * 1_000_000_000) result }
+{
+    now.checked_add(Duration::from_secs(seconds)).unwrap_or(now)
+}
+
+impl<S> Visitor<S> {
+    /// Its connection.
+    pub fn into_stream(self) -> S
+        ensures { result ≡ self.stream }
+    {
+        let Visitor {
+            stream,
+            came: _,
+            until: _,
+        } = self;
+        stream
+    }
+}
+
+impl<S> Answered<S> {
+    /// Its connection.
+    pub fn into_stream(self) -> S
+        ensures { result ≡ self.stream }
+    {
+        let Answered {
+            stream,
+            held: _,
+            kept: _,
+            sent: _,
+            behind: _,
+            until: _,
+            silent: _,
+        } = self;
+        stream
+    }
+}
+
+impl<S> Seat<S> {
+    /// Its connection.
+    pub fn into_stream(self) -> S
+        ensures { result ≡ stream_of self }
+    {
+        match self {
+            Seat::Asking(visitor) => visitor.into_stream(),
+            Seat::Taking(answered) => answered.into_stream(),
+        }
+    }
+
+    /// Whether its time is over.
+    pub fn is_over(&self, now: Instant) -> bool
+        ensures { result ≡ is_over now self.now }
+    {
+        match self {
+            Seat::Asking(visitor) => visitor.until <= now,
+            Seat::Taking(answered) => answered.until <= now || answered.silent <= now,
+        }
+    }
+}
+
+impl<S: Connection> Visitor<S> {
+    /// Reads once, in this piece of memory, and keeps what came.
+    pub fn read_more(&mut self, piece: &mut [u8]) -> Arrival
+        ensures { IsFresh S.received S.written self.old
+            → IsRead S.received S.written result self.new }
+    {
+        match self.stream.read(piece) {
+            Ok(0) => Arrival::End,
+            Ok(count) => match self.came.extend_from_slice(&piece[..count]) {
+                Ok(()) => Arrival::Bytes,
+                Err(_) => Arrival::Failed,
+            },
+            Err(error) if error.kind() == ErrorKind::WouldBlock => Arrival::Nothing,
+            Err(_) => Arrival::Failed,
+        }
+    }
+}
+
+/// Writes what stands behind the first bytes of a text, so many, as far as the connection takes it, and says how many are written
+/// then. An error is that of a write, or that it took nothing.
+fn write_rest<S: Connection>(stream: &mut S, text: &[u8], sent: &mut usize) -> io::Result<()>
+    ensures sent { sent.old ≤ length text.now → sent.new ≤ length text.now }
+    ensures bytes { IsKnown (S.written stream.old) (take sent.old text.now)
+        → IsKnown (S.written stream.new) (take sent.new text.now) }
+    ensures received { S.received stream.new ≡ S.received stream.old }
+{
+    'writes: while *sent < text.len() {
+        match stream.write(&text[*sent..]) {
+            Ok(0) => return Err(io::Error::from(ErrorKind::WriteZero)),
+            Ok(count) => *sent += count,
+            Err(error) if error.kind() == ErrorKind::WouldBlock => return Ok(()),
+            Err(error) => return Err(error),
+        }
+    }
+    Ok(())
+}
+
+impl<S: Connection> Answered<S> {
+    /// Goes on with a client: writes what it takes of its answer, and once that is whole, ends what is written and reads what came
+    /// behind the request. Bytes that are left unread when a connection is closed would make the system drop what of the answer
+    /// the client hasn't got yet. Says whether the connection stays open.
+    pub fn advance(&mut self, now: Instant, piece: &mut [u8]) -> bool
+        ensures answer { answer_of self.new ≡ answer_of self.old }
+        ensures sent { IsSentSo S.written self.old → IsSentSo S.written self.new }
+        ensures received { (came : List ℕ)
+            → IfSome (S.received self.old.stream) (IsPrefix came)
+            → IfSome (S.received self.new.stream) (IsPrefix came) }
+    {
+        let text = self.held.text(self.kept);
+        if write_rest(&mut self.stream, text, &mut self.sent).is_err() {
+            return false;
+        }
+        if self.sent < text.len() {
+            return true;
+        }
+        if self.behind.is_none() {
+            if self.stream.end_writing().is_err() {
+                return false;
+            }
+            self.behind = Some(0);
+            self.until = seconds_from(now, PATIENCE);
+            self.silent = seconds_from(now, 1);
+        }
+        self.drain(now, piece)
+    }
+
+    /// Reads what came behind the request, up to a bound. Says whether more may come.
+    fn drain(&mut self, now: Instant, piece: &mut [u8]) -> bool
+        ensures answer { answer_of self.new ≡ answer_of self.old }
+        ensures sent { IsSentSo S.written self.old → IsSentSo S.written self.new }
+        ensures received { (came : List ℕ)
+            → IfSome (S.received self.old.stream) (IsPrefix came)
+            → IfSome (S.received self.new.stream) (IsPrefix came) }
+    {
+        'reads: for _ in 0..MOST_BEHIND {
+            match self.stream.read(piece) {
+                Ok(0) => return false,
+                Ok(count) => {
+                    let behind = self.behind.unwrap_or(0).saturating_add(count);
+                    if MOST_BEHIND <= behind {
+                        return false;
+                    }
+                    self.behind = Some(behind);
+                    self.silent = seconds_from(now, 1);
+                }
+                Err(error) => return error.kind() == ErrorKind::WouldBlock,
+            }
+        }
+        false
+    }
+}
