@@ -1,9 +1,11 @@
 -- What becomes of the places of clients.
-use Rattle.std.proofs.Common.{◌≡◌, ◌∙◌, ◌≤◌, ◌<◌, ◌+◌, ℕ, List, [], ◌∷◌, ◌++◌, length, length-append, take, drop, Option, Some, None, inl, inr, refl, sym, ap, subst, append_assoc, arith}
+use Rattle.std.proofs.Common.{get_or, ⊎_elim, ◌≡◌, ◌∙◌, ◌≤◌, ◌<◌, ◌+◌, ℕ, List, [], ◌∷◌, ◌++◌, length, length-append, take, drop, Option, Some, None, inl, inr, refl, sym, ap, subst, append_assoc, arith}
 use Rattle.std.proofs.Math.ListN.{set}
 use Rattle.std.proofs.lemmas.List.{append-nil, take-append-drop}
 use Rattle.std.proofs.lemmas.List.Elements.{All-append, All-cons, All-head, All-nil, All-set, All-tail}
 use Rattle.std.proofs.lemmas.List.Sums.{sum_by-set}
+use Rattle.std.proofs.lemmas.Bool.{cases_lt}
+use Rattle.std.specs.List.{AllWithin, HoldsAt}
 use Rattle.std.specs.Prelude.{All, IfSome, sum_by}
 use Rattle.mx_desk.specs.Clients.{Exchange}
 use Rattle.mx_desk.specs.Devices.{capped}
@@ -51,6 +53,10 @@ fewer_then m n None b c one two = let two : AreFewer n None c = subst (λ o. Are
 fewer_then m n (Some x) None c one two = absurd one
 fewer_then m n (Some x) (Some y) None one two = absurd two
 fewer_then m n (Some x) (Some y) (Some z) one two = omega (arith, one, two)
+
+-- one more
+pub within_more : {X : Type 0} (P : X → Type 0) (xs : List X) (i : ℕ) → AllWithin P xs 0 i → HoldsAt P xs i → AllWithin P xs 0 (i + 1)
+within_more P xs i before here k d low high = ⊎_elim (λ less. before k d low less) (λ past. subst (λ j. P (get_or xs j d)) (let same : i ≡ k = omega (arith, past, high) in same) (here d)) (cases_lt k i)
 
 -- at free places nobody asks
 pub nobody_asks : {S : Type 0} (places : List (Option (Seat S))) → All IsFree places → sum_by asks places ≡ 0

@@ -146,7 +146,6 @@ served_all (Ok x) done ok said led = record {
   holds = (record { exchanged = led.holds.exchanged; served = led.holds.served; taken = led.holds.taken; some = led.holds.some; most = led.holds.most; all = led.holds.all; lawful = led.holds.lawful }, said);
   moves = led.moves;
 }
-
 served_all (Err e) done ok said led = absurd (false≢true ok)
 
 -- nobody was served, and a fault came

@@ -81,7 +81,6 @@ impl<L: Drop, S: Drop, V: Drop> Reception<L, S, V> {
         })
     }
 
-
     /// Where clients came from.
     pub fn into_listener(self) -> L
         ensures { result ≡ self.listener }
@@ -330,7 +329,9 @@ impl<S: Connection + Drop, L: Listener<S>, V> Reception<L, S, V> {
             (hall L.clients self.old) (hall L.clients self.new) }
         ensures quiet { self.new.alarm ≡ self.old.alarm }
     {
-        if let Some(swept) = self.swept && now.duration_since(swept) < Duration::from_millis(BETWEEN_SWEEPS) {
+        if let Some(swept) = self.swept
+            && now.duration_since(swept) < Duration::from_millis(BETWEEN_SWEEPS)
+        {
             return;
         }
         self.swept = Some(now);

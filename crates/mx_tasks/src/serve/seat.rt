@@ -1,5 +1,6 @@
 //! Clients that are connected.
-ghost use Rattle.std.specs.Prelude.{◌≡◌, ◌≤◌, ◌*◌, IfSome, IfOk, OnOk, ℕ, List, length, take};
+ghost use Rattle.std.specs.Prelude.{◌≡◌, ◌≤◌, ◌*◌, nat_le, IfSome, IfOk, OnOk, ℕ, List, length, take};
+ghost use Rattle.std.specs.Time.{instant_nanos};
 ghost use Rattle.mx_tasks.specs.Clients.{IsKnown, IsPrefix};
 ghost use Rattle.mx_tasks.specs.Seats.{IsAfter, IsFresh, IsRead, IsSentSo, answer_of, is_over, stream_of};
 
@@ -78,6 +79,13 @@ pub enum Arrival {
     Failed,
 }
 
+/// Whether a time has come.
+fn has_come(time: Instant, now: Instant) -> bool
+    ensures { result ≡ nat_le (instant_nanos time) (instant_nanos now) }
+{
+    now.checked_duration_since(time).is_some()
+}
+
 /// So many seconds from now on; or now, where the clock doesn't count so far.
 pub fn seconds_from(now: Instant, seconds: u64) -> Instant
     requires { seconds ≤ 10 }
@@ -134,8 +142,10 @@ impl<S> Seat<S> {
         ensures { result ≡ is_over now self.now }
     {
         match self {
-            Seat::Asking(visitor) => visitor.until <= now,
-            Seat::Taking(answered) => answered.until <= now || answered.silent <= now,
+            Seat::Asking(visitor) => has_come(visitor.until, now),
+            Seat::Taking(answered) => {
+                has_come(answered.until, now) || has_come(answered.silent, now)
+            }
         }
     }
 }

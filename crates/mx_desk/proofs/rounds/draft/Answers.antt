@@ -10,5 +10,5 @@ returns-clause-holds g c =
     let found = c.route-route.ensures in
     let answered = c.answer_request-response.ensures in
     holds_one g.B.Book.fails _ _ _ _ h (request_view c.args.request.now) answered.later answered.bides
-        (held_for _ _ c.route-route.result (request_view c.args.request.now) c.is_some-routed.ensures found answered.no_route) refl
-        (λ sure knows. answered.answers sure knows found)
+    (held_for _ _ c.route-route.result (request_view c.args.request.now) c.is_some-routed.ensures found answered.no_route) refl
+    (λ sure knows. answered.answers sure knows found)

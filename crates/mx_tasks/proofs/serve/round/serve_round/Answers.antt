@@ -28,14 +28,14 @@ returns-in-Ok-clause-serves g c = λ w low kept.
     let b = g.B.Book in
     let done = c.settle-settled.ensures in
     round_served b.fails g.S.Connection.received g.S.Connection.written (g.met.B.Book.lawful _) (g.met.B.Book.lawful _) (g.met.B.Book.lawful _) _ _ w c.is_ok.result kept c.gather-gathered.ensures.gathers c.gather-gathered.ensures.few
-        c.settle-settled.result c.is_ok.ensures.value done.settles done.fault done.same done.anew c.tell.ensures.tends c.ring.ensures.lasts c.ring.ensures.serves low
+    c.settle-settled.result c.is_ok.ensures.value done.settles done.fault done.same done.anew c.tell.ensures.tends c.ring.ensures.lasts c.ring.ensures.serves low
 
 pub returns-in-Err-clause-serves : goal.returns-in-Err-clause-serves
 returns-in-Err-clause-serves g c = λ w low kept.
     let b = g.B.Book in
     let done = c.settle-settled.ensures in
     round_served b.fails g.S.Connection.received g.S.Connection.written (g.met.B.Book.lawful _) (g.met.B.Book.lawful _) (g.met.B.Book.lawful _) _ _ w c.is_ok.result kept c.gather-gathered.ensures.gathers c.gather-gathered.ensures.few
-        c.settle-settled.result c.is_ok.ensures.value done.settles done.fault done.same done.anew c.tell.ensures.tends c.ring.ensures.lasts c.ring.ensures.serves low
+    c.settle-settled.result c.is_ok.ensures.value done.settles done.fault done.same done.anew c.tell.ensures.tends c.ring.ensures.lasts c.ring.ensures.serves low
 
 pub returns-in-Ok-clause-later : goal.returns-in-Ok-clause-later
 returns-in-Ok-clause-later g c = λ still. later_still g.B.Book.fails g.S.Connection.received g.S.Connection.written (g.met.B.Book.lawful _) (g.met.B.Book.lawful _) c.gather-gathered.ensures.gathers c.settle-settled.ensures.settles c.ring.ensures.lasts still

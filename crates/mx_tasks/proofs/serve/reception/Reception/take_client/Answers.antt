@@ -29,7 +29,7 @@ returns-clause-tends g c =
     let next = c.in_ok-stream.ensures.next in
     let less = c.if-self.false in
     let come = comes r w (hall g.L.Listener.clients c.args.self.now) (record { places = c.args.self.now.places.items; clients = g.L.Listener.clients c.accept.new.self; taken = c.args.self.now.taken + 1; ended = c.args.self.now.ended; count = c.args.self.now.count })
-        (r c.in-Some-2.stream) (w c.in-Some-2.stream) (rw c.in-Some-2.is at next) refl less refl refl refl in
+    (r c.in-Some-2.stream) (w c.in-Some-2.stream) (rw c.in-Some-2.is at next) refl less refl refl refl in
     tends_then r w Always 0 1 come c.clear.ensures.tends (λ xs was so. (tt, tt)) (omega arith)
 
 pub returns-clause-fresh : goal.returns-clause-fresh
