@@ -7,6 +7,7 @@ pub mod KnowsLemmas
 pub mod LawLemmas
 pub mod RoundLemmas
 pub mod TurnLemmas
+pub mod ClientLemmas
 pub mod MoveLemmas
 pub mod StepLemmas
 pub mod RunLemmas

@@ -20,13 +20,13 @@ use Rattle.mx_wire.specs.declared.replies.Response.{Response}
 use Rattle.mx_wire.specs.declared.routes.Route.{Route}
 use Rattle.mx_desk.specs.Answers.{IsAnswer}
 use Rattle.mx_desk.specs.declared.held.Held.{Held}
-use Rattle.mx_desk.specs.Held.{AreHeldFor, Drafted, Holds, HoldsMore, IsHeldFor, response_text, text_of, texts}
+use Rattle.mx_desk.specs.Held.{AreHeldFor, Drafted, Holds, HoldsMore, AreSent, IsHeldFor, response_text, text_of, texts}
 use Rattle.mx_desk.specs.Knows.{Has, Knows, RestsKnown}
 use Rattle.mx_desk.specs.Requests.{First, Request, Whole, more, none}
 use Rattle.mx_desk.specs.Respond.{after_route, respond, MayBeGivenUp}
 use Rattle.mx_desk.specs.Rounds.{Moves, Round, all_of, attempts, lost, marked_of}
 use Rattle.mx_desk.specs.Serve.{Marked, AllMayBeMarked, outputs, requests_of, response_to, world_after, world_after_one}
-use Rattle.mx_desk.proofs.LawLemmas.{marks-append, outputs-append, world_after-append}
+use Rattle.mx_desk.proofs.LawLemmas.{marks-append, world_after-append}
 use Rattle.mx_desk.proofs.RequestLemmas.{Begins-then}
 
 -- ---- a round that is given up
@@ -63,12 +63,12 @@ lost_response w m h is = by (route_of m.request.method m.request.path) refl wher
       let routed : h.routed ≡ true = is.routed ∙ rw some_is refl in
       rw (routed, some_is) refl
 
-lost_responses : (w : World) (ms : List Marked) (hs : List Held) → AreHeldFor hs (requests_of ms) → texts false hs ≡ outputs w (map lost ms)
-lost_responses w [] [] held = refl
+lost_responses : (w : World) (ms : List Marked) (hs : List Held) → AreHeldFor hs (requests_of ms) → AreSent false w hs (map lost ms)
+lost_responses w [] [] held = tt
 lost_responses w [] (h ∷ hs) held = absurd held
 lost_responses w (m ∷ ms) [] held = absurd held
 lost_responses w (m ∷ ms) (h ∷ hs) held =
-    (λ i. lost_response w m h held.0 i ++ lost_responses w ms hs held.1 i) ∙ ap (λ v. response_to w (lost m) ++ outputs v (map lost ms)) (sym (lost_one w m))
+    (lost_response w m h held.0, subst (λ v. AreSent false v hs (map lost ms)) (sym (lost_one w m)) (lost_responses w ms hs held.1))
 
 -- ---- rounds as attempts
 
@@ -155,12 +155,27 @@ held_for response routed route r is found alike = record { routed = is ∙ ap is
 low_harm : {v : View} → IsLawful v → v.doubt ≤ 1 → v.harm ≤ 1
 low_harm law low = let deep = law.deep in omega (arith, deep, low)
 
+-- ---- what is sent
+
+-- to all of them
+pub texts_sent : (kept : Bool) (w : World) (hs : List Held) (ms : List Marked) → AreSent kept w hs ms → texts kept hs ≡ outputs w ms
+texts_sent kept w [] [] sent = refl
+texts_sent kept w [] (m ∷ ms) sent = absurd sent
+texts_sent kept w (h ∷ hs) [] sent = absurd sent
+texts_sent kept w (h ∷ hs) (m ∷ ms) sent = λ i. sent.0 i ++ texts_sent kept (world_after_one w m) hs ms sent.1 i
+
+sent-append : (kept : Bool) (w : World) (hs is : List Held) (ms ns : List Marked) → AreSent kept w hs ms → AreSent kept (world_after w ms) is ns → AreSent kept w (hs ++ is) (ms ++ ns)
+sent-append kept w [] is [] ns one two = two
+sent-append kept w [] is (m ∷ ms) ns one two = absurd one
+sent-append kept w (h ∷ hs) is [] ns one two = absurd one
+sent-append kept w (h ∷ hs) is (m ∷ ms) ns one two = (one.0, sent-append kept (world_after_one w m) hs is ms ns one.1 two)
+
 -- a round was answered: each request by its response, or 503 where it is given up
-pub record IsAnswered (fails : StoreFault → Type 0) (old new : View) (knows : List (Option (Token × Caller))) (w : World) (rs : List Request) (text : List ℕ) : Type 0 where
+pub record IsAnswered (fails : StoreFault → Type 0) (old new : View) (knows : List (Option (Token × Caller))) (w : World) (rs : List Request) (kept : Bool) (hs : List Held) : Type 0 where
   pub round : Round
   pub requests : requests_of (marked_of round) ≡ rs
   pub marks : AllMayBeMarked fails w (marked_of round)
-  pub responses : text ≡ outputs w (marked_of round)
+  pub responses : AreSent kept w hs (marked_of round)
   pub moves : Moves old new w (round ∷ []) (world_after w (marked_of round))
   pub knows_now : Knows (world_after w (marked_of round)) knows
 
@@ -170,7 +185,7 @@ module _ (fails : StoreFault → Type 0) where
     later = omega arith;
     bides = bides_none v;
     held = tt;
-    drafted = λ sure knows. record { marked = []; requests = refl; marks = tt; responses = refl; kept = (refl, knows) };
+    drafted = λ sure knows. record { marked = []; requests = refl; marks = tt; responses = tt; kept = (refl, knows) };
   }
 
   -- one request
@@ -189,14 +204,14 @@ module _ (fails : StoreFault → Type 0) where
         marked = record { request = r; given_up = false } ∷ [];
         requests = refl;
         marks = (λ e. cc, tt);
-        responses = ap (λ t. t ++ []) (ap (response_text h.method) is ∙ (λ i. sent (method i) (answer.0 i)));
+        responses = (ap (response_text h.method) is ∙ (λ i. sent (method i) (answer.0 i)), tt);
         kept = answer.1;
       }
       by (Err e) is answer = record {
         marked = record { request = r; given_up = true } ∷ [];
         requests = refl;
         marks = (λ _. answer.0, tt);
-        responses = ap (λ t. t ++ []) (ap (response_text h.method) is);
+        responses = (ap (response_text h.method) is, tt);
         kept = answer.1;
       }
 
@@ -211,7 +226,7 @@ module _ (fails : StoreFault → Type 0) where
           marked = d.marked ++ e.marked;
           requests = requests-append d.marked e.marked ∙ (λ i. d.requests i ++ e.requests i);
           marks = marks-append fails x.world d.marked e.marked d.marks e.marks;
-          responses = flat_map-append (text_of true) hs is ∙ (λ i. d.responses i ++ e.responses i) ∙ sym (outputs-append x.world d.marked e.marked);
+          responses = sent-append true x.world hs is d.marked e.marked d.responses e.responses;
           kept = subst (Has z r) (sym (world_after-append x.world d.marked e.marked)) e.kept;
         };
   }
@@ -245,7 +260,7 @@ module _ (fails : StoreFault → Type 0) where
 
     -- with these marks, where that is so if there is no doubt
     given_up_round : {T : Type 0} (e : StoreFault) → Settles {T = T} y z (Err e) → fails e → ((v : World) → Knows v knows)
-        → (ms : List Marked) → requests_of ms ≡ rs → (y.doubt ≡ 0 → y.world ≡ world_after w ms) → IsAnswered fails x z knows w rs (texts false hs)
+        → (ms : List Marked) → requests_of ms ≡ rs → (y.doubt ≡ 0 → y.world ≡ world_after w ms) → IsAnswered fails x z knows w rs false hs
     given_up_round e done may anew ms same is = record {
       round = record { held = ms; few = few_marked hs rs ms holds.held few same; given_up = true };
       requests = requests_lost ms ∙ same;
@@ -256,7 +271,7 @@ module _ (fails : StoreFault → Type 0) where
     }
 
     pub answered_round : {T : Type 0} (settled : Result T StoreFault) → Settles y z settled → IfErr settled fails → OnOk settled (knows ≡ held_known) → OnErr settled ((v : World) → Knows v knows) → z.doubt ≤ 1
-        → IsAnswered fails x z knows w rs (texts (is_ok settled) hs)
+        → IsAnswered fails x z knows w rs (is_ok settled) hs
     answered_round (Ok t) done may same anew low =
         let d = drafted_here (done.ok (low_harm last low)).0 in record {
           round = record { held = d.marked; few = few_marked hs rs d.marked holds.held few d.requests; given_up = false };
@@ -267,6 +282,6 @@ module _ (fails : StoreFault → Type 0) where
           knows_now = subst (Knows (world_after w d.marked)) (sym same) d.kept.1;
         }
     answered_round (Err e) done may same anew low = by y.doubt refl where
-      by : (n : ℕ) → y.doubt ≡ n → IsAnswered fails x z knows w rs (texts false hs)
+      by : (n : ℕ) → y.doubt ≡ n → IsAnswered fails x z knows w rs false hs
       by zero sure = let d = drafted_here sure in given_up_round e done may anew d.marked d.requests (λ sure. d.kept.0)
       by (suc n) doubted = given_up_round e done may anew (unmarked rs) (requests_unmarked rs) (λ sure. absurd (omega (arith, sure, doubted)))

@@ -15,7 +15,7 @@ use Rattle.mx_desk.specs.Requests.{Begins, First, Request, Whole, more}
 use Rattle.mx_desk.specs.Rounds.{Moves, Round, marked_of}
 use Rattle.mx_desk.specs.Serve.{AllMayBeMarked, outputs, requests_of, world_after}
 use Rattle.mx_desk.proofs.RequestLemmas.{Begins-shorter}
-use Rattle.mx_desk.proofs.RoundLemmas.{answered_round, held_length, holds_then, requests_length, IsAnswered}
+use Rattle.mx_desk.proofs.RoundLemmas.{answered_round, held_length, holds_then, requests_length, texts_sent, IsAnswered}
 
 -- a round was answered, of which these bytes are the first
 pub record IsTurned {T : Type 0} (fails : StoreFault → Type 0) (old new : View) (knows : List (Option (Token × Caller))) (w : World) (pending rest : List ℕ) (n : ℕ) (output written : Option (List ℕ)) (result : Result T DeskFault) : Type 0 where
@@ -57,13 +57,13 @@ module _ (fails : StoreFault → Type 0) (v x y : View) (known k1 k2 : List (Opt
     abbrev IsCut : List ℕ → Type 0
     IsCut t = (count : ℕ) × (count < length t) × Appends output written (take count t)
 
-    answered : IsAnswered fails v z knows w (r ∷ others.rs) (texts (is_ok done.settled) (h ∷ others.hs))
+    answered : IsAnswered fails v z knows w (r ∷ others.rs) (is_ok done.settled) (h ∷ others.hs)
     answered =
         answered_round fails law last known k2 knows w (h ∷ others.hs) (r ∷ others.rs) kept all_held (subst (λ l. length l ≤ 64) items few)
         done.settled done.settles done.fault done.same done.anew low
 
     text : texts (is_ok done.settled) after ≡ outputs w (marked_of answered.round)
-    text = ap (texts (is_ok done.settled)) items ∙ answered.responses
+    text = ap (texts (is_ok done.settled)) items ∙ texts_sent (is_ok done.settled) w (h ∷ others.hs) (marked_of answered.round) answered.responses
 
     count : length after ≡ length (marked_of answered.round)
     count = many ∙ ap length (sym answered.requests) ∙ requests_length (marked_of answered.round)

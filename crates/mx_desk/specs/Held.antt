@@ -16,7 +16,7 @@ use Rattle.mx_desk.specs.declared.held.Held.{Held}
 use Rattle.mx_desk.specs.Knows.{Has, Knows}
 use Rattle.mx_desk.specs.Requests.{Begins, Request}
 use Rattle.mx_desk.specs.Respond.{is_routed}
-use Rattle.mx_desk.specs.Serve.{Marked, AllMayBeMarked, outputs, requests_of, world_after}
+use Rattle.mx_desk.specs.Serve.{Marked, AllMayBeMarked, requests_of, response_to, world_after, world_after_one}
 
 -- the response to a request, where its round is settled
 abbrev pub response_text : Method → Result Response StoreFault → List ℕ
@@ -29,6 +29,12 @@ text_of kept h = if kept then response_text h.method h.response else if h.routed
 
 abbrev pub texts : Bool → List Held → List ℕ
 texts kept = flat_map (text_of kept)
+
+-- each request is sent the response that its mark gives it, in the World that the ones before left
+abbrev pub AreSent : Bool → World → List Held → List Marked → Type 0
+AreSent kept w [] [] = Unit {0}
+AreSent kept w (h ∷ hs) (m ∷ ms) = (text_of kept h ≡ response_to w m) × AreSent kept (world_after_one w m) hs ms
+AreSent kept w _ _ = ⊥
 
 -- so much is held of a request, whatever became of the book
 pub record IsHeldFor (h : Held) (r : Request) : Type 0 where
@@ -45,7 +51,7 @@ pub record Drafted (fails : StoreFault → Type 0) (new : View) (places : List (
   pub marked : List Marked
   pub requests : requests_of marked ≡ rs
   pub marks : AllMayBeMarked fails w marked
-  pub responses : texts true hs ≡ outputs w marked
+  pub responses : AreSent true w hs marked
   pub kept : Has new places (world_after w marked)
 
 -- This is held of requests that were answered in a round. It is so while there is no doubt.

@@ -8,6 +8,7 @@ pub mod Serve
 pub mod Steps
 pub mod Answers
 pub mod Held
+pub mod Clients
 pub mod Knows
 pub mod Isolation
 pub mod Conservation

@@ -39,7 +39,7 @@ pub enum Served {
 }
 
 /// The response to a fault that ends a run.
-fn stop_fixed(reason: Reason) -> Fixed
+pub(crate) fn stop_fixed(reason: Reason) -> Fixed
     ensures { result ≡ stop_fixed reason }
 {
     match reason {

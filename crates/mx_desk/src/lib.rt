@@ -3,6 +3,7 @@
 
 pub mod answer;
 pub mod callers;
+pub mod clients;
 pub mod counted;
 pub mod desk;
 pub mod fault;

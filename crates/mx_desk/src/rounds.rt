@@ -1,10 +1,12 @@
 //! Requests that are answered together: one settle keeps what all of them change, and only then are their responses written.
 ghost use Rattle.std.specs.Prelude.{◌≡◌, ◌+◌, ◌<◌, ◌≤◌, ◌++◌, ℕ, List, [], ◌∷◌, false, true, length, take, OnOk, OnErr, IfErr};
 ghost use Rattle.std.specs.Io.KnownBytes.{Appends};
+ghost use Rattle.mx_book.specs.Views.{Settles};
 ghost use Rattle.mx_book.specs.World.{World};
 ghost use Rattle.mx_desk.specs.Devices.{capped};
 ghost use Rattle.mx_desk.specs.Found.{request_view};
 ghost use Rattle.mx_desk.specs.Held.{Holds, HoldsMore, Responds, texts};
+ghost use Rattle.mx_desk.specs.Knows.{Knows};
 ghost use Rattle.mx_desk.specs.Rounds.{makes_token};
 ghost use Rattle.mx_desk.specs.declared.held.Held.{Held};
 
@@ -37,8 +39,35 @@ fn makes_token(command: &Command) -> bool
     )
 }
 
-/// Answers a request in the round, and holds what is to be sent. Says whether the round goes on behind it: not behind a request
-/// that was given up or that makes a token, and not where the round is full.
+/// Answers a request in the round, and gives what is held of it. Says whether the round goes on behind it: not behind a request
+/// that was given up or that makes a token.
+pub(crate) fn draft<B: Book>(
+    alloc: Global,
+    workspace: &mut Workspace,
+    routes: &Routes,
+    office: &mut Office<B>,
+    request: &Received<'_>,
+) -> (Held, bool)
+    ensures holds { Holds B.fails (B.view office.old.book) (B.view office.new.book)
+        workspace.old.callers workspace.new.callers
+        (result.0 ∷ []) (request_view request.now ∷ []) }
+    ensures round { workspace.new.round ≡ workspace.old.round }
+    ensures token { result.1 ≡ true → makes_token workspace.new.command ≡ false }
+{
+    let route = routes.route(request.method, request.path);
+    let routed = route.is_some();
+    let response = answer_request(alloc, workspace, office, &route, request);
+    let goes_on = response.is_ok() && !makes_token(&workspace.command);
+    let held = Held {
+        response,
+        method: request.method,
+        routed,
+    };
+    (held, goes_on)
+}
+
+/// Answers a request in the round, and holds what is to be sent. Says whether the round goes on behind it, which it doesn't
+/// where it is full.
 pub(crate) fn hold<B: Book>(
     alloc: Global,
     workspace: &mut Workspace,
@@ -56,15 +85,8 @@ pub(crate) fn hold<B: Book>(
         × (length workspace.new.round.held.items < 64) }
     ensures token { result ≡ true → makes_token workspace.new.command ≡ false }
 {
-    let route = routes.route(request.method, request.path);
-    let routed = route.is_some();
-    let response = answer_request(alloc, workspace, office, &route, request);
-    let goes_on = response.is_ok() && !makes_token(&workspace.command);
-    workspace.round.held.push(Held {
-        response,
-        method: request.method,
-        routed,
-    });
+    let (held, goes_on) = draft(alloc, workspace, routes, office, request);
+    workspace.round.held.push(held);
     goes_on && !workspace.round.alone && workspace.round.held.len() < MOST_TOGETHER
 }
 
@@ -127,6 +149,26 @@ fn cause(held: &[Held], settled: Result<(), StoreFault>) -> Option<StoreFault> {
     settled.err()
 }
 
+/// Settles the round. What is remembered of tokens is forgotten where that is a fault: then each request that needed the books is
+/// sent 503.
+pub fn settle<B: Book>(
+    alloc: Global,
+    workspace: &mut Workspace,
+    office: &mut Office<B>,
+) -> Result<(), StoreFault>
+    ensures settles { Settles (B.view office.old.book) (B.view office.new.book) result }
+    ensures fault { IfErr result B.fails }
+    ensures same { OnOk result (workspace.new.callers ≡ workspace.old.callers) }
+    ensures anew { OnErr result ((w : World) → Knows w workspace.new.callers) }
+    ensures round { workspace.new.round ≡ workspace.old.round }
+{
+    let settled = office.settle();
+    if settled.is_err() {
+        workspace.callers = Callers::new(alloc);
+    }
+    settled
+}
+
 /// Settles the round, and then sends what is held: each response, or 503 to each request that needed the books where the settle
 /// failed. The writer learns first where it is the store that failed. A fault is `Write`.
 pub fn respond<W: Outlet, B: Book>(
@@ -143,10 +185,7 @@ pub fn respond<W: Outlet, B: Book>(
         (λ e. (e ≡ DeskFault.Write) × (writer.new.failures ≡ capped (writer.old.failures + 1))) }
     ensures whole { OnOk result (writer.new.failures ≡ writer.old.failures) }
 {
-    let settled = office.settle();
-    if settled.is_err() {
-        workspace.callers = Callers::new(alloc);
-    }
+    let settled = settle(alloc, workspace, office);
     let held = workspace.round.held.as_slice();
     if cause(held, settled) == Some(StoreFault::Store) {
         writer.store_failed();

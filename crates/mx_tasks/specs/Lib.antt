@@ -3,9 +3,11 @@ pub mod Texts
 pub mod Evenness
 pub mod Runs
 pub mod Clients
-pub mod Visitors
 pub mod Connections
 pub mod Works
-pub mod Waits
 pub mod Causes
 pub mod Voices
+pub mod Seats
+pub mod Halls
+pub mod Attended
+pub mod Visitors

@@ -1,5 +1,5 @@
 -- What is said on standard error, and to a terminal in memory.
-use Rattle.std.specs.Prelude.{◌≡◌, ◌⊎◌, ℕ, List, ◌++◌, map, Option, option_map, String, string_bytes, Vec, true, false, codes}
+use Rattle.std.specs.Prelude.{◌≡◌, ◌⊎◌, ℕ, List, [], ◌∷◌, ◌++◌, map, Option, Some, option_map, String, string_bytes, Vec, true, false, codes}
 use Rattle.std.specs.Fmt.{decimal}
 use Rattle.std.specs.Io.KnownBytes.{Appends}
 use Rattle.mx_tasks.specs.Faults.{fault_text}
@@ -9,6 +9,10 @@ use Rattle.mx_tasks.specs.declared.serve.alarm.Alarm.{Alarm}
 -- when the store fails for the first time
 abbrev pub alarm_line : List ℕ
 alarm_line = codes "store: the disk is full or the file is damaged; requests are answered 503\n"
+
+-- when it is shut
+abbrev pub shut_line : List ℕ
+shut_line = codes "store: a write or a sync of the file failed; no more requests are answered\n"
 
 -- where the task ends with a fault
 abbrev pub fault_line : TaskFault → List ℕ
@@ -29,3 +33,12 @@ heard texts = option_map (λ all. map string_bytes all.items) texts
 -- an alarm didn't ring; or it rang for the first time, and said its line
 abbrev pub RingsOnce : {V : Type 0} → (V → Option (List ℕ)) → Alarm V → Alarm V → Type 0
 RingsOnce said old new = (new ≡ old) ⊎ ((old.has_rung ≡ false) × (new.has_rung ≡ true) × Appends (said old.voice) (said new.voice) alarm_line)
+
+-- the same; and where this is so, it may be that the store was shut, and that was said behind it
+abbrev pub RingsFor : {V : Type 0} → (V → Option (List ℕ)) → Alarm V → Alarm V → Type 0 → Type 0
+RingsFor {V} said old new IsSo = RingsOnce said old new ⊎ ((mid : Alarm V) × RingsOnce said old mid × IsSo × Appends (said mid.voice) (said new.voice) shut_line)
+
+-- one more text is heard, as long as all of that is known
+abbrev pub HearsOne : Option (List (List ℕ)) → Option (List ℕ) → Option (List (List ℕ)) → Type 0
+HearsOne (Some all) (Some text) (Some more) = more ≡ all ++ text ∷ []
+HearsOne _ _ _ = Unit {0}

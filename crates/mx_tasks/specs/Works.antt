@@ -7,8 +7,7 @@ use Rattle.mx_desk.specs.Serve.{Marked}
 use Rattle.mx_desk.specs.Rounds.{Leads, Round}
 use Rattle.mx_report.specs.Import.{IsBroken, IsImported, Tally, tally_of}
 use Rattle.mx_report.specs.declared.rolls.RollReport.{RollReport}
-use Rattle.mx_tasks.specs.Clients.{unknown}
-use Rattle.mx_tasks.specs.Connections.{ServesConnections}
+use Rattle.mx_tasks.specs.Connections.{ServesClients}
 use Rattle.mx_tasks.specs.Faults.{IsReportFault}
 use Rattle.mx_tasks.specs.Texts.{import_text, is_even_of, report_of}
 use Rattle.mx_tasks.specs.declared.fault.TaskFault.{TaskFault}
@@ -33,9 +32,9 @@ listening_text port = codes "listening on 127.0.0.1:" ++ decimal port ++ codes "
 abbrev pub served_text : ℕ → List ℕ
 served_text n = codes "served " ++ decimal n ++ codes "\n"
 
--- connections: how many were served is said
+-- clients: how many were served is said
 abbrev pub WorksServe : (StoreFault → Type 0) → World → ℕ → Result Done TaskFault → List Marked → World → Type 0
-WorksServe fails w count result ms now = ServesConnections fails unknown w count result unknown ms now × IfOk result (IsSaid (served_text count))
+WorksServe fails w count result ms now = ServesClients fails w count result ms now × IfOk result (IsSaid (served_text count))
 
 -- the import of a roll: its summary is said; or it broke off; or it is done and there is no memory to sum it up
 abbrev pub Imports : {X : Type 0} → (World → Type 0) → World → List ℕ → (List ℕ → X → Type 0) → Result X TaskFault → Type 0

@@ -1,8 +1,7 @@
 //! A terminal and rolls in memory.
 ghost use Rattle.std.specs.Prelude.{◌≡◌, IfOk, IfSome, None, Some, [], option_map};
 ghost use Rattle.std.specs.BTreeMap.{get_by_text};
-ghost use Rattle.mx_tasks.specs.Clients.{TellsOne};
-ghost use Rattle.mx_tasks.specs.Voices.{heard};
+ghost use Rattle.mx_tasks.specs.Voices.{HearsOne, heard};
 
 use crate::import::rolls::Rolls;
 use crate::terminal::Terminal;
@@ -38,7 +37,7 @@ impl TerminalInMemory {
 
 impl Voice for TerminalInMemory {
     fn say<D: Display + Drop>(&mut self, text: D)
-        ensures kept { TellsOne (heard self.old.texts) (D.output text) (heard self.new.texts) }
+        ensures kept { HearsOne (heard self.old.texts) (D.output text) (heard self.new.texts) }
         ensures lost { self.old.texts ≡ None → self.new.texts ≡ None }
         ensures seen { self.new.is_terminal ≡ self.old.is_terminal }
     {

@@ -1,30 +1,35 @@
 //! What is done over the books in a file.
-ghost use Rattle.std.specs.Prelude.{◌≡◌, ◌≤◌, None, IfOk, IfErr, OnOk, string_bytes};
+ghost use Rattle.std.specs.Prelude.{◌≡◌, ◌≤◌, None, IfOk, IfErr, IsErr, OnOk, string_bytes};
 ghost use Rattle.std.specs.Io.KnownBytes.{Appends};
 ghost use Rattle.mx_book.specs.Views.{Keeps, RestsAt, IsSure, IsHonest};
 ghost use Rattle.mx_book.specs.World.{World};
+ghost use Rattle.mx_desk.specs.Knows.{RestsKnown};
 ghost use Rattle.mx_desk.specs.Rounds.{Leads, Moves};
-ghost use Rattle.mx_tasks.specs.Connections.{ServesConnections};
+ghost use Rattle.mx_tasks.specs.Connections.{ServesClients, ServesRound};
 ghost use Rattle.mx_tasks.specs.Faults.{IsReportFault};
-ghost use Rattle.mx_tasks.specs.Voices.{RingsOnce};
+ghost use Rattle.mx_tasks.specs.Halls.{Always, Tends, hall};
+ghost use Rattle.mx_tasks.specs.Voices.{RingsFor};
 ghost use Rattle.mx_tasks.specs.Works.{ImportsFile, IsSaid, Works, WorksReport, WorksServe, listening_text, served_text};
 
 use crate::fault::TaskFault;
 use crate::import::import_file;
 use crate::report::{ReportKind, report_text};
 use crate::serve::alarm::Alarm;
-use crate::serve::listen;
+use crate::serve::connection::Connection;
+use crate::serve::desk::Desk;
 use crate::serve::listener::Listener;
-use crate::serve::reception::{Reception, serve_client};
+use crate::serve::port::{Port, listen};
+use crate::serve::reception::Reception;
+use crate::serve::round::serve_round;
 use crate::voice::Voice;
 use mx_book::Book;
 use mx_office::Office;
-use mx_wire::Routes;
 use std::alloc::{AllocError, Global};
 use std::io;
 use std::io::Write;
 use std::net::{Net, TcpListener, TcpStream};
 use std::rt::Clock;
+use std::time::Instant;
 
 /// What is done over the books in a file, beside a run, which has the input and the output.
 #[derive(Drop)]
@@ -103,45 +108,89 @@ fn served_text(alloc: Global, served: u64) -> Result<String, AllocError>
     format!(in alloc; "served {served}\n")
 }
 
-/// Serves so many connections, one after another: of each the first request alone. What is promised of these is one
-/// clause (`serves`). A fault of a connection ends that connection alone: the client has ten seconds for its request, ten for
-/// taking the response, and ten with what it sends behind, and holds the others up for so long. The first time that the store
-/// fails a request, the alarm says so behind the response. The answer is how many were served.
+/// Waits until a client is ready or a client's time is over, and ends the connections of those whose time is. Says when that was.
+fn wait<S: Connection + Drop, L: Listener<S>, V>(
+    rt: &impl Clock,
+    reception: &mut Reception<L, S, V>,
+) -> io::Result<Instant>
+    ensures tends { Tends S.received S.written Always 0 0
+        (hall L.clients reception.old) (hall L.clients reception.new) }
+    ensures quiet { reception.new.alarm ≡ reception.old.alarm }
+{
+    let longest = reception.patience();
+    reception.listener.wait(longest)?;
+    let now = Instant::now(rt)?;
+    reception.keep_time(now);
+    Ok(now)
+}
+
+/// Serves the clients that come, as many as the reception is for, in rounds: of each its first request alone. What is promised of
+/// these is one clause (`serves`). A fault of a connection ends that connection alone, and a slow client holds up no other: it has
+/// ten seconds for its request, ten for taking the answer, and ten with what it sends behind. Where the store fails a request the
+/// alarm says so. The answer is how many were served.
 ///
 /// # Errors
 ///
-/// That of the system where a connection can't be taken.
-pub fn serve_connections<L: Listener, V: Voice, B: Book>(
-    rt: &(impl AllocGlobal + Clock),
-    reception: &mut Reception<L, V>,
-    count: u64,
-    routes: &Routes,
+/// `Net` where clients can't be waited for; `Store` where the store is shut.
+pub fn serve_connections<S: Connection + Drop, L: Listener<S>, V: Voice, B: Book>(
+    rt: &impl Clock,
+    desk: &mut Desk,
+    reception: &mut Reception<L, S, V>,
     office: &mut Office<B>,
-) -> io::Result<u64>
+) -> Result<u64, TaskFault>
+    ensures all { IfOk result (λ served. served ≡ reception.old.count) }
+    ensures done { OnOk result ((reception.new.taken ≡ reception.old.count)
+        × (reception.new.ended ≡ reception.old.count)) }
+    ensures later { (B.view office.old.book).IsSettled
+        → (B.view office.old.book).doubt ≤ (B.view office.new.book).doubt }
+    ensures still { (B.view office.old.book).IsSettled → (B.view office.new.book).IsSettled }
+    ensures serves { (w : World) → IsHonest (B.view office.new.book)
+        → RestsKnown (B.view office.old.book) desk.old.workspace.callers w
+        → Leads (ServesRound B.fails S.received S.written w
+        (hall L.clients reception.old) (hall L.clients reception.new))
+        (Moves (B.view office.old.book) (B.view office.new.book) w) }
+    ensures rings { RingsFor V.said reception.old.alarm reception.new.alarm (IsErr result) }
+{
+    'rounds: for _ in 0..u64::MAX {
+        if reception.is_done() {
+            return Ok(reception.count());
+        }
+        let Ok(now) = wait(rt, reception) else {
+            return Err(TaskFault::Net);
+        };
+        serve_round(desk, reception, now, office)?;
+    }
+    Err(TaskFault::Net)
+}
+
+/// Serves so many clients that come at a port.
+fn serve_port<B: Book>(
+    rt: &(impl AllocGlobal + Clock + Eprint),
+    port: Port,
+    count: u32,
+    office: &mut Office<B>,
+) -> Result<u64, TaskFault>
     ensures all { IfOk result (λ served. served ≡ count) }
     ensures later { (B.view office.old.book).IsSettled
         → (B.view office.old.book).doubt ≤ (B.view office.new.book).doubt }
     ensures still { (B.view office.old.book).IsSettled → (B.view office.new.book).IsSettled }
     ensures serves { (w : World) → IsHonest (B.view office.new.book)
         → RestsAt (B.view office.old.book) w
-        → Leads (ServesConnections B.fails (L.clients reception.old.listener) w count result
-        (L.clients reception.new.listener))
+        → Leads (ServesClients B.fails w count result)
         (Moves (B.view office.old.book) (B.view office.new.book) w) }
-    ensures rings { RingsOnce V.said reception.old.alarm reception.new.alarm }
 {
-    'connections: for _ in 0..count {
-        serve_client(rt, reception, routes, office)?;
-    }
-    Ok(count)
+    let mut reception = Reception::new(rt.alloc(), port, Alarm::new(rt), u64::from(count))?;
+    let mut desk = Desk::new(rt.alloc())?;
+    serve_connections(rt, &mut desk, &mut reception, office)
 }
 
-/// Listens on a port of 127.0.0.1, writes a line that says so, and serves so many connections. Gives the line that says
-/// how many were served.
+/// Listens on a port of 127.0.0.1, writes a line that says so, and serves so many clients. Gives the line that says how many were
+/// served.
 ///
 /// # Errors
 ///
-/// `Net` where the port can't be listened on or a connection can't be taken, `Write` where the line can't be written, and
-/// `Memory`.
+/// `Net` where the port can't be listened on or clients can't be waited for, `Write` where the line can't be written, `Store`
+/// where the store is shut, and `Memory`.
 pub fn serve<W: Write, B: Book>(
     rt: &(impl AllocGlobal + Clock + Eprint + Net<Listener = TcpListener, Stream = TcpStream>),
     writer: &mut W,
@@ -159,19 +208,12 @@ pub fn serve<W: Write, B: Book>(
         → Leads (WorksServe B.fails w count result)
         (Moves (B.view office.old.book) (B.view office.new.book) w) }
 {
-    let Ok(listener) = listen(rt, port) else {
+    let Ok(listener) = listen(rt.alloc(), rt, port) else {
         return Err(TaskFault::Net);
     };
-    let routes = Routes::new(rt.alloc())?;
     say_listening(rt.alloc(), writer, port)?;
-    let mut reception = Reception {
-        listener,
-        alarm: Alarm::new(rt),
-    };
-    match serve_connections(rt, &mut reception, u64::from(count), &routes, office) {
-        Ok(served) => Ok(said(served_text(rt.alloc(), served)?.into_bytes())),
-        Err(_) => Err(TaskFault::Net),
-    }
+    let served = serve_port(rt, listener, count, office)?;
+    Ok(said(served_text(rt.alloc(), served)?.into_bytes()))
 }
 
 /// Imports the roll in a file.
@@ -192,7 +234,7 @@ fn import<B: Book>(rt: &HostRuntime, roll: &str, office: &mut Office<B>) -> Resu
 ///
 /// # Errors
 ///
-/// Serving: `Net` where the port can't be listened on or a connection can't be taken, and `Write` where that it listens can't
+/// Serving: `Net` where the port can't be listened on or clients can't be waited for, and `Write` where that it listens can't
 /// be printed. An import: `File`, `RollTooLarge`, `Roll`. A report: `NoSuchPurse`. `Memory` or `Store` comes with any work.
 pub fn do_work<B: Book>(
     rt: &HostRuntime,

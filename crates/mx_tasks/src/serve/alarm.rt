@@ -2,7 +2,7 @@
 ghost use Rattle.std.specs.Prelude.{◌≡◌, true, false};
 ghost use Rattle.std.specs.Io.{WritesAtMost};
 ghost use Rattle.std.specs.Io.KnownBytes.{Appends, Keeps, WriteAppends};
-ghost use Rattle.mx_tasks.specs.Voices.{RingsOnce, alarm_line};
+ghost use Rattle.mx_tasks.specs.Voices.{RingsOnce, alarm_line, shut_line};
 
 use crate::voice::Voice;
 use mx_desk::Outlet;
@@ -44,15 +44,14 @@ impl<V: Voice> Alarm<V> {
         }
     }
 
-    /// Says it, where the store has failed and it hasn't been said yet.
-    pub fn ring_if(&mut self, has_failed: bool)
-        ensures silent { has_failed ≡ false → self.new ≡ self.old }
-        ensures rung { has_failed ≡ true → self.new.has_rung ≡ true }
-        ensures rings { RingsOnce V.said self.old self.new }
+    /// Says that the store is shut.
+    pub fn say_shut(&mut self)
+        ensures said { Appends (V.said self.old.voice) (V.said self.new.voice) shut_line }
+        ensures rung { self.new.has_rung ≡ self.old.has_rung }
     {
-        if has_failed {
-            self.ring();
-        }
+        self.voice.say(
+            "store: a write or a sync of the file failed; no more requests are answered\n",
+        );
     }
 }
 

@@ -1,56 +1,42 @@
 //! Where clients come from.
-ghost use Rattle.std.specs.Prelude.{◌≡◌, None, IfOk, OnErr};
+ghost use Rattle.std.specs.Prelude.{◌≡◌, MatchOption};
 ghost use Rattle.mx_tasks.specs.Clients.{Clients, Comes, Tells, unknown};
 
 use crate::serve::connection::Connection;
 use std::io;
-use std::net::{TcpListener, TcpStream};
+use std::time::Duration;
 
-/// A client that is connected.
-#[derive(Drop)]
-pub struct Client<S> {
-    /// What its bytes are read from.
-    pub incoming: S,
-    /// What is written to it.
-    pub outgoing: S,
+/// What is ready.
+#[derive(Clone, Copy, Debug, PartialEq, Eq)]
+pub enum Ready {
+    /// Clients may have come.
+    Clients,
+    /// The connection of this place may be read or written.
+    Place(usize),
 }
 
-/// Where clients come from, one after another.
-pub trait Listener {
-    /// A side of a connection.
-    type Stream: Connection + Drop;
-
-    /// The clients that come next, and those that were answered, where they are known.
+/// Where clients come from, over connections of this kind.
+pub trait Listener<S: Connection> {
+    /// How many clients will come, and what was told of those whose connections have ended, where it is known.
     ghost clients: { Self → Clients } = { λ _. unknown };
 
-    /// The next client. An error is that of the system.
-    fn accept(&mut self) -> io::Result<Client<Self::Stream>>
-        ensures next { IfOk result (λ client. Comes (clients self.old)
-            (Self.Stream.remaining client.incoming) (Self.Stream.contents client.outgoing)
-            (clients self.new)) }
-        ensures none { OnErr result (clients self.new ≡ clients self.old) };
+    /// Waits until something is ready, at most so long. What was ready before and wasn't asked for is ready at once.
+    fn wait(&mut self, longest: Duration) -> io::Result<()>
+        ensures { clients self.new ≡ clients self.old };
 
-    /// Takes back a client whose connection has ended.
-    fn ended(&mut self, client: Client<Self::Stream>)
-        ensures { Tells (clients self.old) (Self.Stream.contents client.outgoing)
+    /// The next of what was ready then, each once.
+    fn next(&mut self) -> Option<Ready>
+        ensures { clients self.new ≡ clients self.old };
+
+    /// The next client that has come, whose connection gets this place. None where none waits, or it can't be taken yet.
+    fn accept(&mut self, place: usize) -> Option<S>
+        ensures { MatchOption result
+            (clients self.new ≡ clients self.old)
+            (λ stream. Comes (clients self.old) (S.received stream) (S.written stream)
+            (clients self.new)) };
+
+    /// Takes back a connection that has ended.
+    fn ended(&mut self, stream: S)
+        ensures { Tells (clients self.old) (S.received stream) (S.written stream)
             (clients self.new) };
-}
-
-/// A port of the system.
-impl Listener for TcpListener {
-    type Stream = TcpStream;
-
-    fn accept(&mut self) -> io::Result<Client<TcpStream>> {
-        let (stream, _) = TcpListener::accept(self)?;
-        Ok(Client {
-            outgoing: stream.try_clone()?,
-            incoming: stream,
-        })
-    }
-
-    fn ended(&mut self, client: Client<TcpStream>)
-        ensures { Tells unknown None unknown }
-    {
-        drop(client);
-    }
 }
