@@ -1,6 +1,6 @@
 /* Makes each sync of a file take so many microseconds as the environment variable SYNC_US says, and no sync of the disk
    itself. Says on standard error, as the program ends, how many bytes were written to files, and how many syncs there were.
-   Preloaded by `rounds`; no part of the program. */
+   Preloaded by `beside-a-peer`, `given-up` and `rounds`; no part of the program. */
 #define _GNU_SOURCE
 #include <dlfcn.h>
 #include <stdio.h>

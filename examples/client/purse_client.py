@@ -1,8 +1,8 @@
 #!/usr/bin/env python3
 """A client of the office for one purse, over Python's standard library. It goes by docs/HTTP.md, "A payment from end to
 end": it looks at the purse and its inbox, does what their state asks for, and looks again. It never asks what came of
-a command: where no response came, the next look tells. So a client that was killed goes on where the same words are
-given again.
+a command: where no response came, it looks twice, and the second look tells. So a client that was killed goes on where the
+same words are given again.
 
 purse_client.py [--url URL] [--token-file FILE] [--patience SECONDS] COMMAND ..
 
@@ -31,7 +31,7 @@ AT_REST = ("eaFrom", "eaTo")
 EXPECTED = {"epr": "req", "epv": "val", "epa": "ack", "eaFrom": "clear", "eaTo": "clear"}
 CONNECTIONS = {"http": http.client.HTTPConnection, "https": http.client.HTTPSConnection}
 PAGE = 50
-# In seconds. Slow clients may hold the others of the office up for half a minute each.
+# In seconds. A slow disk may hold a response up.
 TIMEOUT, FIRST_PAUSE, LONGEST_PAUSE, PATIENCE = 60, 0.01, 1, 600
 
 
@@ -75,6 +75,8 @@ class Purse:
     def __init__(self, url, token, name, patience=PATIENCE):
         self.url, self.token, self.name, self.patience = urllib.parse.urlsplit(url), token, name, patience
         self.lines = []
+        # Whether a request had no response, of this client or of one before it, and no other was answered since.
+        self.is_unsure = True
 
     def ask(self, method, path, **body):
         """Sends a request once. A response that isn't whole, or a 503, is none."""
@@ -85,11 +87,13 @@ class Purse:
             response = connection.getresponse()
             answer = json.loads(response.read()) if response.status < 500 else None
         except (OSError, http.client.HTTPException, ValueError) as error:
+            self.is_unsure = True
             raise NoResponse(f"no response: {error}") from error
         finally:
             connection.close()
         if response.status >= 500:
             raise NoResponse(f"no response but {response.status}")
+        self.is_unsure = False
         if response.status != 200:
             raise Refused(answer["error"])
         return answer
@@ -125,7 +129,10 @@ class Purse:
 
     def look(self, agreed):
         """Looks at the purse and its inbox, handles what is expected, and discards what is of no use any more. Gives
-        the purse as it was before."""
+        the purse as it was before. A request that had no response may be done behind the first look, but not behind the
+        second."""
+        if self.is_unsure:
+            self.ask("GET", "")
         purse = self.ask("GET", "")
         for message in self.ask("GET", "/inbox")["messages"]:
             if is_for_later(message, purse, agreed):
