@@ -1,5 +1,5 @@
 -- The rows of a command name one task at most, and none where a word is missing or means nothing.
-use Rattle.std.proofs.Common.{◌≡◌, ◌≤◌, ◌<◌, ◌^◌, ◌∙◌, ℕ, List, Option, Some, None, cond, refl, sym, ap, subst, option_map, codes, slice_index, arith}
+use Rattle.std.proofs.Common.{◌≡◌, ◌≤◌, ◌<◌, ◌^◌, ◌∙◌, ◌⊎◌, inl, inr, ℕ, List, Option, Some, None, cond, refl, sym, ap, ap₂, subst, option_map, codes, slice_index, arith}
 use Rattle.std.specs.Prelude.{decimal}
 use Rattle.std.specs.Option.{option_and_then}
 use Rattle.std.proofs.lemmas.Bool.{le-leb}
@@ -9,7 +9,11 @@ use Rattle.mx_pay.specs.Limits.{most_number}
 use Rattle.mx_pay.specs.Reading.{limited, number_of, up_to}
 use Rattle.mx_pay.specs.Tokens.{token_of}
 use Rattle.mx_pay.proofs.EntryLemmas.{bind_some, number_again, number_takes}
-use Rattle.mx_args.specs.Named.{AsksFor, Given, HasValue, IsFoundBy, IsNumber, IsToken, Names, NamesNone}
+use Rattle.mx_args.specs.Misfits.{Has, HasMisfit, IsCopyMisfit, IsServe}
+use Rattle.mx_args.specs.Named.{Absent, AsksCopies, AsksFor, Given, HasValue, IsFoundBy, IsNumber, IsToken, Names, NamesNone}
+use Rattle.mx_args.specs.declared.line.Misfit.{Misfit}
+use Rattle.mx_args.specs.declared.line.Misfit.TheVariants.{CopyAndEvery, Every}
+use Rattle.mx_args.specs.declared.task.AskedCopies.{AskedCopies}
 use Rattle.mx_args.specs.declared.task.AskedReport.{AskedReport}
 use Rattle.mx_args.specs.declared.task.AskedReport.TheVariants.{Reconciliation, Statement, Statements}
 use Rattle.mx_args.specs.declared.task.Task.{Task}
@@ -98,6 +102,15 @@ report_once rows Statements Reconciliation h k = absurd (k.0 h.0)
 report_once rows Statements (Statement q) h k = absurd (k.0 h.0)
 report_once rows Statements Statements h k = refl
 
+copies_once : (rows : List Row) (a b : Option AskedCopies) → AsksCopies rows a → AsksCopies rows b → a ≡ b
+copies_once rows None None h k = refl
+copies_once rows None (Some d) h k = cc
+copies_once rows (Some c) None h k = cc
+copies_once rows (Some c) (Some d) h k =
+    let to = value_once rows (codes "copy") c.to d.to h.0 k.0 in
+    let every = numbers_once rows (codes "every") 86400 c.every d.every (omega arith) h.1 k.1 in
+    ap₂ (λ t e. Some (record { to = t; every = e })) to every
+
 -- ---- one task at most
 
 -- names of commands that have the same length
@@ -121,9 +134,10 @@ names_once name rows (Init f t) (Init g u) h k =
     let a = token_read rows t h.2 in
     let b = token_read rows u k.2 in
     cc
-names_once name rows (Serve f p m) (Serve g q n) h k =
+names_once name rows (Serve f p m c) (Serve g q n d) h k =
     let port = numbers_once rows (codes "port") 65535 p q (omega arith) h.2 k.2 in
     let count = numbers_once rows (codes "count") 1000000 m n (omega arith) h.3 k.3 in
+    let copies = copies_once rows c d h.4 k.4 in
     cc
 names_once name rows (Import f r) (Import g s) h k = cc
 names_once name rows (Report f p) (Report g q) h k =
@@ -136,8 +150,8 @@ names_once name rows (Init f t) (Copy g u) h k = absurd (init_copy (sym h.0 ∙ 
 names_once name rows (Copy f t) (Init g u) h k = absurd (init_copy (sym k.0 ∙ h.0))
 names_once name rows (Import f r) (Report g p) h k = absurd (import_report (sym h.0 ∙ k.0))
 names_once name rows (Report f p) (Import g r) h k = absurd (import_report (sym k.0 ∙ h.0))
-names_once name rows (Serve f p m) (Check g) h k = absurd (serve_check (sym h.0 ∙ k.0))
-names_once name rows (Check f) (Serve g q n) h k = absurd (serve_check (sym k.0 ∙ h.0))
+names_once name rows (Serve f p m c) (Check g) h k = absurd (serve_check (sym h.0 ∙ k.0))
+names_once name rows (Check f) (Serve g q n c) h k = absurd (serve_check (sym k.0 ∙ h.0))
 names_once name rows a b h k = cc
 
 -- two tasks that the command which was found names are one
@@ -150,15 +164,50 @@ found_once found a b h k =
     let same : h.1 ≡ k.1 = cc in
     names_once k.0 k.1 a b (subst (λ (r : List Row). Names k.0 r a) same (subst (λ (n : Text). Names n h.1 a) names h.3)) k.3
 
+-- a command that was found and is no task names none
+pub found_none : (found : Option (Text × List Row)) (name : Text) (rows : List Row) → found ≡ Some (name, rows) → NamesNone name rows → (task : Task) → ¬ IsFoundBy found task
+found_none found name rows is none task h =
+    let both : ◌≡◌ {A = Option (Text × List Row)} (Some (h.0, h.1)) (Some (name, rows)) = sym h.2 ∙ is in
+    let first : ◌≡◌ {A = Option Text} (Some h.0) (Some name) = ap (option_map (λ (p : Text × List Row). p.0)) both in
+    let second : ◌≡◌ {A = Option (List Row)} (Some h.1) (Some rows) = ap (option_map (λ (p : Text × List Row). p.1)) both in
+    let names : h.0 ≡ name = cc in
+    let same : h.1 ≡ rows = cc in
+    none task (subst (λ (r : List Row). Names name r task) same (subst (λ (n : Text). Names n h.1 task) names h.3))
+
 -- ---- no task
 
 -- `serve` takes a port and a count
 pub no_port : (rows : List Row) → ((n : ℕ) → ¬ HasValue rows (codes "port") (IsNumber 65535 n)) → NamesNone (codes "serve") rows
-no_port rows none (Serve file port count) h = none port h.2
+no_port rows none (Serve file port count copies) h = none port h.2
 no_port rows none (Check file) h = absurd (serve_check h.0)
 no_port rows none task h = cc
 
 pub no_count : (rows : List Row) → ((n : ℕ) → ¬ HasValue rows (codes "count") (IsNumber 1000000 n)) → NamesNone (codes "serve") rows
-no_count rows none (Serve file port count) h = none count h.3
+no_count rows none (Serve file port count copies) h = none count h.3
 no_count rows none (Check file) h = absurd (serve_check h.0)
 no_count rows none task h = cc
+
+pub no_copies : (rows : List Row) → ((copies : Option AskedCopies) → ¬ AsksCopies rows copies) → NamesNone (codes "serve") rows
+no_copies rows none (Serve file port count copies) h = none copies h.4
+no_copies rows none (Check file) h = absurd (serve_check h.0)
+no_copies rows none task h = cc
+
+-- `--copy` or `--every` is there alone
+pub copy_alone : (rows : List Row) → ((Has rows (codes "copy") × Absent rows (codes "every")) ⊎ (Absent rows (codes "copy") × Has rows (codes "every")))
+    → (copies : Option AskedCopies) → ¬ AsksCopies rows copies
+copy_alone rows (inl alone) None asks = cc
+copy_alone rows (inl alone) (Some copies) asks = cc
+copy_alone rows (inr alone) None asks = cc
+copy_alone rows (inr alone) (Some copies) asks = cc
+
+-- the value of `--every` is no number of seconds
+pub no_every : (rows : List Row) → Has rows (codes "copy") → ((n : ℕ) → ¬ HasValue rows (codes "every") (IsNumber 86400 n))
+    → (copies : Option AskedCopies) → ¬ AsksCopies rows copies
+no_every rows has none None asks = cc
+no_every rows has none (Some copies) asks = none copies.every asks.1
+
+-- what is wrong with the copies of a `serve`
+pub serve_misfit : (rows : List Row) (misfit : Misfit) → IsServe (codes "serve") rows → IsCopyMisfit rows misfit → HasMisfit (codes "serve") rows misfit
+serve_misfit rows CopyAndEvery serves is = (serves, is)
+serve_misfit rows Every serves is = (serves, is)
+serve_misfit rows misfit serves is = absurd is

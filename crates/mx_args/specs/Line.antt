@@ -29,10 +29,11 @@ abbrev pub init_app : App
 init_app = with_rule (with_rule (new_app (codes "init")) (word_rule (codes "FILE") true))
     (option_rule (codes "token") true)
 
--- `serve FILE --port N --count K`
+-- `serve FILE --port N --count K [--copy PATH] [--every SECONDS]`: that the last two go together is not clap's to say
 abbrev pub serve_app : App
-serve_app = with_rule (with_rule (with_rule (new_app (codes "serve")) (word_rule (codes "FILE") true))
-    (option_rule (codes "port") true)) (option_rule (codes "count") true)
+serve_app = with_rule (with_rule (with_rule (with_rule (with_rule (new_app (codes "serve")) (word_rule (codes "FILE") true))
+    (option_rule (codes "port") true)) (option_rule (codes "count") true)) (option_rule (codes "copy") false))
+    (option_rule (codes "every") false)
 
 -- `import FILE ROLL`
 abbrev pub import_app : App

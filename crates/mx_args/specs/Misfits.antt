@@ -6,7 +6,7 @@ use Rattle.clap.specs.declared.error.kind.ErrorKind.{ErrorKind}
 use Rattle.clap.specs.declared.error.kind.ErrorKind.TheVariants.{DisplayVersion, OutOfMemory}
 use Rattle.mx_args.specs.Named.{Absent, Given, HasValue, IsNumber, OfAll}
 use Rattle.mx_args.specs.declared.line.Misfit.{Misfit}
-use Rattle.mx_args.specs.declared.line.Misfit.TheVariants.{Token, Port, Count, Purse, PurseAndStatements, FileAndMemory, NoBooks, NoToken, TokenForFile, Missing}
+use Rattle.mx_args.specs.declared.line.Misfit.TheVariants.{Token, Port, Count, CopyAndEvery, Every, Purse, PurseAndStatements, FileAndMemory, NoBooks, NoToken, TokenForFile, Missing}
 use Rattle.mx_args.specs.declared.task.LineFault.{LineFault}
 use Rattle.mx_args.specs.declared.task.LineFault.TheVariants.{Bad, Version, Memory}
 
@@ -28,13 +28,27 @@ IsRunInMemory name rows = (name ≡ codes "run") × Given rows (codes "memory") 
 abbrev pub HasPort : List Row → Type 0
 HasPort rows = (port : ℕ) × HasValue rows (codes "port") (IsNumber 65535 port)
 
+-- the count is a number from 1 to 1000000
+abbrev pub HasCount : List Row → Type 0
+HasCount rows = (count : ℕ) × HasValue rows (codes "count") (IsNumber 1000000 count)
+
+-- `serve` with a file, a port and a count
+abbrev pub IsServe : Text → List Row → Type 0
+IsServe name rows = (name ≡ codes "serve") × Has rows (codes "FILE") × HasPort rows × HasCount rows
+
+-- why the copies that are asked for are none: there is `--copy` or `--every` alone; or both, and then it is the value of `--every`
+abbrev pub IsCopyMisfit : List Row → Misfit → Type 0
+IsCopyMisfit rows CopyAndEvery = (Has rows (codes "copy") × Absent rows (codes "every"))
+    ⊎ (Absent rows (codes "copy") × Has rows (codes "every"))
+IsCopyMisfit rows Every = Has rows (codes "copy") × Has rows (codes "every")
+IsCopyMisfit rows _ = ⊥
+
 -- a command that takes a file, and further values that may be wrong
 abbrev pub HasValues : Text → Type 0
 HasValues name = (name ≡ codes "init") ⊎ (name ≡ codes "serve") ⊎ (name ≡ codes "report")
 
 -- why the command of this name with these rows, which is no task, is none. What else is wrong follows from that: where
--- `init` has its file, it is the token; where `serve` has its port, the count; where `run` without `--memory` has its
--- file, that it has a token
+-- `init` has its file, it is the token; where `run` without `--memory` has its file, that it has a token
 abbrev pub HasMisfit : Text → List Row → Misfit → Type 0
 HasMisfit name rows FileAndMemory = IsRunInMemory name rows × Has rows (codes "FILE")
 HasMisfit name rows NoToken = IsRunInMemory name rows × Absent rows (codes "FILE")
@@ -45,7 +59,9 @@ HasMisfit name rows Token =
 HasMisfit name rows TokenForFile = IsRun name rows × Has rows (codes "FILE")
 HasMisfit name rows NoBooks = IsRun name rows × Absent rows (codes "FILE")
 HasMisfit name rows Port = (name ≡ codes "serve") × Has rows (codes "FILE") × ¬ HasPort rows
-HasMisfit name rows Count = (name ≡ codes "serve") × Has rows (codes "FILE") × HasPort rows
+HasMisfit name rows Count = (name ≡ codes "serve") × Has rows (codes "FILE") × HasPort rows × ¬ HasCount rows
+HasMisfit name rows CopyAndEvery = IsServe name rows × IsCopyMisfit rows CopyAndEvery
+HasMisfit name rows Every = IsServe name rows × IsCopyMisfit rows Every
 HasMisfit name rows Purse = (name ≡ codes "report") × Has rows (codes "FILE") × ¬ OfAll rows
     × Has rows (codes "purse")
 HasMisfit name rows PurseAndStatements = (name ≡ codes "report") × Has rows (codes "FILE") × OfAll rows
@@ -64,6 +80,8 @@ abbrev pub words_of : Misfit → Text
 words_of Token = codes "the value of --token has to be 32 hexadecimal digits"
 words_of Port = codes "the value of --port has to be a number from 1 to 65535, without leading zeros"
 words_of Count = codes "the value of --count has to be a number from 1 to 1000000, without leading zeros"
+words_of CopyAndEvery = codes "serve takes --copy and --every, or neither"
+words_of Every = codes "the value of --every has to be a number from 1 to 86400, without leading zeros"
 words_of Purse = codes "the value of --purse has to be 1 to 24 of a to z, 0 to 9 and -, the first a letter"
 words_of PurseAndStatements = codes "report takes --purse or --statements, and not both"
 words_of FileAndMemory = codes "run takes FILE or --memory, and not both"

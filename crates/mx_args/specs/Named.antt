@@ -4,6 +4,7 @@ use Rattle.clap.specs.Words.{Row, Text, fault_of, first_of, subcommand_of}
 use Rattle.mx_pay.specs.Names.{is_name_text}
 use Rattle.mx_pay.specs.Tokens.{token_of}
 use Rattle.mx_args.specs.Line.{line_app}
+use Rattle.mx_args.specs.declared.task.AskedCopies.{AskedCopies}
 use Rattle.mx_args.specs.declared.task.AskedReport.{AskedReport}
 use Rattle.mx_args.specs.declared.task.AskedReport.TheVariants.{Reconciliation, Statement, Statements}
 use Rattle.mx_args.specs.declared.task.Task.{Task}
@@ -40,6 +41,13 @@ AsksFor rows Reconciliation = ¬ OfAll rows × Absent rows (codes "purse")
 AsksFor rows (Statement purse) = ¬ OfAll rows × Given rows (codes "purse") purse × (is_name_text purse ≡ true)
 AsksFor rows Statements = OfAll rows × Absent rows (codes "purse")
 
+-- the copies that are asked for: `--copy` and `--every` are left out; or `--copy` is there, and the value of `--every` is a number of
+-- seconds
+abbrev pub AsksCopies : List Row → Option AskedCopies → Type 0
+AsksCopies rows None = Absent rows (codes "copy") × Absent rows (codes "every")
+AsksCopies rows (Some copies) = Given rows (codes "copy") copies.to
+    × HasValue rows (codes "every") (IsNumber 86400 copies.every)
+
 -- the command of this name with these rows is this task
 abbrev pub Names : Text → List Row → Task → Type 0
 Names name rows (RunMemory token) = (name ≡ codes "run") × Given rows (codes "memory") (codes "true")
@@ -48,9 +56,10 @@ Names name rows (RunFile file) = (name ≡ codes "run") × Given rows (codes "me
     × Given rows (codes "FILE") file × Absent rows (codes "token")
 Names name rows (Init file token) = (name ≡ codes "init") × Given rows (codes "FILE") file
     × HasValue rows (codes "token") (IsToken token)
-Names name rows (Serve file port count) = (name ≡ codes "serve") × Given rows (codes "FILE") file
+Names name rows (Serve file port count copies) = (name ≡ codes "serve") × Given rows (codes "FILE") file
     × HasValue rows (codes "port") (IsNumber 65535 port)
     × HasValue rows (codes "count") (IsNumber 1000000 count)
+    × AsksCopies rows copies
 Names name rows (Import file roll) = (name ≡ codes "import") × Given rows (codes "FILE") file
     × Given rows (codes "ROLL") roll
 Names name rows (Report file report) = (name ≡ codes "report") × Given rows (codes "FILE") file

@@ -108,6 +108,18 @@ static FORMS: [Form; 8] = [
                 required: true,
                 help: "How many connections are served, from 1 to 1000000",
             },
+            Argument {
+                id: "copy",
+                kind: Kind::Value("PATH"),
+                required: false,
+                help: "The file to which the books are copied meanwhile; takes --every",
+            },
+            Argument {
+                id: "every",
+                kind: Kind::Value("SECONDS"),
+                required: false,
+                help: "How often they are, where they have changed, from 1 to 86400",
+            },
         ],
     },
     Form {

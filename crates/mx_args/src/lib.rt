@@ -6,4 +6,4 @@ pub mod line;
 pub mod task;
 
 pub use line::read_line;
-pub use task::{AskedReport, LineFault, Task, Word};
+pub use task::{AskedCopies, AskedReport, LineFault, Task, Word};

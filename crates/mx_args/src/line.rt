@@ -4,14 +4,14 @@ ghost use Rattle.std.specs.Prelude.{Ok, codes, map, option_map, string_bytes};
 ghost use Rattle.std.specs.Option.{option_and_then};
 ghost use Rattle.clap.specs.Words.{first_of, found_of, rows_of, subcommand_rows_of};
 ghost use Rattle.mx_pay.specs.Tokens.{token_of};
-ghost use Rattle.mx_args.specs.Named.{Absent, AsksFor, Given, HasValue};
+ghost use Rattle.mx_args.specs.Named.{Absent, AsksCopies, AsksFor, Given, HasValue};
 ghost use Rattle.mx_args.specs.Named.{IsFoundBy, IsNumber, Names, NamesNone};
 ghost use Rattle.mx_args.specs.Read.{IsReadAs};
-ghost use Rattle.mx_args.specs.Misfits.{BadOrMemory, Has, HasMisfit, IsFaultOf, IsFaultOfError};
+ghost use Rattle.mx_args.specs.Misfits.{BadOrMemory, Has, HasMisfit, IsCopyMisfit, IsFaultOf, IsFaultOfError};
 ghost use Rattle.mx_args.specs.Misfits.{TellsMisfit, TellsWords, error_text, words_of};
 
 use crate::commands::{command_named, line_command};
-use crate::task::{AskedReport, LineFault, Task, Word};
+use crate::task::{AskedCopies, AskedReport, LineFault, Task, Word};
 use clap::ArgMatches;
 use clap::error::ErrorKind;
 use mx_pay::{Name, Token, read_seq};
@@ -24,12 +24,17 @@ const MOST_PORT: u32 = 65_535;
 /// How many connections are served at most.
 const MOST_COUNT: u32 = 1_000_000;
 
+/// How many seconds lie between two copies at most.
+const MOST_SECONDS: u32 = 86_400;
+
 // Why a line in which clap finds no fault names no task.
 #[derive(Clone, Copy)]
 enum Misfit {
     Token,
     Port,
     Count,
+    CopyAndEvery,
+    Every,
     Purse,
     PurseAndStatements,
     FileAndMemory,
@@ -50,6 +55,10 @@ impl Misfit {
             }
             Misfit::Count => {
                 "the value of --count has to be a number from 1 to 1000000, without leading zeros"
+            }
+            Misfit::CopyAndEvery => "serve takes --copy and --every, or neither",
+            Misfit::Every => {
+                "the value of --every has to be a number from 1 to 86400, without leading zeros"
             }
             Misfit::Purse => {
                 "the value of --purse has to be 1 to 24 of a to z, 0 to 9 and -, the first a letter"
@@ -178,6 +187,23 @@ fn init_task<'a>(matches: &ArgMatches<'a>) -> Result<Task<'a>, Misfit>
     Ok(Task::Init { file, token })
 }
 
+// The copies that `--copy` and `--every` ask for, if they do.
+fn copies_of<'a>(matches: &ArgMatches<'a>) -> Result<Option<AskedCopies<'a>>, Misfit>
+    ensures named { IfOk result (AsksCopies (rows_of (found_of matches.now))) }
+    ensures unnamed { OnErr result ((copies : Option AskedCopies)
+        → ¬ AsksCopies (rows_of (found_of matches.now)) copies) }
+    ensures misfit { IfErr result (IsCopyMisfit (rows_of (found_of matches.now))) }
+{
+    match (word_of(matches, "copy"), text_of(matches, "every")) {
+        (None, None) => Ok(None),
+        (Some(to), Some(_)) => match number_of(matches, "every", MOST_SECONDS) {
+            Some(every) => Ok(Some(AskedCopies { to, every })),
+            None => Err(Misfit::Every),
+        },
+        (Some(_), None) | (None, Some(_)) => Err(Misfit::CopyAndEvery),
+    }
+}
+
 fn serve_task<'a>(matches: &ArgMatches<'a>) -> Result<Task<'a>, Misfit>
     ensures named { IfOk result (Names (codes "serve") (rows_of (found_of matches.now))) }
     ensures unnamed { OnErr result (NamesNone (codes "serve") (rows_of (found_of matches.now))) }
@@ -190,10 +216,12 @@ fn serve_task<'a>(matches: &ArgMatches<'a>) -> Result<Task<'a>, Misfit>
     let Some(count) = number_of(matches, "count", MOST_COUNT) else {
         return Err(Misfit::Count);
     };
+    let copies = copies_of(matches)?;
     Ok(Task::Serve {
         file,
         port: port as u16,
         count,
+        copies,
     })
 }
 

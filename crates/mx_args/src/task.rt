@@ -46,6 +46,15 @@ pub enum AskedReport {
     Statements,
 }
 
+/// Where the books are copied to while they are served, and how often.
+#[derive(Drop)]
+pub struct AskedCopies<'a> {
+    /// The file of the copy.
+    pub to: Word<'a>,
+    /// How many seconds lie between two copies at least, from 1 to 86,400.
+    pub every: u32,
+}
+
 /// What the program is asked to do. It borrows the words of the command line.
 #[derive(Drop)]
 pub enum Task<'a> {
@@ -61,7 +70,7 @@ pub enum Task<'a> {
         /// The token of the operator.
         token: Token,
     },
-    /// `serve FILE --port N --count K`: connections, one after another, over the books in a file.
+    /// `serve FILE --port N --count K`: connections over the books in a file; and with `--copy PATH --every SECONDS` copies of these.
     Serve {
         /// The file.
         file: Word<'a>,
@@ -69,6 +78,8 @@ pub enum Task<'a> {
         port: u16,
         /// How many connections are served, from 1 to 1,000,000.
         count: u32,
+        /// The copies of the books, if there are to be any.
+        copies: Option<AskedCopies<'a>>,
     },
     /// `import FILE ROLL`: the members, holders and purses of a roll, into the books in a file.
     Import {

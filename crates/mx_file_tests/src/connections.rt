@@ -3,6 +3,7 @@ use crate::scratch::{Trial, expect, in_memory, request, response};
 use mx_book::Book;
 use mx_office::Office;
 use mx_tasks::Alarm;
+use mx_tasks::serve::chore::NoChore;
 use mx_tasks::serve::connection::Connection;
 use mx_tasks::serve::desk::Desk;
 use mx_tasks::serve::listener::Listener;
@@ -41,7 +42,7 @@ fn served_by<S: Connection + Drop, L: Listener<S> + Drop, B: Book>(
 ) -> Result<L, Fail> {
     let mut desk = Desk::new(rt.alloc())?;
     let mut reception = Reception::new(rt.alloc(), listener, Alarm::new(rt), count)?;
-    serve_connections(rt, &mut desk, &mut reception, office)?;
+    serve_connections(rt, &mut desk, &mut reception, office, &mut NoChore)?;
     Ok(reception.into_listener())
 }
 

@@ -1,6 +1,6 @@
 //! Command lines with a growth refused: each is answered as usual or with want of memory, and as usual when it is read
 //! again.
-use mx_args::{AskedReport, LineFault, Task, read_line};
+use mx_args::{AskedCopies, AskedReport, LineFault, Task, read_line};
 use mx_pay::Token;
 use std::alloc::{AllocError, Global};
 use std::test::Fail;
@@ -11,6 +11,7 @@ run --memory --token 0000000000000000000000000000000f -> run --memory, token end
 run book.db -> run book.db
 init book.db --token 0000000000000000000000000000000f -> init book.db, token ends in f
 serve book.db --port 8080 --count 3 -> serve book.db, port 8080, count 3
+serve book.db --port 8080 --count 3 --copy copy.db --every 60 -> serve book.db, port 8080, count 3, copies to copy.db every 60
 import book.db roll.csv -> import book.db, roll.csv
 report book.db -> report book.db
 report book.db --purse p1 -> report book.db, purse p1
@@ -19,7 +20,9 @@ check book.db -> check book.db
 copy book.db new.db -> copy book.db, new.db
 migrate book.db -> migrate book.db
 run -> error: run takes FILE, or --memory and --token||Usage: purse-office run [OPTIONS] [FILE]||For more information, try '--help'.|
-serve book.db --port 0 --count 3 -> error: the value of --port has to be a number from 1 to 65535, without leading zeros||Usage: purse-office serve --port <N> --count <K> <FILE>||For more information, try '--help'.|
+serve book.db --port 0 --count 3 -> error: the value of --port has to be a number from 1 to 65535, without leading zeros||Usage: purse-office serve [OPTIONS] --port <N> --count <K> <FILE>||For more information, try '--help'.|
+serve book.db --port 8080 --count 3 --every 60 -> error: serve takes --copy and --every, or neither||Usage: purse-office serve [OPTIONS] --port <N> --count <K> <FILE>||For more information, try '--help'.|
+serve book.db --port 8080 --count 3 --copy copy.db --every 060 -> error: the value of --every has to be a number from 1 to 86400, without leading zeros||Usage: purse-office serve [OPTIONS] --port <N> --count <K> <FILE>||For more information, try '--help'.|
 report book.db --purse P1 -> error: the value of --purse has to be 1 to 24 of a to z, 0 to 9 and -, the first a letter||Usage: purse-office report [OPTIONS] <FILE>||For more information, try '--help'.|
 report book.db --statements --purse p1 -> error: report takes --purse or --statements, and not both||Usage: purse-office report [OPTIONS] <FILE>||For more information, try '--help'.|
 --version -> purse-office 1.0.0|
@@ -43,6 +46,16 @@ fn report_words(alloc: Global, file: &str, report: AskedReport) -> Result<String
     }
 }
 
+/// Copies in words.
+fn copies_words(alloc: Global, copies: &Option<AskedCopies<'_>>) -> Result<String, AllocError> {
+    match copies {
+        Some(copies) => {
+            format!(in alloc; ", copies to {} every {}", copies.to.as_str(), copies.every)
+        }
+        None => format!(in alloc; ""),
+    }
+}
+
 /// A task in words.
 fn task_words(alloc: Global, task: &Task<'_>) -> Result<String, AllocError> {
     match task {
@@ -53,8 +66,14 @@ fn task_words(alloc: Global, task: &Task<'_>) -> Result<String, AllocError> {
         Task::Init { file, token } => {
             format!(in alloc; "init {}, token ends in {}", file.as_str(), end_of(token))
         }
-        Task::Serve { file, port, count } => {
-            format!(in alloc; "serve {}, port {port}, count {count}", file.as_str())
+        Task::Serve {
+            file,
+            port,
+            count,
+            copies,
+        } => {
+            let more = copies_words(alloc, copies)?;
+            format!(in alloc; "serve {}, port {port}, count {count}{more}", file.as_str())
         }
         Task::Import { file, roll } => {
             format!(in alloc; "import {}, {}", file.as_str(), roll.as_str())

@@ -39,19 +39,19 @@ pub keeps-begin : (replaces : Replaces) (path : List ℕ) (old new : Paths) → 
 keeps-begin replaces path old new beside = begun-not replaces (spot_behind old path) (old.target path) path old new (λ q away. beside q (λ place right. away place right.behind))
 
 -- a file that was made is its owner's alone
-owned : (old mid new : Spot) (number : ℕ) → Makes (removed old) mid number 0o600 → new ≡ named false mid → IsOwned new
+pub owned : (old mid new : Spot) (number : ℕ) → Makes (removed old) mid number 0o600 → new ≡ named false mid → IsOwned new
 owned unseen mid new number made put = rw (put, made) tt
 owned vacant mid new number made put = rw (put, made) (refl, refl)
 owned (taken inode) mid new number made put = rw (put, made) (refl, refl)
 
 -- and where the disk knows its name, it is so for good
-private : (old mid new : Spot) (number : ℕ) → Makes (removed old) mid number 0o600 → new ≡ named true mid → IsPrivate new
+pub private : (old mid new : Spot) (number : ℕ) → Makes (removed old) mid number 0o600 → new ≡ named true mid → IsPrivate new
 private unseen mid new number made put = rw (put, made) tt
 private vacant mid new number made put = rw (put, made) (refl, refl, refl)
 private (taken inode) mid new number made put = rw (put, made) (refl, refl, refl)
 
 -- nothing is where it was removed
-missing : (old new : Spot) → new ≡ removed old → IsMissing new
+pub missing : (old new : Spot) → new ≡ removed old → IsMissing new
 missing unseen new gone = rw gone tt
 missing vacant new gone = rw gone tt
 missing (taken inode) new gone = rw gone tt
@@ -75,7 +75,7 @@ both old mid new (inr made) (inl last) = inr (rw last made)
 both old mid new first (inr made) = inr made
 
 -- where they weren't put in their place, it is as it was, or the one that was made
-ended-not : (replaces : Replaces) (spot : Spot) (target path place : List ℕ) (old mid new : Paths) → IsPlaceBehind replaces spot target path place → KeepsBehind spot target path old mid → (new.spot place ≡ mid.spot place) ⊎ IsOwned (new.spot place) → KeepsBehind spot target path old new
+pub ended-not : (replaces : Replaces) (spot : Spot) (target path place : List ℕ) (old mid new : Paths) → IsPlaceBehind replaces spot target path place → KeepsBehind spot target path old mid → (new.spot place ≡ mid.spot place) ⊎ IsOwned (new.spot place) → KeepsBehind spot target path old new
 ended-not replaces unseen target path place old mid new right kept last = tt
 ended-not replaces vacant target path place old mid new right kept last = both _ _ _ kept (subst (λ (at : List ℕ). (new.spot at ≡ mid.spot at) ⊎ IsOwned (new.spot at)) right last)
 ended-not replaces (taken inode) target path place old mid new right kept last = both _ _ _ kept (subst (λ (at : List ℕ). (new.spot at ≡ mid.spot at) ⊎ IsOwned (new.spot at)) right.1 last)

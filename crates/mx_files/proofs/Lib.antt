@@ -4,3 +4,4 @@ pub mod CopiedLemmas
 pub mod FileLemmas
 pub mod FolderLemmas
 pub mod SeriesLemmas
+pub mod PlacedLemmas

@@ -1,5 +1,5 @@
 -- A run over files is a life, and lives over the same files are a series.
-use Rattle.std.proofs.Common.{◌≡◌, ℕ, inl, inr, List, [], ◌++◌, append-nil, Result, refl, sym, subst, ap}
+use Rattle.std.proofs.Common.{◌≡◌, ℕ, inl, inr, List, [], ◌++◌, append-nil, Option, Result, refl, sym, subst, ap}
 use mathlib.Core.Logic.{∥∥₁_elim}
 use Rattle.sqlite_disk.specs.declared.Disk.{Ghosts}
 use Rattle.sqlite_trees.specs.Props.{Trees-set}
@@ -7,6 +7,7 @@ use Rattle.sqlite_trees.specs.Tree.{Trees}
 use Rattle.sqlite_wal.specs.Recovery.{Image}
 use Rattle.sqlite.specs.Effect.{Database}
 use Rattle.sqlite.specs.Files.{HoldsDatabase}
+use Rattle.mx_args.specs.declared.task.AskedCopies.{AskedCopies}
 use Rattle.mx_args.specs.declared.task.Task.{Task}
 use Rattle.mx_book.specs.World.{World}
 use Rattle.mx_desk.specs.Durable.{Lasts, Lives, ended as lived, stopped, unborn}
@@ -18,11 +19,12 @@ use Rattle.mx_desk.proofs.LawfulLemmas.{lawful_requests}
 use Rattle.mx_tables.specs.Schema.{office_schema}
 use Rattle.mx_tasks.specs.Runs.{TaskRuns}
 use Rattle.mx_tasks.specs.declared.fault.TaskFault.{TaskFault}
+use Rattle.mx_tasks.specs.declared.work.Work.{Work}
 use Rattle.mx_tasks.specs.declared.work.Work.TheVariants as work
 use Rattle.mx_files.specs.Durable.{Represents}
 use Rattle.mx_files.specs.InFiles.{AreHonest, HoldRounds, HoldTables, HoldTrees, Keeps, closed_answer}
-use Rattle.mx_files.specs.Performed.{MayFail, OverBooks, Performs, PerformsPlan, Streams}
-use Rattle.mx_files.specs.Plans.{planned_task}
+use Rattle.mx_files.specs.Performed.{MayFail, OverBooks, Performs, PerformsPlan, PerformsWork, Streams}
+use Rattle.mx_files.specs.Plans.{asked_copies, planned_task, worked_task}
 use Rattle.mx_files.specs.Series.{Answers, IsAnswering, Life, MayHold, Series, first, more_of, then}
 use Rattle.mx_files.specs.declared.closing.Ended.{Ended}
 use Rattle.mx_files.specs.declared.closing.Left.{Left}
@@ -97,16 +99,22 @@ module _ {D : Type 0} {g : Ghosts D} where
           }),
         )
 
+  life_worked : (bytes next : Image) (before after : Streams) (ended : Ended (Unit {0}) D g) (w : World) → HoldTables bytes w → AreHonest ended.left → MayHold ended.left next
+      → (path : List ℕ) (copies : Option AskedCopies) (done : Work) → IsAnswering (worked_task path copies done)
+      → OverBooks bytes before after ended (λ v. PerformsWork MayFail ended.left v done ended.answer before.output after.output) → (found : World) × Life w next found
+  life_worked bytes next before after ended w books honest may path copies (work.Serve port count) is it =
+      life_over bytes next before after ended w _ (λ v done. (done.works.rounds, done.works.end, inr (inr (count, done.answer, done.works.holds)), done.works.moves)) books honest may it
+  life_worked bytes next before after ended w books honest may path copies (work.Import roll) is it = absurd is
+  life_worked bytes next before after ended w books honest may path copies (work.Report kind) is it = absurd is
+
   life_planned : (bytes next : Image) (before after : Streams) (ended : Ended (Unit {0}) D g) (w : World) → HoldTables bytes w → AreHonest ended.left → MayHold ended.left next
       → (plan : Plan) → IsAnswering (planned_task plan) → PerformsPlan bytes before after plan ended → (found : World) × Life w next found
   life_planned bytes next before after ended w books honest may (InMemory operator) is it = absurd is
   life_planned bytes next before after ended w books honest may (InFile path act.Run) is it =
       life_over bytes next before after ended w _ (λ v led. (led.rounds, led.end, inr (inl (closed_answer ended.left, led.holds)), led.moves)) books honest may it.1
   life_planned bytes next before after ended w books honest may (InFile path (act.Make operator)) is it = absurd is
-  life_planned bytes next before after ended w books honest may (InFile path (act.Work (work.Serve port count))) is it =
-      life_over bytes next before after ended w _ (λ v done. (done.works.rounds, done.works.end, inr (inr (count, done.answer, done.works.holds)), done.works.moves)) books honest may it.1
-  life_planned bytes next before after ended w books honest may (InFile path (act.Work (work.Import roll))) is it = absurd is
-  life_planned bytes next before after ended w books honest may (InFile path (act.Work (work.Report kind))) is it = absurd is
+  life_planned bytes next before after ended w books honest may (InFile path (act.Work errand)) is it =
+      life_worked bytes next before after ended w books honest may path.now (asked_copies errand.copies) errand.work is it.1
   life_planned bytes next before after ended w books honest may (InFile path act.Check) is it = absurd is
   life_planned bytes next before after ended w books honest may (InFile path (act.Copy to)) is it = absurd is
   life_planned bytes next before after ended w books honest may (InFile path act.Migrate) is it = absurd is

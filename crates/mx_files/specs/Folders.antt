@@ -157,6 +157,7 @@ abbrev pub MayBe : Replaces → Entry → Type 0
 MayBe replaces.Nothing entry = ⊥
 MayBe replaces.EmptyFile entry = IsEmptyFile entry
 MayBe (replaces.File number) entry = entry.number ≡ number
+MayBe (replaces.Older number) entry = entry.number ≡ number
 
 -- it has no log
 abbrev pub HasNoLog : Replaces → Type 0

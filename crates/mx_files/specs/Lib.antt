@@ -9,3 +9,4 @@ pub mod InMemory
 pub mod Plans
 pub mod Answered
 pub mod Watched
+pub mod Copying

@@ -150,8 +150,8 @@ module _ {D X : Type 0} {g : Ghosts D} where
       (λ w. Leads (PerformsRun MayFail (closed_answer ended.left) (state [] before.input before.output w) ended.answer after.input after.output) (HoldRounds ended.left w))
   PerformsAct bytes before after (act.Make operator) ended = IsOk ended.answer
       → MakesBooks operator ended.left ended.answer before.output after.output
-  PerformsAct bytes before after (act.Work work) ended = OverBooks bytes before after ended
-      (λ w. PerformsWork MayFail ended.left w work ended.answer before.output after.output)
+  PerformsAct bytes before after (act.Work errand) ended = OverBooks bytes before after ended
+      (λ w. PerformsWork MayFail ended.left w errand.work ended.answer before.output after.output)
   PerformsAct bytes before after act.Check ended = AreHonest ended.left → Checks bytes ended.left (IsErr ended.answer)
   PerformsAct bytes before after (act.Copy to) ended = PerformsCopy bytes ended before.output after.output
   PerformsAct bytes before after act.Migrate ended = AreHonest ended.left

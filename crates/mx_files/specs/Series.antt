@@ -32,7 +32,7 @@ MayHold Nothing bytes = ⊥
 -- the task answers requests over the books in a file
 abbrev pub IsAnswering : Task → Type 0
 IsAnswering (task.RunFile file) = Unit {0}
-IsAnswering (task.Serve file port count) = Unit {0}
+IsAnswering (task.Serve file port count copies) = Unit {0}
 IsAnswering other = ⊥
 
 -- From the books of a World these rounds of requests were answered, which lead to the World in the end, by a run or over connections;

@@ -33,6 +33,7 @@ use mx_desk::{Counted, Outlet};
 use mx_pay::Token;
 use mx_standing::Standing;
 use mx_tables::{Migrated, Tables};
+use mx_tasks::serve::chore::Chore;
 use mx_tasks::{Done, TaskFault, Work};
 use sqlite::{Alter, Connection, FileFrom, FileStore, Files, Unknown};
 use sqlite_disk::Disk;
@@ -318,10 +319,11 @@ pub fn run_in_files<D: Disk + Drop, R: Read, W: Outlet>(
 
 /// Does a piece of work over the books in the files of a store, and closes the files. Where the books are refused, nothing was
 /// done, and the files hold what they held.
-pub fn work_in_files<D: Disk + Drop>(
+pub fn work_in_files<D: Disk + Drop, C: Chore>(
     rt: &HostRuntime,
     store: Connection<FileStore<D>>,
     work: &Work<'_>,
+    chore: &mut C,
 ) -> Ended<Done, D>
     ensures shut { IsOk result.answer → AreShut result.left }
     ensures works { (IsErr result.answer × (AreHonest result.left → IsRefused store result))
@@ -331,7 +333,7 @@ pub fn work_in_files<D: Disk + Drop>(
         × Works ⟦<Standing<Tables<FileStore<D>>> as Book>⟧.fails (AreShut result.left)
         (HoldWorld result.left) (HoldRounds result.left w) w work.now answer) }
 {
-    match work_in_store(rt, store, work) {
+    match work_in_store(rt, store, work, chore) {
         Ok((done, left)) => close(done, left),
         Err(refused) => close_refused(refused),
     }

@@ -6,6 +6,7 @@ ghost use Rattle.sqlite_wal.specs.Reads.{AreClean, IsClean, OnlyReads};
 ghost use Rattle.sqlite.specs.Files.{file_state, image_of};
 ghost use Rattle.sqlite.specs.State.{HasCleanDisk};
 ghost use Rattle.mx_log.specs.Damage.{IsDamaged};
+ghost use Rattle.mx_log.specs.Folds.{IsFolded};
 ghost use Rattle.mx_files.specs.InFiles.{HasSumsIfNew, IsOpenedOver};
 ghost use Rattle.mx_files.specs.Watched.{file_of};
 
@@ -13,11 +14,12 @@ use crate::files::Opened;
 use crate::log::look_at_log;
 use crate::unopened::unopened;
 use crate::watched::Watched;
-use mx_tasks::Cause;
+use mx_log::{Folded, fold};
+use mx_tasks::{Cause, TaskFault};
 use sqlite::{Connection, Error, ErrorCode, FileFrom, FileStore, Files, Options, Start, Unknown};
 use sqlite_disk::Disk;
 use sqlite_std_file::OpenError;
-use sqlite_wal::probe_page_size;
+use sqlite_wal::{Error as FoldError, probe_page_size};
 use std::hash::{BuildHasher, RandomState};
 use std::io;
 use std::io::ErrorKind;
@@ -228,6 +230,38 @@ fn open_empty<D: Disk + Drop>(
     match Connection::open_files_with(rt.alloc(), files, options, true) {
         Ok(store) => Ok(store),
         Err((error, _)) => Err(error),
+    }
+}
+
+/// Why the log of a copy isn't brought into it.
+fn unfolded(error: FoldError) -> Cause {
+    match error {
+        FoldError::Io(error) => Cause::System(error),
+        FoldError::OutOfMemory => Cause::Fault(TaskFault::Memory),
+        _ => Cause::Damaged,
+    }
+}
+
+/// Brings the log of the database at a path into it, and waits until the disk has that.
+///
+/// # Errors
+///
+/// `DamagedLog` where the log is damaged, `Damaged` where the files are no database, `System` where they can't be read or
+/// written; those of `unopened`.
+pub(crate) fn fold_at<S: Start>(
+    rt: &HostRuntime,
+    path: &str,
+    start: S,
+) -> Result<Folded<FileFrom<S>>, Cause>
+    ensures { IfOk result (λ folded.
+        AreClean ⟦<FileFrom<S> as Disk>⟧ folded.files.log folded.files.db
+        → IsFolded ⟦<FileFrom<S> as Disk>⟧ (image_at S.Start) folded) }
+{
+    let files = locked_whole(rt, path, start)?;
+    let seed = RandomState::new(rt)?.hash_one(&0u8);
+    match fold(rt.alloc(), files, seed) {
+        Ok(folded) => Ok(folded),
+        Err(error) => Err(unfolded(error)),
     }
 }
 

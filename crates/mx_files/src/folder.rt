@@ -185,7 +185,7 @@ fn head_of<R: Read + Drop>(opened: io::Result<R>, alloc: Global, most: u64) -> i
 }
 
 /// The folder that has the file at a path.
-fn folder_of(path: &str) -> &str {
+pub(crate) fn folder_of(path: &str) -> &str {
     match path.rsplit_once('/') {
         Some(("", _)) => "/",
         Some((folder, _)) => folder,
@@ -223,6 +223,26 @@ pub(crate) fn end_stopped_init(rt: &HostRuntime, path: &str) -> io::Result<()> {
         _ => {}
     }
     held.unmark()
+}
+
+/// Removes what a copy to a path that was stopped has left: a file FILE-init that is marked, and its log. What hasn't the mark of
+/// new books stays.
+pub(crate) fn end_stopped_copy(rt: &HostRuntime, path: &str) -> Result<(), Cause> {
+    let place = match fs::canonicalize(rt, path) {
+        Ok(place) => place.into_string(),
+        Err(_) => format!(in rt.alloc(); "{path}")?,
+    };
+    let made = format!(in rt.alloc(); "{}-init", place.as_str())?;
+    let log = format!(in rt.alloc(); "{}-wal", made.as_str())?;
+    if !fs::symlink_metadata(rt, made.as_str())?.is_file() {
+        return Ok(());
+    }
+    let held = rt.hold(made.as_str())?;
+    if held.is_marked()? {
+        let _ = fs::remove_file(rt, log.as_str());
+        fs::remove_file(rt, made.as_str())?;
+    }
+    Ok(())
 }
 
 /// The file system of the machine.

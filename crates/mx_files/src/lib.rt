@@ -1,8 +1,10 @@
 //! The tasks of the program over the files that they name.
 #![tactic(auto)]
 
+mod bytes;
 pub mod check;
 pub mod closing;
+pub mod copier;
 mod database;
 pub mod files;
 pub mod folder;
@@ -10,6 +12,7 @@ pub mod in_memory;
 pub mod init;
 mod log;
 pub mod making;
+mod mark;
 pub mod perform;
 pub mod places;
 pub mod plan;

@@ -16,11 +16,12 @@ ghost use Rattle.mx_files.specs.Performed.{Checks, EndsRun, EndsSaying, EndsWork
 
 use crate::check::with_sums;
 use crate::closing::{Ended, Left, check_in_files, migrate_in_files, run_in_files, work_in_files};
+use crate::copier::Copier;
 use crate::files::{
     BookFile, Opened, copy_to_file, make_in_file, no_files, number_of, open_found, open_told,
     raise_file,
 };
-use crate::plan::{Act, Plan, plan_of};
+use crate::plan::{Act, Errand, Plan, plan_of};
 use mx_args::Task;
 use mx_audit::has_first_tables;
 use mx_book::Book;
@@ -31,7 +32,7 @@ use mx_pay::Token;
 use mx_standing::Standing;
 use mx_tables::{Migrated, Tables};
 use mx_tasks::runs::run_memory;
-use mx_tasks::{Done, TaskFault, Work};
+use mx_tasks::{Done, TaskFault};
 use sqlite::{FileStore, Start};
 use sqlite_disk::Disk;
 use std::alloc::Global;
@@ -116,12 +117,13 @@ fn run_in_file<'a, S: Start, R: Read, W: Outlet>(
     })
 }
 
-/// Does a piece of work over the books in a file, and writes its text once that is closed.
+/// Does a piece of work over the books in a file, and writes its text once that is closed. Where copies of the books are asked for,
+/// they are made while these are served.
 fn work_in_file<'a, S: Start, W: Write>(
     rt: &'a HostRuntime,
     path: &str,
     start: S,
-    work: &Work<'_>,
+    errand: &Errand<'_>,
     writer: &mut Counted<W>,
 ) -> Result<Ended<(), BookFile<'a, S>>, TaskFault>
     ensures unopened { IsErr result → writer.new ≡ writer.old }
@@ -131,10 +133,12 @@ fn work_in_file<'a, S: Start, W: Write>(
         (streams input (W.contents writer.new.device)) ended
         (λ w. PerformsWork
         ⟦<Standing<Tables<FileStore<BookFile<'a, S>>>> as Book>⟧.fails ended.left w
-        work.now ended.answer (W.contents writer.old.device) (W.contents writer.new.device))) }
+        errand.now.work ended.answer
+        (W.contents writer.old.device) (W.contents writer.new.device))) }
 {
+    let mut copier = Copier::new(rt, path, errand.copies)?;
     let store = open_told(rt, path, start)?;
-    let Ended { answer, left, copy } = work_in_files(rt, store, work);
+    let Ended { answer, left, copy } = work_in_files(rt, store, &errand.work, &mut copier);
     Ok(Ended {
         answer: say_done(answer, writer),
         left,
@@ -319,7 +323,7 @@ fn ended<T, D: Disk>(performed: Result<Ended<T, D>, TaskFault>) -> Ended<T, D>
 ///
 /// # Errors
 ///
-/// The first in this order: of the file (`File`, `FileExists`), of its books (`NotThisSchema`), of the roll (`File`,
+/// The first in this order: of the place of copies (`FileExists`, `File`), of the file (`File`, `FileExists`), of its books (`NotThisSchema`), of the roll (`File`,
 /// `RollTooLarge`) or the port (`Net`), of the work (`Read`, `Write`, `Turns`, `Roll`, `NoSuchPurse`). `Memory` and `Store` come
 /// at any step; `Write` too where what is printed can't be written or flushed.
 pub fn perform<'a, S: Start, R: Read, W: Outlet>(
@@ -343,7 +347,7 @@ pub fn perform<'a, S: Start, R: Read, W: Outlet>(
         Plan::InFile(path, act) => match act {
             Act::Run => ended(run_in_file(rt, path, start, reader, writer)),
             Act::Make(operator) => ended(init_file(rt, path, start, *operator, writer)),
-            Act::Work(work) => ended(work_in_file(rt, path, start, work, writer)),
+            Act::Work(errand) => ended(work_in_file(rt, path, start, errand, writer)),
             Act::Check => ended(check_file(rt, path, start, writer)),
             Act::Copy(to) => ended(copy_file(rt, path, start, to, writer)),
             Act::Migrate => ended(migrate_file(rt, path, start, writer)),

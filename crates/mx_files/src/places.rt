@@ -107,6 +107,8 @@ pub enum Replaces {
     EmptyFile,
     /// The file of this number, whose books they are.
     File(u64),
+    /// The file of this number, a copy of the books as they were before.
+    Older(u64),
 }
 
 impl Replaces {
@@ -117,7 +119,7 @@ impl Replaces {
         match self {
             Replaces::Nothing => false,
             Replaces::EmptyFile => is_empty(entry),
-            Replaces::File(number) => entry.number == *number,
+            Replaces::File(number) | Replaces::Older(number) => entry.number == *number,
         }
     }
 

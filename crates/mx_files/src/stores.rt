@@ -24,6 +24,7 @@ use mx_pay::Token;
 use mx_standing::Standing;
 use mx_tables::{Migrated, Tables};
 use mx_tasks::runs::run_in_book;
+use mx_tasks::serve::chore::Chore;
 use mx_tasks::{Done, TaskFault, Work, work_in_book};
 use sqlite::{Alter, Connection};
 use std::alloc::Global;
@@ -159,10 +160,11 @@ pub fn run_in_store<S: Ordered + Drop, R: Read, W: Outlet>(
 /// # Errors
 ///
 /// As of `run_in_store`.
-pub fn work_in_store<S: Ordered + Drop>(
+pub fn work_in_store<S: Ordered + Drop, C: Chore>(
     rt: &HostRuntime,
     store: Connection<S>,
     work: &Work<'_>,
+    chore: &mut C,
 ) -> Result<(Result<Done, TaskFault>, Connection<S>), Refused<S>>
     ensures later { IfOk result
         (λ x. worry (state_of S.Store store) ≤ worry (state_of S.Store x.1)) }
@@ -177,7 +179,7 @@ pub fn work_in_store<S: Ordered + Drop>(
 {
     match open(rt.alloc(), store, 0) {
         Ok((book, _)) => {
-            let (answer, left) = work_in_book(rt, work, book);
+            let (answer, left) = work_in_book(rt, work, book, chore);
             Ok((answer, left.into_inner().into_store()))
         }
         Err(refused) => Err(refused),

@@ -1,3 +1,4 @@
 pub mod DamageLemmas
 pub mod FileLemmas
+pub mod FoldLemmas
 pub mod FrameLemmas

@@ -3,7 +3,9 @@
 
 mod damage;
 mod file;
+mod folding;
 mod frames;
 
 pub use damage::is_damaged;
 pub use file::holds_damage;
+pub use folding::{Folded, fold};

@@ -3,7 +3,7 @@ use Rattle.std.specs.IoError.{error_kind}
 use Rattle.std.specs.declared.io.ErrorKind.{ErrorKind}
 use Rattle.std.specs.declared.io.ErrorKind.TheVariants.{OutOfMemory}
 use Rattle.mx_tasks.specs.declared.cause.Cause.{Cause}
-use Rattle.mx_tasks.specs.declared.cause.Cause.TheVariants.{System, NotEmpty, Rival, Empty, TooLarge, NoRoll, BadRow, Unfinished, Fault}
+use Rattle.mx_tasks.specs.declared.cause.Cause.TheVariants.{System, NotEmpty, Itself, OtherFile, Rival, Empty, TooLarge, NoRoll, BadRow, Unfinished, Fault}
 use Rattle.mx_tasks.specs.declared.fault.TaskFault.{TaskFault}
 use Rattle.mx_tasks.specs.declared.fault.TaskFault.TheVariants.{Memory, NotThisSchema, FileExists, File, Roll, RollTooLarge}
 
@@ -16,6 +16,8 @@ kind_fault _ = File
 abbrev pub cause_fault : Cause → TaskFault
 cause_fault (System error) = kind_fault (error_kind error)
 cause_fault NotEmpty = FileExists
+cause_fault Itself = FileExists
+cause_fault OtherFile = FileExists
 cause_fault Rival = FileExists
 cause_fault Empty = NotThisSchema
 cause_fault TooLarge = RollTooLarge

@@ -30,6 +30,12 @@ pub enum Cause {
     /// New books are to be made in it, and it has a byte.
     #[error("it is there, and isn't empty")]
     NotEmpty,
+    /// A copy of the books is to be put there, and they are in it themselves.
+    #[error("it is the file of the books itself")]
+    Itself,
+    /// A copy of the books is to be put there, and it is no database.
+    #[error("it is there, and isn't a copy of books")]
+    OtherFile,
     /// Books are to be opened in it, and it has no byte.
     #[error("it is empty")]
     Empty,
@@ -126,7 +132,9 @@ impl Cause {
     {
         match self {
             Cause::System(error) if error.kind() == ErrorKind::OutOfMemory => TaskFault::Memory,
-            Cause::NotEmpty | Cause::Rival => TaskFault::FileExists,
+            Cause::NotEmpty | Cause::Itself | Cause::OtherFile | Cause::Rival => {
+                TaskFault::FileExists
+            }
             Cause::Empty => TaskFault::NotThisSchema,
             Cause::TooLarge => TaskFault::RollTooLarge,
             Cause::NoRoll | Cause::BadRow { .. } => TaskFault::Roll,

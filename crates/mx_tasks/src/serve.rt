@@ -1,5 +1,6 @@
 //! What clients take: where they come, their places and what they are told, and what is said when the store fails.
 pub mod alarm;
+pub mod chore;
 pub mod connection;
 pub mod desk;
 pub mod listener;

@@ -15,6 +15,7 @@ use crate::fault::TaskFault;
 use crate::import::import_file;
 use crate::report::{ReportKind, report_text};
 use crate::serve::alarm::Alarm;
+use crate::serve::chore::Chore;
 use crate::serve::connection::Connection;
 use crate::serve::desk::Desk;
 use crate::serve::listener::Listener;
@@ -108,16 +109,19 @@ fn served_text(alloc: Global, served: u64) -> Result<String, AllocError>
     format!(in alloc; "served {served}\n")
 }
 
-/// Waits until a client is ready or a client's time is over, and ends the connections of those whose time is. Says when that was.
-fn wait<S: Connection + Drop, L: Listener<S>, V>(
+/// Does the chore where it is due, waits until a client is ready, a client's time is over or the chore is due again, and ends the
+/// connections of those whose time is over. Says when that was.
+fn wait<S: Connection + Drop, L: Listener<S>, V, C: Chore>(
     rt: &impl Clock,
     reception: &mut Reception<L, S, V>,
+    chore: &mut C,
 ) -> io::Result<Instant>
     ensures tends { Tends S.received S.written Always 0 0
         (hall L.clients reception.old) (hall L.clients reception.new) }
     ensures quiet { reception.new.alarm ≡ reception.old.alarm }
 {
-    let longest = reception.patience();
+    let idle = chore.between(Instant::now(rt)?);
+    let longest = reception.patience().min(idle);
     reception.listener.wait(longest)?;
     let now = Instant::now(rt)?;
     reception.keep_time(now);
@@ -127,16 +131,17 @@ fn wait<S: Connection + Drop, L: Listener<S>, V>(
 /// Serves the clients that come, as many as the reception is for, in rounds: of each its first request alone. What is promised of
 /// these is one clause (`serves`). A fault of a connection ends that connection alone, and a slow client holds up no other: it has
 /// ten seconds for its request, ten for taking the answer, and ten with what it sends behind. Where the store fails a request the
-/// alarm says so. The answer is how many were served.
+/// alarm says so. Between rounds the chore is done where it is due. The answer is how many were served.
 ///
 /// # Errors
 ///
 /// `Net` where clients can't be waited for; `Store` where the store is shut.
-pub fn serve_connections<S: Connection + Drop, L: Listener<S>, V: Voice, B: Book>(
+pub fn serve_connections<S: Connection + Drop, L: Listener<S>, V: Voice, B: Book, C: Chore>(
     rt: &impl Clock,
     desk: &mut Desk,
     reception: &mut Reception<L, S, V>,
     office: &mut Office<B>,
+    chore: &mut C,
 ) -> Result<u64, TaskFault>
     ensures all { IfOk result (λ served. served ≡ reception.old.count) }
     ensures done { OnOk result ((reception.new.taken ≡ reception.old.count)
@@ -155,7 +160,7 @@ pub fn serve_connections<S: Connection + Drop, L: Listener<S>, V: Voice, B: Book
         if reception.is_done() {
             return Ok(reception.count());
         }
-        let Ok(now) = wait(rt, reception) else {
+        let Ok(now) = wait(rt, reception, chore) else {
             return Err(TaskFault::Net);
         };
         serve_round(desk, reception, now, office)?;
@@ -164,11 +169,12 @@ pub fn serve_connections<S: Connection + Drop, L: Listener<S>, V: Voice, B: Book
 }
 
 /// Serves so many clients that come at a port.
-fn serve_port<B: Book>(
+fn serve_port<B: Book, C: Chore>(
     rt: &(impl AllocGlobal + Clock + Eprint),
     port: Port,
     count: u32,
     office: &mut Office<B>,
+    chore: &mut C,
 ) -> Result<u64, TaskFault>
     ensures all { IfOk result (λ served. served ≡ count) }
     ensures later { (B.view office.old.book).IsSettled
@@ -181,7 +187,16 @@ fn serve_port<B: Book>(
 {
     let mut reception = Reception::new(rt.alloc(), port, Alarm::new(rt), u64::from(count))?;
     let mut desk = Desk::new(rt.alloc())?;
-    serve_connections(rt, &mut desk, &mut reception, office)
+    serve_connections(rt, &mut desk, &mut reception, office, chore)
+}
+
+/// At which port clients are served, and how many.
+#[derive(Clone, Copy, Debug)]
+pub struct Serving {
+    /// The port, from 1 to 65535.
+    pub port: u16,
+    /// How many connections are served.
+    pub count: u32,
 }
 
 /// Listens on a port of 127.0.0.1, writes a line that says so, and serves so many clients. Gives the line that says how many were
@@ -191,28 +206,28 @@ fn serve_port<B: Book>(
 ///
 /// `Net` where the port can't be listened on or clients can't be waited for, `Write` where the line can't be written, `Store`
 /// where the store is shut, and `Memory`.
-pub fn serve<W: Write, B: Book>(
+pub fn serve<W: Write, B: Book, C: Chore>(
     rt: &(impl AllocGlobal + Clock + Eprint + Net<Listener = TcpListener, Stream = TcpStream>),
     writer: &mut W,
-    port: u16,
-    count: u32,
+    serving: Serving,
     office: &mut Office<B>,
+    chore: &mut C,
 ) -> Result<Done, TaskFault>
     ensures said { OnOk result (Appends (W.contents writer.old) (W.contents writer.new)
-        (listening_text port)) }
+        (listening_text serving.port)) }
     ensures later { (B.view office.old.book).IsSettled
         → (B.view office.old.book).doubt ≤ (B.view office.new.book).doubt }
     ensures still { (B.view office.old.book).IsSettled → (B.view office.new.book).IsSettled }
     ensures serves { (w : World) → IsHonest (B.view office.new.book)
         → RestsAt (B.view office.old.book) w
-        → Leads (WorksServe B.fails w count result)
+        → Leads (WorksServe B.fails w serving.count result)
         (Moves (B.view office.old.book) (B.view office.new.book) w) }
 {
-    let Ok(listener) = listen(rt.alloc(), rt, port) else {
+    let Ok(listener) = listen(rt.alloc(), rt, serving.port) else {
         return Err(TaskFault::Net);
     };
-    say_listening(rt.alloc(), writer, port)?;
-    let served = serve_port(rt, listener, count, office)?;
+    say_listening(rt.alloc(), writer, serving.port)?;
+    let served = serve_port(rt, listener, serving.count, office, chore)?;
     Ok(said(served_text(rt.alloc(), served)?.into_bytes()))
 }
 
@@ -229,17 +244,18 @@ fn import<B: Book>(rt: &HostRuntime, roll: &str, office: &mut Office<B>) -> Resu
     Ok(said(lines.into_bytes()))
 }
 
-/// Does the work, and gives what comes of it. What that is, and of what the books are then, is said of each kind of work
+/// Does the work, and gives what comes of it; and the chore meanwhile, where the work is serving. What comes of the work, and of what the books are then, is said of each kind of work
 /// (`works`).
 ///
 /// # Errors
 ///
 /// Serving: `Net` where the port can't be listened on or clients can't be waited for, and `Write` where that it listens can't
 /// be printed. An import: `File`, `RollTooLarge`, `Roll`. A report: `NoSuchPurse`. `Memory` or `Store` comes with any work.
-pub fn do_work<B: Book>(
+pub fn do_work<B: Book, C: Chore>(
     rt: &HostRuntime,
     work: &Work<'_>,
     office: &mut Office<B>,
+    chore: &mut C,
 ) -> Result<Done, TaskFault>
     ensures later { (B.view office.old.book).IsSettled
         → (B.view office.old.book).doubt ≤ (B.view office.new.book).doubt }
@@ -250,17 +266,24 @@ pub fn do_work<B: Book>(
         (B.view office.old.book).world work.now result }
 {
     match work {
-        Work::Serve { port, count } => serve(rt, &mut io::writer(rt), *port, *count, office),
+        Work::Serve { port, count } => {
+            let serving = Serving {
+                port: *port,
+                count: *count,
+            };
+            serve(rt, &mut io::writer(rt), serving, office, chore)
+        }
         Work::Import(roll) => import(rt, roll, office),
         Work::Report(kind) => report(rt.alloc(), &mut office.book, *kind),
     }
 }
 
 /// Does a piece of work over books, and gives them back with what came of it.
-pub fn work_in_book<B: Book>(
+pub fn work_in_book<B: Book, C: Chore>(
     rt: &HostRuntime,
     work: &Work<'_>,
     book: B,
+    chore: &mut C,
 ) -> (Result<Done, TaskFault>, B)
     ensures later { (B.view book).IsSettled → (B.view book).doubt ≤ (B.view result.1).doubt }
     ensures still { (B.view book).IsSettled → (B.view result.1).IsSettled }
@@ -270,6 +293,6 @@ pub fn work_in_book<B: Book>(
         (B.view book).world work.now result.0 }
 {
     let mut office = Office::new(book);
-    let answer = do_work(rt, work, &mut office);
+    let answer = do_work(rt, work, &mut office, chore);
     (answer, office.into_book())
 }

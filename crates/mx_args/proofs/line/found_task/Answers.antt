@@ -5,7 +5,7 @@ use Rattle.mx_args.specs.Misfits.{HasFoundMisfit}
 use Rattle.mx_args.specs.declared.line.Misfit.TheVariants.{Missing}
 use Rattle.mx_args.proofs.CommandLemmas.{found_named}
 use Rattle.mx_args.proofs.MisfitLemmas.{found_nothing, told}
-use Rattle.mx_args.proofs.TaskLemmas.{found_once}
+use Rattle.mx_args.proofs.TaskLemmas.{found_none, found_once}
 use Rattle.mx_args.proofs.line.found_task.Goals as goal
 
 pub returns-in-Ok-clause-named : goal.returns-in-Ok-clause-named
@@ -16,6 +16,11 @@ returns-in-Ok-clause-named c =
 pub returns-in-Ok-clause-answered : goal.returns-in-Ok-clause-answered
 returns-in-Ok-clause-answered c = λ task named.
     ap Ok (found_once (subcommand_rows_of c.args.matches.now) c.in-Ok.task task (returns-in-Ok-clause-named c) named)
+
+pub returns-in-Err-clause-answered : goal.returns-in-Err-clause-answered
+returns-in-Err-clause-answered c = λ task named.
+    let found = found_named c.args.matches.now c.in-Some.name.now (rows_of (found_of c.in-Some.found.now)) c.in-Some.ensures.name c.in-Some.ensures.rows in
+    absurd (found_none (subcommand_rows_of c.args.matches.now) c.in-Some.name.now (rows_of (found_of c.in-Some.found.now)) found c.in-Err.ensures.unnamed task named)
 
 pub returns-in_default-clause-misfit : goal.returns-in_default-clause-misfit
 returns-in_default-clause-misfit c =

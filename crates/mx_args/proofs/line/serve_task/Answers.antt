@@ -15,3 +15,7 @@ returns-in_default-number_of-clause-unnamed c =
 pub returns-in_default-clause-misfit : goal.returns-in_default-clause-misfit
 returns-in_default-clause-misfit c =
     (refl, ap is_some c.in_ok-file.ensures.given, λ port. c.in_default.ensures.none refl port.0 port.1)
+
+pub returns-in_default-number_of-clause-misfit : goal.returns-in_default-number_of-clause-misfit
+returns-in_default-number_of-clause-misfit c =
+    (refl, ap is_some c.in_ok-file.ensures.given, (c.in-Some.port, c.in-Some.ensures.some), λ count. c.in_default-number_of.ensures.none refl count.0 count.1)

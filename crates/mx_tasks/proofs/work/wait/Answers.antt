@@ -1,13 +1,17 @@
 use Rattle.std.proofs.Common.{arith, refl}
 use Rattle.mx_tasks.specs.Halls.{Always, hall}
-use Rattle.mx_tasks.proofs.HallLemmas.{tends_same, tends_then}
+use Rattle.mx_tasks.proofs.HallLemmas.{tends_none, tends_same, tends_then}
 use Rattle.mx_tasks.proofs.work.wait.Goals as goal
 
 pub returns-in_err-wait-clause-tends : goal.returns-in_err-wait-clause-tends
 returns-in_err-wait-clause-tends g c = tends_same g.S.Connection.received g.S.Connection.written (hall g.L.Listener.clients c.args.reception.now) _ refl c.wait.ensures refl refl refl
 
+-- before it is waited
 pub returns-in_err-now-clause-tends : goal.returns-in_err-now-clause-tends
-returns-in_err-now-clause-tends g c = tends_same g.S.Connection.received g.S.Connection.written (hall g.L.Listener.clients c.args.reception.now) _ refl c.wait.ensures refl refl refl
+returns-in_err-now-clause-tends g c = tends_none g.S.Connection.received g.S.Connection.written _
+
+pub returns-in_err-now-2-clause-tends : goal.returns-in_err-now-2-clause-tends
+returns-in_err-now-2-clause-tends g c = tends_same g.S.Connection.received g.S.Connection.written (hall g.L.Listener.clients c.args.reception.now) _ refl c.wait.ensures refl refl refl
 
 pub returns-clause-tends : goal.returns-clause-tends
 returns-clause-tends g c =
