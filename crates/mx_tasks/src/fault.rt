@@ -27,7 +27,7 @@ pub enum TaskFault {
     FileExists,
     /// The file or the roll isn't there, or can't be opened, read or made; or another process has the file open.
     File,
-    /// The port can't be listened on, or a connection can't be taken.
+    /// The port can't be listened on, or clients can't be waited for.
     Net,
     /// There is no purse of that name.
     NoSuchPurse,

@@ -244,8 +244,8 @@ fn import<B: Book>(rt: &HostRuntime, roll: &str, office: &mut Office<B>) -> Resu
     Ok(said(lines.into_bytes()))
 }
 
-/// Does the work, and gives what comes of it; and the chore meanwhile, where the work is serving. What comes of the work, and of what the books are then, is said of each kind of work
-/// (`works`).
+/// Does the work, and gives what comes of it; while it serves, the chore is done too. What comes of the work, and of what the books
+/// are then, is said of each kind of work (`works`).
 ///
 /// # Errors
 ///

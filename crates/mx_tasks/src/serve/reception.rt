@@ -91,7 +91,8 @@ impl<L: Drop, S: Drop, V: Drop> Reception<L, S, V> {
 impl<L, S: Drop, V> Reception<L, S, V> {
     /// Whether all were taken, and their connections have ended.
     pub fn is_done(&self) -> bool
-        ensures { result ≡ true → (self.now.taken ≡ self.now.count) × (self.now.ended ≡ self.now.count) }
+        ensures { result ≡ true
+            → (self.now.taken ≡ self.now.count) × (self.now.ended ≡ self.now.count) }
     {
         self.taken == self.count && self.ended == self.count
     }
