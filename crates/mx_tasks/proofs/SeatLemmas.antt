@@ -42,6 +42,11 @@ pub goes_on : {S : Type 0} (received written : S → Option (List ℕ)) (xs : Li
     → ((came : List ℕ) → IfSome (received a.stream) (IsPrefix came) → IfSome (received b.stream) (IsPrefix came)) → IsAnswerOf received xs a × IsSentSo written a → IsAnswerOf received xs b × IsSentSo written b
 goes_on received written xs a b same sent came is = let from = is.0 in ((from.0, from.1, from.2 ∙ sym same, came from.0.came from.3), sent is.1)
 
+-- the same where of its connection the same is known
+pub moved_on : {S : Type 0} (received written : S → Option (List ℕ)) (xs : List Exchange) (a : Answered S) (stream : S) → received stream ≡ received a.stream → written stream ≡ written a.stream
+    → IsAnswerOf received xs a × IsSentSo written a → IsAnswerOf received xs (record a { stream = stream }) × IsSentSo written (record a { stream = stream })
+moved_on received written xs a stream same_received same_written is = let from = is.0 in ((from.0, from.1, from.2, rw same_received from.3), (is.1.0, rw same_written is.1.1))
+
 -- ---- a round that is told
 
 -- nothing was told to a client, and its exchange is one of these

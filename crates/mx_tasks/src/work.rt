@@ -115,6 +115,7 @@ fn wait<S: Connection + Drop, L: Listener<S>, V, C: Chore>(
     rt: &impl Clock,
     reception: &mut Reception<L, S, V>,
     chore: &mut C,
+    piece: &mut [u8],
 ) -> io::Result<Instant>
     ensures tends { Tends S.received S.written Always 0 0
         (hall L.clients reception.old) (hall L.clients reception.new) }
@@ -124,6 +125,7 @@ fn wait<S: Connection + Drop, L: Listener<S>, V, C: Chore>(
     let longest = reception.patience().min(idle);
     reception.listener.wait(longest)?;
     let now = Instant::now(rt)?;
+    reception.look_back(now, piece);
     reception.keep_time(now);
     Ok(now)
 }
@@ -160,7 +162,7 @@ pub fn serve_connections<S: Connection + Drop, L: Listener<S>, V: Voice, B: Book
         if reception.is_done() {
             return Ok(reception.count());
         }
-        let Ok(now) = wait(rt, reception, chore) else {
+        let Ok(now) = wait(rt, reception, chore, desk.piece.as_mut_slice()) else {
             return Err(TaskFault::Net);
         };
         serve_round(desk, reception, now, office)?;

@@ -24,6 +24,8 @@ pub struct Port {
     events: Events,
     ready: ArrayVec<usize, 513>,
     next: usize,
+    /// Of which places the connection is watched.
+    watched: [bool; MOST_CLIENTS],
 }
 
 /// Listens on a port of 127.0.0.1, and on no other address of the machine. With 0 the system chooses the port.
@@ -46,6 +48,7 @@ pub fn listen(alloc: Global, net: &impl Net, port: u16) -> io::Result<Port> {
         events,
         ready: ArrayVec::new(),
         next: 0,
+        watched: [false; MOST_CLIENTS],
     })
 }
 
@@ -81,11 +84,23 @@ impl Listener<TcpStream> for Port {
     }
 
     fn accept(&mut self, place: usize) -> Option<TcpStream> {
-        let (mut stream, _) = self.listener.accept().ok()?;
-        let both = Interest::READABLE | Interest::WRITABLE;
-        let registry = self.poll.registry();
-        registry.register(&mut stream, Token(place), both).ok()?;
+        let (stream, _) = self.listener.accept().ok()?;
+        if let Some(is_watched) = self.watched.get_mut(place) {
+            *is_watched = false;
+        }
         Some(stream)
+    }
+
+    fn watch(&mut self, stream: &mut TcpStream, place: usize) -> bool {
+        let Some(is_watched) = self.watched.get_mut(place) else {
+            return false;
+        };
+        if !*is_watched {
+            let both = Interest::READABLE | Interest::WRITABLE;
+            let registered = self.poll.registry().register(stream, Token(place), both);
+            *is_watched = registered.is_ok();
+        }
+        *is_watched
     }
 
     fn ended(&mut self, stream: TcpStream)

@@ -10,7 +10,9 @@ use crate::serve::alarm::Alarm;
 use crate::serve::connection::Connection;
 use crate::serve::listener::{Listener, Ready};
 use crate::serve::seat::{Answered, Asked, MOST_CLIENTS, Seat, Visitor};
+use mx_desk::held::MOST_TOGETHER;
 use std::alloc::{AllocError, Global};
+use std::mem;
 use std::time::{Duration, Instant};
 
 /// How many events are looked at before a round ends.
@@ -18,6 +20,9 @@ const MOST_EVENTS: u32 = 1024;
 
 /// How often it is looked for clients whose time is over, in milliseconds.
 const BETWEEN_SWEEPS: u64 = 100;
+
+/// How long is waited at most before it is looked for clients that have taken their answers, in milliseconds.
+const AT_WORK: u64 = 1;
 
 /// How long is waited at most where nobody is connected, in milliseconds.
 const AT_REST: u64 = 1_000;
@@ -35,6 +40,10 @@ pub struct Reception<L, S, V> {
     places: Vec<Option<Seat<S>>>,
     /// The places that nobody has, also nobody who is attended to.
     free: Vec<usize>,
+    /// The places of those who were told their answers in this round.
+    told: Vec<usize>,
+    /// The places of those who were told them in the round before.
+    told_before: Vec<usize>,
     /// Whether clients may wait.
     may_come: bool,
     /// How many are to be taken.
@@ -72,6 +81,8 @@ impl<L: Drop, S: Drop, V: Drop> Reception<L, S, V> {
             alarm,
             places,
             free,
+            told: Vec::with_capacity(alloc, MOST_TOGETHER)?,
+            told_before: Vec::with_capacity(alloc, MOST_TOGETHER)?,
             may_come: true,
             count,
             taken: 0,
@@ -110,6 +121,8 @@ impl<L, S: Drop, V> Reception<L, S, V> {
             Duration::from_millis(0)
         } else if self.taken == self.ended {
             Duration::from_millis(AT_REST)
+        } else if !self.told.is_empty() || !self.told_before.is_empty() {
+            Duration::from_millis(AT_WORK)
         } else {
             Duration::from_millis(BETWEEN_SWEEPS)
         }
@@ -186,8 +199,23 @@ impl<S: Connection + Drop, L: Listener<S>, V> Reception<L, S, V> {
         }
     }
 
-    /// Goes on with a client that is answered.
-    pub fn tend(&mut self, place: usize, answered: Answered<S>, now: Instant, piece: &mut [u8])
+    /// Gives a client that was answered nothing yet a place until more comes of it.
+    pub fn seat(&mut self, place: usize, visitor: Visitor<S>)
+        ensures tends { Tends S.received S.written
+            (λ _. IsFresh S.received S.written visitor) 1 0
+            (hall L.clients self.old) (hall L.clients self.new) }
+        ensures quiet { self.new.alarm ≡ self.old.alarm }
+    {
+        let mut visitor = visitor;
+        if self.listener.watch(&mut visitor.stream, place) {
+            self.put(place, Seat::Asking(visitor));
+        } else {
+            self.leave(place, Seat::Asking(visitor));
+        }
+    }
+
+    /// Tells a client its answer. It isn't watched yet: most have taken the answer and ended the connection by the next look.
+    fn tell_one(&mut self, place: usize, answered: Answered<S>, now: Instant, piece: &mut [u8])
         ensures tends { Tends S.received S.written
             (λ xs. IsSeated S.received S.written xs (Taking answered)) 0 0
             (hall L.clients self.old) (hall L.clients self.new) }
@@ -195,7 +223,38 @@ impl<S: Connection + Drop, L: Listener<S>, V> Reception<L, S, V> {
     {
         let mut answered = answered;
         if answered.advance(now, piece) {
+            let _ = self.told.push(place);
             self.put(place, Seat::Taking(answered));
+        } else {
+            self.leave(place, Seat::Taking(answered));
+        }
+    }
+
+    /// Gives a client that is answered its place until it takes more, or more comes of it.
+    fn keep(&mut self, place: usize, answered: Answered<S>)
+        ensures tends { Tends S.received S.written
+            (λ xs. IsSeated S.received S.written xs (Taking answered)) 0 0
+            (hall L.clients self.old) (hall L.clients self.new) }
+        ensures quiet { self.new.alarm ≡ self.old.alarm }
+    {
+        let mut answered = answered;
+        if self.listener.watch(&mut answered.stream, place) {
+            self.put(place, Seat::Taking(answered));
+        } else {
+            self.leave(place, Seat::Taking(answered));
+        }
+    }
+
+    /// Goes on with a client that is answered, and is watched from then on.
+    fn tend(&mut self, place: usize, answered: Answered<S>, now: Instant, piece: &mut [u8])
+        ensures tends { Tends S.received S.written
+            (λ xs. IsSeated S.received S.written xs (Taking answered)) 0 0
+            (hall L.clients self.old) (hall L.clients self.new) }
+        ensures quiet { self.new.alarm ≡ self.old.alarm }
+    {
+        let mut answered = answered;
+        if answered.advance(now, piece) {
+            self.keep(place, answered);
         } else {
             self.leave(place, Seat::Taking(answered));
         }
@@ -297,6 +356,32 @@ impl<S: Connection + Drop, L: Listener<S>, V> Reception<L, S, V> {
         None
     }
 
+    /// Goes on with whoever has a place, if it is answered.
+    fn look_at(&mut self, place: usize, now: Instant, piece: &mut [u8])
+        ensures tends { Tends S.received S.written Always 0 0
+            (hall L.clients self.old) (hall L.clients self.new) }
+        ensures quiet { self.new.alarm ≡ self.old.alarm }
+    {
+        if let Some(visitor) = self.turn_to(place, now, piece) {
+            self.put(place, Seat::Asking(visitor));
+        }
+    }
+
+    /// Goes on with those who were told their answers in the round before the last one: a whole round has passed since.
+    pub fn look_back(&mut self, now: Instant, piece: &mut [u8])
+        ensures tends { Tends S.received S.written Always 0 0
+            (hall L.clients self.old) (hall L.clients self.new) }
+        ensures quiet { self.new.alarm ≡ self.old.alarm }
+    {
+        mem::swap(&mut self.told, &mut self.told_before);
+        'told: for _ in 0..MOST_CLIENTS {
+            let Some(place) = self.told.pop() else {
+                return;
+            };
+            self.look_at(place, now, piece);
+        }
+    }
+
     /// Ends the connections of clients whose time is over.
     pub fn sweep(&mut self, now: Instant)
         ensures tends { Tends S.received S.written Always 0 0
@@ -341,7 +426,7 @@ impl<S: Connection + Drop, L: Listener<S>, V> Reception<L, S, V> {
     {
         'round: for asked in round {
             let place = asked.place;
-            self.tend(place, Answered::new(asked, kept, now), now, piece);
+            self.tell_one(place, Answered::new(asked, kept, now), now, piece);
         }
     }
 }

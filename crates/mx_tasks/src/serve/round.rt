@@ -66,7 +66,7 @@ fn attend_next<S: Connection + Drop, L: Listener<S>, V, B: Book>(
         return NOBODY;
     };
     match desk.attend(office, visitor) {
-        Attended::Waits(visitor) => reception.put(place, Seat::Asking(visitor)),
+        Attended::Waits(visitor) => reception.seat(place, visitor),
         Attended::Leaves(visitor) => reception.leave(place, Seat::Asking(visitor)),
         Attended::Asks(visitor, held, goes_on) => {
             let fault = held.response.as_ref().err().copied();

@@ -236,9 +236,9 @@ fn write_rest<S: Connection>(stream: &mut S, text: &[u8], sent: &mut usize) -> i
 }
 
 impl<S: Connection> Answered<S> {
-    /// Goes on with a client: writes what it takes of its answer, and once that is whole, ends what is written and reads what came
-    /// behind the request. Bytes that are left unread when a connection is closed would make the system drop what of the answer
-    /// the client hasn't got yet. Says whether the connection stays open.
+    /// Goes on with a client: writes what it takes of its answer, and once that is whole, ends what is written, and from the next
+    /// time on reads what came behind the request. Bytes that are left unread when a connection is closed would make the system
+    /// drop what of the answer the client hasn't got yet. Says whether the connection stays open.
     pub fn advance(&mut self, now: Instant, piece: &mut [u8]) -> bool
         ensures answer { answer_of self.new ≡ answer_of self.old }
         ensures sent { IsSentSo S.written self.old → IsSentSo S.written self.new }
@@ -261,6 +261,7 @@ impl<S: Connection> Answered<S> {
             self.behind = Some(0);
             self.until = seconds_from(now, PATIENCE);
             self.silent = seconds_from(now, 1);
+            return true;
         }
         self.drain(now, piece)
     }

@@ -144,6 +144,10 @@ impl Listener<Pipe> for Visitors {
         Some(Pipe::new(self.alloc, sender))
     }
 
+    fn watch(&mut self, _stream: &mut Pipe, _place: usize) -> bool {
+        true
+    }
+
     fn ended(&mut self, stream: Pipe) {
         let is_told = match &mut self.ended {
             Some(all) => all.push(stream).is_ok(),

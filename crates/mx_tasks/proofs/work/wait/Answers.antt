@@ -19,4 +19,5 @@ returns-clause-tends g c =
     let w = g.S.Connection.written in
     let was = c.args.reception.now in
     let waited = tends_same r w (hall g.L.Listener.clients was) (record { places = was.places.items; clients = g.L.Listener.clients c.wait.new.self; taken = was.taken; ended = was.ended; count = was.count }) refl c.wait.ensures refl refl refl in
-    tends_then r w Always 0 0 waited c.keep_time.ensures.tends (λ xs was so. (tt, tt)) (omega arith)
+    let looked = tends_then r w Always 0 0 waited c.look_back.ensures.tends (λ xs was so. (tt, tt)) (omega arith) in
+    tends_then r w Always 0 0 looked c.keep_time.ensures.tends (λ xs was so. (tt, tt)) (omega arith)

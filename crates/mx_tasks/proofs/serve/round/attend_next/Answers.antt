@@ -25,7 +25,7 @@ returns-in-Waits-clause-gathers g c =
     let fresh = rw c.in-Some.is at fresh in
     let attended = c.attend.ensures.fresh in
     let attended = rw c.in-Waits.is at attended in
-    rw c.reserve.ensures.items (gathers_none g.B.Book.fails r w c.in-Waits.ensures.holds (tends_then r w Always 0 0 next c.put.ensures.tends (λ xs was so. (tt, attended (fresh xs was))) (omega arith)))
+    rw c.reserve.ensures.items (gathers_none g.B.Book.fails r w c.in-Waits.ensures.holds (tends_then r w Always 0 0 next c.seat.ensures.tends (λ xs was so. (tt, attended (fresh xs was))) (omega arith)))
 
 pub returns-in-Leaves-clause-gathers : goal.returns-in-Leaves-clause-gathers
 returns-in-Leaves-clause-gathers g c =

@@ -27,7 +27,7 @@ round-preserved g c =
     let IsSo = λ (xs : List Exchange). AreFresh r w c.args.round.items × Have (exchanges c.args.kept (came_of c.args.round.items) (held_of c.args.round.items)) xs in
     let rest = λ (xs : List Exchange). λ (so : IsSo xs). subst (All (IsToTell r w c.args.kept xs)) c.in-Some.ensures.steps.0 (had.rest xs so) in
     record {
-      tends = tends_then r w IsSo 0 0 had.tends c.tend.ensures.tends (λ xs was so. (so, to_tell r w c.args.kept xs a c.new.result c.new.ensures.stream c.new.ensures.answer c.new.ensures.untold.0 (All-head (IsToTell r w c.args.kept xs) a _ (rest xs so)))) (omega arith);
+      tends = tends_then r w IsSo 0 0 had.tends c.tell_one.ensures.tends (λ xs was so. (so, to_tell r w c.args.kept xs a c.new.result c.new.ensures.stream c.new.ensures.answer c.new.ensures.untold.0 (All-head (IsToTell r w c.args.kept xs) a _ (rest xs so)))) (omega arith);
       rest = λ xs so. All-tail (IsToTell r w c.args.kept xs) a _ (rest xs so);
-      quiet = c.tend.ensures.quiet ∙ had.quiet;
+      quiet = c.tell_one.ensures.quiet ∙ had.quiet;
     }

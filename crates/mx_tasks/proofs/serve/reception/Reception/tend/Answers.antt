@@ -7,7 +7,7 @@ returns-then-advance-clause-tends g c =
     let r = g.S.Connection.received in
     let w = g.S.Connection.written in
     let on = c.advance.ensures in
-    tends_as r w _ (λ xs was so. goes_on r w xs c.args.answered c.advance.new.self on.answer on.sent on.received so) c.put.ensures.tends
+    tends_as r w _ (λ xs was so. goes_on r w xs c.args.answered c.advance.new.self on.answer on.sent on.received so) c.keep.ensures.tends
 
 pub returns-else-advance-clause-tends : goal.returns-else-advance-clause-tends
 returns-else-advance-clause-tends g c =
