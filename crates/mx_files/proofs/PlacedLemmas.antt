@@ -1,8 +1,8 @@
 -- How a copy that was made beside its place comes there.
-use Rattle.std.proofs.Common.{◌≡◌, ◌≢◌, ◌⊎◌, ◌∙◌, ◌+◌, ◌++◌, ℕ, true, false, List, length, ap, arith, codes, inl, inr, length-append, string_bytes, subst, sym}
+use Rattle.std.proofs.Common.{◌≡◌, ◌≢◌, ◌⊎◌, ◌∙◌, ◌+◌, ℕ, true, false, List, length, ap, arith, codes, inl, inr, length-append, string_bytes, subst, sym}
 use Rattle.mx_files.specs.Copying.{PutsCopy}
 use Rattle.mx_files.specs.Folders.{ChangesAtBoth, IsMissing, Makes, Paths, init_of, log_of, removed, spot_behind}
-use Rattle.mx_files.specs.Makings.{Begins, ChangesBeside, ChangesIn, IsGivenUp, IsPut, KeepsBehind, KeepsFile}
+use Rattle.mx_files.specs.Makings.{Begins, ChangesBeside, ChangesIn, IsGivenUp, IsPut, KeepsFile}
 use Rattle.mx_files.specs.declared.making.Making.{Making}
 use Rattle.mx_files.specs.declared.places.Replaces.{Replaces}
 use Rattle.mx_files.proofs.FolderLemmas.{ended-not, keeps-begin, missing, owned, private}

@@ -142,8 +142,8 @@ fn copy_to_place<F: DatabaseFolder>(
 ///
 /// # Errors
 ///
-/// Those of `replaced_beside`, of `begin` and of `end`; `FullLog` where somebody has written the copy before; those of `copy_files`.
-/// The copy before is there then, unless the folder couldn't be synced.
+/// Those of `replaced_beside`, of `begin`, of `copy_files` and of `end`; `FullLog` where somebody has written the copy before. That
+/// is there then, unless the folder couldn't be synced.
 fn copy_to(rt: &HostRuntime, file: &str, to: &str) -> Result<Mark, Cause> {
     let _ = end_stopped_init(rt, to);
     let _ = end_stopped_copy(rt, to);

@@ -323,9 +323,9 @@ fn ended<T, D: Disk>(performed: Result<Ended<T, D>, TaskFault>) -> Ended<T, D>
 ///
 /// # Errors
 ///
-/// The first in this order: of the place of copies (`FileExists`, `File`), of the file (`File`, `FileExists`), of its books (`NotThisSchema`), of the roll (`File`,
-/// `RollTooLarge`) or the port (`Net`), of the work (`Read`, `Write`, `Turns`, `Roll`, `NoSuchPurse`). `Memory` and `Store` come
-/// at any step; `Write` too where what is printed can't be written or flushed.
+/// The first in this order: of the place of copies (`FileExists`, `File`), of the file (`File`, `FileExists`), of its books
+/// (`NotThisSchema`), of the roll (`File`, `RollTooLarge`) or the port (`Net`), of the work (`Read`, `Write`, `Turns`, `Roll`,
+/// `NoSuchPurse`). `Memory` and `Store` come at any step; `Write` too where what is printed can't be written or flushed.
 pub fn perform<'a, S: Start, R: Read, W: Outlet>(
     rt: &'a HostRuntime,
     start: S,

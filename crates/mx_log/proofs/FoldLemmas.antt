@@ -3,7 +3,7 @@ use Rattle.std.proofs.Common.{◌≡◌, ◌∙◌, ℕ, zero, suc, List, [], le
 use mathlib.Core.Path.{fun_ext}
 use Rattle.sqlite_disk.specs.Disk.{Only}
 use Rattle.sqlite_disk.specs.declared.Disk.{Ghosts}
-use Rattle.sqlite_wal.specs.Log.{committed_frames, durable, state}
+use Rattle.sqlite_wal.specs.Log.{committed_frames, state}
 use Rattle.sqlite_wal.specs.PageSize.{Names, bytes_of}
 use Rattle.sqlite_wal.specs.Recovery.{pages_after}
 use Rattle.sqlite_wal.specs.declared.page_size.PageSize.{PageSize}

@@ -17,4 +17,4 @@ returns-then-count-eq0 g c =
     let (moved, read, written) = c.pieces.invariant.1 in
     let (more, read', written') = c.in_ok-count.ensures.moved in
     Consumes-whole _ _ _ (Appends (g.W.Write.contents c.args.writer.now) (g.W.Write.contents c.copy_piece.new.writer)) (Consumes-trans _ _ _ _ _ read read')
-        (c.in_ok-count.ensures.end c.if-count-eq0.true) (Appends-trans _ _ _ _ _ written written')
+    (c.in_ok-count.ensures.end c.if-count-eq0.true) (Appends-trans _ _ _ _ _ written written')

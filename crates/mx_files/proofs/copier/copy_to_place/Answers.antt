@@ -19,7 +19,7 @@ returns-clause-placed g c =
     let making = c.in_ok-making in
     made_put c.make_copy-made.result c.end.result
     (λ none put. puts-copy c.args.replaces c.args.to.now (g.F.Folder.paths c.args.folder.now) (g.F.Folder.paths c.begin.new.folder) (g.F.Folder.paths c.make_copy-made.new.folder)
-        (g.F.Folder.paths c.end.new.folder) making.making making.ensures.begins c.make_copy-made.ensures.others none c.end.ensures.others put)
+    (g.F.Folder.paths c.end.new.folder) making.making making.ensures.begins c.make_copy-made.ensures.others none c.end.ensures.others put)
     c.end.ensures.same c.make_copy-made.ensures.gone c.end.ensures.put
 
 pub returns-clause-kept : goal.returns-clause-kept
@@ -27,5 +27,5 @@ returns-clause-kept g c =
     let making = c.in_ok-making in
     on_err_weaker c.end.result
     (keeps-late c.args.replaces c.args.to.now (g.F.Folder.paths c.args.folder.now) (g.F.Folder.paths c.begin.new.folder) (g.F.Folder.paths c.make_copy-made.new.folder)
-        (g.F.Folder.paths c.end.new.folder) making.making making.ensures.begins making.ensures.others c.make_copy-made.ensures.others)
+    (g.F.Folder.paths c.end.new.folder) making.making making.ensures.begins making.ensures.others c.make_copy-made.ensures.others)
     c.end.ensures.err
