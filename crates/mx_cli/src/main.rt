@@ -15,7 +15,7 @@ use std::process::ExitCode;
 
 /// What `--version` tells: the version, the schema of files, and the first digits of the sum of the sources, which
 /// `./purse-office --sources` prints and which leaves out this line. The sources are `unreleased` until there is a release of them.
-const VERSION: &str = "1.6.0 (schema 2, sources f515e7ba8d768238)";
+const VERSION: &str = "1.7.0 (schema 2, sources 6fb781056e9c9881)";
 
 /// The words of the command line, the program's name first.
 fn args_of(rt: &HostRuntime) -> io::Result<Vec<String>> {
