@@ -24,24 +24,28 @@ def set_up(pairs, order):
         yield request("POST", f"/purses/p{pair}/load", CLERK, '{"amount":1000000,"ref":"l"}')
 
 
+def payment(pair, number):
+    """The requests of a payment of 1, before which the pair has made so many: both start, three messages are handled, and the three
+    are discarded."""
+    payer, paid = f"/purses/p{pair}", f"/purses/q{pair}"
+    ann, bob = token_of(3, pair), token_of(4, pair)
+    yield request("POST", payer + "/start-from", ann, '{"peer":"q%d","value":1,"seq":%d}' % (pair, number))
+    yield request("POST", paid + "/start-to", bob, '{"peer":"p%d","value":1,"seq":%d}' % (pair, number))
+    yield request("POST", payer + "/handle", ann, '{"number":%d}' % (2 * number))
+    yield request("POST", paid + "/handle", bob, '{"number":%d}' % number)
+    yield request("POST", payer + "/handle", ann, '{"number":%d}' % (2 * number + 1))
+    yield request("POST", payer + "/discard", ann, '{"number":%d}' % (2 * number))
+    yield request("POST", payer + "/discard", ann, '{"number":%d}' % (2 * number + 1))
+    yield request("POST", paid + "/discard", bob, '{"number":%d}' % number)
+
+
 def payments(pairs, count, order):
-    """Payments of 1 by pairs that are chosen by chance, each in eight requests: both start, three messages are handled,
-    and the three are discarded."""
+    """Payments by pairs that are chosen by chance, each in eight requests."""
     made = [0] * pairs
     for _ in range(count):
         pair = order.randrange(pairs)
-        number = made[pair]
+        yield from payment(pair, made[pair])
         made[pair] += 1
-        payer, paid = f"/purses/p{pair}", f"/purses/q{pair}"
-        ann, bob = token_of(3, pair), token_of(4, pair)
-        yield request("POST", payer + "/start-from", ann, '{"peer":"q%d","value":1,"seq":%d}' % (pair, number))
-        yield request("POST", paid + "/start-to", bob, '{"peer":"p%d","value":1,"seq":%d}' % (pair, number))
-        yield request("POST", payer + "/handle", ann, '{"number":%d}' % (2 * number))
-        yield request("POST", paid + "/handle", bob, '{"number":%d}' % number)
-        yield request("POST", payer + "/handle", ann, '{"number":%d}' % (2 * number + 1))
-        yield request("POST", payer + "/discard", ann, '{"number":%d}' % (2 * number))
-        yield request("POST", payer + "/discard", ann, '{"number":%d}' % (2 * number + 1))
-        yield request("POST", paid + "/discard", bob, '{"number":%d}' % number)
 
 
 def batch(pairs, count, seed=1):
