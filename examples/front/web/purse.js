@@ -534,12 +534,30 @@ class Wallet {
     byId("forget").hidden = byId("wallet").hidden = false;
     byId("no-purses").hidden = names.length > 0;
     byId("purses").replaceChildren(...names.map(name => {
-      const button = element("button", {type: "button", "data-purse": name}, element("span", {class: "name"}, name), element("span", {class: "holds"}, " "));
+      const button = element("button", {type: "button", "data-purse": name}, element("span", {class: "name"}, name), element("span", {class: "holds"}, " "), element("span", {class: "dot"}));
       button.addEventListener("click", () => this.choose(name));
       return element("li", {}, button);
     }));
     if (names.length) this.choose(names[0]);
     byId("main").focus();
+    this.glance(this.token, names.slice(1));
+  }
+
+  // What the purses hold that aren't chosen yet.
+  async glance(token, names) {
+    for (const name of names) {
+      const now = await ask(token, "GET", `/purses/${name}`).catch(() => null);
+      if (this.token !== token) return;
+      if (now && !this.purses.has(name)) this.showHolds(name, now);
+    }
+  }
+
+  showHolds(name, now) {
+    const button = byId("purses").querySelector(`[data-purse="${CSS.escape(name)}"]`), isUnderWay = !AT_REST.includes(now.status);
+    if (!button) return;
+    say(button.querySelector(".holds"), number(now.balance));
+    button.toggleAttribute("data-way", isUnderWay);
+    button.title = isUnderWay ? "A payment is under way" : "";
   }
 
   choose(name) {
@@ -575,8 +593,7 @@ class Wallet {
   // Shows what has changed of a purse. A part is drawn again only where what it shows is another.
   show(purse, isResized = false) {
     if (purse.isOver || !purse.now) return;
-    const holds = byId("purses").querySelector(`[data-purse="${CSS.escape(purse.name)}"] .holds`);
-    if (holds) say(holds, number(purse.now.balance));
+    this.showHolds(purse.name, purse.now);
     if (purse !== this.shown) return;
     this.part("head", [purse.now, purse.trouble, purse.agreed, purse.payment?.ended], isResized, () => this.showHead(purse));
     this.part("lines", purse.lines.length, isResized, () => this.showLines(purse));
