@@ -13,7 +13,7 @@ from clients import free_port
 
 ELEMENT = "element-6066-11e4-a52e-4f735466cecf"
 # How long is waited for what has to come, in seconds.
-PATIENCE = 60
+PATIENCE = 15
 
 
 class Failed(AssertionError):
@@ -72,9 +72,9 @@ class Browser:
     def command(self, name, words):
         return self.ask("POST", "/goog/cdp/execute", {"cmd": name, "params": words})
 
-    def picture(self, path):
-        """The whole page as a PNG."""
-        height = self.run("return document.documentElement.scrollHeight")
+    def picture(self, path, height=None):
+        """The page as a PNG: the whole, or so much of its height."""
+        height = height or self.run("return document.documentElement.scrollHeight")
         width = self.run("return window.innerWidth")
         clip = {"x": 0, "y": 0, "width": width, "height": height, "scale": 1}
         got = self.command("Page.captureScreenshot", {"format": "png", "captureBeyondViewport": True, "clip": clip})

@@ -76,7 +76,7 @@ details { padding: .7rem 1.1rem; margin: 0 0 .5rem; } summary { cursor: pointer;
 summary b { min-width: 9rem; } summary svg { margin-left: auto; width: 9rem; }
 .soft { color: var(--soft); font-size: .9rem; } code { font-family: ui-monospace, "DejaVu Sans Mono", monospace; font-size: .875em; }
 .scrolls { overflow-x: auto; } table { width: 100%; border-collapse: collapse; font-size: .95rem; }
-th { text-align: left; font-size: .85rem; color: var(--soft); } th, td { padding: .4rem .7rem .4rem 0; border-bottom: 1px solid var(--line); vertical-align: top; }
+th { text-align: left; font-size: .85rem; color: var(--soft); white-space: nowrap; } td code { white-space: nowrap; } th, td { padding: .4rem .7rem .4rem 0; border-bottom: 1px solid var(--line); vertical-align: top; }
 tr:last-child > * { border-bottom: 0; } .number { text-align: right; font-variant-numeric: tabular-nums; white-space: nowrap; }
 td svg { display: block; width: 100%; min-width: 8rem; } rect { fill: var(--accent); } .float { fill: var(--soft); } .transit { fill: var(--coin); } .lost, .owes { fill: var(--bad); }
 .uncollected { fill: var(--line); stroke: var(--soft); } .whole { display: block; width: 100%; border-radius: 10px; margin: 0 0 1rem; }
@@ -202,11 +202,15 @@ def under_way(rows):
     return section("Payments under way", table(["Details", "Value", "On its way", "Payer", "Payee", "What to do"], cells, [1, 2]))
 
 
+def signed(value):
+    return f"{value:+,}".replace("-", "−") if value else "0"
+
+
 def positions(members, sums):
     found = [(name, balance + redeemed - issued) for name, _, _, balance, issued, redeemed, _, _ in members]
     most = max((abs(value) for _, value in found), default=0)
-    rows = [(name, Raw(f"{value:+,}".replace("-", "−") if value else "0"), position_bar(value, most)) for name, value in found]
-    told = (f"Above 0 the others owe the member so much, and below 0 the member owes it. All positions come to {sum(value for _, value in found):,}: "
+    rows = [(name, signed(value), position_bar(value, most)) for name, value in found]
+    told = (f"Above 0 the others owe the member so much, and below 0 the member owes it. All positions come to {signed(sum(value for _, value in found))}: "
             f"what is under way ({sums['transit']:,}) and lost ({sums['lost']:,}) has left the payers' members.")
     return section("What members owe each other", table(["Member", "Position", "Owes | is owed"], rows, [1]), paragraph(told))
 

@@ -62,7 +62,8 @@ export function say(where, text) {
   if (where.textContent !== text) where.textContent = text;
 }
 
-export const number = value => BigInt(value).toLocaleString("en");
+// A whole number with commas. What is none is shown as it came.
+export const number = value => /^-?\d+$/.test(String(value)) ? BigInt(value).toLocaleString("en") : String(value);
 
 export const pause = milliseconds => new Promise(done => setTimeout(done, milliseconds));
 
@@ -96,7 +97,7 @@ function rowOf(purse, inbox, agreed) {
   const clear = rests && inbox.find(message => message.kind === "clear");
   if (clear) return [1, clear];
   if (!rests) {
-    const [kind, row] = EXPECTED[purse.status];
+    const [kind, row] = EXPECTED[purse.status] ?? [];
     const due = inbox.find(message => message.kind === kind && ownNumber(message) === purse.next - 1);
     if (due) return [row, due];
   }
@@ -134,7 +135,7 @@ class Purse {
 
   async ask(method, rest, body) {
     try {
-      return await ask(this.token, method, `/purses/${this.name}${rest}`, body);
+      return await ask(this.token, method, `/purses/${encodeURIComponent(this.name)}${rest}`, body);
     } catch (why) {
       if (why instanceof NoResponse) {
         this.doubt = Math.max(this.doubt, Date.now() + (why.nothing && method === "POST" ? KEPT : 0));
@@ -249,7 +250,7 @@ class Purse {
         if (this.agreed !== null && this.agreedOwn() === next - 1) this.payment.details = this.agreed;
       }
       const payment = this.payment;
-      const message = this.inbox.find(it => it.kind === EXPECTED[status][0] && ownNumber(it) === payment.own);
+      const message = this.inbox.find(it => it.kind === EXPECTED[status]?.[0] && ownNumber(it) === payment.own);
       if (payment.details === null) payment.details = this.found(message);
       const isMine = message && message.details === payment.details;
       payment.known.add("started");
@@ -546,7 +547,7 @@ class Wallet {
   // What the purses hold that aren't chosen yet.
   async glance(token, names) {
     for (const name of names) {
-      const now = await ask(token, "GET", `/purses/${name}`).catch(() => null);
+      const now = await ask(token, "GET", `/purses/${encodeURIComponent(name)}`).catch(() => null);
       if (this.token !== token) return;
       if (now && !this.purses.has(name)) this.showHolds(name, now);
     }
