@@ -76,8 +76,8 @@ details { padding: .7rem 1.1rem; margin: 0 0 .5rem; } summary { cursor: pointer;
 summary b { min-width: 9rem; } summary svg { margin-left: auto; width: 9rem; }
 .soft { color: var(--soft); font-size: .9rem; } code { font-family: ui-monospace, "DejaVu Sans Mono", monospace; font-size: .875em; }
 .scrolls { overflow-x: auto; } table { width: 100%; border-collapse: collapse; font-size: .95rem; }
-th { text-align: left; font-size: .85rem; color: var(--soft); white-space: nowrap; } td code { white-space: nowrap; } th, td { padding: .4rem .7rem .4rem 0; border-bottom: 1px solid var(--line); vertical-align: top; }
-tr:last-child > * { border-bottom: 0; } .number { text-align: right; font-variant-numeric: tabular-nums; white-space: nowrap; }
+th { text-align: left; font-size: .85rem; color: var(--soft); white-space: nowrap; } td code { white-space: nowrap; } th, td { overflow-wrap: normal; padding: .4rem .7rem .4rem 0; border-bottom: 1px solid var(--line); vertical-align: top; }
+tr:last-child > * { border-bottom: 0; } .wide { min-width: 16rem; } .number { text-align: right; font-variant-numeric: tabular-nums; white-space: nowrap; }
 td svg { display: block; width: 100%; min-width: 8rem; } rect { fill: var(--accent); } .float { fill: var(--soft); } .transit { fill: var(--coin); } .lost, .owes { fill: var(--bad); }
 .uncollected { fill: var(--line); stroke: var(--soft); } .whole { display: block; width: 100%; border-radius: 10px; margin: 0 0 1rem; }
 .mid { stroke: var(--soft); } polyline { fill: none; stroke: var(--accent); stroke-width: 1.5; } .wrong { color: var(--bad); font-weight: 600; }
@@ -102,6 +102,10 @@ def text(value):
 
 def code(value):
     return Raw(f"<code>{text(str(value))}</code>")
+
+
+def wide(value):
+    return Raw(f'<div class="wide">{text(value)}</div>')
 
 
 def table(heads, rows, numbers=()):
@@ -170,7 +174,7 @@ def steps_of(row):
 def lost(rows):
     if not rows:
         return section("Lost payments", paragraph("None."))
-    cells = [(code(row[0]), row[3], f"{row[4] + row[5]} of 2", steps_of(row)) for row in rows]
+    cells = [(code(row[0]), row[3], f"{row[4] + row[5]} of 2", wide(steps_of(row))) for row in rows]
     return section("Lost payments", table(["Details", "Value", "Archived", "What settles it"], cells, [1]))
 
 
@@ -198,7 +202,7 @@ def under_way(rows):
         return section("Payments under way", paragraph("None."))
     def status(name, value):
         return f"{name}: {WAYS.get(value, 'not in it')}"
-    cells = [(code(row[0]), row[3], row[10], status(row[1], row[4]), status(row[2], row[5]), way_of(row)) for row in rows]
+    cells = [(code(row[0]), row[3], row[10], status(row[1], row[4]), status(row[2], row[5]), wide(way_of(row))) for row in rows]
     return section("Payments under way", table(["Details", "Value", "On its way", "Payer", "Payee", "What to do"], cells, [1, 2]))
 
 

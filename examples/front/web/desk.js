@@ -185,7 +185,7 @@ class Desk {
     } finally {
       button.disabled = false;
     }
-    if (this.role === "operator") await this.look().catch(() => {});
+    if (this.role === "operator" && name !== "grant") await this.look().catch(() => {});
   }
 
   // Any request but a grant. Its answer, and whether it was sent more than once.
@@ -200,20 +200,24 @@ class Desk {
     }
   }
 
-  // A grant is sent once. Where no response comes, the sums tell whether it was done, by the second look.
+  // A grant is sent once, by this page. The sums tell whether it was done: where no response came by the second look, and where
+  // one came, since a browser may have sent it twice.
   async grant(path, body) {
-    const before = BigInt((await this.look()).granted);
+    const before = BigInt((await this.look()).granted), amount = BigInt(body.amount);
+    let isAnswered = true;
     try {
-      return await this.ask("POST", path, body);
+      await this.ask("POST", path, body);
     } catch (why) {
       if (!(why instanceof NoResponse)) throw why;
+      isAnswered = false;
       await this.look();
       await pause(why.nothing ? KEPT : 0);
       await this.look();
-      const risen = BigInt((await this.look()).granted) - before;
-      if (risen === BigInt(body.amount) && risen > 0n) return {};
-      throw new Error(risen === 0n ? "No response came, and nothing was granted. Grant again." : `No response came, and ${number(risen)} more are granted than before: look who granted what before you grant again.`);
     }
+    const risen = BigInt((await this.look()).granted) - before;
+    if (risen === amount && (isAnswered || risen > 0n)) return {};
+    if (risen === 0n) throw new Error("No response came, and nothing was granted. Grant again.");
+    throw new Error(`${isAnswered ? "It is granted" : "No response came"}, and ${number(risen)} more are granted than before: look who granted what before you grant again.`);
   }
 }
 
