@@ -13,7 +13,7 @@ from clients import free_port
 
 ELEMENT = "element-6066-11e4-a52e-4f735466cecf"
 # How long is waited for what has to come, in seconds.
-PATIENCE = 15
+PATIENCE = 60
 
 
 class Failed(AssertionError):
