@@ -64,10 +64,11 @@ class Browser:
         self.turn_to(self.ask("DELETE", "/window")[0])
 
     def show_in(self, width, height, is_dark=False):
-        """Shows the page as on a screen of this size, in these colours."""
+        """Shows the page as on a screen of this size, in these colours, and without motion, which takes a processor."""
         size = {"width": width, "height": height, "deviceScaleFactor": 1, "mobile": False}
         self.command("Emulation.setDeviceMetricsOverride", size)
-        self.command("Emulation.setEmulatedMedia", {"features": [{"name": "prefers-color-scheme", "value": "dark" if is_dark else "light"}]})
+        wanted = {"prefers-color-scheme": "dark" if is_dark else "light", "prefers-reduced-motion": "reduce"}
+        self.command("Emulation.setEmulatedMedia", {"features": [{"name": name, "value": value} for name, value in wanted.items()]})
 
     def command(self, name, words):
         return self.ask("POST", "/goog/cdp/execute", {"cmd": name, "params": words})
