@@ -512,7 +512,15 @@ class Wallet {
     byId("redeem-form").addEventListener("submit", event => this.redeem(event));
     byId("sure-no").addEventListener("click", () => byId("sure").close("no"));
     byId("sure-yes").addEventListener("click", () => byId("sure").close("yes"));
-    new ResizeObserver(() => this.shown && this.show(this.shown, true)).observe(byId("main"));
+    new ResizeObserver(() => this.resized()).observe(byId("main"));
+  }
+
+  // What is drawn to the width is drawn again where that is another.
+  resized() {
+    const width = byId("main").clientWidth;
+    if (width === this.width) return;
+    this.width = width;
+    if (this.shown) this.show(this.shown, true);
   }
 
   async enter(event) {
@@ -569,7 +577,7 @@ class Wallet {
     say(byId("log-told"), "");
     say(byId("redeem-told"), "");
     byId("redeem-ref").value = this.reference();
-    byId("columns").hidden = false;
+    byId("columns").hidden = this.shown.now === null;
     for (const button of byId("purses").querySelectorAll("button")) button.setAttribute("aria-current", String(button.dataset.purse === name));
     this.turn();
     this.show(this.shown);
@@ -593,13 +601,16 @@ class Wallet {
 
   // Shows what has changed of a purse. A part is drawn again only where what it shows is another.
   show(purse, isResized = false) {
-    if (purse.isOver || !purse.now) return;
+    if (purse.isOver) return;
+    if (purse === this.shown) this.showOffice(purse);
+    if (!purse.now) return;
     this.showHolds(purse.name, purse.now);
     if (purse !== this.shown) return;
-    this.part("head", [purse.now, purse.trouble, purse.agreed, purse.payment?.ended], isResized, () => this.showHead(purse));
+    byId("columns").hidden = false;
+    this.part("head", [purse.now, purse.agreed, purse.payment], false, () => this.showHead(purse));
     this.part("lines", purse.lines.length, isResized, () => this.showLines(purse));
-    this.part("inbox", [purse.inbox, purse.now.next, purse.agreed, purse.now.status], isResized, () => this.showInbox(purse));
-    this.part("steps", purse.steps, isResized, () => this.showSteps(purse));
+    this.part("inbox", [purse.inbox, purse.now.next, purse.agreed, purse.now.status], false, () => this.showInbox(purse));
+    this.part("steps", purse.steps, false, () => this.showSteps(purse));
     this.showPayment(purse);
   }
 
@@ -610,6 +621,11 @@ class Wallet {
     draw();
   }
 
+  showOffice(purse) {
+    say(byId("office"), purse.trouble ? `${purse.trouble}: it is asked again` : purse.now ? "The office answers" : "");
+    byId("office").classList.toggle("troubled", purse.trouble !== "");
+  }
+
   showHead(purse) {
     const {now} = purse, isFree = AT_REST.includes(now.status) && purse.agreed === null && (!purse.payment || purse.payment.ended);
     say(byId("purse-name"), purse.name);
@@ -617,8 +633,6 @@ class Wallet {
     say(byId("status"), STATUSES[now.status] ?? "");
     byId("status").dataset.status = now.status;
     byId("tell").replaceChildren(...(isFree ? ["Tell the other holder: purse ", element("code", {}, purse.name), ", next number ", element("code", {id: "own-next"}, now.next)] : []));
-    say(byId("office"), purse.trouble ? `${purse.trouble}: it is asked again` : "The office answers");
-    byId("office").classList.toggle("troubled", purse.trouble !== "");
     byId("agree").hidden = !isFree || purse.payment !== null;
   }
 
