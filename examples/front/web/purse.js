@@ -690,7 +690,7 @@ class Wallet {
     byId("copy").hidden = payment.details === null || Boolean(payment.ended) || !navigator.clipboard;
     this.picture.show(purse);
     const [texts, warns] = toldOf(purse);
-    const all = [...(purse.doubt > Date.now() && purse.trouble ? ["No response came: the front may still keep the request. It is looked at again within 20 seconds."] : []), ...texts];
+    const all = [...(purse.doubt > Date.now() ? ["No response came: the front may still keep the request. It is looked at again within 20 seconds."] : []), ...texts];
     this.part("now", [all, warns], false, () => {
       byId("now").replaceChildren(...all.map(text => element("p", {}, text)));
       byId("now").className = `now ${warns ? "warns" : payment.ended ? "well" : ""}`;
